@@ -1,0 +1,5 @@
+mod Storing
+mod Reading
+mod Writing
+mod Comparing
+mod Telling

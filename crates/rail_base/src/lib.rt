@@ -1,0 +1,32 @@
+//! The ground layer: numbers, names, words, sequences, times as text, the lines of a history,
+//! refusals, limits, and the plain data of a plant and of commands.
+//!
+//! It stands on no other crate of this repository. What the definitions of a lawful run speak of
+//! is declared here, so a change of a public type is a change of every layer above; a body may be
+//! changed freely, since the layers above use the contracts alone.
+#![tactic(auto)]
+
+mod clock;
+mod history;
+mod intervals;
+mod laws;
+pub mod limits;
+mod numbers;
+mod orders;
+mod plant;
+mod refusals;
+mod sequence;
+#[cfg(test)]
+mod tests;
+mod text;
+
+pub use clock::{read_time, write_time};
+pub use history::{Cause, Entry, Note, What};
+pub use intervals::{Interval, Parts};
+pub use laws::{a_time_written_is_read_as_itself, a_written_time_reads_back, one_text_a_time};
+pub use numbers::{SectionNo, Time, TrainNo, ceil_div};
+pub use orders::{Command, Order, PolicyKind};
+pub use plant::{Call, MoveRow, SectionRow, Tables, TrainKind, TrainRow, TurnRow};
+pub use refusals::{Fault, OutOfMemory, Part, Reason, Refusal};
+pub use sequence::Seq;
+pub use text::{Name, Word};

@@ -1,0 +1,85 @@
+use crate::numbers::{SectionNo, Time};
+use crate::sequence::Seq;
+use crate::text::Name;
+
+/// The numbers of a plant: its sections and its trains with their moves, in the order of the scene.
+#[derive(Debug, Drop)]
+pub struct Tables {
+    pub sections: Seq<SectionRow>,
+    /// Release time in tenths of a second, one for the whole plant.
+    pub release: u32,
+    /// The greatest number of free legs in a list that the analysis looks for.
+    pub depth: u8,
+    pub trains: Seq<TrainRow>,
+}
+
+/// A track section.
+#[derive(Clone, Copy, Debug, PartialEq, Eq)]
+pub struct SectionRow {
+    pub name: Name,
+    /// Metres.
+    pub length: u32,
+    /// Permitted speed in km/h.
+    pub speed: u32,
+}
+
+/// A train with its moves in order, one for each route of its itinerary.
+#[derive(Debug, Drop)]
+pub struct TrainRow {
+    pub name: Name,
+    pub kind: TrainKind,
+    /// When the head passes the entry portal, if nothing holds the train.
+    pub entry: Time,
+    /// 0 is the most important.
+    pub priority: u8,
+    pub moves: Seq<MoveRow>,
+}
+
+/// What the trains of one kind have in common.
+#[derive(Clone, Copy, Debug, PartialEq, Eq)]
+pub struct TrainKind {
+    pub name: Name,
+    /// Metres.
+    pub length: u32,
+    /// Greatest speed in km/h.
+    pub speed: u32,
+    /// Start supplement in tenths of a second: lost by a start from a stand.
+    pub start: u32,
+    /// Stop supplement in tenths of a second: lost by braking to a stand.
+    pub stop: u32,
+}
+
+/// A move: a route, from the post at which it begins.
+#[derive(Debug, Drop)]
+pub struct MoveRow {
+    /// The needed sections in route order.
+    pub sections: Seq<SectionNo>,
+    /// Time for clearing the signal, in tenths of a second.
+    pub setting: u32,
+    /// Signal watching time, in tenths of a second.
+    pub watching: u32,
+    /// Approach time of a train that passes, in tenths of a second.
+    pub approach: u32,
+    /// The turn at the end of the move, where there is one.
+    pub turn: Option<TurnRow>,
+}
+
+/// A change of direction at the end of a move.
+#[derive(Clone, Copy, Debug, PartialEq, Eq)]
+pub struct TurnRow {
+    /// The step of the move, counted from 1, from whose entering joint the train leaves again.
+    pub step: u16,
+    /// Least standing time for the turn, in tenths of a second.
+    pub time: u32,
+}
+
+/// A call of a train at a place of its itinerary. A call that does not stop holds no train.
+#[derive(Clone, Copy, Debug, PartialEq, Eq)]
+pub struct Call {
+    pub stops: bool,
+    pub arrival: Option<Time>,
+    /// Before this the train does not leave a stop.
+    pub departure: Option<Time>,
+    /// Least standing time at a stop, in tenths of a second.
+    pub dwell: u32,
+}

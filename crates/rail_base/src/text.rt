@@ -1,0 +1,144 @@
+ghost use Rattle.std.specs.Prelude.{◌≡◌, ◌<◌, ◌≤◌, IsTrue, Some, None, if◌then◌else◌, length};
+ghost use Rattle.std.specs.List.{list_all};
+ghost use Rattle.std.specs.String.{string_bytes};
+ghost use Rattle.rail_base.specs.Naming.{is_name, is_name_byte};
+
+use crate::limits::NAME_BYTES;
+use std::hash::{Hash, Hasher};
+use std::marker::Model;
+
+/// A name of 1 to 16 bytes of `A-Z a-z 0-9 _ -`, which contracts see as its bytes.
+#[derive(Clone, Copy, Debug)]
+pub struct Name {
+    bytes: [u8; 16],
+    len: u8,
+}
+
+impl Model for Name {
+    ghost use Rattle.std.specs.Prelude.{List, ℕ, ◌++◌, ◌-◌, length, replicate};
+
+    ghost Value = { List ℕ };
+
+    ghost use Rattle.rail_base.specs.NameFields.{bytes_of, IsNameInside, inverse_of-bytes_of};
+
+    ghost view = { bytes_of };
+
+    ghost invariant = { IsNameInside };
+
+    ghost inverse = { λ name. record { bytes = name ++ replicate (16 - length name) 0; len = length name } };
+
+    ghost inverse_ok = { inverse_of-bytes_of };
+}
+
+impl Name {
+    /// The name that the bytes spell: `None` exactly where they are no name.
+    pub fn read(bytes: &[u8]) -> Option<Name>
+        ensures { result ≡ (if is_name bytes.now then Some bytes.now else None) }
+    {
+        if !is_name(bytes) {
+            return None;
+        }
+        let mut stored = [0; 16];
+        stored[..bytes.len()].copy_from_slice(bytes);
+        Some(Name {
+            bytes: stored,
+            len: bytes.len() as u8,
+        })
+    }
+
+    /// The bytes of the name.
+    pub fn as_bytes(&self) -> &[u8]
+        ensures value { result.now ≡ self.now }
+        ensures name { IsTrue (is_name self.now) }
+    {
+        &self.bytes[..self.len as usize]
+    }
+}
+
+impl PartialEq for Name {
+    ghost use Rattle.std.proofs.Common.{rules};
+    ghost use Rattle.std.specs.Cmp.Rules.{comparing};
+    ghost use Rattle.rail_base.specs.Naming.{same_name};
+
+    ghost eq = { same_name };
+
+    ghost laws = { Prim.search (comparing, rules) };
+
+    fn eq(&self, other: &Name) -> bool {
+        self.as_bytes() == other.as_bytes()
+    }
+}
+
+impl Eq for Name {
+    ghost use Rattle.std.proofs.Common.{rules};
+    ghost use Rattle.std.specs.Cmp.Rules.{comparing};
+
+    ghost laws = { Prim.search (comparing, rules) };
+}
+
+impl Hash for Name {
+    ghost use Rattle.std.proofs.Common.{ap};
+    ghost use Rattle.std.specs.Hash as fed;
+    ghost use Rattle.std.specs.Cmp.Lexicographic.{bytes_decides};
+
+    ghost hash_input = { λ name. fed.slice fed.u8 name };
+
+    ghost respects_eq = { λ x y same. ap (fed.slice fed.u8) ((bytes_decides x y).0 same) };
+
+    fn hash<H: Hasher>(&self, state: &mut H) {
+        self.as_bytes().hash(state);
+    }
+}
+
+/// Whether the bytes are a name.
+fn is_name(bytes: &[u8]) -> bool
+    ensures value { result ≡ is_name bytes.now }
+    ensures short { IsTrue result → length bytes.now ≤ 16 }
+{
+    !bytes.is_empty() && bytes.len() <= NAME_BYTES && are_name_bytes(bytes)
+}
+
+/// Whether a name may have each of the bytes.
+fn are_name_bytes(bytes: &[u8]) -> bool
+    ensures { result ≡ list_all is_name_byte bytes.now }
+{
+    bytes.iter().all(|byte| is_name_byte(*byte))
+}
+
+/// Whether a name may have the byte.
+fn is_name_byte(byte: u8) -> bool
+    ensures { result ≡ is_name_byte byte }
+{
+    byte.is_ascii_alphanumeric() || byte == b'_' || byte == b'-'
+}
+
+/// An owned text, which contracts see as its bytes.
+#[derive(Debug, Drop)]
+pub struct Word {
+    text: String,
+}
+
+impl Model for Word {
+    ghost use Rattle.std.specs.Prelude.{List, ℕ};
+    ghost use Rattle.std.specs.String.{string_bytes};
+
+    ghost Value = { List ℕ };
+
+    ghost view = { λ word. string_bytes word.text };
+}
+
+impl Word {
+    /// The same text. It takes no memory.
+    pub fn from_string(text: String) -> Word
+        ensures { result ≡ string_bytes text }
+    {
+        Word { text }
+    }
+
+    /// The text.
+    pub fn as_str(&self) -> &str
+        ensures { result.now ≡ self.now }
+    {
+        self.text.as_str()
+    }
+}

@@ -1,0 +1,13 @@
+pub mod Lines
+pub mod OneTrain
+pub mod Loop
+pub mod DeadlockAvoided
+pub mod Turn
+pub mod ClosedSection
+pub mod StopAndGo
+pub mod GoAndStop
+pub mod Cancelled
+pub mod CancelledTooLate
+pub mod Policies
+pub mod FreeLeg
+pub mod Stairs

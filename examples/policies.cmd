@@ -1,0 +1,3 @@
+00:01:00 policy priority
+00:01:00 retire priority
+00:01:00 retire fcfs
