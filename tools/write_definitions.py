@@ -4,8 +4,9 @@
 usage: write_definitions.py
 
 The part of the page above its line `<!-- the list -->` is kept; below it stands a table for each module of
-definitions, in the order of the module's Lib.antt, and one of the laws, from the doc comments of the functions
-that state them. The script fails where a definition or a law has no comment.
+definitions, crate by crate as in crates.txt and in the order of the crate's Lib.antt, and one for the laws of each
+crate, from the doc comments of the functions that state them. The script fails where a definition or a law has no
+comment.
 """
 
 import pathlib
@@ -16,6 +17,7 @@ REPOSITORY = pathlib.Path(__file__).resolve().parent.parent
 PAGE = REPOSITORY / "docs" / "DEFINITIONS.md"
 MARK = "<!-- the list -->"
 BASE = [("rail_base", "Naming"), ("rail_base", "Clock"), ("rail_base", "Refusing")]
+OF_HISTORIES = ("rail_rules", "rail_view", "rail_invariant", "rail_account", "rail_bound", "rail_completion")
 
 
 def definitions(path):
@@ -49,8 +51,13 @@ def laws(path):
 
 def main():
     missing, parts = [], []
-    rules = REPOSITORY / "crates" / "rail_rules"
-    modules = BASE + [("rail_rules", name) for name in re.findall(r"^pub mod (\w+)", (rules / "specs" / "Lib.antt").read_text(), re.M)]
+    crates = re.findall(r"^(rail_\w+):", (REPOSITORY / "crates.txt").read_text(), re.M)
+    modules = BASE + [
+        (crate, name)
+        for crate in crates
+        if crate in OF_HISTORIES
+        for name in re.findall(r"^pub mod (\w+)", (REPOSITORY / "crates" / crate / "specs" / "Lib.antt").read_text(), re.M)
+    ]
     for crate, module in modules:
         path = REPOSITORY / "crates" / crate / "specs" / (module + ".antt")
         title, found = definitions(path)
@@ -59,7 +66,7 @@ def main():
             if not comment:
                 missing.append("%s: %s" % (module, name))
             parts.append("| `%s` | %s |" % (name.replace("|", "\\|"), comment[:1].upper() + comment[1:]))
-    for crate in sorted((REPOSITORY / "crates").glob("rail_*")):
+    for crate in [REPOSITORY / "crates" / name for name in crates]:
         for path in sorted(crate.glob("src/*laws*.rt")):
             found = laws(path)
             if found:

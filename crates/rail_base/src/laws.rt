@@ -5,13 +5,13 @@ ghost use Rattle.rail_base.specs.Clock.{IsLenientTime, time_text};
 
 /// A text in an input stands for one time at most. Whoever reads `00:02:00` or `00:02:00.0` in a
 /// timetable reads the same two minutes as everyone else, and no reading of a text is a choice.
-pub fn a_written_time_reads_back()
+pub fn a_text_stands_for_one_time()
     ensures { (text : List ℕ) (a b : ℕ) → IsLenientTime text a → IsLenientTime text b → a ≡ b }
 {}
 
 /// Two times that are a tenth of a second or more apart are never written alike, so a time in a
 /// history tells exactly when.
-pub fn one_text_a_time()
+pub fn two_times_are_written_apart()
     ensures { (a b : ℕ) → a < 2 ^ 64 → b < 2 ^ 64 → time_text a ≡ time_text b → a ≡ b }
 {}
 

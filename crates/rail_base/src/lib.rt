@@ -23,7 +23,9 @@ mod text;
 pub use clock::{read_time, write_time};
 pub use history::{Cause, Entry, Note, What};
 pub use intervals::{Interval, Parts};
-pub use laws::{a_time_written_is_read_as_itself, a_written_time_reads_back, one_text_a_time};
+pub use laws::{
+    a_text_stands_for_one_time, a_time_written_is_read_as_itself, two_times_are_written_apart,
+};
 pub use numbers::{SectionNo, Time, TrainNo, ceil_div};
 pub use orders::{Command, Order, PolicyKind};
 pub use plant::{Call, MoveRow, SectionRow, Tables, TrainKind, TrainRow, TurnRow};

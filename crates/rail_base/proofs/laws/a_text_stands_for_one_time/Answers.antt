@@ -1,5 +1,5 @@
 use Rattle.rail_base.proofs.Telling.{lenient_time}
-use Rattle.rail_base.proofs.laws.a_written_time_reads_back.Goals as goal
+use Rattle.rail_base.proofs.laws.a_text_stands_for_one_time.Goals as goal
 
 pub returns : goal.returns
 returns c = lenient_time

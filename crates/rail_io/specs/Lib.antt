@@ -1,0 +1,11 @@
+-- What the contracts of this crate, and of the crates above it, speak of.
+pub mod Counting
+pub mod Writing
+pub mod Reading
+pub mod File
+pub mod Paper
+pub mod MemoryShelf
+pub mod MemorySink
+pub mod SureShelf
+pub mod SureSink
+pub mod Whole

@@ -1,0 +1,30 @@
+//! The outside as the simulator sees it: shelves, from which named files are read, and sinks, to
+//! which bytes are written; objects of both kinds in memory, and the adapters to files and to
+//! standard output; reading a whole file, and writing a whole piece.
+//!
+//! It stands on `rail_base`, of which it uses `Word`, `Seq` and `OutOfMemory`. The layers above use
+//! the contracts of the two traits and of `read_whole` and `write_whole` alone, so any body may be
+//! changed freely; a change of a trait's clause is a change of every layer above. `files` is the
+//! trusted edge: what files and standard output hold is outside of what is proved.
+#![tactic(auto)]
+
+mod files;
+mod kept;
+mod memory;
+mod paper;
+mod plan;
+mod reading;
+mod shelf;
+mod sink;
+mod sure;
+#[cfg(test)]
+mod tests;
+mod whole;
+
+pub use files::{FileShelf, OutSink};
+pub use kept::File;
+pub use memory::{MemoryShelf, MemorySink};
+pub use shelf::{Shelf, StartFault};
+pub use sink::{Failed, Sink};
+pub use sure::{SureShelf, SureSink};
+pub use whole::{ReadWhole, read_whole, write_whole};
