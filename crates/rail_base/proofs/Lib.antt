@@ -1,5 +1,5 @@
 mod Storing
 mod Reading
-mod Writing
+pub mod Writing
 mod Comparing
-mod Telling
+pub mod Telling
