@@ -4,3 +4,4 @@ pub mod Tallies
 pub mod Distinct
 pub mod Written
 pub mod Balance
+pub mod Changing

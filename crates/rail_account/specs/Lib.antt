@@ -1,1 +1,3 @@
+-- Counting event lines, and what an admission changes among them.
 pub mod Accounts
+pub mod Changes

@@ -1,11 +1,15 @@
-ghost use Rattle.std.specs.Prelude.{◌≡◌, ◌+◌, ◌≤◌, IsTrue, Bool};
+ghost use Rattle.std.specs.Prelude.{◌≡◌, ℕ, ◌+◌, ◌≤◌, ◌∷◌, [], IsTrue, Bool, false};
 ghost use Rattle.std.specs.List.{list_any};
 ghost use Rattle.rail_account.specs.Accounts.{all_events, is_train_event, tally, to_come, written};
+ghost use Rattle.rail_account.specs.Changes.{arrival_before, gained};
 ghost use Rattle.rail_base.specs.declared.history.Entry.{Entry};
-ghost use Rattle.rail_rules.specs.Fronts.{Front, same_entry, stands};
+ghost use Rattle.rail_base.specs.declared.history.Note.{Note};
+ghost use Rattle.rail_rules.specs.Causes.{place};
+ghost use Rattle.rail_rules.specs.Fronts.{Front, Line, admissions, is_admission, same_entry, stands};
 ghost use Rattle.rail_rules.specs.Lawful.{is_lawful};
 ghost use Rattle.rail_rules.specs.Orders.{Input};
 ghost use Rattle.rail_view.specs.Premises.{IsFine};
+ghost use Rattle.rail_view.specs.Views.{Admits};
 
 /// For every test, the event lines of trains that stand in a lawful front and those to come that pass
 /// it are together as many as all event lines of the admissions that pass it.
@@ -29,4 +33,32 @@ pub fn what_stands_is_an_event_line()
         → IsTrue (is_lawful input front) → (e : Entry)
         → IsTrue (stands front e) → IsTrue (is_train_event e.what)
         → IsTrue (list_any (same_entry e) (all_events input.plant front)) }
+{}
+
+/// An event line of a train takes itself out of the lines to come, and nothing else changes.
+pub fn an_event_line_is_no_longer_to_come()
+    ensures { (input : Input) → IsFine input.plant → (line : Line) (front : Front)
+        → IsTrue (is_lawful input (line ∷ front)) → IsTrue (is_train_event line.entry.what)
+        → (p : Entry → Bool)
+        → tally p (to_come input.plant (line ∷ front)) + tally p (line.entry ∷ []) ≡ tally p (to_come input.plant front) }
+{}
+
+/// An admission takes the arrival before it out of the lines to come and adds what comes with its move:
+/// the arrival as it now is, the free lines of the sections on which the train stood, the lines of the
+/// move, and the next ready line.
+pub fn an_admission_adds_the_lines_of_its_move()
+    ensures { (input : Input) → IsFine input.plant → (line : Line) (front : Front)
+        → IsTrue (is_lawful input (line ∷ front)) → (t m : ℕ) (note : Note)
+        → Admits input front line t m note → (p : Entry → Bool)
+        → tally p (to_come input.plant (line ∷ front)) + tally p (arrival_before input.plant t (admissions front t) (place front t))
+        ≡ tally p (to_come input.plant front) + tally p (gained input.plant t (admissions (line ∷ front) t) (place front t)) }
+{}
+
+/// The line of a command, a hold line and the end line leave the lines to come as they are.
+pub fn other_lines_leave_what_is_to_come()
+    ensures { (input : Input) → IsFine input.plant → (line : Line) (front : Front)
+        → IsTrue (is_lawful input (line ∷ front))
+        → is_train_event line.entry.what ≡ false → is_admission line.entry.what ≡ false
+        → (p : Entry → Bool)
+        → tally p (to_come input.plant (line ∷ front)) ≡ tally p (to_come input.plant front) }
 {}

@@ -7,5 +7,7 @@
 mod laws;
 
 pub use laws::{
-    no_event_line_occurs_twice, the_account_of_event_lines, what_stands_is_an_event_line,
+    an_admission_adds_the_lines_of_its_move, an_event_line_is_no_longer_to_come,
+    no_event_line_occurs_twice, other_lines_leave_what_is_to_come, the_account_of_event_lines,
+    what_stands_is_an_event_line,
 };
