@@ -27,7 +27,7 @@ use Rattle.rail_account.specs.Changes.{arrival_before, freed_before, ready_after
 use Rattle.rail_account.proofs.Tallies.{tally-append}
 use Rattle.rail_account.proofs.Balance.{account}
 
-tally-gather : (p : Entry → Bool) (f : ℕ → List Entry) (n : ℕ) → tally p (gather f n) ≡ sum_below (λ i. tally p (f i)) n
+pub tally-gather : (p : Entry → Bool) (f : ℕ → List Entry) (n : ℕ) → tally p (gather f n) ≡ sum_below (λ i. tally p (f i)) n
 tally-gather p f zero = refl
 tally-gather p f (suc n) = omega (arith, tally-append p (gather f n) (f n), tally-gather p f n)
 
