@@ -1,0 +1,22 @@
+-- A table of moves: for each train the needed sections of each move, and where it stands after each.
+use Rattle.std.specs.Prelude.{ℕ, ◌<◌, ◌≤◌, List, [], length, get_or, IsTrue}
+use Rattle.rail_base.specs.declared.limits.TheConstants.{ITINERARY_ROUTES, ROUTE_SECTIONS, SECTIONS, TRAINS}
+use Rattle.rail_rules.specs.Numbers.{is_in}
+use Rattle.rail_rules.specs.Moves.{Moves, is_valid}
+
+-- the moves that the table spells
+abbrev pub moves_in : List (List (List ℕ) × List (List ℕ)) → Moves
+moves_in table = record {
+  trains = length table;
+  moves = λ t. length (get_or table t ([], [])).0;
+  need = λ t m. get_or (get_or table t ([], [])).0 m [];
+  standing = λ t m. get_or (get_or table t ([], [])).1 m [];
+}
+
+-- a table within the limits whose moves are valid
+pub record IsTable (table : List (List (List ℕ) × List (List ℕ))) : Type 0 where
+  pub valid : IsTrue (is_valid (moves_in table))
+  pub few : length table ≤ TRAINS
+  pub short : (t : ℕ) → (moves_in table).moves t ≤ ITINERARY_ROUTES
+  pub narrow : (t m : ℕ) → length ((moves_in table).need t m) ≤ ROUTE_SECTIONS
+  pub in_range : (t m x : ℕ) → IsTrue (is_in x ((moves_in table).need t m)) → x < SECTIONS

@@ -1,0 +1,119 @@
+ghost use Rattle.std.specs.Prelude.{◌≡◌, ℕ, ◌+◌, ◌-◌, ◌<◌, ◌≤◌, [], ◌∷◌, ◌++◌, length, get_or, IsTrue, OnOk, OnErr};
+ghost use Rattle.rail_rules.specs.Numbers.{is_in};
+ghost use Rattle.rail_rules.specs.Moves.{is_valid, stand};
+
+use rail_base::limits::{ITINERARY_ROUTES, ROUTE_SECTIONS, SECTIONS, TRAINS};
+use rail_base::{OutOfMemory, SectionNo, Seq, TrainNo};
+use std::alloc::Global;
+use std::marker::Model;
+
+/// The moves of one train.
+#[derive(Debug, Drop)]
+struct Row {
+    needs: Vec<Seq<SectionNo>>,
+    stands: Vec<Seq<SectionNo>>,
+}
+
+/// The moves of all trains: the sections that each move needs, in route order, and the sections on
+/// which the train stands after it. Trains count from 0, places and moves from 1: the train at place
+/// `i` has made its moves 1 to `i`.
+#[derive(Debug, Drop)]
+pub struct Moves {
+    rows: Vec<Row>,
+}
+
+impl Model for Moves {
+    ghost use Rattle.std.specs.Prelude.{ℕ, List};
+    ghost use Rattle.std.specs.Prelude.{map};
+
+    ghost Value = { List (List (List ℕ) × List (List ℕ)) };
+
+    ghost use Rattle.rail_place.specs.Tables.{IsTable};
+
+    ghost view = { λ moves. map (λ row. (row.needs.items, row.stands.items)) moves.rows.items };
+
+    ghost invariant = { λ moves. IsTable (map (λ row. (row.needs.items, row.stands.items)) moves.rows.items) };
+}
+
+impl Moves {
+    ghost use Rattle.rail_place.specs.Tables.{IsTable, moves_in};
+
+    /// No trains. It takes no memory.
+    pub fn new(alloc: Global) -> Moves
+        ensures { result ≡ [] }
+    {
+        Moves {
+            rows: Vec::new(alloc),
+        }
+    }
+
+    /// Adds a train as the last one: the needed sections of each of its moves, and the sections on
+    /// which it stands after each move. The last move leads out, and needs no standing set. Where
+    /// memory is not found nothing is changed.
+    pub fn push_train(
+        &mut self,
+        _alloc: Global,
+        need: Vec<Seq<SectionNo>>,
+        stand: Vec<Seq<SectionNo>>,
+    ) -> Result<(), OutOfMemory>
+        requires room { length self.old < TRAINS }
+        requires short { length need.items ≤ ITINERARY_ROUTES }
+        requires narrow { (m : ℕ) → length (get_or need.items m []) ≤ ROUTE_SECTIONS }
+        requires in_range { (m x : ℕ) → IsTrue (is_in x (get_or need.items m [])) → x < SECTIONS }
+        requires valid { IsTrue (is_valid (moves_in ((need.items, stand.items) ∷ []))) }
+        ensures ok { OnOk result (self.new ≡ self.old ++ (need.items, stand.items) ∷ []) }
+        ensures err { OnErr result (self.new ≡ self.old) }
+    {
+        let Ok(()) = self.rows.push(Row {
+            needs: need,
+            stands: stand,
+        })
+        else {
+            return Err(OutOfMemory);
+        };
+        Ok(())
+    }
+
+    /// The number of trains.
+    pub fn trains(&self) -> u16
+        ensures count { result ≡ length self.now }
+        ensures table { IsTable self.now }
+    {
+        self.rows.len() as u16
+    }
+
+    /// The number of moves of the train, which is the number of its places.
+    pub fn places(&self, train: TrainNo) -> u16
+        requires { train < length self.now }
+        ensures { result ≡ (moves_in self.now).moves train }
+    {
+        self.rows[usize::from(train.0)].needs.len() as u16
+    }
+
+    /// The needed sections of the train's move to this place, in route order.
+    pub fn need(&self, train: TrainNo, place: u16) -> &[SectionNo]
+        requires train { train < length self.now }
+        requires first { 1 ≤ place }
+        requires last { place ≤ (moves_in self.now).moves train }
+        ensures sections { result.now ≡ (moves_in self.now).need train (place - 1) }
+        ensures in_range { (x : ℕ) → IsTrue (is_in x result.now) → x < SECTIONS }
+    {
+        self.rows[usize::from(train.0)].needs[usize::from(place) - 1].as_slice()
+    }
+
+    /// The sections on which the train stands at this place: none at place 0 and at the last one.
+    pub fn stand(&self, train: TrainNo, place: u16) -> &[SectionNo]
+        requires train { train < length self.now }
+        requires last { place ≤ (moves_in self.now).moves train }
+        ensures sections { result.now ≡ stand (moves_in self.now) train place }
+        ensures in_range { (x : ℕ) → IsTrue (is_in x result.now) → x < SECTIONS }
+    {
+        let row = &self.rows[usize::from(train.0)];
+        let place = usize::from(place);
+        if 0 < place && place < row.needs.len() {
+            row.stands[place - 1].as_slice()
+        } else {
+            &[]
+        }
+    }
+}

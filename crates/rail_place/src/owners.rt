@@ -1,0 +1,44 @@
+//! The table from each section to the train that holds it.
+
+ghost use Rattle.std.specs.Prelude.{◌≡◌, ℕ, ◌<◌, length, IsTrue};
+ghost use Rattle.rail_rules.specs.Numbers.{is_in};
+ghost use Rattle.rail_place.specs.Owners.{first_owned_in, given};
+
+use crate::barring::Barred;
+use rail_base::{SectionNo, TrainNo};
+
+/// Gives each of the sections to the train.
+pub fn hold(owners: &mut Vec<Option<TrainNo>>, sections: &[SectionNo], train: TrainNo)
+    requires { (x : ℕ) → IsTrue (is_in x sections.now) → x < length owners.old.items }
+    ensures { owners.new.items ≡ given owners.old.items sections.now (Some train) }
+{
+    for section in sections {
+        owners[usize::from(section.0)] = Some(train);
+    }
+}
+
+/// Takes each of the sections from its owner.
+pub fn release(owners: &mut Vec<Option<TrainNo>>, sections: &[SectionNo])
+    requires { (x : ℕ) → IsTrue (is_in x sections.now) → x < length owners.old.items }
+    ensures { owners.new.items ≡ given owners.old.items sections.now None }
+{
+    for section in sections {
+        owners[usize::from(section.0)] = None;
+    }
+}
+
+/// The first of the sections that has an owner, with that owner.
+pub fn first_owned(owners: &Vec<Option<TrainNo>>, sections: &[SectionNo]) -> Option<Barred>
+    requires { (x : ℕ) → IsTrue (is_in x sections.now) → x < length owners.now.items }
+    ensures { result ≡ first_owned_in owners.now.items sections.now }
+{
+    for section in sections {
+        if let Some(holder) = owners[usize::from(section.0)] {
+            return Some(Barred::Held {
+                section: *section,
+                holder,
+            });
+        }
+    }
+    None
+}

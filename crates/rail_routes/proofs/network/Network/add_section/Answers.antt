@@ -1,0 +1,20 @@
+use Rattle.std.proofs.Common.{ap, ◌∙◌, sym, subst}
+use Rattle.std.specs.Result.{IfErr}
+use Rattle.rail_track.specs.Refusing.{Answers}
+use Rattle.rail_track.specs.declared.section.NetFault.{NetFault}
+use Rattle.std.proofs.Common.{Option}
+use Rattle.rail_track.proofs.Refusals.{answers_first}
+use Rattle.rail_routes.specs.Net.{Net}
+use Rattle.rail_routes.specs.Extending.{net_section_refusal}
+use Rattle.rail_routes.proofs.Extensions.{track_accepts}
+use Rattle.rail_routes.proofs.network.Network.add_section.Goals as goal
+
+pub returns-in-Some-clause-refused : goal.returns-in-Some-clause-refused
+returns-in-Some-clause-refused c =
+    answers_first (net_section_refusal c.args.self.now c.args.section) c.in-Some.fault (ap (λ (net : Net). net_section_refusal net c.args.section) (sym c.self.view_is) ∙ sym c.in-Some.ensures)
+
+pub returns-clause-refused : goal.returns-clause-refused
+returns-clause-refused c =
+    let none = ap (λ (net : Net). net_section_refusal net c.args.section) (sym c.self.view_is) ∙ sym c.in_default.ensures in
+    let P : Option NetFault → Type 0 = λ first. IfErr c.add_section.result (Answers first) in
+    subst P (track_accepts c.self.inside.track c.self.inside.portals c.args.section (sym c.in_default.ensures) ∙ sym none) c.add_section.ensures.refused

@@ -1,0 +1,33 @@
+use Rattle.std.proofs.Common.{[], ◌∷◌, count_by, ◌∙◌, sym, arith}
+use Rattle.rail_base.specs.Naming.{same_name}
+use Rattle.rail_track.proofs.Withouts.{without-absent}
+use Rattle.rail_routes.specs.declared.items.Turn.{Turn}
+use Rattle.rail_routes.specs.Net.{is_turn}
+use Rattle.rail_routes.proofs.Uses.{sum_by-without}
+use Rattle.rail_routes.specs.NetworkFields.{lists_of}
+use Rattle.rail_routes.proofs.Distinctness.{distinct_without_turn}
+use Rattle.rail_routes.proofs.network.Network.remove_turn.Goals as goal
+
+pub invariant_of-self : goal.invariant_of-self
+invariant_of-self c = rw (c.remove.ensures.rest ∙ without-absent (is_turn c.args.arriving c.args.leaving) c.self.inside.turns (sym c.in_default.ensures.item)) c.self.invariant
+
+pub returns-in_default-clause-unchanged : goal.returns-in_default-clause-unchanged
+returns-in_default-clause-unchanged c = rw (c.remove.ensures.rest ∙ without-absent (is_turn c.args.arriving c.args.leaving) c.self.inside.turns (sym c.in_default.ensures.item)) c.self.view_is
+
+pub discount_each-requires : goal.discount_each-requires
+discount_each-requires c = record {
+  counted = λ name.
+      omega (arith, c.self.invariant.turned name, sum_by-without (is_turn c.args.arriving c.args.leaving) (λ (turn : Turn). count_by (same_name name) (turn.arriving ∷ turn.leaving ∷ [])) c.self.inside.turns c.in-Some.turn (sym c.in-Some.ensures.item));
+}
+
+pub invariant_of-self-2 : goal.invariant_of-self-2
+invariant_of-self-2 c =
+    let is = c.self.invariant in
+    rw c.remove.ensures.rest record {
+      distinct = distinct_without_turn (lists_of c.self.inside) (is_turn c.args.arriving c.args.leaving) is.distinct;
+      short = is.short;
+      run = is.run;
+      turned = λ name.
+          omega (arith, is.turned name, c.discount_each.ensures.discounted name, sum_by-without (is_turn c.args.arriving c.args.leaving) (λ (turn : Turn). count_by (same_name name) (turn.arriving ∷ turn.leaving ∷ [])) c.self.inside.turns c.in-Some.turn (sym c.in-Some.ensures.item));
+      routed = is.routed;
+    }

@@ -1,0 +1,43 @@
+use Rattle.std.proofs.Common.{◌≡◌, ap, ◌∙◌, sym, Some, None, not}
+use Rattle.std.specs.List.{list_any}
+use Rattle.std.specs.Option.{option_or}
+use Rattle.rail_track.specs.Joining.{is_named}
+use Rattle.rail_track.specs.Refusing.{first_failing}
+use Rattle.rail_routes.specs.declared.items.Step.{Step}
+use Rattle.rail_routes.specs.Net.{Net}
+use Rattle.rail_routes.specs.Routing.{repeat_tests, way_from}
+use Rattle.rail_routes.proofs.Leading.{rules_from, rules_to, rules_astray, rules_way}
+use Rattle.rail_routes.proofs.network.Network.rule_refusal.Goals as goal
+
+pub returns-in_default : goal.returns-in_default
+returns-in_default c = c.refused.ensures ∙ sym (rules_from c.args.self.now c.args.route.now (sym c.in_default.ensures))
+
+pub returns-in_default-post : goal.returns-in_default-post
+returns-in_default-post c = c.refused-in_default-post.ensures ∙ sym (rules_to c.args.self.now c.args.route.now c.in-Some.begin (sym c.in-Some.ensures) (sym c.in_default-post.ensures))
+
+pub returns-then-misses_section : goal.returns-then-misses_section
+returns-then-misses_section c =
+    let net = c.args.self.now in
+    let missing = ap (λ steps. list_any (λ (step : Step). not (list_any (is_named step.section) net.sections)) steps) (sym c.as_slice-steps.ensures) ∙ sym c.if-misses_section.ensures in
+    c.refused-then-misses_section.ensures ∙ sym (rules_astray net c.args.route.now c.in-Some.begin (sym c.in-Some.ensures) c.in-Some-post.end (sym c.in-Some-post.ensures) missing)
+
+pub returns-in-Some-repeat_refusal : goal.returns-in-Some-repeat_refusal
+returns-in-Some-repeat_refusal c =
+    let net = c.args.self.now in
+    let route = c.args.route.now in
+    let begin = c.in-Some.begin in
+    let end = c.in-Some-post.end in
+    let fine = ap (λ steps. list_any (λ (step : Step). not (list_any (is_named step.section) net.sections)) steps) (sym c.as_slice-steps.ensures) ∙ sym c.if-misses_section.ensures in
+    let repeated : first_failing (repeat_tests route.steps) ≡ Some c.in-Some-repeat_refusal.fault = ap (λ steps. first_failing (repeat_tests steps)) (sym c.as_slice-steps.ensures) ∙ sym c.in-Some-repeat_refusal.ensures in
+    sym (rules_way net route begin (sym c.in-Some.ensures) end (sym c.in-Some-post.ensures) fine ∙ ap (λ o. option_or o (first_failing (way_from begin end net.sections route.steps))) repeated)
+
+pub returns-in-None : goal.returns-in-None
+returns-in-None c =
+    let net = c.args.self.now in
+    let route = c.args.route.now in
+    let begin = c.in-Some.begin in
+    let end = c.in-Some-post.end in
+    let fine = ap (λ steps. list_any (λ (step : Step). not (list_any (is_named step.section) net.sections)) steps) (sym c.as_slice-steps.ensures) ∙ sym c.if-misses_section.ensures in
+    let fresh : first_failing (repeat_tests route.steps) ≡ None = ap (λ steps. first_failing (repeat_tests steps)) (sym c.as_slice-steps.ensures) ∙ sym c.in-None.ensures in
+    let way = c.way_refusal.ensures ∙ (λ i. first_failing (way_from begin end (ap (λ (n : Net). n.sections) c.self.view_is i) (c.as_slice-steps.ensures i))) in
+    way ∙ sym (rules_way net route begin (sym c.in-Some.ensures) end (sym c.in-Some-post.ensures) fine ∙ ap (λ o. option_or o (first_failing (way_from begin end net.sections route.steps))) fresh)

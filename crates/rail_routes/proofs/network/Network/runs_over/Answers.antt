@@ -1,0 +1,11 @@
+use Rattle.std.proofs.Common.{nat_lt, ap, ◌∙◌, sym}
+use Rattle.std.specs.List.{list_any}
+use Rattle.rail_base.specs.Naming.{same_name}
+use Rattle.rail_routes.specs.Net.{Net}
+use Rattle.rail_routes.specs.Using.{sections_of, runs_over}
+use Rattle.rail_routes.proofs.Uses.{list_any-sum_by}
+use Rattle.rail_routes.proofs.network.Network.runs_over.Goals as goal
+
+pub returns : goal.returns
+returns c =
+    ap (nat_lt 0) (c.times.ensures ∙ c.self.invariant.run c.args.name) ∙ sym (list_any-sum_by (same_name c.args.name) (sections_of) c.self.inside.routes) ∙ ap (λ (net : Net). list_any (runs_over c.args.name) net.routes) c.self.view_is

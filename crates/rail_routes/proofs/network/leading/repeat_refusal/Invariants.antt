@@ -1,0 +1,10 @@
+use Rattle.std.proofs.Common.{◌≡◌, ◌+◌, drop}
+use Rattle.rail_base.specs.declared.refusals.Reason.TheVariants.{RouteRepeat}
+use Rattle.rail_track.specs.Refusing.{first_failing, tests_over, refused_where}
+use Rattle.rail_routes.specs.Routing.{repeat_tests, occurred}
+use Rattle.rail_routes.proofs.network.leading.repeat_refusal.Given as goal
+
+abbrev pub invariant-loop-index : goal.invariant-loop-index
+invariant-loop-index l =
+    first_failing (tests_over (λ n step. refused_where RouteRepeat n (occurred l.steps n step)) (l.index + 1) (drop l.index l.steps))
+    ≡ first_failing (repeat_tests l.steps)

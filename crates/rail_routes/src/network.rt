@@ -1,0 +1,331 @@
+ghost use Rattle.std.specs.Prelude.{◌≡◌, [], ◌∷◌, ◌++◌, Some, None, IsTrue, IfOk, IfErr, OnOk, OnErr};
+ghost use Rattle.std.specs.List.{find, list_any};
+ghost use Rattle.std.specs.Option.{option_copied};
+
+use crate::items::{Post, Role, Route, Turn};
+use crate::post_list::PostList;
+use indexmap::IndexMap;
+use rail_base::{Name, Reason};
+use rail_track::{
+    ClosedJoints, NetFault, Roll, Section, Tally, Track, count_each, discount_each, times,
+};
+use std::alloc::Global;
+use std::marker::Model;
+
+mod accepting;
+mod leading;
+
+/// Sections, posts, turns and routes, each in the order in which they were added. Contracts see it as
+/// those lists.
+///
+/// At any time no name, place or pair of posts is taken twice, no list is past its limit, and the track
+/// is sound.
+#[derive(Drop)]
+pub struct Network {
+    track: Track,
+    portals: PostList,
+    signals: PostList,
+    boards: PostList,
+    turns: Roll<(Name, Name), Turn>,
+    routes: Roll<Name, Route>,
+    /// How often the routes run over a section.
+    runs: Tally<Name>,
+    /// How often the turns name a post.
+    turned: Tally<Name>,
+    /// How often the routes name a post.
+    routed: Tally<Name>,
+}
+
+impl Model for Network {
+    ghost use Rattle.rail_routes.specs.Net.{Net};
+
+    ghost Value = { Net };
+
+    ghost use Rattle.rail_routes.specs.NetworkFields.{lists_of, IsNetworkInside};
+
+    ghost view = { lists_of };
+
+    ghost invariant = { IsNetworkInside };
+}
+
+impl Network {
+    ghost use Rattle.rail_base.specs.declared.refusals.Reason.TheVariants.{Unknown};
+    ghost use Rattle.rail_track.specs.declared.section.NetFault.TheVariants.{Refused};
+    ghost use Rattle.rail_track.specs.Joining.{is_named, section_named};
+    ghost use Rattle.rail_track.specs.Lists.{without};
+    ghost use Rattle.rail_track.specs.Refusing.{Answers};
+    ghost use Rattle.rail_routes.specs.Net.{posts, is_post, is_turn, is_route, post_named, stands_at};
+    ghost use Rattle.rail_routes.specs.Extending.{net_section_refusal};
+    ghost use Rattle.rail_routes.specs.Posting.{post_refusal, is_formed};
+    ghost use Rattle.rail_routes.specs.Turning.{turn_refusal};
+    ghost use Rattle.rail_routes.specs.Routing.{route_refusal};
+    ghost use Rattle.rail_routes.specs.Using.{section_removal, post_removal};
+    ghost use Rattle.rail_routes.specs.Distinct.{IsDistinctNetwork};
+    ghost use Rattle.rail_routes.specs.Changing.{with_post, without_post};
+
+    /// A network without items. It takes no memory.
+    pub fn new(alloc: Global) -> Network
+        ensures { result ≡ record { sections = []; portals = []; signals = []; boards = []; turns = []; routes = [] } }
+    {
+        Network {
+            track: Track::new(alloc),
+            portals: PostList::new(alloc),
+            signals: PostList::new(alloc),
+            boards: PostList::new(alloc),
+            turns: Roll::new(alloc),
+            routes: Roll::new(alloc),
+            runs: IndexMap::new(alloc),
+            turned: IndexMap::new(alloc),
+            routed: IndexMap::new(alloc),
+        }
+    }
+
+    /// The sections in order.
+    pub fn sections(&self) -> &[Section]
+        ensures sections { result.now ≡ self.now.sections }
+        ensures distinct { IsDistinctNetwork self.now }
+    {
+        self.track.sections()
+    }
+
+    /// The portals in order.
+    pub fn portals(&self) -> &[Post]
+        ensures { result.now ≡ self.now.portals }
+    {
+        self.portals.as_slice()
+    }
+
+    /// The signals in order.
+    pub fn signals(&self) -> &[Post]
+        ensures { result.now ≡ self.now.signals }
+    {
+        self.signals.as_slice()
+    }
+
+    /// The boards in order.
+    pub fn boards(&self) -> &[Post]
+        ensures { result.now ≡ self.now.boards }
+    {
+        self.boards.as_slice()
+    }
+
+    /// The turns in order.
+    pub fn turns(&self) -> &[Turn]
+        ensures { result.now ≡ self.now.turns }
+    {
+        self.turns.as_slice()
+    }
+
+    /// The routes in order.
+    pub fn routes(&self) -> &[Route]
+        ensures { result.now ≡ self.now.routes }
+    {
+        self.routes.as_slice()
+    }
+
+    /// The post of this name, of whichever role.
+    pub fn post(&self, name: Name) -> Option<Post>
+        ensures { result ≡ post_named name self.now }
+    {
+        self.portals
+            .get(name)
+            .or(self.signals.get(name))
+            .or(self.boards.get(name))
+    }
+
+    /// Adds a section last. It is refused as by a track, and as crowded also where a joint carries a
+    /// portal.
+    pub fn add_section(&mut self, alloc: Global, section: Section) -> Result<(), NetFault>
+        ensures accepted { OnOk result (net_section_refusal self.old section ≡ None) }
+        ensures added { OnOk result (self.new ≡ record self.old { sections = self.old.sections ++ section ∷ [] }) }
+        ensures refused { IfErr result (Answers (net_section_refusal self.old section)) }
+        ensures unchanged { OnErr result (self.new ≡ self.old) }
+    {
+        let rule = ClosedInNetwork {
+            track: &self.track,
+            portals: &self.portals,
+        };
+        if let Some(fault) = self.track.refusal(&section, &rule) {
+            return Err(fault);
+        }
+        self.track.add_section(alloc, section)
+    }
+
+    /// Adds a post last in the list of its role.
+    ///
+    /// It is refused, by the first of these that holds, as too many, where the posts of all roles are at
+    /// the limit, at step 0; as out of range, at the number of the key: 3 to 5 for the setting, watching
+    /// and approach times of a portal, 4 to 6 for those of a signal; as repeated, where a post of any
+    /// role has the name, at step 1; as unknown, where no section has the name ahead, at step 3; as
+    /// misplaced, at step 0: a portal at a joint that is not in exactly one section, a signal at one that
+    /// is not in two or not in the section ahead, a board at one that is in none, a portal or board
+    /// where another is, a signal where another has the same section ahead.
+    pub fn add_post(&mut self, _alloc: Global, post: Post) -> Result<(), NetFault>
+        requires { IsTrue (is_formed post) }
+        ensures accepted { OnOk result (post_refusal self.old post ≡ None) }
+        ensures added { OnOk result (self.new ≡ with_post post self.old) }
+        ensures refused { IfErr result (Answers (post_refusal self.old post)) }
+        ensures unchanged { OnErr result (self.new ≡ self.old) }
+    {
+        if let Some(fault) = self.post_refusal(&post) {
+            return Err(fault);
+        }
+        match post.role {
+            Role::Portal => self.portals.push(post)?,
+            Role::Signal => self.signals.push(post)?,
+            Role::Board => self.boards.push(post)?,
+        }
+        Ok(())
+    }
+
+    /// Adds a turn last.
+    ///
+    /// It is refused, by the first of these that holds, as too many, at step 0; as out of range, where
+    /// its time is, at step 3; as repeated, where a turn is between these posts, at step 1; as unknown,
+    /// where no post has the arriving name, at step 1, or the leaving name, at step 2; as misplaced,
+    /// where the arriving post is a portal, the leaving one no signal, or both the same, at step 0.
+    pub fn add_turn(&mut self, _alloc: Global, turn: Turn) -> Result<(), NetFault>
+        ensures accepted { OnOk result (turn_refusal self.old turn ≡ None) }
+        ensures added { OnOk result (self.new ≡ record self.old { turns = self.old.turns ++ turn ∷ [] }) }
+        ensures refused { IfErr result (Answers (turn_refusal self.old turn)) }
+        ensures unchanged { OnErr result (self.new ≡ self.old) }
+    {
+        if let Some(fault) = self.turn_refusal(&turn) {
+            return Err(fault);
+        }
+        self.turned.reserve(2)?;
+        self.turns.push(turn)?;
+        count_each(&mut self.turned, &[turn.arriving, turn.leaving]);
+        Ok(())
+    }
+
+    /// Adds a route last.
+    ///
+    /// It is refused, by the first of these that holds, as too many, at step 0; as out of range, where it
+    /// has no step or too many, at step 4; as repeated, where a route has the name, at step 1; as
+    /// unknown, where no post has the name of its first post, at step 2, or of its last, at step 3, or no
+    /// section that of one of its steps, at step 4; as repeating a section, at the number of the first
+    /// step whose section occurred before; as broken, at the number of the first step that does not lead
+    /// on: from a board or over a section that is not ahead of the first post, from a joint that is not
+    /// where the step before ended, over no passage, or, for the last, not to the joint of the last
+    /// post, or in the section ahead of it.
+    pub fn add_route(&mut self, _alloc: Global, route: Route) -> Result<(), NetFault>
+        ensures accepted { OnOk result (route_refusal self.old route ≡ None) }
+        ensures added { OnOk result (self.new ≡ record self.old { routes = self.old.routes ++ route ∷ [] }) }
+        ensures refused { IfErr result (Answers (route_refusal self.old route)) }
+        ensures unchanged { OnErr result (self.new ≡ self.old) }
+    {
+        if let Some(fault) = self.route_refusal(&route) {
+            return Err(fault);
+        }
+        let index = self.routes.as_slice().len();
+        let ends = [route.from, route.to];
+        self.routed.reserve(2)?;
+        self.runs.reserve(route.steps.as_slice().len())?;
+        self.routes.push(route)?;
+        count_each(&mut self.routed, &ends);
+        count_each(
+            &mut self.runs,
+            self.routes.as_slice()[index].steps.as_slice(),
+        );
+        Ok(())
+    }
+
+    /// Takes the section of this name out. The others keep their order. It takes no memory. It is refused
+    /// at step 0 as unknown, where no section has the name, and else as in use, where a post stands at
+    /// one of its joints or a route runs over it.
+    pub fn remove_section(&mut self, name: Name) -> Result<Section, NetFault>
+        ensures accepted { OnOk result (section_removal self.old name ≡ None) }
+        ensures removed { IfOk result (λ section. section_named name self.old.sections ≡ Some section) }
+        ensures rest { OnOk result (self.new ≡ record self.old { sections = without (is_named name) self.old.sections }) }
+        ensures refused { IfErr result (λ fault. section_removal self.old name ≡ Some fault) }
+        ensures unchanged { OnErr result (self.new ≡ self.old) }
+    {
+        if let Some(fault) = self.section_removal(name) {
+            return Err(fault);
+        }
+        self.track.remove_section(name)
+    }
+
+    /// Takes the post of this name out. The others keep their order. It takes no memory. It is refused at
+    /// step 0 as unknown, where no post has the name, and else as in use, where a turn or a route names
+    /// it.
+    pub fn remove_post(&mut self, name: Name) -> Result<Post, NetFault>
+        ensures accepted { OnOk result (post_removal self.old name ≡ None) }
+        ensures removed { IfOk result (λ post. post_named name self.old ≡ Some post) }
+        ensures rest { OnOk result (self.new ≡ without_post name self.old) }
+        ensures refused { IfErr result (λ fault. post_removal self.old name ≡ Some fault) }
+        ensures unchanged { OnErr result (self.new ≡ self.old) }
+    {
+        if let Some(fault) = self.post_removal(name) {
+            return Err(fault);
+        }
+        // The posts share one name space, so that at most one of the lists has the name.
+        let portal = self.portals.remove(name);
+        let signal = self.signals.remove(name);
+        let board = self.boards.remove(name);
+        let Some(post) = portal.or(signal).or(board) else {
+            return Err(NetFault::Refused {
+                reason: Reason::Unknown,
+                step: 0,
+            });
+        };
+        Ok(post)
+    }
+
+    /// Takes the turn between these posts out. The others keep their order. It takes no memory. It is
+    /// refused as unknown, at step 0, exactly where no turn is between them.
+    pub fn remove_turn(&mut self, arriving: Name, leaving: Name) -> Result<Turn, NetFault>
+        ensures removed { IfOk result (λ turn. find (is_turn arriving leaving) self.old.turns ≡ Some turn) }
+        ensures rest { OnOk result (self.new ≡ record self.old { turns = without (is_turn arriving leaving) self.old.turns }) }
+        ensures absent { OnErr result (find (is_turn arriving leaving) self.old.turns ≡ None) }
+        ensures refused { IfErr result (λ fault. fault ≡ Refused Unknown 0) }
+        ensures unchanged { OnErr result (self.new ≡ self.old) }
+    {
+        let Some(turn) = self.turns.remove(&(arriving, leaving)) else {
+            return Err(NetFault::Refused {
+                reason: Reason::Unknown,
+                step: 0,
+            });
+        };
+        discount_each(&mut self.turned, &[turn.arriving, turn.leaving]);
+        Ok(turn)
+    }
+
+    /// Takes the route of this name out. The others keep their order. It takes no memory. It is refused
+    /// as unknown, at step 0, exactly where no route has the name.
+    pub fn remove_route(&mut self, name: Name) -> Result<Route, NetFault>
+        ensures removed { IfOk result (λ route. find (is_route name) self.old.routes ≡ Some route) }
+        ensures rest { OnOk result (self.new ≡ record self.old { routes = without (is_route name) self.old.routes }) }
+        ensures absent { OnErr result (find (is_route name) self.old.routes ≡ None) }
+        ensures refused { IfErr result (λ fault. fault ≡ Refused Unknown 0) }
+        ensures unchanged { OnErr result (self.new ≡ self.old) }
+    {
+        let Some(route) = self.routes.remove(&name) else {
+            return Err(NetFault::Refused {
+                reason: Reason::Unknown,
+                step: 0,
+            });
+        };
+        discount_each(&mut self.runs, route.steps.as_slice());
+        discount_each(&mut self.routed, &[route.from, route.to]);
+        Ok(route)
+    }
+}
+
+/// The joints of a network that take no further section.
+#[derive(Clone, Copy)]
+struct ClosedInNetwork<'a> {
+    track: &'a Track,
+    portals: &'a PostList,
+}
+
+impl ClosedJoints for ClosedInNetwork<'_> {
+    ghost use Rattle.rail_routes.specs.Extending.{is_closed_by};
+
+    ghost is_closed = { λ rule. is_closed_by rule.track.now rule.portals.now };
+
+    fn is_closed(&self, joint: Name) -> bool {
+        self.track.is_closed(joint) || self.portals.stands_at(joint)
+    }
+}

@@ -1,0 +1,116 @@
+//! Which step of a route is refused.
+ghost use Rattle.std.specs.Prelude.{◌≡◌, ◌+◌, ◌<◌, ◌≤◌, ◌^◌, ◌&&◌, ◌||◌, not, length, take, Bool, List};
+ghost use Rattle.std.specs.List.{list_any};
+ghost use Rattle.rail_track.specs.Passing.{has_passage};
+ghost use Rattle.rail_track.specs.Refusing.{first_failing};
+ghost use Rattle.rail_base.specs.Naming.{same_name};
+ghost use Rattle.rail_routes.specs.declared.items.Step.{Step};
+ghost use Rattle.rail_routes.specs.Net.{guards};
+ghost use Rattle.rail_routes.specs.Routing.{repeat_tests, way_from, step_tests, begins, ends};
+
+use crate::items::{Post, Role, Step};
+use rail_base::{Name, Reason};
+use rail_track::{NetFault, Track};
+
+/// The first step whose section occurred before.
+pub(super) fn repeat_refusal(steps: &[Step]) -> Option<NetFault>
+    requires { length steps.now < 2 ^ 16 }
+    ensures { result ≡ first_failing (repeat_tests steps.now) }
+{
+    // A route has at most 32 steps, so that comparing each with each is cheap.
+    for (index, step) in steps.iter().enumerate() {
+        if occurs(&steps[..index], step.section) {
+            return Some(NetFault::Refused {
+                reason: Reason::RouteRepeat,
+                step: index as u32 + 1,
+            });
+        }
+    }
+    None
+}
+
+/// Whether a step runs over the section.
+fn occurs(steps: &[Step], section: Name) -> bool
+    ensures { result ≡ list_any (λ (other : Step). same_name section other.section) steps.now }
+{
+    steps.iter().any(|other| section == other.section)
+}
+
+/// The first step that does not lead on from the one post to the other.
+pub(super) fn way_refusal(
+    track: &Track,
+    begin: &Post,
+    end: &Post,
+    steps: &[Step],
+) -> Option<NetFault>
+    requires { length steps.now < 2 ^ 16 }
+    ensures { result ≡ first_failing (way_from begin.now end.now track.now steps.now) }
+{
+    if !begins(track, begin, steps) {
+        return Some(NetFault::Refused {
+            reason: Reason::RouteBroken,
+            step: 1,
+        });
+    }
+    step_refusal(track, end, begin.joint, steps)
+}
+
+/// Whether the steps begin with the section ahead of the post.
+fn begins(track: &Track, post: &Post, steps: &[Step]) -> bool
+    ensures { result ≡ begins post.now track.now steps.now }
+{
+    match (post.role, steps.first()) {
+        (Role::Portal, Some(step)) => track.section_has(step.section, post.joint),
+        (Role::Signal, Some(step)) => guards(post, step.section),
+        _ => false,
+    }
+}
+
+/// Whether the post has this section ahead by name.
+fn guards(post: &Post, section: Name) -> bool
+    ensures { result ≡ guards section post.now }
+{
+    match post.ahead {
+        Some(ahead) => section == ahead,
+        None => false,
+    }
+}
+
+/// The first step that does not lead on from the joint, or at the end not to the post.
+fn step_refusal(track: &Track, end: &Post, start: Name, steps: &[Step]) -> Option<NetFault>
+    requires { length steps.now < 2 ^ 16 }
+    ensures { result ≡ first_failing (step_tests track.now end.now 1 start steps.now) }
+{
+    let mut joint = start;
+    for (index, step) in steps.iter().enumerate() {
+        if leads_wrong(track, end, joint, step, index + 1 == steps.len()) {
+            return Some(NetFault::Refused {
+                reason: Reason::RouteBroken,
+                step: index as u32 + 1,
+            });
+        }
+        joint = step.to;
+    }
+    None
+}
+
+/// Whether the step does not lead on from the joint, or is the last and does not end at the post.
+fn leads_wrong(track: &Track, end: &Post, joint: Name, step: &Step, is_last: bool) -> bool
+    ensures { result ≡ not (same_name joint step.now.from && has_passage track.now step.now.section step.now.from step.now.to && (not is_last || ends end.now step.now)) }
+{
+    !(leads_on(track, joint, step) && (!is_last || ends(end, step)))
+}
+
+/// Whether the step leads on from the joint, over a passage of its section.
+fn leads_on(track: &Track, joint: Name, step: &Step) -> bool
+    ensures { result ≡ (same_name joint step.now.from && has_passage track.now step.now.section step.now.from step.now.to) }
+{
+    joint == step.from && track.passage(step.section, step.from, step.to)
+}
+
+/// Whether the step ends at the joint of the post, and not in the section ahead of it.
+fn ends(post: &Post, step: &Step) -> bool
+    ensures { result ≡ ends post.now step.now }
+{
+    post.joint == step.to && !guards(post, step.section)
+}

@@ -1,0 +1,5 @@
+pub mod Rolls
+pub mod Tallies
+pub mod Refusals
+pub mod Withouts
+pub mod Soundness

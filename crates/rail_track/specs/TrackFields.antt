@@ -1,0 +1,11 @@
+-- How a track is stored: its sections, and the number of sections at each joint.
+use Rattle.std.specs.Prelude.{◌≡◌, ℕ, List}
+use Rattle.rail_track.specs.declared.track.Track.TheInside.{Inside}
+use Rattle.rail_base.specs.Naming.{same_name}
+use Rattle.rail_track.specs.Counting.{times}
+use Rattle.rail_track.specs.Joining.{sections_at}
+use Rattle.rail_track.specs.Sound.{IsSoundTrack}
+
+pub record IsTrackInside (a : Inside) : Type 0 where
+  pub sound : IsSoundTrack a.sections
+  pub counted : (joint : List ℕ) → times same_name a.uses joint ≡ sections_at a.sections joint

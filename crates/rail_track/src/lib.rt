@@ -1,0 +1,22 @@
+//! The track layer: sections, the passages of a section, and the track as a list of sections.
+//!
+//! It stands on the ground layer. The layers above use three more of its things: rolls of items
+//! that are found by a key, tallies of names, and the definition of a first refusal. The list of
+//! tests in `specs/Accepting.antt` decides which section is accepted, and with which answer one is
+//! refused: change the rules there. How a roll or a track finds a name may be changed freely.
+#![tactic(auto)]
+
+mod accepting;
+mod passing;
+mod roll;
+mod section;
+mod tally;
+#[cfg(test)]
+mod tests;
+mod track;
+
+pub use accepting::ClosedJoints;
+pub use roll::{Keyed, Roll};
+pub use section::{NetFault, Section, SectionKind};
+pub use tally::{Tally, count, count_each, discount, discount_each, times};
+pub use track::Track;

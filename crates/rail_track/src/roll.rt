@@ -1,0 +1,91 @@
+ghost use Rattle.std.specs.Prelude.{◌≡◌, false, List, [], ◌∷◌, ◌++◌, length, map, IsTrue, OnOk, OnErr, OnSome, IfNone};
+ghost use Rattle.std.specs.List.{find, list_any};
+ghost use Rattle.std.specs.Option.{option_copied};
+ghost use Rattle.rail_track.specs.Lists.{without};
+
+use indexmap::IndexSet;
+use std::alloc::{AllocError, Global};
+use std::hash::Hash;
+use std::marker::Model;
+
+/// An item that is found by a key of its own.
+pub trait Keyed<K> {
+    ghost key_of: { Self → K };
+
+    /// The key of the item.
+    fn key(&self) -> K
+        ensures { result ≡ key_of self.now };
+}
+
+/// Items in order, each found by its key, of which no two are equal. Contracts see it as the list of
+/// the items.
+#[derive(Drop)]
+pub struct Roll<K: Eq + Hash, T: Keyed<K>> {
+    items: Vec<T>,
+    keys: IndexSet<K>,
+}
+
+impl<K: Eq + Hash, T: Keyed<K>> Model for Roll<K, T> {
+    ghost use Rattle.std.specs.Prelude.{◌≡◌, List, map};
+
+    ghost Value = { List T };
+
+    ghost view = { λ roll. roll.items.items };
+
+    ghost invariant = { λ roll. roll.keys.keys ≡ map T.key_of roll.items.items };
+}
+
+impl<K: Eq + Hash + Drop, T: Keyed<K> + Drop> Roll<K, T> {
+    /// A roll without items, which takes no memory.
+    pub fn new(alloc: Global) -> Roll<K, T>
+        ensures { result ≡ [] }
+    {
+        Roll {
+            items: Vec::new(alloc),
+            keys: IndexSet::new(alloc),
+        }
+    }
+
+    /// The items in order.
+    pub fn as_slice(&self) -> &[T]
+        ensures { result.now ≡ self.now }
+    {
+        self.items.as_slice()
+    }
+
+    /// Whether an item has the key.
+    pub fn contains(&self, key: &K) -> bool
+        ensures { result ≡ list_any (λ item. K.eq key.now (T.key_of item)) self.now }
+    {
+        self.keys.contains(key)
+    }
+
+    /// The item with the key.
+    pub fn get(&self, key: &K) -> Option<&T>
+        ensures { option_copied result ≡ find (λ item. K.eq key.now (T.key_of item)) self.now }
+    {
+        let index = self.keys.get_index_of(key)?;
+        Some(&self.items[index])
+    }
+
+    /// Adds an item last. It fails only for want of memory, and then drops the item.
+    pub fn push(&mut self, item: T) -> Result<(), AllocError>
+        requires { list_any (λ other. K.eq (T.key_of item) (T.key_of other)) self.old ≡ false }
+        ensures ok { OnOk result (self.new ≡ self.old ++ item ∷ []) }
+        ensures err { OnErr result (self.new ≡ self.old) }
+    {
+        self.items.reserve(1)?;
+        self.keys.insert(item.key())?;
+        self.items.push_reserved(item);
+        Ok(())
+    }
+
+    /// Takes the item with the key out. The others keep their order. It takes no memory.
+    pub fn remove(&mut self, key: &K) -> Option<T>
+        ensures item { result ≡ find (λ item. K.eq key.now (T.key_of item)) self.old }
+        ensures rest { self.new ≡ without (λ item. K.eq key.now (T.key_of item)) self.old }
+    {
+        let (index, _) = self.keys.shift_remove_full(key)?;
+        Some(self.items.remove(index))
+    }
+}
