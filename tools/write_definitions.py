@@ -17,7 +17,16 @@ REPOSITORY = pathlib.Path(__file__).resolve().parent.parent
 PAGE = REPOSITORY / "docs" / "DEFINITIONS.md"
 MARK = "<!-- the list -->"
 BASE = [("rail_base", "Naming"), ("rail_base", "Clock"), ("rail_base", "Refusing")]
-OF_HISTORIES = ("rail_rules", "rail_view", "rail_invariant", "rail_account", "rail_bound", "rail_completion", "rail_texts")
+OF_HISTORIES = (
+    "rail_rules",
+    "rail_view",
+    "rail_invariant",
+    "rail_account",
+    "rail_bound",
+    "rail_completion",
+    "rail_texts",
+    "rail_unique",
+)
 
 
 def definitions(path):

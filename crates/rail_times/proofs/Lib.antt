@@ -1,0 +1,3 @@
+-- Lemmas on how far times may rise, which the law above cites.
+pub mod Limits
+pub mod Reached

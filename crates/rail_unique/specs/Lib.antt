@@ -1,0 +1,2 @@
+-- When two run histories are one.
+pub mod Forks
