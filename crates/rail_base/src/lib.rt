@@ -11,6 +11,7 @@ mod history;
 mod intervals;
 mod laws;
 pub mod limits;
+mod names;
 mod numbers;
 mod orders;
 mod plant;
@@ -26,6 +27,7 @@ pub use intervals::{Interval, Parts};
 pub use laws::{
     a_text_stands_for_one_time, a_time_written_is_read_as_itself, two_times_are_written_apart,
 };
+pub use names::Names;
 pub use numbers::{SectionNo, Time, TrainNo, ceil_div};
 pub use orders::{Command, Order, PolicyKind};
 pub use plant::{Call, MoveRow, SectionRow, Tables, TrainKind, TrainRow, TurnRow};

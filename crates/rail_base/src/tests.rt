@@ -1,4 +1,8 @@
-use crate::{Name, Reason, Seq, Time, Word, ceil_div, read_time, write_time};
+use crate::{
+    Name, Names, Reason, SectionNo, Seq, Time, TrainNo, Word, ceil_div, read_time, write_time,
+};
+use indexmap::IndexSet;
+use std::alloc::Global;
 use std::test::Fail;
 
 #[test]
@@ -118,5 +122,34 @@ fn gives_back_what_a_list_or_a_word_holds(rt: HostRuntime) -> Result<(), Fail> {
     assert_eq!(rt; items.into_vec().as_slice(), [3, 1, 2].as_slice());
     let word = Word::from_string(String::from_str(alloc, "fcfs")?);
     assert_eq!(rt; word.as_str(), "fcfs");
+    Ok(())
+}
+
+fn name(bytes: &[u8]) -> Result<Name, Fail> {
+    Ok(Name::read(bytes).ok_or("no name")?)
+}
+
+fn two_names(alloc: Global, first: Name, second: Name) -> Result<IndexSet<Name>, Fail> {
+    let mut names = IndexSet::new(alloc);
+    names.insert(first)?;
+    names.insert(second)?;
+    Ok(names)
+}
+
+#[test]
+fn finds_numbers_by_name(rt: HostRuntime) -> Result<(), Fail> {
+    let (here, there, absent) = (name(b"A")?, name(b"B")?, name(b"C")?);
+    let names = Names {
+        sections: two_names(rt.alloc(), here, there)?,
+        trains: two_names(rt.alloc(), there, here)?,
+    };
+    assert_eq!(rt; names.sections.len(), 2);
+    assert_eq!(rt; names.trains.len(), 2);
+    assert_eq!(rt; names.section(here), Some(SectionNo(0)));
+    assert_eq!(rt; names.section(there), Some(SectionNo(1)));
+    assert_eq!(rt; names.section(absent), None);
+    assert_eq!(rt; names.train(here), Some(TrainNo(1)));
+    assert_eq!(rt; names.train(there), Some(TrainNo(0)));
+    assert_eq!(rt; names.train(absent), None);
     Ok(())
 }
