@@ -1,4 +1,4 @@
-ghost use Rattle.std.specs.Prelude.{◌≡◌, [], ◌∷◌, ◌++◌, Some, None, IsTrue, IfOk, IfErr, OnOk, OnErr};
+ghost use Rattle.std.specs.Prelude.{◌≡◌, [], ◌∷◌, ◌++◌, Some, None, position, IsTrue, IfOk, IfErr, OnOk, OnErr};
 ghost use Rattle.std.specs.List.{find, list_any};
 ghost use Rattle.std.specs.Option.{option_copied};
 
@@ -131,6 +131,27 @@ impl Network {
             .get(name)
             .or(self.signals.get(name))
             .or(self.boards.get(name))
+    }
+
+    /// The index of the section of this name in the list of the sections, from 0.
+    pub fn section_index(&self, name: Name) -> Option<usize>
+        ensures { result ≡ position (is_named name) self.now.sections }
+    {
+        self.track.section_index(name)
+    }
+
+    /// The turn from the one post to the other.
+    pub fn turn(&self, arriving: Name, leaving: Name) -> Option<Turn>
+        ensures { result ≡ find (is_turn arriving leaving) self.now.turns }
+    {
+        self.turns.get(&(arriving, leaving)).copied()
+    }
+
+    /// The route of this name.
+    pub fn route(&self, name: Name) -> Option<&Route>
+        ensures { option_copied result ≡ find (is_route name) self.now.routes }
+    {
+        self.routes.get(&name)
     }
 
     /// Adds a section last. It is refused as by a track, and as crowded also where a joint carries a
