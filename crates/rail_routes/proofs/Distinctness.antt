@@ -25,6 +25,7 @@ use Rattle.rail_routes.specs.Changing.{without_post}
 use Rattle.rail_routes.specs.Distinct.{IsDistinctNetwork}
 use Rattle.rail_routes.proofs.Places.{one_if, count_by-push}
 use Rattle.rail_routes.proofs.Tables.{route_fits}
+use Rattle.rail_routes.proofs.Lists.{both_true, both_false}
 
 -- one more of what was not there
 at_most_one : (total : ℕ) (same : Bool) → (same ≡ true → total ≡ 0) → total ≤ 1 → total + one_if same ≤ 1
@@ -34,14 +35,6 @@ at_most_one total false none few = omega arith
 second_false : (b c : Bool) → (b || c) ≡ false → c ≡ false
 second_false true c h = cc
 second_false false c h = h
-
-both_false : (b c : Bool) → (b || c) ≡ false → (b ≡ false) × (c ≡ false)
-both_false true c h = cc
-both_false false c h = (refl, h)
-
-both_true : (b c : Bool) → (b && c) ≡ true → (b ≡ true) × (c ≡ true)
-both_true true c h = (refl, h)
-both_true false c h = cc
 
 pub distinct_sections : (net : Net) (sections : List Section) → IsDistinctNetwork net → IsSoundTrack sections → IsDistinctNetwork (record net { sections = sections })
 distinct_sections net sections is sound = record {

@@ -5,3 +5,8 @@ pub mod Tables
 pub mod Extensions
 pub mod Leading
 pub mod Distinctness
+pub mod Lists
+pub mod Kept
+pub mod SectionChanges
+pub mod PostChanges
+pub mod WayChanges

@@ -36,6 +36,20 @@ section_known net name none absent =
     let gone : list_any (is_named name) net.sections ≡ false = list_any-find (is_named name) net.sections ∙ ap is_some absent in
     cc
 
+removal_unused : (known used : Bool) → removal known used ≡ None → used ≡ false
+removal_unused true true h = cc
+removal_unused true false h = refl
+removal_unused false used h = cc
+
+-- what may be taken out is not in use
+pub unused : (net : Net) (name : List ℕ) → post_removal net name ≡ None → is_post_used net name ≡ false
+unused net name none = removal_unused (list_any (is_post name) (posts net)) (is_post_used net name) none
+
+pub unused_section : (net : Net) (name : List ℕ) (section : Section) → section_removal net name ≡ None → section_named name net.sections ≡ Some section → is_section_used net section ≡ false
+unused_section net name section none found =
+    sym (ap (λ o. option_map_or (is_section_used net) o false) found)
+    ∙ removal_unused (list_any (is_named name) net.sections) (option_map_or (is_section_used net) (section_named name net.sections) false) none
+
 pub post_known : (net : Net) (name : List ℕ) → post_removal net name ≡ None → post_named name net ≡ None → ⊥
 post_known net name none absent =
     let there = removal_known (list_any (is_post name) (posts net)) (is_post_used net name) none in

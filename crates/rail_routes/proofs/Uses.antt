@@ -51,11 +51,11 @@ shuffle false true true d = refl
 shuffle false true false d = refl
 shuffle false false c d = refl
 
-any_or : {X : Type 0} (p q : X → Bool) (xs : List X) → list_any (λ x. p x || q x) xs ≡ (list_any p xs || list_any q xs)
+pub any_or : {X : Type 0} (p q : X → Bool) (xs : List X) → list_any (λ x. p x || q x) xs ≡ (list_any p xs || list_any q xs)
 any_or p q [] = refl
 any_or p q (x ∷ xs) = ap (λ b. (p x || q x) || b) (any_or p q xs) ∙ shuffle (p x) (q x) (list_any p xs) (list_any q xs)
 
-any_false : {X : Type 0} (xs : List X) → list_any (λ (x : X). false) xs ≡ false
+pub any_false : {X : Type 0} (xs : List X) → list_any (λ (x : X). false) xs ≡ false
 any_false [] = refl
 any_false (x ∷ xs) = any_false xs
 

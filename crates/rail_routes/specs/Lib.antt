@@ -9,3 +9,4 @@ pub mod Extending
 pub mod NetworkFields
 pub mod Changing
 pub mod Distinct
+pub mod Sound

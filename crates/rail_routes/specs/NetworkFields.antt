@@ -1,15 +1,14 @@
 -- How a network is stored: its six lists, and how often a route runs over a section and a turn or route
 -- names a post.
-use Rattle.std.specs.Prelude.{◌≡◌, ℕ, List, [], ◌∷◌, length, count_by, IsTrue, nat_le}
-use Rattle.std.specs.List.{sum_by, list_all}
+use Rattle.std.specs.Prelude.{◌≡◌, ℕ, List, [], ◌∷◌, count_by}
+use Rattle.std.specs.List.{sum_by}
 use Rattle.rail_base.specs.Naming.{same_name}
-use Rattle.rail_base.specs.declared.limits.TheConstants.{ROUTE_SECTIONS}
 use Rattle.rail_track.specs.Counting.{times}
 use Rattle.rail_routes.specs.declared.items.Turn.{Turn}
 use Rattle.rail_routes.specs.declared.items.Route.{Route}
 use Rattle.rail_routes.specs.declared.network.Network.TheInside.{Inside}
 use Rattle.rail_routes.specs.Net.{Net}
-use Rattle.rail_routes.specs.Distinct.{IsDistinctNetwork}
+use Rattle.rail_routes.specs.Sound.{IsSoundNetwork}
 use Rattle.rail_routes.specs.Using.{sections_of}
 
 abbrev pub lists_of : Inside → Net
@@ -27,8 +26,7 @@ abbrev pub route_uses : List Route → List ℕ → ℕ
 route_uses routes name = sum_by (λ (route : Route). count_by (same_name name) (route.from ∷ route.to ∷ [])) routes
 
 pub record IsNetworkInside (a : Inside) : Type 0 where
-  pub distinct : IsDistinctNetwork (lists_of a)
-  pub short : IsTrue (list_all (λ (route : Route). nat_le (length route.steps) ROUTE_SECTIONS) a.routes)
+  pub sound : IsSoundNetwork (lists_of a)
   pub run : (name : List ℕ) → times same_name a.runs name ≡ runs_of a.routes name
   pub turned : (name : List ℕ) → times same_name a.turned name ≡ turn_uses a.turns name
   pub routed : (name : List ℕ) → times same_name a.routed name ≡ route_uses a.routes name

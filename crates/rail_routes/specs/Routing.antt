@@ -40,16 +40,20 @@ begins post sections (step ∷ steps) = is_ahead_of post.role post sections step
 abbrev pub ends : Post → Step → Bool
 ends post step = same_name post.joint step.to && not (guards step.section post)
 
+-- a step follows
 abbrev pub goes_on : List Step → Bool
 goes_on [] = false
 goes_on (step ∷ steps) = true
 
--- each step leads on from where the last one ended, over a passage of its section, and the last step
--- ends at the post
+-- the step leads on from the joint over a passage of its section, and, where no step follows, to the post
+abbrev pub leads_on : List Section → Post → List ℕ → Step → List Step → Bool
+leads_on sections end joint step rest = same_name joint step.from && has_passage sections step.section step.from step.to && (goes_on rest || ends end step)
+
+-- each step leads on from where the one before ended
 abbrev pub step_tests : List Section → Post → ℕ → List ℕ → List Step → List (Test NetFault)
 step_tests sections end n joint [] = []
 step_tests sections end n joint (step ∷ steps) =
-    refused_where RouteBroken n (not (same_name joint step.from && has_passage sections step.section step.from step.to && (goes_on steps || ends end step)))
+    refused_where RouteBroken n (not (leads_on sections end joint step steps))
     ∷ step_tests sections end (n + 1) step.to steps
 
 -- the steps lead from the one post to the other

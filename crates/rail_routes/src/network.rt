@@ -1,4 +1,4 @@
-ghost use Rattle.std.specs.Prelude.{◌≡◌, [], ◌∷◌, ◌++◌, Some, None, IsTrue, IfOk, IfErr, OnOk, OnErr};
+ghost use Rattle.std.specs.Prelude.{◌≡◌, [], ◌∷◌, ◌++◌, Some, None, position, IsTrue, IfOk, IfErr, OnOk, OnErr};
 ghost use Rattle.std.specs.List.{find, list_any};
 ghost use Rattle.std.specs.Option.{option_copied};
 
@@ -18,8 +18,8 @@ mod leading;
 /// Sections, posts, turns and routes, each in the order in which they were added. Contracts see it as
 /// those lists.
 ///
-/// At any time no name, place or pair of posts is taken twice, no list is past its limit, and the track
-/// is sound.
+/// It is sound at any time: the track is sound, no name, place or pair of posts is taken twice, no list
+/// is past its limit, and each post, turn and route keeps its rule.
 #[derive(Drop)]
 pub struct Network {
     track: Track,
@@ -60,12 +60,13 @@ impl Network {
     ghost use Rattle.rail_routes.specs.Turning.{turn_refusal};
     ghost use Rattle.rail_routes.specs.Routing.{route_refusal};
     ghost use Rattle.rail_routes.specs.Using.{section_removal, post_removal};
-    ghost use Rattle.rail_routes.specs.Distinct.{IsDistinctNetwork};
+    ghost use Rattle.rail_routes.specs.Sound.{IsSoundNetwork};
     ghost use Rattle.rail_routes.specs.Changing.{with_post, without_post};
 
     /// A network without items. It takes no memory.
     pub fn new(alloc: Global) -> Network
-        ensures { result ≡ record { sections = []; portals = []; signals = []; boards = []; turns = []; routes = [] } }
+        ensures empty { result ≡ record { sections = []; portals = []; signals = []; boards = []; turns = []; routes = [] } }
+        ensures sound { IsSoundNetwork result }
     {
         Network {
             track: Track::new(alloc),
@@ -83,7 +84,7 @@ impl Network {
     /// The sections in order.
     pub fn sections(&self) -> &[Section]
         ensures sections { result.now ≡ self.now.sections }
-        ensures distinct { IsDistinctNetwork self.now }
+        ensures sound { IsSoundNetwork self.now }
     {
         self.track.sections()
     }
@@ -133,6 +134,27 @@ impl Network {
             .or(self.boards.get(name))
     }
 
+    /// The index of the section of this name in the list of the sections, from 0.
+    pub fn section_index(&self, name: Name) -> Option<usize>
+        ensures { result ≡ position (is_named name) self.now.sections }
+    {
+        self.track.section_index(name)
+    }
+
+    /// The turn from the one post to the other.
+    pub fn turn(&self, arriving: Name, leaving: Name) -> Option<Turn>
+        ensures { result ≡ find (is_turn arriving leaving) self.now.turns }
+    {
+        self.turns.get(&(arriving, leaving)).copied()
+    }
+
+    /// The route of this name.
+    pub fn route(&self, name: Name) -> Option<&Route>
+        ensures { option_copied result ≡ find (is_route name) self.now.routes }
+    {
+        self.routes.get(&name)
+    }
+
     /// Adds a section last. It is refused as by a track, and as crowded also where a joint carries a
     /// portal.
     pub fn add_section(&mut self, alloc: Global, section: Section) -> Result<(), NetFault>
@@ -140,6 +162,7 @@ impl Network {
         ensures added { OnOk result (self.new ≡ record self.old { sections = self.old.sections ++ section ∷ [] }) }
         ensures refused { IfErr result (Answers (net_section_refusal self.old section)) }
         ensures unchanged { OnErr result (self.new ≡ self.old) }
+        ensures sound { IsSoundNetwork self.new }
     {
         let rule = ClosedInNetwork {
             track: &self.track,
@@ -166,6 +189,7 @@ impl Network {
         ensures added { OnOk result (self.new ≡ with_post post self.old) }
         ensures refused { IfErr result (Answers (post_refusal self.old post)) }
         ensures unchanged { OnErr result (self.new ≡ self.old) }
+        ensures sound { IsSoundNetwork self.new }
     {
         if let Some(fault) = self.post_refusal(&post) {
             return Err(fault);
@@ -189,6 +213,7 @@ impl Network {
         ensures added { OnOk result (self.new ≡ record self.old { turns = self.old.turns ++ turn ∷ [] }) }
         ensures refused { IfErr result (Answers (turn_refusal self.old turn)) }
         ensures unchanged { OnErr result (self.new ≡ self.old) }
+        ensures sound { IsSoundNetwork self.new }
     {
         if let Some(fault) = self.turn_refusal(&turn) {
             return Err(fault);
@@ -214,6 +239,7 @@ impl Network {
         ensures added { OnOk result (self.new ≡ record self.old { routes = self.old.routes ++ route ∷ [] }) }
         ensures refused { IfErr result (Answers (route_refusal self.old route)) }
         ensures unchanged { OnErr result (self.new ≡ self.old) }
+        ensures sound { IsSoundNetwork self.new }
     {
         if let Some(fault) = self.route_refusal(&route) {
             return Err(fault);
@@ -240,6 +266,7 @@ impl Network {
         ensures rest { OnOk result (self.new ≡ record self.old { sections = without (is_named name) self.old.sections }) }
         ensures refused { IfErr result (λ fault. section_removal self.old name ≡ Some fault) }
         ensures unchanged { OnErr result (self.new ≡ self.old) }
+        ensures sound { IsSoundNetwork self.new }
     {
         if let Some(fault) = self.section_removal(name) {
             return Err(fault);
@@ -256,6 +283,7 @@ impl Network {
         ensures rest { OnOk result (self.new ≡ without_post name self.old) }
         ensures refused { IfErr result (λ fault. post_removal self.old name ≡ Some fault) }
         ensures unchanged { OnErr result (self.new ≡ self.old) }
+        ensures sound { IsSoundNetwork self.new }
     {
         if let Some(fault) = self.post_removal(name) {
             return Err(fault);
@@ -281,6 +309,7 @@ impl Network {
         ensures absent { OnErr result (find (is_turn arriving leaving) self.old.turns ≡ None) }
         ensures refused { IfErr result (λ fault. fault ≡ Refused Unknown 0) }
         ensures unchanged { OnErr result (self.new ≡ self.old) }
+        ensures sound { IsSoundNetwork self.new }
     {
         let Some(turn) = self.turns.remove(&(arriving, leaving)) else {
             return Err(NetFault::Refused {
@@ -300,6 +329,7 @@ impl Network {
         ensures absent { OnErr result (find (is_route name) self.old.routes ≡ None) }
         ensures refused { IfErr result (λ fault. fault ≡ Refused Unknown 0) }
         ensures unchanged { OnErr result (self.new ≡ self.old) }
+        ensures sound { IsSoundNetwork self.new }
     {
         let Some(route) = self.routes.remove(&name) else {
             return Err(NetFault::Refused {

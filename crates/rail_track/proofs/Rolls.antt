@@ -1,5 +1,5 @@
 -- Items in order beside the list of their keys.
-use Rattle.std.proofs.Common.{◌≡◌, ℕ, suc, ◌+◌, ◌<◌, ◌≤◌, Bool, true, false, cond, not, ◌||◌, List, [], ◌∷◌, ◌++◌, length, map, get_or, remove, slice_get, position, None, Some, refl, sym, ap, ◌∙◌, arith, if◌then◌else◌}
+use Rattle.std.proofs.Common.{◌≡◌, ℕ, suc, ◌+◌, ◌<◌, ◌≤◌, Bool, true, false, cond, not, ◌||◌, List, [], ◌∷◌, ◌++◌, length, map, get_or, remove, slice_get, position, nat_lt, None, Some, refl, sym, ap, ◌∙◌, arith, if◌then◌else◌}
 use Rattle.std.specs.List.{find, list_any, position_or_len}
 use Rattle.std.specs.Set.{remove_key}
 use Rattle.indexmap.specs.IndexSet.{insert_key}
@@ -47,6 +47,9 @@ module _ {X : Type 0} (p : X → Bool) where
 module _ {K X : Type 0} (p : K → Bool) (f : X → K) (ks : List K) (xs : List X) (same : ks ≡ map f xs) where
   place : position_or_len p ks ≡ position_or_len (λ x. p (f x)) xs
   place = ap (position_or_len p) same ∙ position_or_len-map p f xs
+
+  pub position_of_key : position p ks ≡ position (λ y. p (f y)) xs
+  position_of_key = λ i. cond (nat_lt (place i) ((ap length same ∙ length-map xs f) i)) (Some (place i)) None
 
   past : position p ks ≡ None → length xs ≤ position_or_len (λ y. p (f y)) xs
   past none = omega (arith, place_past p ks none, place, ap length same, length-map xs f)

@@ -1,4 +1,4 @@
-ghost use Rattle.std.specs.Prelude.{◌≡◌, false, List, [], ◌∷◌, ◌++◌, length, map, IsTrue, OnOk, OnErr, OnSome, IfNone};
+ghost use Rattle.std.specs.Prelude.{◌≡◌, false, List, [], ◌∷◌, ◌++◌, length, map, position, IsTrue, OnOk, OnErr, OnSome, IfNone};
 ghost use Rattle.std.specs.List.{find, list_any};
 ghost use Rattle.std.specs.Option.{option_copied};
 ghost use Rattle.rail_track.specs.Lists.{without};
@@ -66,6 +66,13 @@ impl<K: Eq + Hash + Drop, T: Keyed<K> + Drop> Roll<K, T> {
     {
         let index = self.keys.get_index_of(key)?;
         Some(&self.items[index])
+    }
+
+    /// The index of the item with the key, from 0.
+    pub fn index_of(&self, key: &K) -> Option<usize>
+        ensures { result ≡ position (λ item. K.eq key.now (T.key_of item)) self.now }
+    {
+        self.keys.get_index_of(key)
     }
 
     /// Adds an item last. It fails only for want of memory, and then drops the item.

@@ -1,4 +1,4 @@
-ghost use Rattle.std.specs.Prelude.{◌≡◌, [], ◌∷◌, ◌++◌, Some, None, IfOk, IfErr, OnOk, OnErr};
+ghost use Rattle.std.specs.Prelude.{◌≡◌, [], ◌∷◌, ◌++◌, Some, None, position, IfOk, IfErr, OnOk, OnErr};
 ghost use Rattle.std.specs.List.{list_any};
 ghost use Rattle.std.specs.Option.{option_copied};
 
@@ -89,6 +89,13 @@ impl Track {
         ensures { result ≡ list_any (is_named name) self.now }
     {
         self.sections.contains(&name)
+    }
+
+    /// The index of the section of this name in the list of the sections, from 0.
+    pub fn section_index(&self, name: Name) -> Option<usize>
+        ensures { result ≡ position (is_named name) self.now }
+    {
+        self.sections.index_of(&name)
     }
 
     /// The number of sections that the joint is in.

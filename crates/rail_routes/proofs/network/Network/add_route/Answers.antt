@@ -1,7 +1,6 @@
-use Rattle.std.proofs.Common.{◌≡◌, [], ◌∷◌, length, get_or, unwrap_or, count_by, ap, sym, ◌∙◌, refl, arith, true, ◌&&◌}
+use Rattle.std.proofs.Common.{◌≡◌, [], ◌∷◌, length, get_or, unwrap_or, count_by, ap, sym, ◌∙◌, refl, arith}
 use Rattle.std.specs.Map.{lookup}
 use Rattle.std.proofs.lemmas.List.{get_or_push, length-map}
-use Rattle.std.proofs.lemmas.List.Folds.{list_all-append}
 use Rattle.std.proofs.lemmas.List.Sums.{count_by-le-length, sum_by_push}
 use Rattle.rail_base.specs.Naming.{same_name}
 use Rattle.rail_track.specs.Counting.{times}
@@ -10,15 +9,15 @@ use Rattle.rail_routes.specs.declared.items.Route.{Route}
 use Rattle.rail_routes.specs.Net.{Net}
 use Rattle.rail_routes.specs.Routing.{route_refusal}
 use Rattle.rail_routes.specs.Using.{sections_of}
-use Rattle.rail_routes.proofs.Tables.{route_uses-le, runs_of-le, is_short, route_fits, short_length}
+use Rattle.rail_routes.proofs.Tables.{route_uses-le, runs_of-le, route_fits, short_length}
 use Rattle.rail_routes.specs.NetworkFields.{lists_of}
-use Rattle.rail_routes.proofs.Distinctness.{distinct_route}
+use Rattle.rail_routes.proofs.WayChanges.{sound_with_route, sound_short}
 use Rattle.rail_routes.proofs.network.Network.add_route.Goals as goal
 
 pub count_each-requires-clause-fits : goal.count_each-requires-clause-fits
 count_each-requires-clause-fits c = λ name.
     let kept : times same_name c.reserve.new.self name ≡ times same_name c.self.inside.routed name = ap (λ es. unwrap_or (lookup (same_name name) es) 0) c.reserve.ensures.entries in
-    omega (arith, kept, c.self.invariant.routed name, c.self.invariant.distinct.few_routes, route_uses-le name c.self.inside.routes, count_by-le-length (same_name name) (c.args.route.from ∷ c.args.route.to ∷ []))
+    omega (arith, kept, c.self.invariant.routed name, c.self.invariant.sound.distinct.few_routes, route_uses-le name c.self.inside.routes, count_by-le-length (same_name name) (c.args.route.from ∷ c.args.route.to ∷ []))
 
 pub count_each-requires-2-clause-fits : goal.count_each-requires-2-clause-fits
 count_each-requires-2-clause-fits c =
@@ -29,7 +28,7 @@ count_each-requires-2-clause-fits c =
     let steps : c.as_slice-3.result.now ≡ route.steps = c.as_slice-3.ensures ∙ ap (λ (r : Route). r.steps) last in
     rw steps (λ name.
     let kept : times same_name c.reserve-2.new.self name ≡ times same_name c.self.inside.runs name = ap (λ es. unwrap_or (lookup (same_name name) es) 0) c.reserve-2.ensures.entries in
-    omega (arith, kept, c.self.invariant.run name, c.self.invariant.distinct.few_routes, runs_of-le name routes c.self.invariant.short, short_length route fits.1, count_by-le-length (same_name name) (sections_of route), length-map route.steps (λ (step : Step). step.section)))
+    omega (arith, kept, c.self.invariant.run name, c.self.invariant.sound.distinct.few_routes, runs_of-le name routes (sound_short (lists_of c.self.inside) c.self.invariant.sound), short_length route fits.1, count_by-le-length (same_name name) (sections_of route), length-map route.steps (λ (step : Step). step.section)))
 
 pub invariant_of-self-2 : goal.invariant_of-self-2
 invariant_of-self-2 c =
@@ -40,8 +39,7 @@ invariant_of-self-2 c =
     let last = (λ i. get_or ((c.as_slice-2.ensures ∙ c.in_ok-push.ensures.ok) i) (length (c.as_slice-index.ensures i)) c.index-as_slice-index.result) ∙ get_or_push routes route c.index-as_slice-index.result (length routes) refl in
     let steps : c.as_slice-3.result.now ≡ route.steps = c.as_slice-3.ensures ∙ ap (λ (r : Route). r.steps) last in
     rw c.in_ok-push.ensures.ok record {
-      distinct = distinct_route (lists_of c.self.inside) route is.distinct (ap (λ (net : Net). route_refusal net route) c.self.view_is ∙ sym c.in_default.ensures);
-      short = list_all-append is_short routes (route ∷ []) ∙ (λ i. is.short i && (fits.1 i && true));
+      sound = sound_with_route (lists_of c.self.inside) route is.sound (ap (λ (net : Net). route_refusal net route) c.self.view_is ∙ sym c.in_default.ensures);
       run = λ name.
           let kept : times same_name c.reserve-2.new.self name ≡ times same_name c.self.inside.runs name = ap (λ es. unwrap_or (lookup (same_name name) es) 0) c.reserve-2.ensures.entries in
           omega (arith, kept, is.run name, rw steps at (c.count_each-2.ensures.counted name), sum_by_push (λ r. count_by (same_name name) (sections_of r)) routes route);
@@ -50,3 +48,6 @@ invariant_of-self-2 c =
           let kept : times same_name c.reserve.new.self name ≡ times same_name c.self.inside.routed name = ap (λ es. unwrap_or (lookup (same_name name) es) 0) c.reserve.ensures.entries in
           omega (arith, kept, is.routed name, c.count_each.ensures.counted name, sum_by_push (λ (r : Route). count_by (same_name name) (r.from ∷ r.to ∷ [])) routes route);
     }
+
+pub returns-clause-sound : goal.returns-clause-sound
+returns-clause-sound c = rw c.in_ok-push.ensures.ok (sound_with_route (lists_of c.self.inside) c.args.route c.self.invariant.sound (ap (λ (net : Net). route_refusal net c.args.route) c.self.view_is ∙ sym c.in_default.ensures))

@@ -7,6 +7,8 @@ use Rattle.rail_track.proofs.Refusals.{answers_first}
 use Rattle.rail_routes.specs.Net.{Net}
 use Rattle.rail_routes.specs.Extending.{net_section_refusal}
 use Rattle.rail_routes.proofs.Extensions.{track_accepts}
+use Rattle.rail_routes.specs.NetworkFields.{lists_of}
+use Rattle.rail_routes.proofs.SectionChanges.{sound_after_adding}
 use Rattle.rail_routes.proofs.network.Network.add_section.Goals as goal
 
 pub returns-in-Some-clause-refused : goal.returns-in-Some-clause-refused
@@ -18,3 +20,17 @@ returns-clause-refused c =
     let none = ap (λ (net : Net). net_section_refusal net c.args.section) (sym c.self.view_is) ∙ sym c.in_default.ensures in
     let P : Option NetFault → Type 0 = λ first. IfErr c.add_section.result (Answers first) in
     subst P (track_accepts c.self.inside.track c.self.inside.portals c.args.section (sym c.in_default.ensures) ∙ sym none) c.add_section.ensures.refused
+
+pub invariant_of-self : goal.invariant_of-self
+invariant_of-self c =
+    let is = c.self.invariant in
+    record {
+      sound = sound_after_adding (lists_of c.self.inside) c.args.section _ c.add_section.result is.sound (sym c.in_default.ensures) c.add_section.ensures.sound c.add_section.ensures.added c.add_section.ensures.unchanged;
+      run = is.run;
+      turned = is.turned;
+      routed = is.routed;
+    }
+
+pub returns-clause-sound : goal.returns-clause-sound
+returns-clause-sound c =
+    sound_after_adding (lists_of c.self.inside) c.args.section _ c.add_section.result c.self.invariant.sound (sym c.in_default.ensures) c.add_section.ensures.sound c.add_section.ensures.added c.add_section.ensures.unchanged

@@ -8,24 +8,26 @@ use Rattle.rail_routes.specs.declared.items.Turn.{Turn}
 use Rattle.rail_routes.specs.Net.{Net}
 use Rattle.rail_routes.specs.Turning.{turn_refusal}
 use Rattle.rail_routes.specs.NetworkFields.{lists_of}
-use Rattle.rail_routes.proofs.Distinctness.{distinct_turn}
+use Rattle.rail_routes.proofs.WayChanges.{sound_with_turn}
 use Rattle.rail_routes.proofs.network.Network.add_turn.Goals as goal
 
 pub count_each-requires-clause-fits : goal.count_each-requires-clause-fits
 count_each-requires-clause-fits c = λ name.
     let kept : times same_name c.reserve.new.self name ≡ times same_name c.self.inside.turned name = ap (λ es. unwrap_or (lookup (same_name name) es) 0) c.reserve.ensures.entries in
-    omega (arith, kept, c.self.invariant.turned name, c.self.invariant.distinct.few_turns, turn_uses-le name c.self.inside.turns, count_by-le-length (same_name name) (c.args.turn.arriving ∷ c.args.turn.leaving ∷ []))
+    omega (arith, kept, c.self.invariant.turned name, c.self.invariant.sound.distinct.few_turns, turn_uses-le name c.self.inside.turns, count_by-le-length (same_name name) (c.args.turn.arriving ∷ c.args.turn.leaving ∷ []))
 
 pub invariant_of-self-2 : goal.invariant_of-self-2
 invariant_of-self-2 c =
     let is = c.self.invariant in
     let turn = c.args.turn in
     rw c.in_ok-push.ensures.ok record {
-      distinct = distinct_turn (lists_of c.self.inside) turn is.distinct (ap (λ (net : Net). turn_refusal net turn) c.self.view_is ∙ sym c.in_default.ensures);
-      short = is.short;
+      sound = sound_with_turn (lists_of c.self.inside) turn is.sound (ap (λ (net : Net). turn_refusal net turn) c.self.view_is ∙ sym c.in_default.ensures);
       run = is.run;
       turned = λ name.
           let kept : times same_name c.reserve.new.self name ≡ times same_name c.self.inside.turned name = ap (λ es. unwrap_or (lookup (same_name name) es) 0) c.reserve.ensures.entries in
           omega (arith, kept, is.turned name, c.count_each.ensures.counted name, sum_by_push (λ (t : Turn). count_by (same_name name) (t.arriving ∷ t.leaving ∷ [])) c.self.inside.turns turn);
       routed = is.routed;
     }
+
+pub returns-clause-sound : goal.returns-clause-sound
+returns-clause-sound c = rw c.in_ok-push.ensures.ok (sound_with_turn (lists_of c.self.inside) c.args.turn c.self.invariant.sound (ap (λ (net : Net). turn_refusal net c.args.turn) c.self.view_is ∙ sym c.in_default.ensures))

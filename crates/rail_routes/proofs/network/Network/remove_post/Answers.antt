@@ -1,17 +1,17 @@
 use Rattle.std.proofs.Common.{ap, ◌∙◌, sym}
 use Rattle.std.specs.Option.{option_or}
-use Rattle.rail_routes.specs.Net.{post_named}
-use Rattle.rail_routes.proofs.Removals.{post_known, post_of_lists}
+use Rattle.rail_routes.specs.Net.{Net, post_named}
+use Rattle.rail_routes.specs.Using.{post_removal}
+use Rattle.rail_routes.proofs.Removals.{post_known, post_of_lists, unused}
 use Rattle.rail_routes.specs.NetworkFields.{lists_of}
-use Rattle.rail_routes.proofs.Distinctness.{distinct_without_post}
+use Rattle.rail_routes.proofs.PostChanges.{sound_without_post}
 use Rattle.rail_routes.proofs.network.Network.remove_post.Goals as goal
 
 pub invariant_of-self : goal.invariant_of-self
 invariant_of-self c =
     let is = c.self.invariant in
     rw (c.remove-portal.ensures.rest, c.remove-signal.ensures.rest, c.remove-board.ensures.rest) record {
-      distinct = distinct_without_post (lists_of c.self.inside) c.args.name is.distinct;
-      short = is.short;
+      sound = sound_without_post (lists_of c.self.inside) c.args.name is.sound (unused (lists_of c.self.inside) c.args.name (ap (λ (net : Net). post_removal net c.args.name) c.self.view_is ∙ sym c.in_default.ensures));
       run = is.run;
       turned = is.turned;
       routed = is.routed;
@@ -21,8 +21,7 @@ pub invariant_of-self-2 : goal.invariant_of-self-2
 invariant_of-self-2 c =
     let is = c.self.invariant in
     rw (c.remove-portal.ensures.rest, c.remove-signal.ensures.rest, c.remove-board.ensures.rest) record {
-      distinct = distinct_without_post (lists_of c.self.inside) c.args.name is.distinct;
-      short = is.short;
+      sound = sound_without_post (lists_of c.self.inside) c.args.name is.sound (unused (lists_of c.self.inside) c.args.name (ap (λ (net : Net). post_removal net c.args.name) c.self.view_is ∙ sym c.in_default.ensures));
       run = is.run;
       turned = is.turned;
       routed = is.routed;
@@ -42,3 +41,11 @@ pub returns-clause-removed : goal.returns-clause-removed
 returns-clause-removed c =
     let found = post_of_lists c.args.name c.self.inside.portals c.self.inside.signals c.self.inside.boards _ _ _ _ c.remove-portal.ensures.post c.remove-signal.ensures.post c.remove-board.ensures.post (c.or-2.ensures ∙ ap (λ o. option_or o c.remove-board.result) c.or.ensures) in
     ap (post_named c.args.name) (sym c.self.view_is) ∙ sym found ∙ c.in-Some-or.is
+
+pub returns-in_default-or-clause-sound : goal.returns-in_default-or-clause-sound
+returns-in_default-or-clause-sound c =
+    rw (c.remove-portal.ensures.rest, c.remove-signal.ensures.rest, c.remove-board.ensures.rest) (sound_without_post (lists_of c.self.inside) c.args.name c.self.invariant.sound (unused (lists_of c.self.inside) c.args.name (ap (λ (net : Net). post_removal net c.args.name) c.self.view_is ∙ sym c.in_default.ensures)))
+
+pub returns-clause-sound : goal.returns-clause-sound
+returns-clause-sound c =
+    rw (c.remove-portal.ensures.rest, c.remove-signal.ensures.rest, c.remove-board.ensures.rest) (sound_without_post (lists_of c.self.inside) c.args.name c.self.invariant.sound (unused (lists_of c.self.inside) c.args.name (ap (λ (net : Net). post_removal net c.args.name) c.self.view_is ∙ sym c.in_default.ensures)))

@@ -1,13 +1,12 @@
 use Rattle.std.proofs.Common.{[], ◌∷◌, count_by, ◌∙◌, sym, arith}
 use Rattle.rail_base.specs.Naming.{same_name}
-use Rattle.rail_track.proofs.Withouts.{without-absent, list_all-without}
+use Rattle.rail_track.proofs.Withouts.{without-absent}
 use Rattle.rail_routes.specs.declared.items.Route.{Route}
 use Rattle.rail_routes.specs.Net.{is_route}
 use Rattle.rail_routes.specs.Using.{sections_of}
 use Rattle.rail_routes.proofs.Uses.{sum_by-without}
-use Rattle.rail_routes.proofs.Tables.{is_short}
 use Rattle.rail_routes.specs.NetworkFields.{lists_of}
-use Rattle.rail_routes.proofs.Distinctness.{distinct_without_route}
+use Rattle.rail_routes.proofs.WayChanges.{sound_without_route}
 use Rattle.rail_routes.proofs.network.Network.remove_route.Goals as goal
 
 pub invariant_of-self : goal.invariant_of-self
@@ -32,11 +31,16 @@ pub invariant_of-self-2 : goal.invariant_of-self-2
 invariant_of-self-2 c =
     let is = c.self.invariant in
     rw c.remove.ensures.rest record {
-      distinct = distinct_without_route (lists_of c.self.inside) (is_route c.args.name) is.distinct;
-      short = list_all-without (is_route c.args.name) is_short c.self.inside.routes is.short;
+      sound = sound_without_route (lists_of c.self.inside) (is_route c.args.name) is.sound;
       run = λ name.
           omega (arith, is.run name, rw c.as_slice.ensures at (c.discount_each.ensures.discounted name), sum_by-without (is_route c.args.name) (λ route. count_by (same_name name) (sections_of route)) c.self.inside.routes c.in-Some.route (sym c.in-Some.ensures.item));
       turned = is.turned;
       routed = λ name.
           omega (arith, is.routed name, c.discount_each-2.ensures.discounted name, sum_by-without (is_route c.args.name) (λ (route : Route). count_by (same_name name) (route.from ∷ route.to ∷ [])) c.self.inside.routes c.in-Some.route (sym c.in-Some.ensures.item));
     }
+
+pub returns-in_default-clause-sound : goal.returns-in_default-clause-sound
+returns-in_default-clause-sound c = rw c.remove.ensures.rest (sound_without_route (lists_of c.self.inside) (is_route c.args.name) c.self.invariant.sound)
+
+pub returns-clause-sound : goal.returns-clause-sound
+returns-clause-sound c = rw c.remove.ensures.rest (sound_without_route (lists_of c.self.inside) (is_route c.args.name) c.self.invariant.sound)

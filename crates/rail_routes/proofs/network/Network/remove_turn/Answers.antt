@@ -5,7 +5,7 @@ use Rattle.rail_routes.specs.declared.items.Turn.{Turn}
 use Rattle.rail_routes.specs.Net.{is_turn}
 use Rattle.rail_routes.proofs.Uses.{sum_by-without}
 use Rattle.rail_routes.specs.NetworkFields.{lists_of}
-use Rattle.rail_routes.proofs.Distinctness.{distinct_without_turn}
+use Rattle.rail_routes.proofs.WayChanges.{sound_without_turn}
 use Rattle.rail_routes.proofs.network.Network.remove_turn.Goals as goal
 
 pub invariant_of-self : goal.invariant_of-self
@@ -24,10 +24,15 @@ pub invariant_of-self-2 : goal.invariant_of-self-2
 invariant_of-self-2 c =
     let is = c.self.invariant in
     rw c.remove.ensures.rest record {
-      distinct = distinct_without_turn (lists_of c.self.inside) (is_turn c.args.arriving c.args.leaving) is.distinct;
-      short = is.short;
+      sound = sound_without_turn (lists_of c.self.inside) (is_turn c.args.arriving c.args.leaving) is.sound;
       run = is.run;
       turned = λ name.
           omega (arith, is.turned name, c.discount_each.ensures.discounted name, sum_by-without (is_turn c.args.arriving c.args.leaving) (λ (turn : Turn). count_by (same_name name) (turn.arriving ∷ turn.leaving ∷ [])) c.self.inside.turns c.in-Some.turn (sym c.in-Some.ensures.item));
       routed = is.routed;
     }
+
+pub returns-in_default-clause-sound : goal.returns-in_default-clause-sound
+returns-in_default-clause-sound c = rw c.remove.ensures.rest (sound_without_turn (lists_of c.self.inside) (is_turn c.args.arriving c.args.leaving) c.self.invariant.sound)
+
+pub returns-clause-sound : goal.returns-clause-sound
+returns-clause-sound c = rw c.remove.ensures.rest (sound_without_turn (lists_of c.self.inside) (is_turn c.args.arriving c.args.leaving) c.self.invariant.sound)

@@ -1,0 +1,67 @@
+-- Sound networks: each post, turn and route keeps its rule.
+use Rattle.std.specs.Prelude.{ℕ, Bool, true, false, not, ◌&&◌, ◌||◌, List, [], ◌∷◌, Option, Some, None, length, nat_le, IsTrue}
+use Rattle.std.specs.List.{list_any, list_all}
+use Rattle.rail_base.specs.Naming.{same_name}
+use Rattle.rail_base.specs.declared.limits.TheConstants.{SETTING, WATCHING, APPROACH, TURN_TIME, ROUTE_SECTIONS}
+use Rattle.rail_track.specs.declared.section.Section.{Section}
+use Rattle.rail_track.specs.Accepting.{is_within}
+use Rattle.rail_track.specs.Lists.{are_apart}
+use Rattle.rail_routes.specs.declared.items.Post.{Post}
+use Rattle.rail_routes.specs.declared.items.Role.{Role}
+use Rattle.rail_routes.specs.declared.items.Role.TheVariants.{Portal, Signal, Board}
+use Rattle.rail_routes.specs.declared.items.Step.{Step}
+use Rattle.rail_routes.specs.declared.items.Turn.{Turn}
+use Rattle.rail_routes.specs.declared.items.Route.{Route}
+use Rattle.rail_routes.specs.Net.{Net, posts, is_post, post_named}
+use Rattle.rail_routes.specs.Posting.{is_formed, has_times, stands_well}
+use Rattle.rail_routes.specs.Turning.{turns_well}
+use Rattle.rail_routes.specs.Routing.{begins, leads_on}
+use Rattle.rail_routes.specs.Distinct.{IsDistinctNetwork}
+
+-- the roles are the same
+abbrev pub same_role : Role → Role → Bool
+same_role Portal Portal = true
+same_role Signal Signal = true
+same_role Board Board = true
+same_role role other = false
+
+-- the times of a portal or signal are in range
+abbrev pub is_timed : Post → Bool
+is_timed post = not (has_times post.role) || (is_within SETTING post.setting && nat_le post.watching WATCHING && nat_le post.approach APPROACH)
+
+-- a post of the role is formed as the role asks, has its times in range, and stands where it may
+abbrev pub is_sound_post : Role → List Section → Post → Bool
+is_sound_post role sections post = same_role role post.role && is_formed post && is_timed post && stands_well sections post
+
+-- the time of the turn is in range, its arriving post is there, and it leads as turns may
+abbrev pub is_sound_turn : Net → Turn → Bool
+is_sound_turn net turn = nat_le turn.time TURN_TIME && list_any (is_post turn.arriving) (posts net) && turns_well net turn
+
+-- the steps run over one section
+abbrev pub have_one_section : Step → Step → Bool
+have_one_section step other = same_name step.section other.section
+
+-- each step leads on from the joint where the one before ended, and the last one to the post
+abbrev pub lead_to : List Section → Post → List ℕ → List Step → Bool
+lead_to sections end joint [] = true
+lead_to sections end joint (step ∷ rest) = leads_on sections end joint step rest && lead_to sections end step.to rest
+
+-- both posts are there, and the steps lead from the section ahead of the first to the second
+abbrev pub lead_between : List Section → Option Post → Option Post → List Step → Bool
+lead_between sections (Some begin) (Some end) steps = begins begin sections steps && lead_to sections end begin.joint steps
+lead_between sections begin end steps = false
+
+-- the route has few enough steps, over different sections, which lead from its first post to its last
+abbrev pub is_sound_route : Net → Route → Bool
+is_sound_route net route =
+    is_within ROUTE_SECTIONS (length route.steps) && are_apart have_one_section route.steps
+    && lead_between net.sections (post_named route.from net) (post_named route.to net) route.steps
+
+-- a sound network is distinct, and each of its posts, turns and routes is sound in it
+pub record IsSoundNetwork (net : Net) : Type 0 where
+  pub distinct : IsDistinctNetwork net
+  pub portals : IsTrue (list_all (is_sound_post Portal net.sections) net.portals)
+  pub signals : IsTrue (list_all (is_sound_post Signal net.sections) net.signals)
+  pub boards : IsTrue (list_all (is_sound_post Board net.sections) net.boards)
+  pub turns : IsTrue (list_all (is_sound_turn net) net.turns)
+  pub routes : IsTrue (list_all (is_sound_route net) net.routes)
