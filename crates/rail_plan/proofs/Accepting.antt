@@ -1,0 +1,103 @@
+-- Which plants may be run, by their tables and by their calls.
+use Rattle.std.proofs.Common.{◌≡◌, ℕ, Bool, true, ◌&&◌, leb, List, [], length, map, Option, None, refl}
+use Rattle.std.specs.List.{list_all}
+use Rattle.std.proofs.lemmas.Bool.{and_parts, and_from, leb-true, le-leb}
+use Rattle.rail_base.specs.declared.limits.TheConstants.{SECTIONS, TRAINS, RELEASE, DEPTH}
+use Rattle.rail_base.specs.declared.plant.Call.{Call}
+use Rattle.rail_base.specs.declared.plant.Tables.{Tables}
+use Rattle.rail_base.specs.declared.plant.SectionRow.{SectionRow}
+use Rattle.rail_base.specs.declared.plant.TrainRow.{TrainRow}
+use Rattle.rail_rules.specs.Numbers.{all_below}
+use Rattle.rail_rules.specs.Moves.{is_valid}
+use Rattle.rail_rules.specs.Plant.{Plant, moves, moves_of}
+use Rattle.rail_rules.specs.Accepted.{are_distinct_names, is_fine_section, is_fine_train, does_fit, are_fine_calls, is_accepted}
+use Rattle.rail_rules.proofs.Below.{all_below_from}
+use Rattle.rail_plan.specs.Planning.{IsPlannable, bare, fault_of}
+use Rattle.rail_plan.specs.Calling.{AreCallsFor, with_calls}
+use Rattle.rail_plan.proofs.Valid.{each_fits, valid}
+
+-- what is asked beside the tables and their ranges
+pub record IsFaultless (plant : Plant) : Type 0 where
+  pub fits : all_below (does_fit plant) (length plant.tables.trains) ≡ true
+  pub calls : all_below (are_fine_calls plant) (length plant.tables.trains) ≡ true
+  pub valid : is_valid (moves_of plant) ≡ true
+
+pub accepted_from : (tables : Tables) (calls : List (List (Option Call))) → IsPlannable tables → IsFaultless (with_calls tables calls) → is_accepted (with_calls tables calls) ≡ true
+accepted_from tables calls h f =
+    let plant : Plant = with_calls tables calls in
+    let n : ℕ = length tables.trains in
+    let b1 : Bool = leb (length tables.sections) SECTIONS in
+    let b2 : Bool = leb n TRAINS in
+    let b3 : Bool = leb tables.release RELEASE in
+    let b4 : Bool = leb tables.depth DEPTH in
+    let b5 : Bool = list_all is_fine_section tables.sections in
+    let b6 : Bool = are_distinct_names (map (λ (row : SectionRow). row.name) tables.sections) in
+    let b7 : Bool = are_distinct_names (map (λ (row : TrainRow). row.name) tables.trains) in
+    let b8 : Bool = all_below (is_fine_train plant) n in
+    let b9 : Bool = all_below (does_fit plant) n in
+    let b10 : Bool = all_below (are_fine_calls plant) n in
+    let p2 = and_from b1 b2 (le-leb (length tables.sections) SECTIONS h.few_sections) (le-leb n TRAINS h.few_trains) in
+    let p3 = and_from (b1 && b2) b3 p2 (le-leb tables.release RELEASE h.release) in
+    let p4 = and_from (b1 && b2 && b3) b4 p3 (le-leb tables.depth DEPTH h.depth) in
+    let p5 = and_from (b1 && b2 && b3 && b4) b5 p4 h.sections in
+    let p6 = and_from (b1 && b2 && b3 && b4 && b5) b6 p5 h.section_names in
+    let p7 = and_from (b1 && b2 && b3 && b4 && b5 && b6) b7 p6 h.train_names in
+    let p8 = and_from (b1 && b2 && b3 && b4 && b5 && b6 && b7) b8 p7 h.trains in
+    let p9 = and_from (b1 && b2 && b3 && b4 && b5 && b6 && b7 && b8) b9 p8 f.fits in
+    let p10 = and_from (b1 && b2 && b3 && b4 && b5 && b6 && b7 && b8 && b9) b10 p9 f.calls in
+    and_from (b1 && b2 && b3 && b4 && b5 && b6 && b7 && b8 && b9 && b10) (is_valid (moves_of plant)) p10 f.valid
+
+pub accepted_parts : (tables : Tables) (calls : List (List (Option Call))) → is_accepted (with_calls tables calls) ≡ true → IsPlannable tables × IsFaultless (with_calls tables calls)
+accepted_parts tables calls accepted =
+    let plant : Plant = with_calls tables calls in
+    let n : ℕ = length tables.trains in
+    let b1 : Bool = leb (length tables.sections) SECTIONS in
+    let b2 : Bool = leb n TRAINS in
+    let b3 : Bool = leb tables.release RELEASE in
+    let b4 : Bool = leb tables.depth DEPTH in
+    let b5 : Bool = list_all is_fine_section tables.sections in
+    let b6 : Bool = are_distinct_names (map (λ (row : SectionRow). row.name) tables.sections) in
+    let b7 : Bool = are_distinct_names (map (λ (row : TrainRow). row.name) tables.trains) in
+    let b8 : Bool = all_below (is_fine_train plant) n in
+    let b9 : Bool = all_below (does_fit plant) n in
+    let b10 : Bool = all_below (are_fine_calls plant) n in
+    let p10 = and_parts (b1 && b2 && b3 && b4 && b5 && b6 && b7 && b8 && b9 && b10) (is_valid (moves_of plant)) accepted in
+    let p9 = and_parts (b1 && b2 && b3 && b4 && b5 && b6 && b7 && b8 && b9) b10 p10.0 in
+    let p8 = and_parts (b1 && b2 && b3 && b4 && b5 && b6 && b7 && b8) b9 p9.0 in
+    let p7 = and_parts (b1 && b2 && b3 && b4 && b5 && b6 && b7) b8 p8.0 in
+    let p6 = and_parts (b1 && b2 && b3 && b4 && b5 && b6) b7 p7.0 in
+    let p5 = and_parts (b1 && b2 && b3 && b4 && b5) b6 p6.0 in
+    let p4 = and_parts (b1 && b2 && b3 && b4) b5 p5.0 in
+    let p3 = and_parts (b1 && b2 && b3) b4 p4.0 in
+    let p2 = and_parts (b1 && b2) b3 p3.0 in
+    let p1 = and_parts b1 b2 p2.0 in (
+      record {
+        few_sections = leb-true (length tables.sections) SECTIONS p1.0;
+        few_trains = leb-true n TRAINS p1.1;
+        release = leb-true tables.release RELEASE p2.1;
+        depth = leb-true tables.depth DEPTH p3.1;
+        sections = p4.1;
+        section_names = p5.1;
+        train_names = p6.1;
+        trains = p7.1;
+      },
+      record { fits = p8.1; calls = p9.1; valid = p10.1 },
+    )
+
+pub plannable : (tables : Tables) (calls : List (List (Option Call))) → is_accepted (with_calls tables calls) ≡ true → IsPlannable tables
+plannable tables calls accepted = (accepted_parts tables calls accepted).0
+
+-- other calls that were made for the tables
+pub recalled : (tables : Tables) (old new : List (List (Option Call))) → is_accepted (with_calls tables old) ≡ true → AreCallsFor tables new → is_accepted (with_calls tables new) ≡ true
+recalled tables old new accepted made =
+    let parts = accepted_parts tables old accepted in
+    accepted_from tables new parts.0 (record { fits = parts.1.fits; calls = all_below_from (are_fine_calls (with_calls tables new)) (length tables.trains) made.fine; valid = parts.1.valid })
+
+-- tables without a fault are a plant without calls
+pub bare_accepted : (tables : Tables) → IsPlannable tables → fault_of tables ≡ None → is_accepted (with_calls tables []) ≡ true
+bare_accepted tables h none =
+    accepted_from tables [] h (record {
+      fits = each_fits tables none;
+      calls = all_below_from (are_fine_calls (with_calls tables [])) (length tables.trains) (λ t lt. all_below_from _ (moves (bare tables) t) (λ m lm. refl));
+      valid = valid tables h none;
+    })

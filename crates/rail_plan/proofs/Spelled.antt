@@ -1,0 +1,102 @@
+-- The table of moves that tables spell.
+use Rattle.std.proofs.Common.{◌≡◌, ℕ, zero, suc, ◌-◌, ◌<◌, ◌≤◌, Bool, true, ◌&&◌, cond, ltb, List, [], ◌∷◌, length, get_or, map, None, refl, sym, ap, ◌∙◌, ⊎_elim, arith}
+use Rattle.std.specs.List.{list_all}
+use Rattle.std.proofs.lemmas.Bool.{cases_lt, false≢true, ltb-true}
+use Rattle.std.proofs.lemmas.List.{length-map, get_or_past}
+use Rattle.rail_base.specs.declared.limits.TheConstants.{ROUTE_SECTIONS, ITINERARY_ROUTES, SECTIONS}
+use Rattle.rail_base.specs.declared.plant.Tables.{Tables}
+use Rattle.rail_base.specs.declared.plant.TrainRow.{TrainRow}
+use Rattle.rail_base.specs.declared.plant.MoveRow.{MoveRow}
+use Rattle.rail_rules.specs.Numbers.{is_in, are_apart}
+use Rattle.rail_rules.specs.Moves.{Moves, is_valid_move, is_valid}
+use Rattle.rail_rules.specs.Plant.{Plant, no_train, no_move, train, moves, move_row, moves_of, needed, standing_after}
+use Rattle.rail_rules.proofs.Below.{all_below_from}
+use Rattle.rail_rules.proofs.Members.{list_all_at}
+use Rattle.rail_place.specs.Tables.{moves_in}
+use Rattle.rail_plan.specs.Planning.{IsPlannable, bare, standing_of, fault_of}
+use Rattle.rail_plan.proofs.Fine.{fine_move, fine_row}
+use Rattle.rail_plan.proofs.Valid.{valid_move}
+
+pub get_or-map_all : {X Y : Type 0} (f : X → Y) (xs : List X) (i : ℕ) (d : X) → get_or (map f xs) i (f d) ≡ f (get_or xs i d)
+get_or-map_all f [] i d = refl
+get_or-map_all f (x ∷ xs) zero d = refl
+get_or-map_all f (x ∷ xs) (suc i) d = get_or-map_all f xs i d
+
+-- the needed sections of a move
+abbrev pub needs : MoveRow → List ℕ
+needs row = row.sections
+
+-- a train as the table of moves has it
+abbrev pub spelled : Plant → TrainRow → List (List ℕ) × List (List ℕ)
+spelled plant row = (map needs row.moves, map (standing_of plant row.kind.length) row.moves)
+
+row_is : (plant : Plant) (t : ℕ) → get_or (map (spelled plant) plant.tables.trains) t ([], []) ≡ spelled plant (train plant t)
+row_is plant t = get_or-map_all (spelled plant) plant.tables.trains t no_train
+
+need_is : (row : TrainRow) (m : ℕ) → get_or (map needs row.moves) m [] ≡ (get_or row.moves m no_move).sections
+need_is row m = get_or-map_all needs row.moves m no_move
+
+stand_is : (plant : Plant) (row : TrainRow) (m : ℕ) → get_or (map (standing_of plant row.kind.length) row.moves) m [] ≡ standing_of plant row.kind.length (get_or row.moves m no_move)
+stand_is plant row m = get_or-map_all (standing_of plant row.kind.length) row.moves m no_move
+
+-- the table spells the moves of the plant
+pub moves_spelled : (plant : Plant) → moves_in (map (spelled plant) plant.tables.trains) ≡ moves_of plant
+moves_spelled plant =
+    let counts : (t : ℕ) → length (get_or (map (spelled plant) plant.tables.trains) t ([], [])).0 ≡ moves plant t =
+    λ t. ap (λ (r : List (List ℕ) × List (List ℕ)). length r.0) (row_is plant t) ∙ length-map (train plant t).moves needs in
+    let needed_are : (t m : ℕ) → get_or (get_or (map (spelled plant) plant.tables.trains) t ([], [])).0 m [] ≡ needed plant t m =
+    λ t m. ap (λ (r : List (List ℕ) × List (List ℕ)). get_or r.0 m []) (row_is plant t) ∙ need_is (train plant t) m in
+    let stands_are : (t m : ℕ) → get_or (get_or (map (spelled plant) plant.tables.trains) t ([], [])).1 m [] ≡ standing_after plant t m =
+    λ t m. ap (λ (r : List (List ℕ) × List (List ℕ)). get_or r.1 m []) (row_is plant t) ∙ stand_is plant (train plant t) m in
+    λ i. record {
+      trains = length-map plant.tables.trains (spelled plant) i;
+      moves = λ t. counts t i;
+      need = λ t m. needed_are t m i;
+      standing = λ t m. stands_are t m i;
+    }
+
+-- what is asked of the row of a train
+pub record IsSpelledRow (need stand : List (List ℕ)) : Type 0 where
+  pub short : length need ≤ ITINERARY_ROUTES
+  pub narrow : (m : ℕ) → length (get_or need m []) ≤ ROUTE_SECTIONS
+  pub in_range : (m x : ℕ) → is_in x (get_or need m []) ≡ true → x < SECTIONS
+  pub valid : is_valid (moves_in ((need, stand) ∷ [])) ≡ true
+
+-- the test of a move, by what is needed and where the train stands
+move_test : ℕ → (ℕ → List ℕ) → (ℕ → List ℕ) → ℕ → Bool
+move_test count need standing m =
+    let sections : List ℕ = cond (ltb (suc m) count) (standing m) [] in
+    ltb 0 (length sections) && list_all (λ x. is_in x (need m)) sections && are_apart (need (suc m)) sections
+
+test_is : (plan : Moves) (t m : ℕ) → is_valid_move plan t m ≡ move_test (plan.moves t) (plan.need t) (plan.standing t) m
+unfolding move_test
+test_is plan t m = refl
+
+pub spelled_row : (tables : Tables) → IsPlannable tables → fault_of tables ≡ None → (t : ℕ) → t < length tables.trains → IsSpelledRow (spelled (bare tables) (train (bare tables) t)).0 (spelled (bare tables) (train (bare tables) t)).1
+spelled_row tables h none t lt =
+    let plant : Plant = bare tables in
+    let row : TrainRow = train plant t in
+    let facts = fine_row tables h t lt in
+    let need : List (List ℕ) = map needs row.moves in
+    let alone : List (List (List ℕ) × List (List ℕ)) = spelled plant row ∷ [] in
+    let count : length need ≡ moves plant t = length-map row.moves needs in
+    let fine = λ (m : ℕ) (lm : m < moves plant t). fine_move (length tables.sections) (move_row plant t m) (facts.each_move m lm) in
+    let past : (m : ℕ) → moves plant t ≤ m → get_or need m [] ≡ [] = λ m none_there. get_or_past need m [] (omega (arith, count)) in
+    let same : (m : ℕ) → is_valid_move (moves_in alone) 0 m ≡ is_valid_move (moves_of plant) t m = λ m.
+    test_is (moves_in alone) 0 m
+    ∙ ap (λ n. move_test n (λ k. get_or need k []) (λ k. get_or (map (standing_of plant row.kind.length) row.moves) k []) m) count
+    ∙ ap (λ f. move_test (moves plant t) f (λ k. get_or (map (standing_of plant row.kind.length) row.moves) k []) m) (λ i k. need_is row k i)
+    ∙ ap (λ f. move_test (moves plant t) (needed plant t) f m) (λ i k. stand_is plant row k i)
+    ∙ sym (test_is (moves_of plant) t m) in
+    record {
+      short = omega (arith, count, facts.few_moves);
+      narrow = λ m. ⊎_elim
+          (λ here. omega (arith, ap length (need_is row m), (fine m here).few_steps))
+          (λ gone. omega (arith, ap length (past m gone)))
+          (cases_lt m (moves plant t));
+      in_range = λ m x is. ⊎_elim
+          (λ here. omega (arith, ltb-true x (length tables.sections) (list_all_at (λ y. ltb y (length tables.sections)) (needed plant t m) x (fine m here).known (ap (is_in x) (sym (need_is row m)) ∙ is)), h.few_sections))
+          (λ gone. absurd (false≢true (ap (is_in x) (sym (past m gone)) ∙ is)))
+          (cases_lt m (moves plant t));
+      valid = all_below_from (is_valid_move (moves_in alone) 0) (length need - 1) (λ m lm. same m ∙ valid_move tables h none t m lt (omega (arith, count)));
+    }

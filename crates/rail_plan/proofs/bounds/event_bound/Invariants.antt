@@ -1,0 +1,12 @@
+use Rattle.std.proofs.Common.{◌≡◌, ◌≤◌, ◌*◌}
+use Rattle.rail_rules.specs.Numbers.{sum_below}
+use Rattle.rail_rules.specs.Plant.{train}
+use Rattle.rail_plan.specs.Planning.{bare}
+use Rattle.rail_plan.specs.Bounding.{TRAIN_LINES, lines_of}
+use Rattle.rail_plan.proofs.bounds.event_bound.Given as goal
+
+abbrev pub invariant-loop-index : goal.invariant-loop-index
+invariant-loop-index l = record {
+  sum : l.lines ≡ sum_below (λ t. lines_of (train (bare l.tables) t)) l.index;
+  few : l.lines ≤ l.index * TRAIN_LINES;
+}

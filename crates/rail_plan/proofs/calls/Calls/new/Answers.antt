@@ -1,0 +1,13 @@
+use Rattle.std.proofs.Common.{List, Option, sym, ap, ◌∙◌, subst, map}
+use Rattle.rail_base.specs.declared.plant.Call.{Call}
+use Rattle.rail_plan.specs.Calling.{AreCallsFor}
+use Rattle.rail_plan.proofs.CallRows.{room_for, none_made}
+use Rattle.rail_plan.proofs.calls.Calls.new.Goals as goal
+
+pub returns-clause-empty : goal.returns-clause-empty
+returns-clause-empty c = c.in_ok-rooms_of.ensures ∙ ap (map room_for) c.trains.ensures.rows
+
+pub returns-clause-made : goal.returns-clause-made
+returns-clause-made c =
+    let P : List (List (Option Call)) → Type 0 = λ calls. AreCallsFor c.args.plant.now.tables calls in
+    subst P (sym (returns-clause-empty c)) (none_made c.args.plant.now.tables)

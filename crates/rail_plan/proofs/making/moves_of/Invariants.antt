@@ -1,0 +1,7 @@
+use Rattle.std.proofs.Common.{◌≡◌, map, take}
+use Rattle.rail_plan.specs.Planning.{bare}
+use Rattle.rail_plan.proofs.Spelled.{spelled}
+use Rattle.rail_plan.proofs.making.moves_of.Given as goal
+
+abbrev pub invariant-loop-index : goal.invariant-loop-index
+invariant-loop-index l = l.moves ≡ map (spelled (bare l.tables)) (take l.index l.tables.trains)

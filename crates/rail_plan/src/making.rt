@@ -1,0 +1,106 @@
+//! What a plant keeps beside its tables: the moves and the names that they spell.
+
+ghost use Rattle.std.specs.Prelude.{◌≡◌, ◌<◌, List, Option, None, IsTrue, IfOk, length, map};
+ghost use Rattle.rail_base.specs.declared.plant.MoveRow.{MoveRow};
+ghost use Rattle.rail_base.specs.declared.plant.SectionRow.{SectionRow};
+ghost use Rattle.rail_base.specs.declared.plant.TrainRow.{TrainRow};
+ghost use Rattle.rail_rules.specs.Plant.{moves_of, train};
+ghost use Rattle.rail_rules.specs.Accepted.{are_distinct_names};
+ghost use Rattle.rail_place.specs.Tables.{moves_in};
+ghost use Rattle.rail_plan.specs.Planning.{IsPlannable, bare, fault_of, standing_of};
+
+use crate::rows::train_row;
+use crate::standing::standing;
+use indexmap::IndexSet;
+use rail_base::{Name, Names, OutOfMemory, SectionNo, SectionRow, Seq, Tables, TrainNo, TrainRow};
+use rail_place::Moves;
+use std::alloc::{AllocError, Global};
+
+/// The moves of the trains: the needed sections of each, and where the train stands after it. Nothing is
+/// said of a standing set after a train's last move, so it is kept as for the others.
+pub fn moves_of(alloc: Global, tables: &Tables) -> Result<Moves, OutOfMemory>
+    requires tables { IsPlannable tables.now }
+    requires faultless { fault_of tables.now ≡ None }
+    ensures { IfOk result (λ moves. moves_in moves ≡ moves_of (bare tables.now)) }
+{
+    let mut moves = Moves::new(alloc);
+    for index in 0..tables.trains.as_slice().len() {
+        let train = TrainNo(index as u16);
+        let need = needs_of(alloc, train_row(tables, train))?;
+        let stand = stands_of(alloc, tables, train)?;
+        moves.push_train(alloc, need, stand)?;
+    }
+    Ok(moves)
+}
+
+/// The needed sections of each move of the train.
+fn needs_of(alloc: Global, train: &TrainRow) -> Result<Vec<Seq<SectionNo>>, AllocError>
+    ensures { IfOk result (λ needs. needs.items ≡ map (λ (row : MoveRow). row.sections) train.now.moves) }
+{
+    let mut needs = Vec::new(alloc);
+    for row in train.moves.as_slice() {
+        needs.push(sequence_of(alloc, row.sections.as_slice())?)?;
+    }
+    Ok(needs)
+}
+
+/// Where the train stands after each of its moves.
+fn stands_of(
+    alloc: Global,
+    tables: &Tables,
+    number: TrainNo,
+) -> Result<Vec<Seq<SectionNo>>, AllocError>
+    requires tables { IsPlannable tables.now }
+    requires train { number < length tables.now.trains }
+    ensures { IfOk result (λ stands. stands.items ≡ map (standing_of (bare tables.now) (train (bare tables.now) number).kind.length) (train (bare tables.now) number).moves) }
+{
+    let train = train_row(tables, number);
+    let mut stands = Vec::new(alloc);
+    for row in train.moves.as_slice() {
+        let stand = standing(tables, train.kind.length, row);
+        stands.push(sequence_of(alloc, stand)?)?;
+    }
+    Ok(stands)
+}
+
+/// The sections as a sequence of their own.
+fn sequence_of(alloc: Global, sections: &[SectionNo]) -> Result<Seq<SectionNo>, AllocError>
+    ensures { IfOk result (λ sequence. sequence ≡ sections.now) }
+{
+    Ok(Seq::from_vec(Vec::from_slice(alloc, sections)?))
+}
+
+/// The names of the sections and of the trains.
+pub fn names_of(alloc: Global, tables: &Tables) -> Result<Names, OutOfMemory>
+    requires { IsPlannable tables.now }
+    ensures sections { IfOk result (λ names. names.sections.keys ≡ map (λ (row : SectionRow). row.name) tables.now.sections) }
+    ensures trains { IfOk result (λ names. names.trains.keys ≡ map (λ (row : TrainRow). row.name) tables.now.trains) }
+{
+    let sections = section_names(alloc, tables.sections.as_slice())?;
+    let trains = train_names(alloc, tables.trains.as_slice())?;
+    Ok(Names { sections, trains })
+}
+
+/// The names of the sections in their order.
+fn section_names(alloc: Global, rows: &[SectionRow]) -> Result<IndexSet<Name>, AllocError>
+    requires { IsTrue (are_distinct_names (map (λ (row : SectionRow). row.name) rows.now)) }
+    ensures { IfOk result (λ names. names.keys ≡ map (λ (row : SectionRow). row.name) rows.now) }
+{
+    let mut names = IndexSet::new(alloc);
+    for row in rows {
+        names.insert(row.name)?;
+    }
+    Ok(names)
+}
+
+/// The names of the trains in their order.
+fn train_names(alloc: Global, rows: &[TrainRow]) -> Result<IndexSet<Name>, AllocError>
+    requires { IsTrue (are_distinct_names (map (λ (row : TrainRow). row.name) rows.now)) }
+    ensures { IfOk result (λ names. names.keys ≡ map (λ (row : TrainRow). row.name) rows.now) }
+{
+    let mut names = IndexSet::new(alloc);
+    for row in rows {
+        names.insert(row.name)?;
+    }
+    Ok(names)
+}

@@ -1,0 +1,66 @@
+//! Where a train stands after a move, and what its next move needs.
+
+ghost use Rattle.std.specs.Prelude.{◌≡◌, ◌≤◌, IsTrue, length, drop};
+ghost use Rattle.std.specs.List.{find};
+ghost use Rattle.rail_rules.specs.Numbers.{is_in};
+ghost use Rattle.rail_rules.specs.Plant.{shortest_end};
+ghost use Rattle.rail_rules.specs.Accepted.{is_fine_move};
+ghost use Rattle.rail_plan.specs.Planning.{IsPlannable, bare, metres_of, standing_of};
+
+use crate::rows::section_row;
+use rail_base::{MoveRow, SectionNo, Tables};
+
+/// The sections on which a train of so many metres stands after the move: the shortest end of its route
+/// that is as long as the train and, where there is a turn, begins at the turn step or before.
+pub fn standing<'a>(tables: &Tables, metres: u32, row: &'a MoveRow) -> &'a [SectionNo]
+    requires tables { IsPlannable tables.now }
+    requires fine { IsTrue (is_fine_move (length tables.now.sections) row.now) }
+    ensures { result.now ≡ standing_of (bare tables.now) metres row.now }
+{
+    let last = shortest_end(tables, metres, row);
+    let start = match row.turn {
+        Some(turn) => last.min(usize::from(turn.step) - 1),
+        None => last,
+    };
+    &row.sections.as_slice()[start..]
+}
+
+/// Where the shortest end of the move's route that is as long as the train begins, counted from 0.
+fn shortest_end(tables: &Tables, metres: u32, row: &MoveRow) -> usize
+    requires tables { IsPlannable tables.now }
+    requires fine { IsTrue (is_fine_move (length tables.now.sections) row.now) }
+    ensures within { result ≤ length row.now.sections }
+    ensures sections { drop result row.now.sections ≡ shortest_end (bare tables.now) metres row.now.sections }
+{
+    let route = row.sections.as_slice();
+    let mut rest = route_length(tables, row);
+    for (start, section) in route.iter().enumerate() {
+        let length = section_row(tables, *section).length;
+        if rest - length < metres {
+            return start;
+        }
+        rest -= length;
+    }
+    route.len()
+}
+
+/// The metres of the sections of the move's route together.
+pub fn route_length(tables: &Tables, row: &MoveRow) -> u32
+    requires tables { IsPlannable tables.now }
+    requires fine { IsTrue (is_fine_move (length tables.now.sections) row.now) }
+    ensures { result ≡ metres_of (bare tables.now) row.now.sections }
+{
+    let mut metres = 0;
+    for section in row.sections.as_slice() {
+        metres += section_row(tables, *section).length;
+    }
+    metres
+}
+
+/// The first needed section on which the train stands. Both lists have the sections of one route at
+/// most, so each needed section is looked for in the whole of the other list.
+pub fn first_common(need: &[SectionNo], stand: &[SectionNo]) -> Option<SectionNo>
+    ensures { result ≡ find (λ x. is_in x stand.now) need.now }
+{
+    need.iter().copied().find(|section| stand.contains(section))
+}
