@@ -78,9 +78,10 @@ module _ (net : Net) where
   turn_known : (turn : Turn) → is_sound_turn net turn ≡ true → (list_any (is_post turn.arriving) (posts net) ≡ true) × (list_any (is_post turn.leaving) (posts net) ≡ true)
   turn_known turn h =
       let a = both_true (nat_le turn.time TURN_TIME && list_any (is_post turn.arriving) (posts net)) (turns_well net turn) h in
-      let b = both_true (not (list_any (is_post turn.arriving) net.portals) && list_any (is_post turn.leaving) net.signals) (not (same_name turn.arriving turn.leaving)) a.1 in
-      ((both_true (nat_le turn.time TURN_TIME) (list_any (is_post turn.arriving) (posts net)) a.0).1,
-       any_in_signals (is_post turn.leaving) net (both_true (not (list_any (is_post turn.arriving) net.portals)) (list_any (is_post turn.leaving) net.signals) b.0).1)
+      let b = both_true (not (list_any (is_post turn.arriving) net.portals) && list_any (is_post turn.leaving) net.signals) (not (same_name turn.arriving turn.leaving)) a.1 in (
+        (both_true (nat_le turn.time TURN_TIME) (list_any (is_post turn.arriving) (posts net)) a.0).1,
+        any_in_signals (is_post turn.leaving) net (both_true (not (list_any (is_post turn.arriving) net.portals)) (list_any (is_post turn.leaving) net.signals) b.0).1,
+      )
 
   ends_known : (sections : List Section) (steps : List Step) (begin end : Option Post) → lead_between sections begin end steps ≡ true → (is_some begin ≡ true) × (is_some end ≡ true)
   ends_known sections steps (Some begin) (Some end) h = (refl, refl)

@@ -6,12 +6,13 @@ use Rattle.rail_routes.specs.declared.items.Role.{Role}
 use Rattle.rail_routes.specs.declared.items.Role.TheVariants.{Portal, Signal, Board}
 use Rattle.rail_routes.specs.Net.{Net, is_post}
 
--- a post goes last in the list of its role
+-- a post goes last in the list of this role
 abbrev pub with_post_as : Role → Post → Net → Net
 with_post_as Portal post net = record net { portals = net.portals ++ post ∷ [] }
 with_post_as Signal post net = record net { signals = net.signals ++ post ∷ [] }
 with_post_as Board post net = record net { boards = net.boards ++ post ∷ [] }
 
+-- a post goes last in the list of its own role
 abbrev pub with_post : Post → Net → Net
 with_post post net = with_post_as post.role post net
 

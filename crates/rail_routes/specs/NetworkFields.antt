@@ -11,6 +11,7 @@ use Rattle.rail_routes.specs.Net.{Net}
 use Rattle.rail_routes.specs.Sound.{IsSoundNetwork}
 use Rattle.rail_routes.specs.Using.{sections_of}
 
+-- the six lists of the network
 abbrev pub lists_of : Inside → Net
 lists_of a = record { sections = a.track; portals = a.portals; signals = a.signals; boards = a.boards; turns = a.turns; routes = a.routes }
 
@@ -18,13 +19,15 @@ lists_of a = record { sections = a.track; portals = a.portals; signals = a.signa
 abbrev pub runs_of : List Route → List ℕ → ℕ
 runs_of routes name = sum_by (λ route. count_by (same_name name) (sections_of route)) routes
 
--- how often the turns and routes name a post
+-- how often the turns name a post
 abbrev pub turn_uses : List Turn → List ℕ → ℕ
 turn_uses turns name = sum_by (λ (turn : Turn). count_by (same_name name) (turn.arriving ∷ turn.leaving ∷ [])) turns
 
+-- how often the routes begin or end at a post
 abbrev pub route_uses : List Route → List ℕ → ℕ
 route_uses routes name = sum_by (λ (route : Route). count_by (same_name name) (route.from ∷ route.to ∷ [])) routes
 
+-- the network is sound, and each use of a section or post by a route or turn is counted
 pub record IsNetworkInside (a : Inside) : Type 0 where
   pub sound : IsSoundNetwork (lists_of a)
   pub run : (name : List ℕ) → times same_name a.runs name ≡ runs_of a.routes name

@@ -20,6 +20,7 @@ is_formed_as Portal post = not (is_some post.ahead)
 is_formed_as Signal post = is_some post.ahead
 is_formed_as Board post = not (is_some post.ahead) && post.setting == 0 && post.watching == 0 && post.approach == 0
 
+-- the post names a section ahead and has times as its own role asks
 abbrev pub is_formed : Post → Bool
 is_formed post = is_formed_as post.role post
 
@@ -29,6 +30,7 @@ time_key Portal = 3
 time_key Signal = 4
 time_key Board = 0
 
+-- a post of the role has times of its own
 abbrev pub has_times : Role → Bool
 has_times Portal = true
 has_times Signal = true
@@ -49,6 +51,7 @@ stands_as Portal sections post = sections_at sections post.joint == 1
 stands_as Signal sections post = sections_at sections post.joint == 2 && has_joint_ahead sections post
 stands_as Board sections post = sections_at sections post.joint == 1 || sections_at sections post.joint == 2
 
+-- the post stands where its own role may
 abbrev pub stands_well : List Section → Post → Bool
 stands_well sections post = stands_as post.role sections post
 
@@ -58,6 +61,7 @@ is_taken_as Portal net post = list_any (stands_at post.joint) net.portals || lis
 is_taken_as Signal net post = is_guarded net.signals post
 is_taken_as Board net post = list_any (stands_at post.joint) net.portals || list_any (stands_at post.joint) net.boards
 
+-- the place of the post is taken, as its own role asks
 abbrev pub is_taken : Net → Post → Bool
 is_taken net post = is_taken_as post.role net post
 

@@ -60,6 +60,7 @@ step_tests sections end n joint (step ∷ steps) =
 abbrev pub way_from : Post → Post → List Section → List Step → List (Test NetFault)
 way_from begin end sections steps = refused_where RouteBroken 1 (not (begins begin sections steps)) ∷ step_tests sections end 1 begin.joint steps
 
+-- the same, where both posts are there
 abbrev pub way_tests : Option Post → Option Post → List Section → List Step → List (Test NetFault)
 way_tests (Some begin) (Some end) sections steps = way_from begin end sections steps
 way_tests begin end sections steps = []

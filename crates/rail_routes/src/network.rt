@@ -20,7 +20,6 @@ mod leading;
 ///
 /// It is sound at any time: the track is sound, no name, place or pair of posts is taken twice, no list
 /// is past its limit, and each post, turn and route keeps its rule.
-#[derive(Drop)]
 pub struct Network {
     track: Track,
     portals: PostList,
@@ -34,6 +33,23 @@ pub struct Network {
     turned: Tally<Name>,
     /// How often the routes name a post.
     routed: Tally<Name>,
+}
+
+/// Written out, so that it is proved once, and not at each place where a network is let go.
+impl Drop for Network {
+    fn drop(self) {
+        let Network {
+            track: _,
+            portals: _,
+            signals: _,
+            boards: _,
+            turns: _,
+            routes: _,
+            runs: _,
+            turned: _,
+            routed: _,
+        } = self;
+    }
 }
 
 impl Model for Network {

@@ -13,11 +13,21 @@ use std::marker::Model;
 
 /// The posts of one role in order, found by name, with the number of them at each joint, and at each
 /// joint with each section ahead. Contracts see it as their list.
-#[derive(Drop)]
 pub(crate) struct PostList {
     posts: Roll<Name, Post>,
     at: Tally<Name>,
     guards: Tally<(Name, Name)>,
+}
+
+/// Written out, so that it is proved once, and not at each place where a list is let go.
+impl Drop for PostList {
+    fn drop(self) {
+        let PostList {
+            posts: _,
+            at: _,
+            guards: _,
+        } = self;
+    }
 }
 
 impl Model for PostList {

@@ -6,6 +6,7 @@ use Rattle.rail_track.specs.Counting.{times}
 use Rattle.rail_track.specs.Joining.{sections_at}
 use Rattle.rail_track.specs.Sound.{IsSoundTrack}
 
+-- the track is sound, and each joint is counted once for each section that it is in
 pub record IsTrackInside (a : Inside) : Type 0 where
   pub sound : IsSoundTrack a.sections
   pub counted : (joint : List ℕ) → times same_name a.uses joint ≡ sections_at a.sections joint

@@ -17,10 +17,19 @@ use std::marker::Model;
 ///
 /// It is sound at any time: no more sections than the limit, each with values in range and a name of
 /// its own, and each joint in at most two of them.
-#[derive(Drop)]
 pub struct Track {
     sections: Roll<Name, Section>,
     uses: Tally<Name>,
+}
+
+/// Written out, so that it is proved once, and not at each place where a track is let go.
+impl Drop for Track {
+    fn drop(self) {
+        let Track {
+            sections: _,
+            uses: _,
+        } = self;
+    }
 }
 
 impl Model for Track {
