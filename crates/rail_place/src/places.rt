@@ -1,4 +1,4 @@
-ghost use Rattle.std.specs.Prelude.{◌≡◌, ℕ, ◌+◌, ◌-◌, ◌<◌, ◌≤◌, ◌^◌, ◌↔◌, ◌≢◌, List, min, length, set, IsTrue, IsOk, IfOk, IfErr, MatchResult, Some, None, slice_index};
+ghost use Rattle.std.specs.Prelude.{◌≡◌, ℕ, ◌+◌, ◌-◌, ◌<◌, ◌≤◌, ◌^◌, ◌↔◌, ◌≢◌, List, min, length, get_or, set, IsTrue, IsOk, IfOk, IfErr, MatchResult, Some, None, slice_index};
 ghost use Rattle.rail_rules.specs.Numbers.{are_apart};
 ghost use Rattle.rail_rules.specs.Moves.{stand};
 ghost use Rattle.rail_rules.specs.Places.{after, is_legal, place_of};
@@ -11,8 +11,8 @@ use crate::barring::{Barred, PlacesFault};
 use crate::holdings::{holdings_of, owners_of};
 use crate::moves::Moves;
 use crate::owners::{first_owned, hold, release};
-use rail_base::TrainNo;
 use rail_base::limits::TRAINS;
+use rail_base::{SectionNo, TrainNo};
 use std::alloc::Global;
 use std::marker::Model;
 
@@ -75,6 +75,16 @@ impl Places {
         ensures { result ≡ self.now.played }
     {
         self.played
+    }
+
+    /// The train that holds the section, if one does.
+    pub fn holder(&self, section: SectionNo) -> Option<TrainNo>
+        ensures { result ≡ get_or self.now.owners section None }
+    {
+        match self.owners.get(usize::from(section.0)) {
+            Some(owner) => *owner,
+            None => None,
+        }
     }
 
     /// Whether the train's next move is legal, and else why not: `Out` where the train has made all its

@@ -135,7 +135,8 @@ impl Network {
 
     /// The routes in order.
     pub fn routes(&self) -> &[Route]
-        ensures { result.now ≡ self.now.routes }
+        ensures routes { result.now ≡ self.now.routes }
+        ensures sound { IsSoundNetwork self.now }
     {
         self.routes.as_slice()
     }
@@ -148,6 +149,13 @@ impl Network {
             .get(name)
             .or(self.signals.get(name))
             .or(self.boards.get(name))
+    }
+
+    /// The section of this name.
+    pub fn section(&self, name: Name) -> Option<&Section>
+        ensures { option_copied result ≡ section_named name self.now.sections }
+    {
+        self.track.section(name)
     }
 
     /// The index of the section of this name in the list of the sections, from 0.

@@ -53,6 +53,13 @@ impl<K: Eq + Hash + Drop, T: Keyed<K> + Drop> Roll<K, T> {
         self.items.as_slice()
     }
 
+    /// The items in order. It takes no memory.
+    pub fn into_vec(self) -> Vec<T>
+        ensures { result.items ≡ self }
+    {
+        self.items
+    }
+
     /// Whether an item has the key.
     pub fn contains(&self, key: &K) -> bool
         ensures { result ≡ list_any (λ item. K.eq key.now (T.key_of item)) self.now }

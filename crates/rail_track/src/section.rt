@@ -1,7 +1,7 @@
 ghost use Rattle.std.specs.Prelude.{◌≡◌, List, ℕ};
 
 use crate::roll::Keyed;
-use rail_base::{Name, Reason, Seq};
+use rail_base::{Name, Reason, Seq, TrainKind};
 use std::alloc::AllocError;
 use thiserror::Error;
 
@@ -43,6 +43,14 @@ impl Keyed<Name> for Name {
 
 impl Keyed<Name> for Section {
     ghost key_of = { λ section. section.name };
+
+    fn key(&self) -> Name {
+        self.name
+    }
+}
+
+impl Keyed<Name> for TrainKind {
+    ghost key_of = { λ kind. kind.name };
 
     fn key(&self) -> Name {
         self.name

@@ -1,11 +1,12 @@
 //! Running times: how long a train takes over a section, and how long it takes to clear it.
 //!
-//! It stands on the ground layer alone. The two formulas are the whole of it: a change of
+//! It stands on the ground layer, and on the definitions of `rail_rules`. The two formulas are the whole of it: a change of
 //! `specs/Running.antt` changes every time of a run, while a body may be changed freely.
 #![tactic(auto)]
 
 ghost use Rattle.std.specs.Prelude.{◌≡◌, min, IsTrue};
-ghost use Rattle.rail_train.specs.Running.{time_over, within};
+ghost use Rattle.rail_rules.specs.Accepted.{is_from_one};
+ghost use Rattle.rail_train.specs.Running.{time_over};
 
 pub use rail_base::TrainKind;
 use rail_base::ceil_div;
@@ -15,9 +16,9 @@ use rail_base::limits::{SECTION_LENGTH, SPEED, TRAIN_LENGTH};
 /// length is in metres and whose speed in km/h, rounded up to a whole tenth. The train runs at the
 /// lesser of its own speed and the section's.
 pub fn run_time(kind: &TrainKind, length: u32, speed: u32) -> u64
-    requires train_speed { IsTrue (within SPEED kind.now.speed) }
-    requires section_speed { IsTrue (within SPEED speed) }
-    requires section_length { IsTrue (within SECTION_LENGTH length) }
+    requires train_speed { IsTrue (is_from_one SPEED kind.now.speed) }
+    requires section_speed { IsTrue (is_from_one SPEED speed) }
+    requires section_length { IsTrue (is_from_one SECTION_LENGTH length) }
     ensures { result ≡ time_over length (min kind.now.speed speed) }
 {
     time_over(length, kind.speed.min(speed))
@@ -27,9 +28,9 @@ pub fn run_time(kind: &TrainKind, length: u32, speed: u32) -> u64
 /// leaves a section to that at which its tail does, rounded up to a whole tenth. The section's speed
 /// is in km/h, and the train runs at the lesser of its own speed and this one.
 pub fn clear_time(kind: &TrainKind, speed: u32) -> u64
-    requires train_speed { IsTrue (within SPEED kind.now.speed) }
-    requires train_length { IsTrue (within TRAIN_LENGTH kind.now.length) }
-    requires section_speed { IsTrue (within SPEED speed) }
+    requires train_speed { IsTrue (is_from_one SPEED kind.now.speed) }
+    requires train_length { IsTrue (is_from_one TRAIN_LENGTH kind.now.length) }
+    requires section_speed { IsTrue (is_from_one SPEED speed) }
     ensures { result ≡ time_over kind.now.length (min kind.now.speed speed) }
 {
     time_over(kind.length, kind.speed.min(speed))
@@ -37,8 +38,8 @@ pub fn clear_time(kind: &TrainKind, speed: u32) -> u64
 
 /// The time in tenths of a second over so many metres at a speed in km/h.
 fn time_over(metres: u32, speed: u32) -> u64
-    requires length { IsTrue (within SECTION_LENGTH metres) }
-    requires speed { IsTrue (within SPEED speed) }
+    requires length { IsTrue (is_from_one SECTION_LENGTH metres) }
+    requires speed { IsTrue (is_from_one SPEED speed) }
     ensures { result ≡ time_over metres speed }
 {
     ceil_div(36 * u64::from(metres), u64::from(speed))

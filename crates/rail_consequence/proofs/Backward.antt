@@ -1,0 +1,92 @@
+-- The last move of the list, taken back.
+use Rattle.std.proofs.Common.{◌≡◌, ◌≢◌, ℕ, suc, ◌+◌, ◌-◌, ◌<◌, ◌≤◌, true, List, [], ◌∷◌, ◌++◌, length, set, take, drop, Option, sym, ap, ◌∙◌, subst, arith}
+use Rattle.std.proofs.lemmas.List.{drop-append-le, length_push}
+use Rattle.rail_base.specs.declared.limits.TheConstants.{SECTIONS}
+use Rattle.rail_rules.specs.Numbers.{are_apart}
+use Rattle.rail_rules.specs.Moves.{Moves, stand}
+use Rattle.rail_rules.specs.Places.{place_of, is_inside, is_legal, after, is_valid_state}
+use Rattle.rail_rules.proofs.StatesKept.{state_parts}
+use Rattle.rail_place.specs.Tables.{moves_in, IsTable}
+use Rattle.rail_place.specs.Made.{State, IsMadeFor}
+use Rattle.rail_place.specs.Playing.{IsPlayed}
+use Rattle.rail_place.proofs.Playing.{played_last, way_back, step_back}
+use Rattle.rail_consequence.specs.Needing.{Counts, IsCounted, IsMore, IsRoomFor, times}
+use Rattle.rail_consequence.specs.Working.{Work, IsReady}
+use Rattle.rail_consequence.proofs.Legs.{inside_listed}
+use Rattle.rail_consequence.proofs.Played.{played_valid}
+use Rattle.rail_consequence.proofs.Counts.{next_place, counted_before, room_before, length_after}
+
+-- the state before the last move, which the train made
+pub record IsLastMove (table : List (List (List ℕ) × List (List ℕ))) (w : Work) (earlier : List ℕ) (t : ℕ) : Type 0 where
+  pub start : List ℕ
+  pub valid_start : is_valid_state (moves_in table) start ≡ true
+  pub before : List ℕ
+  pub played : IsPlayed (moves_in table) start earlier before
+  pub inside : is_inside (moves_in table) before t ≡ true
+  pub next : after before t ≡ w.places.positions
+  pub listed : t < length table
+  pub place : place_of w.places.positions t ≡ suc (place_of before t)
+  pub free : (u : ℕ) → u ≢ t → are_apart (stand (moves_in table) t (place_of w.places.positions t - 1)) (stand (moves_in table) u (place_of w.places.positions u)) ≡ true
+  pub back : set w.places.positions t (place_of w.places.positions t - 1) ≡ before
+
+module _ (table : List (List (List ℕ) × List (List ℕ))) (w : Work) (earlier : List ℕ) (t : ℕ) (ready : IsReady table w) (list : w.list ≡ earlier ++ t ∷ []) where
+  abbrev plan : Moves
+  plan = moves_in table
+
+  pub last_move : IsLastMove table w earlier t
+  last_move =
+      let P : List ℕ → Type 0 = λ xs. IsPlayed plan ready.start xs w.places.positions in
+      let last = played_last plan ready.start earlier w.places.positions t (subst P list ready.played) in
+      let valid = played_valid plan ready.start earlier last.0 ready.made.moves.valid ready.valid last.1.played in
+      let lt = inside_listed plan last.0 t last.1.inside in
+      let way = way_back plan last.0 w.places.positions t valid lt last.1.next in
+      record {
+        start = ready.start;
+        valid_start = ready.valid;
+        before = last.0;
+        played = last.1.played;
+        inside = last.1.inside;
+        next = last.1.next;
+        listed = omega (arith, lt, (state_parts plan last.0 valid).long);
+        place = ap (λ s. place_of s t) (sym last.1.next) ∙ next_place plan last.0 t last.1.inside;
+        free = way.free;
+        back = way.back;
+      }
+
+  -- the needs of the move that is taken back
+  pub needed_back : (xs : List ℕ) (place : ℕ) → xs ≡ plan.need t (place - 1) → place ≡ place_of w.places.positions t → xs ≡ plan.need t (place_of last_move.before t)
+  needed_back xs place is at = let same : place - 1 ≡ place_of last_move.before t = omega (arith, at, last_move.place) in is ∙ ap (plan.need t) same
+
+  pub room_back : (xs : List ℕ) → xs ≡ plan.need t (place_of last_move.before t) → IsRoomFor w.needs t (λ x. times x xs)
+  room_back xs is =
+      let C : List ℕ → Type 0 = λ s. IsCounted plan s w.needs in
+      let P : List ℕ → Type 0 = λ ys. IsRoomFor w.needs t (λ x. times x ys) in
+      subst P (sym is) (room_before table last_move.before t last_move.inside w.needs ready.made.moves (few last_move.next) (subst C (sym last_move.next) ready.counted))
+    where
+      few : (next : after last_move.before t ≡ w.places.positions) → length last_move.before ≤ 128
+      few next = omega (arith, (state_parts plan w.places.positions ready.made.valid).long, ready.made.moves.few, ap length next, length_after last_move.before t)
+
+  pub ready_back : (places : State) (needs : Counts) (stops : List (Option ℕ)) (list : List ℕ) (xs : List ℕ) → IsMadeFor table places → places.positions ≡ set w.places.positions t (place_of w.places.positions t - 1) → xs ≡ plan.need t (place_of last_move.before t)
+      → IsMore w.needs needs t (λ x. times x xs) → list ≡ earlier → IsReady table (record { places = places; needs = needs; stops = stops; list = list })
+  ready_back places needs stops list xs made positions is more at =
+      let there : places.positions ≡ last_move.before = positions ∙ last_move.back in
+      let C : List ℕ → Type 0 = λ s. IsCounted plan s w.needs in
+      let D : List ℕ → Type 0 = λ s. IsCounted plan s needs in
+      let M : List ℕ → Type 0 = λ ys. IsMore w.needs needs t (λ x. times x ys) in
+      let Q : List ℕ → Type 0 = λ s. IsPlayed plan last_move.start list s in
+      let R : List ℕ → Type 0 = λ ys. IsPlayed plan last_move.start ys last_move.before in
+      record {
+        start = last_move.start;
+        valid = last_move.valid_start;
+        played = subst Q (sym there) (subst R (sym at) last_move.played);
+        made = made;
+        counted = subst D (sym there) (counted_before plan last_move.before t last_move.inside w.needs needs (subst C (sym last_move.next) ready.counted) (subst M is more));
+      }
+
+  pub positions_back : (s : List ℕ) (n : ℕ) (r : List ℕ) → n < length w.list → r ≡ set w.places.positions t (place_of w.places.positions t - 1) → IsPlayed plan s (drop n w.list) w.places.positions → IsPlayed plan s (drop n earlier) r
+  positions_back s n r lt at played =
+      let le : n ≤ length earlier = omega (arith, lt, ap length list, length_push earlier t) in
+      let rest : drop n w.list ≡ drop n earlier ++ t ∷ [] = ap (drop n) list ∙ drop-append-le n earlier (t ∷ []) le in
+      let P : List ℕ → Type 0 = λ xs. IsPlayed plan s xs w.places.positions in
+      let Q : List ℕ → Type 0 = λ q. IsPlayed plan s (drop n earlier) q in
+      subst Q (sym at) (step_back plan s (drop n earlier) w.places.positions t (subst P rest played))

@@ -1,0 +1,34 @@
+-- What the analyst works on: places of its own, and the moves that it has made on them.
+use Rattle.std.specs.Prelude.{◌≡◌, ℕ, List, ◌++◌, IsTrue, Option}
+use Rattle.rail_rules.specs.Moves.{Moves}
+use Rattle.rail_rules.specs.Places.{is_valid_state}
+use Rattle.rail_place.specs.Tables.{moves_in}
+use Rattle.rail_place.specs.Made.{State, IsMadeFor}
+use Rattle.rail_place.specs.Playing.{IsPlayed}
+use Rattle.rail_consequence.specs.Needing.{Counts, IsCounted}
+
+-- places, the counts of the moves that are left, what stops the trains, and the moves that were made
+pub record Work : Type 0 where
+  pub places : State
+  pub needs : Counts
+  pub stops : List (Option ℕ)
+  pub list : List ℕ
+
+-- the list leads from some valid state to the places, which were made for the moves, and for these the moves that are left are counted
+pub record IsReady (table : List (List (List ℕ) × List (List ℕ))) (work : Work) : Type 0 where
+  pub start : List ℕ
+  pub valid : IsTrue (is_valid_state (moves_in table) start)
+  pub played : IsPlayed (moves_in table) start work.list work.places.positions
+  pub made : IsMadeFor table work.places
+  pub counted : IsCounted (moves_in table) work.places.positions work.needs
+
+-- more moves were made, and added to the list
+pub record GoesOn (plan : Moves) (old new : Work) : Type 0 where
+  pub more : List ℕ
+  pub list : new.list ≡ old.list ++ more
+  pub played : IsPlayed plan old.places.positions more new.places.positions
+
+-- the places and the list are as before
+pub record IsBack (old new : Work) : Type 0 where
+  pub list : new.list ≡ old.list
+  pub positions : new.places.positions ≡ old.places.positions

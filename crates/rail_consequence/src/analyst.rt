@@ -1,0 +1,502 @@
+ghost use Rattle.std.specs.Prelude.{◌≡◌, ℕ, ◌+◌, ◌-◌, ◌<◌, ◌≤◌, ◌≢◌, ◌↔◌, [], ◌∷◌, ◌++◌, List, Some, None, true, false, get_or, ◌&&◌, length, take, drop, set, IsTrue, IsNone, IsOk, IfSome, MatchOption};
+ghost use Rattle.rail_rules.specs.Analysis.{Finds, Leg, after_leg, is_leg, is_safe, moves_left};
+ghost use Rattle.rail_rules.specs.Places.{after, completes, is_inside, is_legal, is_valid_state, nobody_inside, place_of};
+ghost use Rattle.rail_place.specs.Made.{IsMadeFor};
+ghost use Rattle.rail_place.specs.Playing.{IsPlayed};
+ghost use Rattle.rail_place.specs.Tables.{IsTable, moves_in};
+ghost use Rattle.rail_rules.specs.Numbers.{is_in};
+ghost use Rattle.rail_consequence.specs.Needing.{own_of, trains_of};
+ghost use Rattle.rail_consequence.specs.Stopping.{IsHeldByOther, IsSettled, Shows, stop_at};
+ghost use Rattle.rail_consequence.specs.Working.{GoesOn, IsBack, IsReady, Work};
+
+use crate::needs::Needs;
+use crate::stops::Stops;
+use rail_base::limits::{LIST_TRAINS, SECTIONS, TRAINS};
+use rail_base::{OutOfMemory, SectionNo, TrainNo};
+use rail_place::{Moves, Places, Played};
+use std::alloc::Global;
+use std::marker::Model;
+
+/// What looking at a train shows.
+#[derive(Clone, Copy)]
+enum Look {
+    /// It is not inside.
+    Idle,
+    /// A leg to this place is safe.
+    Leads(u16),
+    /// It has no safe leg, and this section stops it: another train holds it.
+    Stopped(SectionNo),
+}
+
+/// Finds lists of moves that bring every train inside to its exit. It keeps places of its own and room
+/// for the longest list, so that a search takes no memory.
+#[derive(Debug, Drop)]
+pub struct Analyst {
+    places: Places,
+    needs: Needs,
+    stops: Stops,
+    list: Vec<TrainNo>,
+}
+
+impl Model for Analyst {
+    ghost use Rattle.std.specs.Prelude.{◌≤◌, vec_capacity};
+    ghost use Rattle.rail_base.specs.declared.limits.TheConstants.{LIST_TRAINS};
+    ghost use Rattle.rail_consequence.specs.Working.{Work};
+
+    ghost Value = { Work };
+
+    ghost view = { λ analyst. record { places = analyst.places; needs = analyst.needs; stops = analyst.stops; list = analyst.list.items } };
+
+    ghost invariant = { λ analyst. LIST_TRAINS ≤ vec_capacity analyst.list };
+}
+
+impl Analyst {
+    /// An analyst, with all the memory that it ever takes.
+    pub fn new(alloc: Global, moves: &Moves) -> Result<Analyst, OutOfMemory> {
+        let outside = vec![in alloc; 0u16; usize::from(moves.trains())]?;
+        let Ok(places) = Places::new(alloc, moves, &outside) else {
+            return Err(OutOfMemory);
+        };
+        Ok(Analyst {
+            places,
+            needs: Needs::new(alloc)?,
+            stops: Stops::new(alloc)?,
+            list: Vec::with_capacity(alloc, LIST_TRAINS)?,
+        })
+    }
+
+    /// A list of moves that completes from the places, where some list of legs with at most `depth`
+    /// free ones brings every train inside to its exit; none exactly where there is no such list of
+    /// legs. It takes no memory.
+    ///
+    /// Whether a leg is safe costs the sections on which the train would stand. A train that has no safe
+    /// leg is looked at again only once the section that stopped it is free, or it is left alone in need
+    /// of a section. So at depth 0 the cost grows with the moves that are left where each train waits for
+    /// the one before it. At worst, each safe leg lets every train be looked at again over all its moves.
+    /// With free legs this is done after each choice of at most `depth` of them: the cost then grows with
+    /// the number of legs, to the power of the depth, where no list is found.
+    pub fn find(&mut self, moves: &Moves, places: &Places, depth: u8) -> Option<&[TrainNo]>
+        requires { IsMadeFor moves.now places.now }
+        ensures some { IfSome result (λ list. IsTrue (completes (moves_in moves.now) places.now.positions list.now)) }
+        ensures none { IsNone result ↔ (Finds (moves_in moves.now) depth places.now.positions → ⊥) }
+    {
+        self.places.copy_from(places);
+        self.needs.set_up(moves, places);
+        self.list.clear();
+        self.stops.clear(depth, moves.trains());
+        if self.search(moves, depth) {
+            Some(self.list.as_slice())
+        } else {
+            None
+        }
+    }
+
+    /// Makes moves until nobody is inside, by legs of which at most `depth` are free; or leaves all as
+    /// it was where that can't be done.
+    #[cycle(search)]
+    fn search(&mut self, moves: &Moves, depth: u8) -> bool
+        requires ready { IsReady moves.now self.old }
+        requires settled { IsSettled (moves_in moves.now) self.old.places.positions self.old.stops depth }
+        ensures ready { IsReady moves.now self.new }
+        ensures kept { (l u : ℕ) → depth < l → u < TRAINS → stop_at self.new.stops l u ≡ stop_at self.old.stops l u }
+        ensures found { IsTrue result → GoesOn (moves_in moves.now) self.old self.new × IsTrue (nobody_inside (moves_in moves.now) self.new.places.positions) × Finds (moves_in moves.now) depth self.old.places.positions }
+        ensures none { result ≡ false → IsBack self.old self.new × (Finds (moves_in moves.now) depth self.old.places.positions → ⊥) }
+    {
+        let mark = self.list.len();
+        self.close(moves, depth);
+        if self.is_done(moves) {
+            return true;
+        }
+        if depth == 0 {
+            self.go_back(moves, mark);
+            return false;
+        }
+        if self.try_free_legs(moves, depth - 1) {
+            return true;
+        }
+        self.go_back(moves, mark);
+        false
+    }
+
+    /// As `search`, with a first leg of any train, from places where no leg is safe.
+    #[cycle(search)]
+    fn try_free_legs(&mut self, moves: &Moves, depth: u8) -> bool
+        requires ready { IsReady moves.now self.old }
+        requires room { depth < 255 }
+        requires settled { IsSettled (moves_in moves.now) self.old.places.positions self.old.stops (depth + 1) }
+        ensures ready { IsReady moves.now self.new }
+        ensures kept { (l u : ℕ) → depth < l → u < TRAINS → stop_at self.new.stops l u ≡ stop_at self.old.stops l u }
+        ensures found { IsTrue result → GoesOn (moves_in moves.now) self.old self.new × IsTrue (nobody_inside (moves_in moves.now) self.new.places.positions) × Finds (moves_in moves.now) (depth + 1) self.old.places.positions }
+        ensures none { result ≡ false → IsBack self.old self.new × ((leg : Leg) → IsTrue (is_leg (moves_in moves.now) self.old.places.positions leg) → Finds (moves_in moves.now) depth (after_leg self.old.places.positions leg) → ⊥) }
+    {
+        for number in 0..moves.trains() {
+            if self.try_legs_of(moves, TrainNo(number), depth) {
+                return true;
+            }
+        }
+        false
+    }
+
+    /// As `search`, with a first leg of this train: each place that it can go on to is tried.
+    #[cycle(search)]
+    fn try_legs_of(&mut self, moves: &Moves, train: TrainNo, depth: u8) -> bool
+        requires ready { IsReady moves.now self.old }
+        requires train { train < length moves.now }
+        requires room { depth < 255 }
+        requires settled { IsSettled (moves_in moves.now) self.old.places.positions self.old.stops (depth + 1) }
+        ensures ready { IsReady moves.now self.new }
+        ensures kept { (l u : ℕ) → depth < l → u < TRAINS → stop_at self.new.stops l u ≡ stop_at self.old.stops l u }
+        ensures found { IsTrue result → GoesOn (moves_in moves.now) self.old self.new × IsTrue (nobody_inside (moves_in moves.now) self.new.places.positions) × Finds (moves_in moves.now) (depth + 1) self.old.places.positions }
+        ensures none { result ≡ false → IsBack self.old self.new × ((place : ℕ) → IsTrue (is_leg (moves_in moves.now) self.old.places.positions (record { train = train; place = place })) → Finds (moves_in moves.now) depth (set self.old.places.positions train place) → ⊥) }
+    {
+        let mark = self.list.len();
+        let from = self.places.position(train);
+        while self.can_go_on(moves, train) {
+            self.make_free_move(moves, train, depth, from);
+            if self.search(moves, depth) {
+                return true;
+            }
+        }
+        self.go_back(moves, mark);
+        false
+    }
+
+    /// Makes the next move of a free leg from this place, after which `depth` free legs may be left, and
+    /// notes what stops the other trains still.
+    fn make_free_move(&mut self, moves: &Moves, train: TrainNo, depth: u8, from: u16)
+        requires ready { IsReady moves.now self.old }
+        requires train { train < length moves.now }
+        requires room { depth < 255 }
+        requires inside { IsTrue (is_inside (moves_in moves.now) self.old.places.positions train) }
+        requires legal { IsTrue (is_legal (moves_in moves.now) self.old.places.positions train) }
+        requires valid { IsTrue (is_valid_state (moves_in moves.now) (set self.old.places.positions train from)) }
+        requires leg { IsTrue (is_leg (moves_in moves.now) (set self.old.places.positions train from) (record { train = train; place = place_of self.old.places.positions train + 1 })) }
+        requires settled { IsSettled (moves_in moves.now) (set self.old.places.positions train from) self.old.stops (depth + 1) }
+        ensures ready { IsReady moves.now self.new }
+        ensures positions { self.new.places.positions ≡ after self.old.places.positions train }
+        ensures list { self.new.list ≡ self.old.list ++ train ∷ [] }
+        ensures settled { IsSettled (moves_in moves.now) self.new.places.positions self.new.stops depth }
+        ensures kept { (l u : ℕ) → l ≢ depth → u < TRAINS → stop_at self.new.stops l u ≡ stop_at self.old.stops l u }
+    {
+        self.step(moves, train);
+        self.settle(moves, depth + 1, depth, train, from);
+    }
+
+    /// Makes safe legs until there is none.
+    fn close(&mut self, moves: &Moves, level: u8)
+        requires ready { IsReady moves.now self.old }
+        requires settled { IsSettled (moves_in moves.now) self.old.places.positions self.old.stops level }
+        ensures ready { IsReady moves.now self.new }
+        ensures moves { GoesOn (moves_in moves.now) self.old self.new }
+        ensures same { (k : ℕ) → Finds (moves_in moves.now) k self.old.places.positions ↔ Finds (moves_in moves.now) k self.new.places.positions }
+        ensures none { (leg : Leg) → IsTrue (is_leg (moves_in moves.now) self.new.places.positions leg) → is_safe (moves_in moves.now) self.new.places.positions leg ≡ false }
+        ensures settled { IsSettled (moves_in moves.now) self.new.places.positions self.new.stops level }
+        ensures kept { (l u : ℕ) → l ≢ level → u < TRAINS → stop_at self.new.stops l u ≡ stop_at self.old.stops l u }
+    {
+        while self.make_safe_legs(moves, level) {}
+    }
+
+    /// Makes a safe leg of each train that has one at its turn, and says whether any was made.
+    fn make_safe_legs(&mut self, moves: &Moves, level: u8) -> bool
+        requires ready { IsReady moves.now self.old }
+        requires settled { IsSettled (moves_in moves.now) self.old.places.positions self.old.stops level }
+        ensures ready { IsReady moves.now self.new }
+        ensures moves { GoesOn (moves_in moves.now) self.old self.new }
+        ensures same { (k : ℕ) → Finds (moves_in moves.now) k self.old.places.positions ↔ Finds (moves_in moves.now) k self.new.places.positions }
+        ensures fewer { IsTrue result → moves_left (moves_in moves.now) self.new.places.positions < moves_left (moves_in moves.now) self.old.places.positions }
+        ensures none { result ≡ false → (leg : Leg) → IsTrue (is_leg (moves_in moves.now) self.new.places.positions leg) → is_safe (moves_in moves.now) self.new.places.positions leg ≡ false }
+        ensures settled { IsSettled (moves_in moves.now) self.new.places.positions self.new.stops level }
+        ensures kept { (l u : ℕ) → l ≢ level → u < TRAINS → stop_at self.new.stops l u ≡ stop_at self.old.stops l u }
+    {
+        let mut moved = false;
+        for number in 0..moves.trains() {
+            if self.make_safe_leg(moves, TrainNo(number), level) {
+                moved = true;
+            }
+        }
+        moved
+    }
+
+    /// Makes the shortest safe leg of the train; or notes what stops it, where it has none. A train is
+    /// not looked at again as long as what stopped it does.
+    fn make_safe_leg(&mut self, moves: &Moves, train: TrainNo, level: u8) -> bool
+        requires ready { IsReady moves.now self.old }
+        requires train { train < length moves.now }
+        requires settled { IsSettled (moves_in moves.now) self.old.places.positions self.old.stops level }
+        ensures ready { IsReady moves.now self.new }
+        ensures moves { GoesOn (moves_in moves.now) self.old self.new }
+        ensures same { (k : ℕ) → Finds (moves_in moves.now) k self.old.places.positions ↔ Finds (moves_in moves.now) k self.new.places.positions }
+        ensures fewer { IsTrue result → moves_left (moves_in moves.now) self.new.places.positions < moves_left (moves_in moves.now) self.old.places.positions }
+        ensures none { result ≡ false → IsBack self.old self.new × ((place : ℕ) → IsTrue (is_leg (moves_in moves.now) self.old.places.positions (record { train = train; place = place })) → is_safe (moves_in moves.now) self.old.places.positions (record { train = train; place = place }) ≡ false) }
+        ensures settled { IsSettled (moves_in moves.now) self.new.places.positions self.new.stops level }
+        ensures kept { (l u : ℕ) → l ≢ level → u < TRAINS → stop_at self.new.stops l u ≡ stop_at self.old.stops l u }
+    {
+        if self.stops.get(level, train).is_some() {
+            return false;
+        }
+        match self.look(moves, train) {
+            Look::Idle => false,
+            Look::Stopped(section) => {
+                self.stops.set(level, train, Some(section));
+                false
+            }
+            Look::Leads(place) => {
+                let from = self.places.position(train);
+                self.go_to(moves, train, place);
+                self.settle(moves, level, level, train, from);
+                true
+            }
+        }
+    }
+
+    /// Looks how far the train can go on while all others stand, up to the first place to which a leg
+    /// is safe.
+    fn look(&self, moves: &Moves, train: TrainNo) -> Look
+        requires ready { IsReady moves.now self.now }
+        requires train { train < length moves.now }
+        ensures { Shows (moves_in moves.now) self.now.places.positions train result }
+    {
+        let place = self.places.position(train);
+        let last = moves.places(train);
+        if place == 0 || place >= last {
+            return Look::Idle;
+        }
+        for made in place..last {
+            if let Some(section) = self.stop_of(moves, train, made) {
+                return Look::Stopped(section);
+            }
+            if self.is_safe_at(moves, train, made + 1) {
+                return Look::Leads(made + 1);
+            }
+        }
+        // A leg that ends out is safe.
+        Look::Leads(last)
+    }
+
+    /// The first section of the train's move from this place that another train holds.
+    fn stop_of(&self, moves: &Moves, train: TrainNo, made: u16) -> Option<SectionNo>
+        requires ready { IsReady moves.now self.now }
+        requires train { train < length moves.now }
+        requires within { made < (moves_in moves.now).moves train }
+        ensures { MatchOption result ((x : ℕ) → IsTrue (is_in x ((moves_in moves.now).need train made)) → IsHeldByOther (moves_in moves.now) self.now.places.positions train x → ⊥) (λ x. IsTrue (is_in x ((moves_in moves.now).need train made)) × IsHeldByOther (moves_in moves.now) self.now.places.positions train x) }
+    {
+        let needed = moves.need(train, made + 1);
+        for section in needed {
+            if self.is_held_by_other(train, *section) {
+                return Some(*section);
+            }
+        }
+        None
+    }
+
+    /// Another train holds the section.
+    fn is_held_by_other(&self, train: TrainNo, section: SectionNo) -> bool
+        ensures held { IsTrue result → (holder : ℕ) × (holder ≢ train) × (get_or self.now.places.owners section None ≡ Some holder) }
+        ensures free { result ≡ false → (holder : ℕ) → get_or self.now.places.owners section None ≡ Some holder → holder ≡ train }
+    {
+        match self.places.holder(section) {
+            Some(holder) => holder != train,
+            None => false,
+        }
+    }
+
+    /// Makes the moves of a leg.
+    fn go_to(&mut self, moves: &Moves, train: TrainNo, place: u16)
+        requires ready { IsReady moves.now self.old }
+        requires train { train < length moves.now }
+        requires leg { IsTrue (is_leg (moves_in moves.now) self.old.places.positions (record { train = train; place = place })) }
+        ensures ready { IsReady moves.now self.new }
+        ensures moves { GoesOn (moves_in moves.now) self.old self.new }
+        ensures positions { self.new.places.positions ≡ set self.old.places.positions train place }
+        ensures stops { self.new.stops ≡ self.old.stops }
+    {
+        while self.places.position(train) < place {
+            self.step(moves, train);
+        }
+    }
+
+    /// After a leg of the train from this place, notes for the one level what still stops the trains of
+    /// which it was noted for the other: the section is still held, and each section that the train needs
+    /// no more is needed by two others, so that none of them got a safe leg.
+    fn settle(&mut self, moves: &Moves, above: u8, level: u8, train: TrainNo, from: u16)
+        requires ready { IsReady moves.now self.old }
+        requires train { train < length moves.now }
+        requires valid { IsTrue (is_valid_state (moves_in moves.now) (set self.old.places.positions train from)) }
+        requires leg { IsTrue (is_leg (moves_in moves.now) (set self.old.places.positions train from) (record { train = train; place = place_of self.old.places.positions train })) }
+        requires settled { IsSettled (moves_in moves.now) (set self.old.places.positions train from) self.old.stops above }
+        ensures settled { IsSettled (moves_in moves.now) self.new.places.positions self.new.stops level }
+        ensures kept { (l u : ℕ) → l ≢ level → u < TRAINS → stop_at self.new.stops l u ≡ stop_at self.old.stops l u }
+        ensures rest { self.new ≡ record self.old { stops = self.new.stops } }
+    {
+        self.keep_stops(moves, above, level, train);
+        let place = self.places.position(train);
+        for made in from..place {
+            self.free_needers(moves, moves.need(train, made + 1), level, train);
+        }
+    }
+
+    /// Notes for the one level what was noted for the other of trains that are still stopped, but for
+    /// this train.
+    fn keep_stops(&mut self, moves: &Moves, above: u8, level: u8, train: TrainNo)
+        requires { IsReady moves.now self.old }
+        ensures held { (u x : ℕ) → u < length moves.now → stop_at self.new.stops level u ≡ Some x → (u ≢ train) × (stop_at self.old.stops above u ≡ Some x) × (get_or self.old.places.owners x None ≡ None → ⊥) }
+        ensures kept { (l u : ℕ) → l ≢ level → u < TRAINS → stop_at self.new.stops l u ≡ stop_at self.old.stops l u }
+        ensures rest { self.new ≡ record self.old { stops = self.new.stops } }
+    {
+        for number in 0..moves.trains() {
+            self.keep_stop(above, level, TrainNo(number), train);
+        }
+    }
+
+    /// The same of one train.
+    fn keep_stop(&mut self, above: u8, level: u8, train: TrainNo, moved: TrainNo)
+        requires { train < TRAINS }
+        ensures held { (x : ℕ) → stop_at self.new.stops level train ≡ Some x → (train ≢ moved) × (stop_at self.old.stops above train ≡ Some x) × (get_or self.old.places.owners x None ≡ None → ⊥) }
+        ensures others { (l u : ℕ) → u < TRAINS → (l ≡ level → u ≡ train → ⊥) → stop_at self.new.stops l u ≡ stop_at self.old.stops l u }
+        ensures rest { self.new ≡ record self.old { stops = self.new.stops } }
+    {
+        let stop = self.still_stops(above, train, moved);
+        self.stops.set(level, train, stop);
+    }
+
+    /// What was noted of the train, if it is another than the one that moved and the section is held.
+    fn still_stops(&self, above: u8, train: TrainNo, moved: TrainNo) -> Option<SectionNo>
+        requires { train < TRAINS }
+        ensures { IfSome result (λ x. (train ≢ moved) × (stop_at self.now.stops above train ≡ Some x) × (get_or self.now.places.owners x None ≡ None → ⊥)) }
+    {
+        let section = self.stops.get(above, train)?;
+        if train == moved || self.places.holder(section).is_none() {
+            return None;
+        }
+        Some(section)
+    }
+
+    /// Where the train needs one of the sections no more, and one train alone does, notes nothing of
+    /// what stops that one.
+    fn free_needers(&mut self, moves: &Moves, sections: &[SectionNo], level: u8, train: TrainNo)
+        requires table { IsTable moves.now }
+        requires train { train < length moves.now }
+        requires in_range { (x : ℕ) → IsTrue (is_in x sections.now) → x < SECTIONS }
+        ensures freed { (x u y : ℕ) → IsTrue (is_in x sections.now) → own_of self.old.needs train x ≡ 0 → trains_of self.old.needs x ≡ 1 → u < length moves.now → stop_at self.new.stops level u ≡ Some y → own_of self.old.needs u x ≡ 0 }
+        ensures fewer { (u y : ℕ) → u < TRAINS → stop_at self.new.stops level u ≡ Some y → stop_at self.old.stops level u ≡ Some y }
+        ensures kept { (l u : ℕ) → l ≢ level → u < TRAINS → stop_at self.new.stops l u ≡ stop_at self.old.stops l u }
+        ensures rest { self.new ≡ record self.old { stops = self.new.stops } }
+    {
+        for section in sections {
+            self.free_needer(moves, *section, level, train);
+        }
+    }
+
+    /// The same of one section.
+    fn free_needer(&mut self, moves: &Moves, section: SectionNo, level: u8, train: TrainNo)
+        requires table { IsTable moves.now }
+        requires train { train < length moves.now }
+        requires section { section < SECTIONS }
+        ensures freed { own_of self.old.needs train section ≡ 0 → trains_of self.old.needs section ≡ 1 → (u y : ℕ) → u < length moves.now → stop_at self.new.stops level u ≡ Some y → own_of self.old.needs u section ≡ 0 }
+        ensures fewer { (u y : ℕ) → u < TRAINS → stop_at self.new.stops level u ≡ Some y → stop_at self.old.stops level u ≡ Some y }
+        ensures kept { (l u : ℕ) → l ≢ level → u < TRAINS → stop_at self.new.stops l u ≡ stop_at self.old.stops l u }
+        ensures rest { self.new ≡ record self.old { stops = self.new.stops } }
+    {
+        if self.needs.has(train, section) || !self.needs.is_for_one(section) {
+            return;
+        }
+        for number in 0..moves.trains() {
+            self.forget_needer(TrainNo(number), section, level);
+        }
+    }
+
+    /// Notes nothing of what stops the train, if it needs the section.
+    fn forget_needer(&mut self, train: TrainNo, section: SectionNo, level: u8)
+        requires train { train < TRAINS }
+        requires section { section < SECTIONS }
+        ensures freed { (y : ℕ) → stop_at self.new.stops level train ≡ Some y → own_of self.old.needs train section ≡ 0 }
+        ensures fewer { (u y : ℕ) → u < TRAINS → stop_at self.new.stops level u ≡ Some y → stop_at self.old.stops level u ≡ Some y }
+        ensures kept { (l u : ℕ) → l ≢ level → u < TRAINS → stop_at self.new.stops l u ≡ stop_at self.old.stops l u }
+        ensures rest { self.new ≡ record self.old { stops = self.new.stops } }
+    {
+        if self.needs.has(train, section) {
+            self.stops.set(level, train, None);
+        }
+    }
+
+    /// Nobody is inside.
+    fn is_done(&mut self, moves: &Moves) -> bool
+        requires { IsReady moves.now self.old }
+        ensures ready { IsReady moves.now self.new }
+        ensures back { IsBack self.old self.new }
+        ensures stops { self.new.stops ≡ self.old.stops }
+        ensures done { IsTrue result ↔ IsTrue (nobody_inside (moves_in moves.now) self.old.places.positions) }
+    {
+        match self.places.play(moves, &[]) {
+            Played::Completes => true,
+            _ => false,
+        }
+    }
+
+    /// The train is inside, and its next move is legal.
+    fn can_go_on(&self, moves: &Moves, train: TrainNo) -> bool
+        requires ready { IsReady moves.now self.now }
+        requires train { train < length moves.now }
+        ensures { IsTrue result ↔ IsTrue (is_inside (moves_in moves.now) self.now.places.positions train && is_legal (moves_in moves.now) self.now.places.positions train) }
+    {
+        self.places.position(train) > 0 && self.places.legal(moves, train).is_ok()
+    }
+
+    /// A leg of the train to the place is safe: it ends out, or no other train inside needs its
+    /// standing set later.
+    fn is_safe_at(&self, moves: &Moves, train: TrainNo, place: u16) -> bool
+        requires ready { IsReady moves.now self.now }
+        requires train { train < length moves.now }
+        requires within { place ≤ (moves_in moves.now).moves train }
+        ensures { result ≡ is_safe (moves_in moves.now) self.now.places.positions (record { train = train; place = place }) }
+    {
+        place == moves.places(train) || self.needs.are_own(train, moves.stand(train, place))
+    }
+
+    /// Makes the train's next move.
+    fn step(&mut self, moves: &Moves, train: TrainNo)
+        requires ready { IsReady moves.now self.old }
+        requires train { train < length moves.now }
+        requires inside { IsTrue (is_inside (moves_in moves.now) self.old.places.positions train) }
+        requires legal { IsTrue (is_legal (moves_in moves.now) self.old.places.positions train) }
+        ensures ready { IsReady moves.now self.new }
+        ensures positions { self.new.places.positions ≡ after self.old.places.positions train }
+        ensures list { self.new.list ≡ self.old.list ++ train ∷ [] }
+        ensures stops { self.new.stops ≡ self.old.stops }
+    {
+        let place = self.places.position(train);
+        self.needs.subtract(train, moves.need(train, place + 1));
+        self.places.advance(moves, train);
+        self.list.push_reserved(train);
+    }
+
+    /// Takes the moves back that were made since the list had this length.
+    fn go_back(&mut self, moves: &Moves, mark: usize)
+        requires ready { IsReady moves.now self.old }
+        requires mark { mark ≤ length self.old.list }
+        ensures ready { IsReady moves.now self.new }
+        ensures list { self.new.list ≡ take mark self.old.list }
+        ensures stops { self.new.stops ≡ self.old.stops }
+        ensures positions { (s : List ℕ) → IsPlayed (moves_in moves.now) s (drop mark self.old.list) self.old.places.positions → self.new.places.positions ≡ s }
+    {
+        while self.list.len() > mark {
+            self.step_back(moves);
+        }
+    }
+
+    /// Takes the last move of the list back.
+    fn step_back(&mut self, moves: &Moves)
+        requires { IsReady moves.now self.old }
+        ensures ready { IsReady moves.now self.new }
+        ensures list { self.new.list ≡ take (length self.old.list - 1) self.old.list }
+        ensures stops { self.new.stops ≡ self.old.stops }
+        ensures positions { (s : List ℕ) (n : ℕ) → n < length self.old.list → IsPlayed (moves_in moves.now) s (drop n self.old.list) self.old.places.positions → IsPlayed (moves_in moves.now) s (drop n self.new.list) self.new.places.positions }
+    {
+        let Some(train) = self.list.pop() else {
+            return;
+        };
+        let place = self.places.position(train);
+        self.places.retreat(moves, train);
+        self.needs.add(train, moves.need(train, place));
+    }
+}

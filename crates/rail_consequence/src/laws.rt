@@ -1,0 +1,12 @@
+ghost use Rattle.std.specs.Prelude.{ℕ, List, IsTrue};
+ghost use Rattle.rail_rules.specs.Analysis.{Finds, Leg, after_leg, is_leg, is_safe};
+ghost use Rattle.rail_rules.specs.Moves.{Moves};
+
+/// What can be found from a state can be found from the state after a safe leg, with no more free legs.
+/// So making safe legs, in any order, loses nothing, and free legs need to be tried only where no safe
+/// leg is left.
+pub fn a_safe_leg_keeps_what_can_be_found()
+    ensures { (plan : Moves) (k : ℕ) (s : List ℕ) (leg : Leg)
+        → IsTrue (is_leg plan s leg) → IsTrue (is_safe plan s leg)
+        → Finds plan k s → Finds plan k (after_leg s leg) }
+{}

@@ -1,0 +1,23 @@
+//! The analysis of movement consequences: a list of moves that brings every train inside to its exit,
+//! with few free legs, or that there is none.
+//!
+//! This layer stands on `rail_place` for places and legal moves, and on `rail_rules` for what a leg is,
+//! when it is safe, and what can be found. The analyst makes legs on places of its own, filled from
+//! those handed in: it makes safe legs as long as there is one, which loses nothing, and only then
+//! tries each free leg, going back on those that do not help. It counts the needs of the moves that the
+//! trains have left, which tells whether a leg is safe, and notes which section stops each train, so
+//! that a train is looked at again only where that may have changed.
+//!
+//! The order in which legs are tried, and so which list is found, may be changed. That no list is
+//! answered exactly where none can be found may not.
+#![tactic(auto)]
+
+mod analyst;
+mod laws;
+mod needs;
+mod stops;
+#[cfg(test)]
+mod tests;
+
+pub use analyst::Analyst;
+pub use laws::a_safe_leg_keeps_what_can_be_found;

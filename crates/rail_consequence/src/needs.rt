@@ -1,0 +1,199 @@
+//! How often the moves that the trains have left need each section.
+
+ghost use Rattle.std.specs.Prelude.{◌≡◌, ℕ, ◌+◌, ◌-◌, ◌*◌, ◌<◌, ◌≤◌, ◌^◌, ◌==◌, [], ◌∷◌, nat_lt, length, get_or, set, IsTrue};
+ghost use Rattle.std.specs.List.{list_all};
+ghost use Rattle.rail_rules.specs.Numbers.{is_in};
+ghost use Rattle.rail_place.specs.Made.{IsMadeFor};
+ghost use Rattle.rail_place.specs.Tables.{IsTable, moves_in};
+ghost use Rattle.rail_consequence.specs.Needing.{IsCounted, IsMore, IsRoomFor, needs_left, own_of, present, times, trains_of};
+
+use rail_base::limits::{SECTIONS, TRAINS};
+use rail_base::{OutOfMemory, SectionNo, TrainNo};
+use rail_place::{Moves, Places};
+use std::alloc::Global;
+use std::marker::Model;
+
+/// How often the moves that each train has left need each section, and how many trains need it. A train
+/// that has not entered counts for nothing.
+#[derive(Debug, Drop)]
+pub struct Needs {
+    /// The sections of each train, one train after another.
+    own: Vec<u16>,
+    trains: Vec<u16>,
+}
+
+impl Model for Needs {
+    ghost use Rattle.rail_consequence.specs.Needing.{Counts, IsWide};
+
+    ghost Value = { Counts };
+
+    ghost view = { λ needs. record { own = needs.own.items; trains = needs.trains.items } };
+
+    ghost invariant = { λ needs. IsWide needs.own.items needs.trains.items };
+}
+
+impl Needs {
+    /// Room for the needs of any trains, of which none is counted.
+    pub fn new(alloc: Global) -> Result<Needs, OutOfMemory> {
+        Ok(Needs {
+            own: vec![in alloc; 0u16; TRAINS * SECTIONS]?,
+            trains: vec![in alloc; 0u16; SECTIONS]?,
+        })
+    }
+
+    /// Counts the needs of the moves that are left from these places, and nothing else.
+    pub fn set_up(&mut self, moves: &Moves, places: &Places)
+        requires { IsMadeFor moves.now places.now }
+        ensures { IsCounted (moves_in moves.now) places.now.positions self.new }
+    {
+        self.clear(moves.trains());
+        for number in 0..moves.trains() {
+            let train = TrainNo(number);
+            self.count_train(moves, train, places.position(train));
+        }
+    }
+
+    /// Counts nothing of these many trains.
+    fn clear(&mut self, trains: u16)
+        requires { trains ≤ TRAINS }
+        ensures own { (u x : ℕ) → u < trains → x < SECTIONS → own_of self.new u x ≡ 0 }
+        ensures trains { (x : ℕ) → trains_of self.new x ≡ 0 }
+    {
+        clear_front(&mut self.own, usize::from(trains) * SECTIONS);
+        self.trains.fill(0);
+    }
+
+    /// Counts the moves that a train has left at the place, if it has entered.
+    fn count_train(&mut self, moves: &Moves, train: TrainNo, place: u16)
+        requires table { IsTable moves.now }
+        requires train { train < length moves.now }
+        requires within { place ≤ (moves_in moves.now).moves train }
+        requires own { (x : ℕ) → x < SECTIONS → own_of self.old train x + needs_left (moves_in moves.now) train place x < 2 ^ 16 }
+        requires trains { (x : ℕ) → x < SECTIONS → trains_of self.old x < TRAINS }
+        ensures { IsMore self.old self.new train (needs_left (moves_in moves.now) train place) }
+    {
+        if place == 0 {
+            return;
+        }
+        for made in place..moves.places(train) {
+            self.add(train, moves.need(train, made + 1));
+        }
+    }
+
+    /// Counts the sections once more each.
+    pub fn add(&mut self, train: TrainNo, sections: &[SectionNo])
+        requires train { train < TRAINS }
+        requires in_range { (x : ℕ) → IsTrue (is_in x sections.now) → x < SECTIONS }
+        requires room { IsRoomFor self.old train (λ x. times x sections.now) }
+        ensures { IsMore self.old self.new train (λ x. times x sections.now) }
+    {
+        for section in sections {
+            self.add_one(train, *section);
+        }
+    }
+
+    /// Counts the sections once less each.
+    pub fn subtract(&mut self, train: TrainNo, sections: &[SectionNo])
+        requires train { train < TRAINS }
+        requires in_range { (x : ℕ) → IsTrue (is_in x sections.now) → x < SECTIONS }
+        requires own { (x : ℕ) → x < SECTIONS → times x sections.now ≤ own_of self.old train x }
+        requires trains { (x : ℕ) → x < SECTIONS → 0 < own_of self.old train x → 0 < trains_of self.old x }
+        ensures { IsMore self.new self.old train (λ x. times x sections.now) }
+    {
+        for section in sections {
+            self.subtract_one(train, *section);
+        }
+    }
+
+    /// Counts the section once more.
+    fn add_one(&mut self, train: TrainNo, section: SectionNo)
+        requires train { train < TRAINS }
+        requires section { section < SECTIONS }
+        requires own { own_of self.old train section + 1 < 2 ^ 16 }
+        requires trains { trains_of self.old section + 1 < 2 ^ 16 }
+        ensures { IsMore self.old self.new train (λ x. times x (section ∷ [])) }
+    {
+        let cell = cell(train, section);
+        if self.own[cell] == 0 {
+            self.trains[usize::from(section.0)] += 1;
+        }
+        self.own[cell] += 1;
+    }
+
+    /// Counts the section once less.
+    fn subtract_one(&mut self, train: TrainNo, section: SectionNo)
+        requires train { train < TRAINS }
+        requires section { section < SECTIONS }
+        requires own { 0 < own_of self.old train section }
+        requires trains { 0 < trains_of self.old section }
+        ensures { IsMore self.new self.old train (λ x. times x (section ∷ [])) }
+    {
+        let cell = cell(train, section);
+        self.own[cell] -= 1;
+        if self.own[cell] == 0 {
+            self.trains[usize::from(section.0)] -= 1;
+        }
+    }
+
+    /// Whether the train needs the section.
+    pub fn has(&self, train: TrainNo, section: SectionNo) -> bool
+        requires train { train < TRAINS }
+        requires section { section < SECTIONS }
+        ensures { result ≡ nat_lt 0 (own_of self.now train section) }
+    {
+        self.own[cell(train, section)] > 0
+    }
+
+    /// Whether one train alone needs the section.
+    pub fn is_for_one(&self, section: SectionNo) -> bool
+        requires { section < SECTIONS }
+        ensures { result ≡ (trains_of self.now section == 1) }
+    {
+        self.trains[usize::from(section.0)] == 1
+    }
+
+    /// No other train than this one needs any of the sections.
+    pub fn are_own(&self, train: TrainNo, sections: &[SectionNo]) -> bool
+        requires train { train < TRAINS }
+        requires in_range { (x : ℕ) → IsTrue (is_in x sections.now) → x < SECTIONS }
+        ensures { result ≡ list_all (λ x. trains_of self.now x == present (own_of self.now train x)) sections.now }
+    {
+        for section in sections {
+            if !self.is_own(train, *section) {
+                return false;
+            }
+        }
+        true
+    }
+
+    /// No other train than this one needs the section.
+    fn is_own(&self, train: TrainNo, section: SectionNo) -> bool
+        requires train { train < TRAINS }
+        requires section { section < SECTIONS }
+        ensures { result ≡ (trains_of self.now section == present (own_of self.now train section)) }
+    {
+        let own = self.own[cell(train, section)] > 0;
+        self.trains[usize::from(section.0)] == u16::from(own)
+    }
+}
+
+/// Sets these many counts in front to 0.
+fn clear_front(counts: &mut Vec<u16>, many: usize)
+    requires { many ≤ length counts.old.items }
+    ensures zeros { (i : ℕ) → i < many → get_or counts.new.items i 0 ≡ 0 }
+    ensures length { length counts.new.items ≡ length counts.old.items }
+{
+    for index in 0..many {
+        counts[index] = 0;
+    }
+}
+
+/// Where the needs of the train for the section are counted.
+fn cell(train: TrainNo, section: SectionNo) -> usize
+    requires train { train < TRAINS }
+    requires section { section < SECTIONS }
+    ensures cell { result ≡ train * SECTIONS + section }
+    ensures within { result < TRAINS * SECTIONS }
+{
+    usize::from(train.0) * SECTIONS + usize::from(section.0)
+}
