@@ -84,6 +84,10 @@ no_call_at zero m = refl
 no_call_at (suc n) zero = refl
 no_call_at (suc n) (suc m) = no_call_at n m
 
+-- none is anywhere
+pub none_called : (tables : Tables) (t place : ℕ) → call_at (no_calls tables) t place ≡ None
+none_called tables t place = ap (λ r. get_or r (place - 1) None) (room_is tables t) ∙ no_call_at (length (train (bare tables) t).moves) (place - 1)
+
 -- no calls are made for the tables
 pub none_made : (tables : Tables) → AreCallsFor tables (no_calls tables)
 none_made tables =

@@ -34,6 +34,7 @@ impl Calls {
     /// No call yet, with room for one at each place of each train of the plant.
     pub fn new(alloc: Global, plant: &Plant) -> Result<Calls, OutOfMemory>
         ensures empty { IfOk result (λ calls. calls ≡ no_calls plant.now.tables) }
+        ensures free { IfOk result (λ calls. (t place : ℕ) → call_at calls t place ≡ None) }
         ensures made { IfOk result (AreCallsFor plant.now.tables) }
     {
         Ok(Calls {

@@ -1,5 +1,5 @@
 ghost use Rattle.std.specs.Prelude.{◌≡◌, ◌-◌, ◌<◌, ◌≤◌, [], length, map, None, IsTrue, IfOk, IfErr, OnOk};
-ghost use Rattle.rail_base.specs.declared.limits.TheConstants.{COMMANDS, ITINERARY_ROUTES};
+ghost use Rattle.rail_base.specs.declared.limits.TheConstants.{COMMANDS, ITINERARY_ROUTES, SECTIONS, TRAINS};
 ghost use Rattle.rail_base.specs.declared.plant.SectionRow.{SectionRow};
 ghost use Rattle.rail_base.specs.declared.plant.TrainRow.{TrainRow};
 ghost use Rattle.rail_rules.specs.Plant.{bound, call_after, move_row, moves, moves_of, section, train, trains};
@@ -92,6 +92,8 @@ impl Plant {
     pub fn names(&self) -> &Names
         ensures sections { result.now.sections.keys ≡ map (λ (row : SectionRow). row.name) self.now.tables.sections }
         ensures trains { result.now.trains.keys ≡ map (λ (row : TrainRow). row.name) self.now.tables.trains }
+        ensures few_sections { length result.now.sections.keys ≤ SECTIONS }
+        ensures few_trains { length result.now.trains.keys ≤ TRAINS }
     {
         &self.names
     }

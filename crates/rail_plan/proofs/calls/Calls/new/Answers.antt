@@ -1,7 +1,7 @@
 use Rattle.std.proofs.Common.{List, Option, sym, ap, ◌∙◌, subst, map}
 use Rattle.rail_base.specs.declared.plant.Call.{Call}
-use Rattle.rail_plan.specs.Calling.{AreCallsFor}
-use Rattle.rail_plan.proofs.CallRows.{room_for, none_made}
+use Rattle.rail_plan.specs.Calling.{AreCallsFor, call_at}
+use Rattle.rail_plan.proofs.CallRows.{none_called, room_for, none_made}
 use Rattle.rail_plan.proofs.calls.Calls.new.Goals as goal
 
 pub returns-clause-empty : goal.returns-clause-empty
@@ -11,3 +11,7 @@ pub returns-clause-made : goal.returns-clause-made
 returns-clause-made c =
     let P : List (List (Option Call)) → Type 0 = λ calls. AreCallsFor c.args.plant.now.tables calls in
     subst P (sym (returns-clause-empty c)) (none_made c.args.plant.now.tables)
+
+pub returns-clause-free : goal.returns-clause-free
+returns-clause-free c =
+    λ t place. ap (λ calls. call_at calls t place) (returns-clause-empty c) ∙ none_called c.args.plant.now.tables t place

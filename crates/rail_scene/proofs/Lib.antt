@@ -1,0 +1,20 @@
+-- Lemmas on what a scene spells and why it is refused.
+pub mod Segments
+pub mod Locating
+pub mod Times
+pub mod Views
+pub mod FormSteps
+pub mod Steps
+pub mod Drafting
+pub mod Distinct
+pub mod Documents
+pub mod Whole
+pub mod Spelled
+pub mod CompileFinds
+pub mod CompilePlaces
+pub mod CompileRoutes
+pub mod CompileNames
+pub mod CompileTrains
+pub mod CompileMoves
+pub mod CompileTables
+pub mod Leaving

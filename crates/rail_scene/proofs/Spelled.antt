@@ -1,0 +1,14 @@
+-- The scene of a root, from its parts.
+use Rattle.std.proofs.Common.{◌≡◌, ℕ, List, [], unwrap_or}
+use Rattle.toml.specs.Data.{Data}
+use Rattle.rail_scene.specs.declared.draft.Draft.{Draft}
+use Rattle.rail_scene.specs.declared.keys.TheConstants.{RELEASE, DEPTH, POLICY}
+use Rattle.rail_scene.specs.Fields.{policy_at}
+use Rattle.rail_scene.specs.Entries.{spelled_number}
+use Rattle.rail_scene.specs.Spelling.{scene_of}
+use Rattle.rail_scene.specs.Order.{lists_draft}
+
+pub scene_is : (root : Data) (draft : Draft) (release depth : ℕ) (policy : List ℕ) → draft ≡ lists_draft root → release ≡ spelled_number RELEASE root → depth ≡ spelled_number DEPTH root → policy ≡ unwrap_or (policy_at POLICY root) []
+    → record { release = release; depth = depth; policy = policy; network = draft.network; kinds = draft.kinds; trains = draft.trains } ≡ scene_of root
+unfolding lists_draft
+scene_is root draft release depth policy are r d p = λ i. record { release = r i; depth = d i; policy = p i; network = (are i).network; kinds = (are i).kinds; trains = (are i).trains }

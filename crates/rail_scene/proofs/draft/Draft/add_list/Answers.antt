@@ -1,0 +1,34 @@
+use Rattle.std.proofs.Common.{◌≡◌, ◌+◌, map, drop, sym, ap, subst, ◌∙◌}
+use Rattle.toml.specs.View.{view}
+use Rattle.rail_track.specs.Refusing.{first_failing}
+use Rattle.rail_scene.specs.declared.draft.Draft.{Draft}
+use Rattle.rail_scene.specs.Keys.{part_of}
+use Rattle.rail_scene.specs.Drafts.{with_items}
+use Rattle.rail_scene.specs.Order.{fault_at, item_number, list_values, AnswersScene}
+use Rattle.rail_scene.proofs.Drafting.{value_stop, value_pass, draft_pass}
+use Rattle.rail_scene.proofs.draft.Draft.add_list.Goals as goal
+
+pub returns-in-Err-clause-refused : goal.returns-in-Err-clause-refused
+returns-in-Err-clause-refused c =
+    let part = c.args.part in
+    let i = c.loop-index.index in
+    let fault = c.in-Err.fault in
+    let stops = value_stop part c.loop-index.self c.args.tables.now i c.index-tables-index.result c.loop-index-test.true c.index-tables-index.is fault c.in-Err.ensures.refused in
+    let placed : c.located.result ≡ fault_at (part_of part) (item_number (i + 1)) fault = c.located.ensures ∙ (λ k. fault_at (c.part.ensures k) (c.item_number.ensures k) fault) in
+    rw placed (subst (λ first. AnswersScene first (fault_at (part_of part) (item_number (i + 1)) fault)) c.loop-index.invariant.0 stops)
+
+pub loop-index-preserved : goal.loop-index-preserved
+loop-index-preserved c =
+    let part = c.args.part in
+    let tables = c.args.tables.now in
+    let i = c.loop-index.index in
+    let table = c.index-tables-index.result in
+    let draft = c.loop-index.self in
+    let added = c.in-Ok.ensures.added in (
+      ap (λ (next : Draft). first_failing (list_values part (i + 1 + 1) next (map view (drop (i + 1) tables)))) added
+          ∙ sym (value_pass part draft tables i table c.loop-index-test.true c.index-tables-index.is c.in-Ok.ensures.accepted)
+          ∙ c.loop-index.invariant.0,
+      ap (λ (next : Draft). with_items part (map view (drop (i + 1) tables)) next) added
+          ∙ sym (draft_pass part draft tables i table c.loop-index-test.true c.index-tables-index.is)
+          ∙ c.loop-index.invariant.1,
+    )

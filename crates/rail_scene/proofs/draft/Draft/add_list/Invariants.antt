@@ -1,0 +1,11 @@
+use Rattle.std.proofs.Common.{◌≡◌, ◌+◌, drop, map}
+use Rattle.toml.specs.View.{view}
+use Rattle.rail_track.specs.Refusing.{first_failing}
+use Rattle.rail_scene.specs.Drafts.{with_items}
+use Rattle.rail_scene.specs.Order.{list_values}
+use Rattle.rail_scene.proofs.draft.Draft.add_list.Given as goal
+
+abbrev pub invariant-loop-index : goal.invariant-loop-index
+invariant-loop-index l =
+    (first_failing (list_values l.part (l.index + 1) l.self (map view (drop l.index l.tables))) ≡ first_failing (list_values l.part 1 l.initial.self (map view l.tables)))
+    × (with_items l.part (map view (drop l.index l.tables)) l.self ≡ with_items l.part (map view l.tables) l.initial.self)

@@ -1,0 +1,15 @@
+-- What the contracts of this crate, and the definitions above it, speak of.
+pub mod Scenes
+pub mod Keys
+pub mod Fields
+pub mod Entries
+pub mod Forms
+pub mod Values
+pub mod Rosters
+pub mod Drafts
+pub mod Spelling
+pub mod Order
+pub mod Itineraries
+pub mod Compiling
+pub mod Typed
+pub mod Defaults

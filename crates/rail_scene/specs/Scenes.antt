@@ -1,0 +1,37 @@
+-- Scenes: their limits, and names that are found once.
+use Rattle.std.specs.Prelude.{◌≤◌, ◌&&◌, Bool, length, IsTrue, nat_le}
+use Rattle.std.specs.List.{list_all}
+use Rattle.rail_base.specs.Naming.{same_name}
+use Rattle.rail_base.specs.declared.limits.TheConstants.{RELEASE, DEPTH, KINDS, TRAINS, TRAIN_LENGTH, SPEED, START, STOP, INPUT_TIME, ITINERARY_ROUTES}
+use Rattle.rail_base.specs.declared.plant.TrainKind.{TrainKind}
+use Rattle.rail_track.specs.Accepting.{is_within}
+use Rattle.rail_track.specs.Lists.{are_apart}
+use Rattle.rail_scene.specs.declared.scene.Scene.{Scene}
+use Rattle.rail_scene.specs.declared.scene.SceneTrain.{SceneTrain}
+
+-- the numbers of a train kind are in range
+abbrev pub is_fit_kind : TrainKind → Bool
+is_fit_kind kind = is_within TRAIN_LENGTH kind.length && is_within SPEED kind.speed && nat_le kind.start START && nat_le kind.stop STOP
+
+-- the train enters within the time of an input, and its itinerary has at least one route and not too many
+abbrev pub is_fit_train : SceneTrain → Bool
+is_fit_train train = nat_le train.entry INPUT_TIME && is_within ITINERARY_ROUTES (length train.routes)
+
+-- two kinds, or two trains, have one name
+abbrev pub is_one_kind : TrainKind → TrainKind → Bool
+is_one_kind kind other = same_name kind.name other.name
+
+-- two trains have one name
+abbrev pub is_one_train : SceneTrain → SceneTrain → Bool
+is_one_train train other = same_name train.name other.name
+
+-- a scene keeps the limits and ranges, and no two of its kinds and no two of its trains have one name
+pub record IsScene (scene : Scene) : Type 0 where
+  pub release : scene.release ≤ RELEASE
+  pub depth : scene.depth ≤ DEPTH
+  pub few_kinds : length scene.kinds ≤ KINDS
+  pub few_trains : length scene.trains ≤ TRAINS
+  pub kinds : IsTrue (list_all is_fit_kind scene.kinds)
+  pub trains : IsTrue (list_all is_fit_train scene.trains)
+  pub kinds_apart : IsTrue (are_apart is_one_kind scene.kinds)
+  pub trains_apart : IsTrue (are_apart is_one_train scene.trains)

@@ -1,0 +1,356 @@
+//! The items of a scene file, each from its table.
+ghost use Rattle.std.specs.Prelude.{◌≡◌, ◌⊎◌, true, false, ◌≤◌, ◌==◌, ◌++◌, [], ◌∷◌, IsTrue, IsSome, Some, None, length, map, not, ℕ, List, OnOk, IfOk, IfErr, MatchResult, MatchOption};
+ghost use Rattle.std.specs.Option.{option_map_or};
+ghost use Rattle.toml.specs.Data.{Data};
+ghost use Rattle.toml.specs.View.{view};
+ghost use Rattle.rail_base.specs.declared.refusals.Reason.TheVariants.{BadName, Range};
+ghost use Rattle.rail_track.specs.declared.section.NetFault.{NetFault};
+ghost use Rattle.rail_track.specs.declared.section.NetFault.TheVariants.{Refused, OutOfMemory};
+ghost use Rattle.rail_track.specs.Accepting.{joint_count, is_within};
+ghost use Rattle.rail_track.specs.Refusing.{Answers, first_failing, refused_where};
+ghost use Rattle.rail_scene.specs.declared.keys.TheConstants.{SECTION_KEYS, PORTAL_KEYS, SIGNAL_KEYS, BOARD_KEYS, TURN_KEYS, ROUTE_KEYS, KIND_KEYS, TRAIN_KEYS};
+ghost use Rattle.rail_scene.specs.Fields.{value_at, text_at, name_in, name_at, policy_at, number_at, kind_at, time_at, elements_of, elements_at, are_names, names_in, is_path_count};
+ghost use Rattle.rail_scene.specs.Entries.{section_of, portal_of, signal_of, board_of, turn_of, route_of, kind_of, train_of, steps_of, steps_from, spelled_names};
+ghost use Rattle.rail_scene.specs.Values.{value_tests, tests_by, list_tests};
+ghost use Rattle.rail_scene.specs.Scenes.{is_fit_kind, is_fit_train};
+ghost use Rattle.rail_scene.specs.declared.keys.Form.TheVariants as Form;
+
+use crate::fields::{elements_at, kind_at, name_at, name_in, number_at, time_at};
+use crate::keys::{
+    AHEAD, APPROACH, ARRIVING, ENTRY, FROM, JOINT, JOINTS, Key, LEAVING, NAME, PATH, PRIORITY,
+    ROUTES, SECTION_KIND, SECTION_LENGTH, SETTING, SPEED, START, STOP, TO, TRAIN_KIND,
+    TRAIN_LENGTH, TURN_TIME, WATCHING,
+};
+use crate::scene::SceneTrain;
+use rail_base::limits::{ITINERARY_ROUTES, ROUTE_SECTIONS};
+use rail_base::{Name, Reason, Seq, Time, TrainKind};
+use rail_routes::{Post, Role, Route, Step, Turn};
+use rail_track::{NetFault, Section, SectionKind};
+use std::alloc::{AllocError, Global};
+use toml::Value;
+
+/// A refusal for this reason at this step.
+fn refused(reason: Reason, step: u32) -> NetFault
+    ensures { result ≡ Refused reason step }
+{
+    NetFault::Refused { reason, step }
+}
+
+/// The name at key number `step`.
+pub(crate) fn read_name(table: &Value, key: Key, step: u32) -> Result<Name, NetFault>
+    ensures { MatchResult result (λ name. name_at key (view table.now) ≡ Some name)
+        (λ fault. (name_at key (view table.now) ≡ None) × (fault ≡ Refused BadName step)) }
+{
+    match name_at(table, key) {
+        Some(name) => Ok(name),
+        None => Err(refused(Reason::BadName, step)),
+    }
+}
+
+/// The number at key number `step`.
+pub(crate) fn read_number(table: &Value, key: Key, step: u32) -> Result<u32, NetFault>
+    ensures { MatchResult result (λ number. number_at key (view table.now) ≡ Some number)
+        (λ fault. (number_at key (view table.now) ≡ None) × (fault ≡ Refused Range step)) }
+{
+    match number_at(table, key) {
+        Some(number) => Ok(number),
+        None => Err(refused(Reason::Range, step)),
+    }
+}
+
+/// The section kind at key number `step`.
+fn read_kind(table: &Value, key: Key, step: u32) -> Result<SectionKind, NetFault>
+    ensures { MatchResult result (λ kind. kind_at key (view table.now) ≡ Some kind)
+        (λ fault. (kind_at key (view table.now) ≡ None) × (fault ≡ Refused Range step)) }
+{
+    match kind_at(table, key) {
+        Some(kind) => Ok(kind),
+        None => Err(refused(Reason::Range, step)),
+    }
+}
+
+/// The time at key number `step`.
+fn read_time(table: &Value, key: Key, step: u32) -> Result<Time, NetFault>
+    ensures { MatchResult result (λ time. time_at key (view table.now) ≡ Some time)
+        (λ fault. (time_at key (view table.now) ≡ None) × (fault ≡ Refused Range step)) }
+{
+    match time_at(table, key) {
+        Some(time) => Ok(time),
+        None => Err(refused(Reason::Range, step)),
+    }
+}
+
+/// The names that the values at key number `step` are. The first that is none is told.
+fn read_names(alloc: Global, values: &[Value], step: u32) -> Result<Vec<Name>, NetFault>
+    ensures names { IfOk result (λ names. names.items ≡ names_in (map view values.now)) }
+    ensures accepted { OnOk result (are_names (map view values.now) ≡ true) }
+    ensures refused { IfErr result (λ fault. (fault ≡ OutOfMemory) ⊎ ((are_names (map view values.now) ≡ false) × (fault ≡ Refused BadName step))) }
+{
+    let mut names = Vec::new(alloc);
+    names.reserve(values.len())?;
+    for value in values {
+        match name_in(value) {
+            Some(name) => push(&mut names, name)?,
+            None => return Err(refused(Reason::BadName, step)),
+        }
+    }
+    Ok(names)
+}
+
+/// The names that the values at key number `step` are, if there may be so many.
+fn read_list(
+    alloc: Global,
+    values: &[Value],
+    is_count: bool,
+    step: u32,
+) -> Result<Vec<Name>, NetFault>
+    ensures names { IfOk result (λ names. names.items ≡ names_in (map view values.now)) }
+    ensures counted { OnOk result (is_count ≡ true) }
+    ensures accepted { OnOk result (first_failing (list_tests step is_count (map view values.now)) ≡ None) }
+    ensures refused { IfErr result (Answers (first_failing (list_tests step is_count (map view values.now)))) }
+{
+    if !is_count {
+        return Err(refused(Reason::Range, step));
+    }
+    match read_names(alloc, values, step) {
+        Ok(names) => Ok(names),
+        Err(fault) => Err(fault),
+    }
+}
+
+/// Adds an item last. It fails only for want of memory.
+fn push<T: Drop>(items: &mut Vec<T>, item: T) -> Result<(), AllocError>
+    ensures { OnOk result (items.new.items ≡ items.old.items ++ item ∷ []) }
+{
+    items.push(item)?;
+    Ok(())
+}
+
+/// How many joints a section of the kind has.
+fn joint_count(kind: SectionKind) -> usize
+    ensures { result ≡ joint_count kind }
+{
+    match kind {
+        SectionKind::Plain => 2,
+        SectionKind::Points => 3,
+        SectionKind::Crossing | SectionKind::Slip => 4,
+    }
+}
+
+/// The joints of a section of the kind.
+fn read_joints(
+    alloc: Global,
+    table: &Value,
+    kind: SectionKind,
+    step: u32,
+) -> Result<Vec<Name>, NetFault>
+    requires { kind_at SECTION_KIND (view table.now) ≡ Some kind }
+    ensures names { IfOk result (λ names. names.items ≡ spelled_names JOINTS (view table.now)) }
+    ensures accepted { OnOk result (first_failing (tests_by Form.Joints step JOINTS (view table.now)) ≡ None) }
+    ensures refused { IfErr result (Answers (first_failing (tests_by Form.Joints step JOINTS (view table.now)))) }
+{
+    let values = elements_at(table, JOINTS);
+    read_list(alloc, values, values.len() == joint_count(kind), step)
+}
+
+/// The section of a table.
+pub(crate) fn section(alloc: Global, table: &Value) -> Result<Section, NetFault>
+    ensures accepted { OnOk result (first_failing (value_tests 1 SECTION_KEYS (view table.now)) ≡ None) }
+    ensures spelled { IfOk result (λ section. section ≡ section_of (view table.now)) }
+    ensures refused { IfErr result (Answers (first_failing (value_tests 1 SECTION_KEYS (view table.now)))) }
+{
+    let name = read_name(table, NAME, 1)?;
+    let kind = read_kind(table, SECTION_KIND, 2)?;
+    let length = read_number(table, SECTION_LENGTH, 3)?;
+    let speed = read_number(table, SPEED, 4)?;
+    let joints = match read_joints(alloc, table, kind, 5) {
+        Ok(joints) => joints,
+        Err(fault) => return Err(fault),
+    };
+    Ok(Section {
+        name,
+        kind,
+        length,
+        speed,
+        joints: Seq::from_vec(joints),
+    })
+}
+
+/// The portal of a table.
+pub(crate) fn portal(table: &Value) -> Result<Post, NetFault>
+    ensures accepted { OnOk result (first_failing (value_tests 1 PORTAL_KEYS (view table.now)) ≡ None) }
+    ensures spelled { IfOk result (λ post. post ≡ portal_of (view table.now)) }
+    ensures refused { IfErr result (Answers (first_failing (value_tests 1 PORTAL_KEYS (view table.now)))) }
+{
+    Ok(Post {
+        name: read_name(table, NAME, 1)?,
+        role: Role::Portal,
+        joint: read_name(table, JOINT, 2)?,
+        ahead: None,
+        setting: read_number(table, SETTING, 3)?,
+        watching: read_number(table, WATCHING, 4)?,
+        approach: read_number(table, APPROACH, 5)?,
+    })
+}
+
+/// The signal of a table.
+pub(crate) fn signal(table: &Value) -> Result<Post, NetFault>
+    ensures accepted { OnOk result (first_failing (value_tests 1 SIGNAL_KEYS (view table.now)) ≡ None) }
+    ensures spelled { IfOk result (λ post. post ≡ signal_of (view table.now)) }
+    ensures refused { IfErr result (Answers (first_failing (value_tests 1 SIGNAL_KEYS (view table.now)))) }
+{
+    Ok(Post {
+        name: read_name(table, NAME, 1)?,
+        role: Role::Signal,
+        joint: read_name(table, JOINT, 2)?,
+        ahead: Some(read_name(table, AHEAD, 3)?),
+        setting: read_number(table, SETTING, 4)?,
+        watching: read_number(table, WATCHING, 5)?,
+        approach: read_number(table, APPROACH, 6)?,
+    })
+}
+
+/// The board of a table. It has no times.
+pub(crate) fn board(table: &Value) -> Result<Post, NetFault>
+    ensures accepted { OnOk result (first_failing (value_tests 1 BOARD_KEYS (view table.now)) ≡ None) }
+    ensures spelled { IfOk result (λ post. post ≡ board_of (view table.now)) }
+    ensures refused { IfErr result (Answers (first_failing (value_tests 1 BOARD_KEYS (view table.now)))) }
+{
+    Ok(Post {
+        name: read_name(table, NAME, 1)?,
+        role: Role::Board,
+        joint: read_name(table, JOINT, 2)?,
+        ahead: None,
+        setting: 0,
+        watching: 0,
+        approach: 0,
+    })
+}
+
+/// The turn of a table.
+pub(crate) fn turn(table: &Value) -> Result<Turn, NetFault>
+    ensures accepted { OnOk result (first_failing (value_tests 1 TURN_KEYS (view table.now)) ≡ None) }
+    ensures spelled { IfOk result (λ turn. turn ≡ turn_of (view table.now)) }
+    ensures refused { IfErr result (Answers (first_failing (value_tests 1 TURN_KEYS (view table.now)))) }
+{
+    Ok(Turn {
+        arriving: read_name(table, ARRIVING, 1)?,
+        leaving: read_name(table, LEAVING, 2)?,
+        time: read_number(table, TURN_TIME, 3)?,
+    })
+}
+
+/// The route of a table.
+pub(crate) fn route(alloc: Global, table: &Value) -> Result<Route, NetFault>
+    ensures accepted { OnOk result (first_failing (value_tests 1 ROUTE_KEYS (view table.now)) ≡ None) }
+    ensures spelled { IfOk result (λ route. route ≡ route_of (view table.now)) }
+    ensures refused { IfErr result (Answers (first_failing (value_tests 1 ROUTE_KEYS (view table.now)))) }
+{
+    let name = read_name(table, NAME, 1)?;
+    let from = read_name(table, FROM, 2)?;
+    let to = read_name(table, TO, 3)?;
+    let path = match read_path(alloc, table, 4) {
+        Ok(path) => path,
+        Err(fault) => return Err(fault),
+    };
+    Ok(Route {
+        name,
+        from,
+        to,
+        steps: Seq::from_vec(steps_of(alloc, path.as_slice())?),
+    })
+}
+
+/// The joints and sections of a path in turn.
+fn read_path(alloc: Global, table: &Value, step: u32) -> Result<Vec<Name>, NetFault>
+    ensures names { IfOk result (λ names. names.items ≡ spelled_names PATH (view table.now)) }
+    ensures accepted { OnOk result (first_failing (tests_by Form.Path step PATH (view table.now)) ≡ None) }
+    ensures refused { IfErr result (Answers (first_failing (tests_by Form.Path step PATH (view table.now)))) }
+{
+    let values = elements_at(table, PATH);
+    read_list(alloc, values, is_path_count(values.len()), step)
+}
+
+/// Whether so many joints and sections in turn are a path.
+fn is_path_count(names: usize) -> bool
+    ensures { result ≡ is_path_count names }
+{
+    names / 2 >= 1 && names / 2 <= ROUTE_SECTIONS && names % 2 == 1
+}
+
+/// The steps of a path of joints and sections in turn.
+fn steps_of(alloc: Global, path: &[Name]) -> Result<Vec<Step>, NetFault>
+    ensures steps { IfOk result (λ steps. steps.items ≡ steps_of path.now) }
+    ensures memory { IfErr result (λ fault. fault ≡ OutOfMemory) }
+{
+    let mut steps = Vec::new(alloc);
+    let [start, rest @ ..] = path else {
+        return Ok(steps);
+    };
+    steps.reserve(rest.len() / 2)?;
+    let mut joint = *start;
+    let mut rest = rest;
+    while let [section, next, more @ ..] = rest {
+        let step = Step {
+            section: *section,
+            from: joint,
+            to: *next,
+        };
+        push(&mut steps, step)?;
+        joint = *next;
+        rest = more;
+    }
+    Ok(steps)
+}
+
+/// The train kind of a table.
+pub(crate) fn train_kind(table: &Value) -> Result<TrainKind, NetFault>
+    ensures accepted { OnOk result (first_failing (value_tests 1 KIND_KEYS (view table.now)) ≡ None) }
+    ensures spelled { IfOk result (λ kind. kind ≡ kind_of (view table.now)) }
+    ensures fit { IfOk result (λ kind. IsTrue (is_fit_kind kind)) }
+    ensures refused { IfErr result (Answers (first_failing (value_tests 1 KIND_KEYS (view table.now)))) }
+{
+    Ok(TrainKind {
+        name: read_name(table, NAME, 1)?,
+        length: read_number(table, TRAIN_LENGTH, 2)?,
+        speed: read_number(table, SPEED, 3)?,
+        start: read_number(table, START, 4)?,
+        stop: read_number(table, STOP, 5)?,
+    })
+}
+
+/// The names of the routes of an itinerary.
+fn read_itinerary(alloc: Global, table: &Value, step: u32) -> Result<Vec<Name>, NetFault>
+    ensures names { IfOk result (λ names. names.items ≡ spelled_names ROUTES (view table.now)) }
+    ensures count { IfOk result (λ names. is_within ITINERARY_ROUTES (length names.items) ≡ true) }
+    ensures accepted { OnOk result (first_failing (tests_by Form.Itinerary step ROUTES (view table.now)) ≡ None) }
+    ensures refused { IfErr result (Answers (first_failing (tests_by Form.Itinerary step ROUTES (view table.now)))) }
+{
+    let values = elements_at(table, ROUTES);
+    let is_count = !values.is_empty() && values.len() <= ITINERARY_ROUTES;
+    read_list(alloc, values, is_count, step)
+}
+
+/// The train of a table.
+pub(crate) fn train(alloc: Global, table: &Value) -> Result<SceneTrain, NetFault>
+    ensures accepted { OnOk result (first_failing (value_tests 1 TRAIN_KEYS (view table.now)) ≡ None) }
+    ensures spelled { IfOk result (λ train. train ≡ train_of (view table.now)) }
+    ensures fit { IfOk result (λ train. IsTrue (is_fit_train train)) }
+    ensures refused { IfErr result (Answers (first_failing (value_tests 1 TRAIN_KEYS (view table.now)))) }
+{
+    let name = read_name(table, NAME, 1)?;
+    let kind = read_name(table, TRAIN_KIND, 2)?;
+    let entry = read_time(table, ENTRY, 3)?;
+    let priority = read_number(table, PRIORITY, 4)?;
+    let routes = match read_itinerary(alloc, table, 5) {
+        Ok(routes) => routes,
+        Err(fault) => return Err(fault),
+    };
+    Ok(SceneTrain {
+        name,
+        kind,
+        entry,
+        priority: priority as u8,
+        routes: Seq::from_vec(routes),
+    })
+}

@@ -1,0 +1,191 @@
+//! The first pass over a scene file: whether each table is of its form.
+ghost use Rattle.std.specs.Prelude.{◌≡◌, ◌<◌, ◌^◌, length, Some, None, ℕ, List, map, not, ◌&&◌, is_some, string_bytes, OnOk, IfErr};
+ghost use Rattle.std.specs.List.{list_any, list_all};
+ghost use Rattle.std.specs.BTreeMap.{keys};
+ghost use Rattle.std.specs.Option.{option_map_or};
+ghost use Rattle.toml.specs.View.{view, table_view};
+ghost use Rattle.rail_base.specs.declared.refusals.Part.TheVariants.{Root};
+ghost use Rattle.rail_base.specs.declared.refusals.Reason.TheVariants.{KeyMissing, WrongKind};
+ghost use Rattle.rail_track.specs.Refusing.{Answers, first_failing};
+ghost use Rattle.rail_scene.specs.Fields.{value_at};
+ghost use Rattle.rail_scene.specs.Forms.{is_list_of, is_string, is_table, is_of, is_known, has_unknown, member_keys, form_tests, key_tests, key_test};
+ghost use Rattle.rail_scene.specs.Order.{located, list_forms, forms_of, scene_forms, AnswersScene};
+
+use crate::fields::{elements_at, value_at};
+use crate::keys::{Form, Key, LIST_PARTS, ListPart, ROOT_KEYS};
+use crate::places::{item_number, located};
+use rail_base::{Fault, Part, Reason};
+use rail_track::NetFault;
+use toml::{Table, Value};
+
+/// Whether all tables of a scene file are of their form, from the root on. The first that is not is
+/// told, as a key that is missing, a value of another kind, or a key that is unknown.
+pub(crate) fn check_forms(root: &Value) -> Result<(), Fault>
+    ensures accepted { OnOk result (first_failing (scene_forms (view root.now)) ≡ None) }
+    ensures refused { IfErr result (AnswersScene (first_failing (scene_forms (view root.now)))) }
+{
+    match form_fault(root, &ROOT_KEYS) {
+        Some(fault) => Err(located(Part::Root, 0, fault)),
+        None => check_lists(root, &LIST_PARTS),
+    }
+}
+
+/// Whether the tables of the lists are of their form.
+fn check_lists(root: &Value, parts: &[ListPart]) -> Result<(), Fault>
+    ensures accepted { OnOk result (first_failing (forms_of (view root.now) parts.now) ≡ None) }
+    ensures refused { IfErr result (AnswersScene (first_failing (forms_of (view root.now) parts.now))) }
+{
+    for part in parts {
+        match check_list(*part, elements_at(root, part.key())) {
+            Ok(()) => {}
+            Err(fault) => return Err(fault),
+        }
+    }
+    Ok(())
+}
+
+/// Whether the tables of a list are of their form.
+fn check_list(part: ListPart, tables: &[Value]) -> Result<(), Fault>
+    ensures accepted { OnOk result (first_failing (list_forms part 1 (map view tables.now)) ≡ None) }
+    ensures refused { IfErr result (AnswersScene (first_failing (list_forms part 1 (map view tables.now)))) }
+{
+    for (index, table) in tables.iter().enumerate() {
+        match form_fault(table, part.keys()) {
+            Some(fault) => return Err(located(part.part(), item_number(index), fault)),
+            None => {}
+        }
+    }
+    Ok(())
+}
+
+/// What is wrong with the form of a table, if anything.
+fn form_fault(table: &Value, keys: &[Key]) -> Option<NetFault>
+    requires { length keys.now < 2 ^ 16 }
+    ensures { result ≡ first_failing (form_tests keys.now (view table.now)) }
+{
+    match keys_fault(table, keys) {
+        Some(fault) => Some(fault),
+        None => {
+            if has_unknown(table, keys) {
+                Some(NetFault::Refused {
+                    reason: Reason::KeyUnknown,
+                    step: 0,
+                })
+            } else {
+                None
+            }
+        }
+    }
+}
+
+/// What is wrong with the first of the keys that is missing or has a value of another kind, if one is.
+fn keys_fault(table: &Value, keys: &[Key]) -> Option<NetFault>
+    requires { length keys.now < 2 ^ 16 }
+    ensures { result ≡ first_failing (key_tests 1 keys.now (view table.now)) }
+{
+    for (index, key) in keys.iter().enumerate() {
+        match key_fault(table, *key, index as u32 + 1) {
+            Some(fault) => return Some(fault),
+            None => {}
+        }
+    }
+    None
+}
+
+/// What is wrong with the form of the value of key number `step`, if anything.
+fn key_fault(table: &Value, key: Key, step: u32) -> Option<NetFault>
+    ensures { result ≡ first_failing (key_test step key (value_at key (view table.now))) }
+{
+    match value_at(table, key) {
+        Some(value) => {
+            if is_of(value, key.form) {
+                None
+            } else {
+                Some(NetFault::Refused {
+                    reason: Reason::WrongKind,
+                    step,
+                })
+            }
+        }
+        None => {
+            if key.required {
+                Some(NetFault::Refused {
+                    reason: Reason::KeyMissing,
+                    step,
+                })
+            } else {
+                None
+            }
+        }
+    }
+}
+
+/// Whether the value is of the kind that the form states.
+fn is_of(value: &Value, form: Form) -> bool
+    ensures { result ≡ is_of form (view value.now) }
+{
+    match form {
+        Form::Name | Form::Policy | Form::Choice | Form::Time => value.is_str(),
+        Form::Whole(_) => value.is_integer(),
+        Form::Joints | Form::Path | Form::Itinerary => is_list_of_strings(value),
+        Form::Tables => is_list_of_tables(value),
+    }
+}
+
+/// Whether the value is an array of strings.
+fn is_list_of_strings(value: &Value) -> bool
+    ensures { result ≡ is_list_of is_string (view value.now) }
+{
+    match value.as_array() {
+        Some(array) => are_strings(array.as_slice()),
+        None => false,
+    }
+}
+
+/// Whether each of the values is a string.
+fn are_strings(values: &[Value]) -> bool
+    ensures { result ≡ list_all (λ v. is_string (view v)) values.now }
+{
+    values.iter().all(|value| value.is_str())
+}
+
+/// Whether the value is an array of tables.
+fn is_list_of_tables(value: &Value) -> bool
+    ensures { result ≡ is_list_of is_table (view value.now) }
+{
+    match value.as_array() {
+        Some(array) => are_tables(array.as_slice()),
+        None => false,
+    }
+}
+
+/// Whether each of the values is a table.
+fn are_tables(values: &[Value]) -> bool
+    ensures { result ≡ list_all (λ v. is_table (view v)) values.now }
+{
+    values.iter().all(|value| value.is_table())
+}
+
+/// Whether a table has a key that is none of these.
+fn has_unknown(table: &Value, keys: &[Key]) -> bool
+    ensures { result ≡ has_unknown keys.now (view table.now) }
+{
+    match table.as_table() {
+        Some(table) => has_unknown_key(table, keys),
+        None => false,
+    }
+}
+
+/// Whether the members of a table have a key that is none of these.
+fn has_unknown_key(table: &Table, known: &[Key]) -> bool
+    ensures { result ≡ list_any (λ text. not (is_known known.now (string_bytes text))) (keys table.now) }
+{
+    table.keys().any(|text| !is_known(known, text.as_str()))
+}
+
+/// Whether the text is one of the keys.
+fn is_known(keys: &[Key], text: &str) -> bool
+    ensures { result ≡ is_known keys.now text.now }
+{
+    keys.iter().any(|key| key.name.text() == text)
+}

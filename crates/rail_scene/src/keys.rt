@@ -1,0 +1,503 @@
+//! The tables of a scene file: which keys each has, in which order, and of which form.
+//!
+//! The reader and the definitions of a scene cite these constants alone, so that a key, its range or
+//! its default is changed here and nowhere else.
+ghost use Rattle.std.specs.Prelude.{◌≡◌};
+ghost use Rattle.rail_scene.specs.Keys.{text_of, list_key, keys_of, part_of};
+
+use rail_base::{Part, limits};
+
+/// The word that a key is written as.
+#[derive(Clone, Copy)]
+pub(crate) enum KeyName {
+    Version,
+    Release,
+    Depth,
+    Policy,
+    Section,
+    Portal,
+    Signal,
+    Board,
+    Turn,
+    Route,
+    Kind,
+    Train,
+    Name,
+    Length,
+    Speed,
+    Joints,
+    Joint,
+    Setting,
+    Watching,
+    Approach,
+    Ahead,
+    Arriving,
+    Leaving,
+    Time,
+    From,
+    To,
+    Path,
+    Start,
+    Stop,
+    Entry,
+    Priority,
+    Routes,
+}
+
+impl KeyName {
+    /// The text of the key.
+    pub(crate) fn text(self) -> &'static str
+        ensures { result.now ≡ text_of self }
+    {
+        match self {
+            KeyName::Version => "version",
+            KeyName::Release => "release",
+            KeyName::Depth => "depth",
+            KeyName::Policy => "policy",
+            KeyName::Section => "section",
+            KeyName::Portal => "portal",
+            KeyName::Signal => "signal",
+            KeyName::Board => "board",
+            KeyName::Turn => "turn",
+            KeyName::Route => "route",
+            KeyName::Kind => "kind",
+            KeyName::Train => "train",
+            KeyName::Name => "name",
+            KeyName::Length => "length",
+            KeyName::Speed => "speed",
+            KeyName::Joints => "joints",
+            KeyName::Joint => "joint",
+            KeyName::Setting => "setting",
+            KeyName::Watching => "watching",
+            KeyName::Approach => "approach",
+            KeyName::Ahead => "ahead",
+            KeyName::Arriving => "arriving",
+            KeyName::Leaving => "leaving",
+            KeyName::Time => "time",
+            KeyName::From => "from",
+            KeyName::To => "to",
+            KeyName::Path => "path",
+            KeyName::Start => "start",
+            KeyName::Stop => "stop",
+            KeyName::Entry => "entry",
+            KeyName::Priority => "priority",
+            KeyName::Routes => "routes",
+        }
+    }
+}
+
+/// A range of whole numbers, and the number that an absent key stands for. A required key is never
+/// absent when its number is used.
+#[derive(Clone, Copy)]
+pub(crate) struct Bounds {
+    pub(crate) low: u32,
+    pub(crate) high: u32,
+    pub(crate) default: u32,
+}
+
+/// What the value of a key has to be.
+#[derive(Clone, Copy)]
+pub(crate) enum Form {
+    /// A string that is a name.
+    Name,
+    /// A string that is a name; an absent key stands for `fcfs`.
+    Policy,
+    /// A string that is the word of a section kind.
+    Choice,
+    /// A string that is a time up to the greatest of an input.
+    Time,
+    Whole(Bounds),
+    /// A list of strings that are names, as many as the section kind of the table has joints.
+    Joints,
+    /// A list of strings that are names: joints and sections in turn.
+    Path,
+    /// A list of strings that are names: the routes of an itinerary.
+    Itinerary,
+    /// A list of tables.
+    Tables,
+}
+
+/// A key of a table.
+#[derive(Clone, Copy)]
+pub(crate) struct Key {
+    pub(crate) name: KeyName,
+    pub(crate) form: Form,
+    pub(crate) required: bool,
+}
+
+/// The lists of tables of a scene file.
+#[derive(Clone, Copy)]
+pub(crate) enum ListPart {
+    Section,
+    Portal,
+    Signal,
+    Board,
+    Turn,
+    Route,
+    Kind,
+    Train,
+}
+
+/// The lists in the order in which they are read.
+pub(crate) const LIST_PARTS: [ListPart; 8] = [
+    ListPart::Section,
+    ListPart::Portal,
+    ListPart::Signal,
+    ListPart::Board,
+    ListPart::Turn,
+    ListPart::Route,
+    ListPart::Kind,
+    ListPart::Train,
+];
+
+impl ListPart {
+    /// The key of the root that has the list.
+    pub(crate) fn key(self) -> Key
+        ensures { result ≡ list_key self }
+    {
+        match self {
+            ListPart::Section => SECTION_LIST,
+            ListPart::Portal => PORTAL_LIST,
+            ListPart::Signal => SIGNAL_LIST,
+            ListPart::Board => BOARD_LIST,
+            ListPart::Turn => TURN_LIST,
+            ListPart::Route => ROUTE_LIST,
+            ListPart::Kind => KIND_LIST,
+            ListPart::Train => TRAIN_LIST,
+        }
+    }
+
+    /// The keys of a table in the list.
+    pub(crate) fn keys(self) -> &'static [Key]
+        ensures { result.now ≡ keys_of self }
+    {
+        match self {
+            ListPart::Section => &SECTION_KEYS,
+            ListPart::Portal => &PORTAL_KEYS,
+            ListPart::Signal => &SIGNAL_KEYS,
+            ListPart::Board => &BOARD_KEYS,
+            ListPart::Turn => &TURN_KEYS,
+            ListPart::Route => &ROUTE_KEYS,
+            ListPart::Kind => &KIND_KEYS,
+            ListPart::Train => &TRAIN_KEYS,
+        }
+    }
+
+    /// The part of a refusal in the list.
+    pub(crate) fn part(self) -> Part
+        ensures { result ≡ part_of self }
+    {
+        match self {
+            ListPart::Section => Part::Section,
+            ListPart::Portal => Part::Portal,
+            ListPart::Signal => Part::Signal,
+            ListPart::Board => Part::Board,
+            ListPart::Turn => Part::Turn,
+            ListPart::Route => Part::Route,
+            ListPart::Kind => Part::Kind,
+            ListPart::Train => Part::Train,
+        }
+    }
+}
+
+pub(crate) const VERSION: Key = Key {
+    name: KeyName::Version,
+    form: Form::Whole(Bounds {
+        low: 1,
+        high: 1,
+        default: 1,
+    }),
+    required: true,
+};
+
+pub(crate) const RELEASE: Key = Key {
+    name: KeyName::Release,
+    form: Form::Whole(Bounds {
+        low: 0,
+        high: limits::RELEASE,
+        default: 0,
+    }),
+    required: true,
+};
+
+pub(crate) const DEPTH: Key = Key {
+    name: KeyName::Depth,
+    form: Form::Whole(Bounds {
+        low: 0,
+        high: limits::DEPTH as u32,
+        default: 1,
+    }),
+    required: false,
+};
+
+pub(crate) const POLICY: Key = Key {
+    name: KeyName::Policy,
+    form: Form::Policy,
+    required: false,
+};
+
+pub(crate) const SECTION_LIST: Key = Key {
+    name: KeyName::Section,
+    form: Form::Tables,
+    required: false,
+};
+
+pub(crate) const PORTAL_LIST: Key = Key {
+    name: KeyName::Portal,
+    form: Form::Tables,
+    required: false,
+};
+
+pub(crate) const SIGNAL_LIST: Key = Key {
+    name: KeyName::Signal,
+    form: Form::Tables,
+    required: false,
+};
+
+pub(crate) const BOARD_LIST: Key = Key {
+    name: KeyName::Board,
+    form: Form::Tables,
+    required: false,
+};
+
+pub(crate) const TURN_LIST: Key = Key {
+    name: KeyName::Turn,
+    form: Form::Tables,
+    required: false,
+};
+
+pub(crate) const ROUTE_LIST: Key = Key {
+    name: KeyName::Route,
+    form: Form::Tables,
+    required: false,
+};
+
+pub(crate) const KIND_LIST: Key = Key {
+    name: KeyName::Kind,
+    form: Form::Tables,
+    required: false,
+};
+
+pub(crate) const TRAIN_LIST: Key = Key {
+    name: KeyName::Train,
+    form: Form::Tables,
+    required: false,
+};
+
+/// The keys of the root.
+pub(crate) const ROOT_KEYS: [Key; 12] = [
+    VERSION,
+    RELEASE,
+    DEPTH,
+    POLICY,
+    SECTION_LIST,
+    PORTAL_LIST,
+    SIGNAL_LIST,
+    BOARD_LIST,
+    TURN_LIST,
+    ROUTE_LIST,
+    KIND_LIST,
+    TRAIN_LIST,
+];
+
+pub(crate) const NAME: Key = Key {
+    name: KeyName::Name,
+    form: Form::Name,
+    required: true,
+};
+
+pub(crate) const SECTION_KIND: Key = Key {
+    name: KeyName::Kind,
+    form: Form::Choice,
+    required: true,
+};
+
+pub(crate) const SECTION_LENGTH: Key = Key {
+    name: KeyName::Length,
+    form: Form::Whole(Bounds {
+        low: 1,
+        high: limits::SECTION_LENGTH,
+        default: 1,
+    }),
+    required: true,
+};
+
+pub(crate) const SPEED: Key = Key {
+    name: KeyName::Speed,
+    form: Form::Whole(Bounds {
+        low: 1,
+        high: limits::SPEED,
+        default: 1,
+    }),
+    required: true,
+};
+
+pub(crate) const JOINTS: Key = Key {
+    name: KeyName::Joints,
+    form: Form::Joints,
+    required: true,
+};
+
+/// The keys of a section.
+pub(crate) const SECTION_KEYS: [Key; 5] = [NAME, SECTION_KIND, SECTION_LENGTH, SPEED, JOINTS];
+
+pub(crate) const JOINT: Key = Key {
+    name: KeyName::Joint,
+    form: Form::Name,
+    required: true,
+};
+
+pub(crate) const SETTING: Key = Key {
+    name: KeyName::Setting,
+    form: Form::Whole(Bounds {
+        low: 1,
+        high: limits::SETTING,
+        default: 1,
+    }),
+    required: true,
+};
+
+pub(crate) const WATCHING: Key = Key {
+    name: KeyName::Watching,
+    form: Form::Whole(Bounds {
+        low: 0,
+        high: limits::WATCHING,
+        default: 0,
+    }),
+    required: true,
+};
+
+pub(crate) const APPROACH: Key = Key {
+    name: KeyName::Approach,
+    form: Form::Whole(Bounds {
+        low: 0,
+        high: limits::APPROACH,
+        default: 0,
+    }),
+    required: true,
+};
+
+/// The keys of a portal.
+pub(crate) const PORTAL_KEYS: [Key; 5] = [NAME, JOINT, SETTING, WATCHING, APPROACH];
+
+pub(crate) const AHEAD: Key = Key {
+    name: KeyName::Ahead,
+    form: Form::Name,
+    required: true,
+};
+
+/// The keys of a signal.
+pub(crate) const SIGNAL_KEYS: [Key; 6] = [NAME, JOINT, AHEAD, SETTING, WATCHING, APPROACH];
+
+/// The keys of a board.
+pub(crate) const BOARD_KEYS: [Key; 2] = [NAME, JOINT];
+
+pub(crate) const ARRIVING: Key = Key {
+    name: KeyName::Arriving,
+    form: Form::Name,
+    required: true,
+};
+
+pub(crate) const LEAVING: Key = Key {
+    name: KeyName::Leaving,
+    form: Form::Name,
+    required: true,
+};
+
+pub(crate) const TURN_TIME: Key = Key {
+    name: KeyName::Time,
+    form: Form::Whole(Bounds {
+        low: 0,
+        high: limits::TURN_TIME,
+        default: 0,
+    }),
+    required: true,
+};
+
+/// The keys of a turn.
+pub(crate) const TURN_KEYS: [Key; 3] = [ARRIVING, LEAVING, TURN_TIME];
+
+pub(crate) const FROM: Key = Key {
+    name: KeyName::From,
+    form: Form::Name,
+    required: true,
+};
+
+pub(crate) const TO: Key = Key {
+    name: KeyName::To,
+    form: Form::Name,
+    required: true,
+};
+
+pub(crate) const PATH: Key = Key {
+    name: KeyName::Path,
+    form: Form::Path,
+    required: true,
+};
+
+/// The keys of a route.
+pub(crate) const ROUTE_KEYS: [Key; 4] = [NAME, FROM, TO, PATH];
+
+pub(crate) const TRAIN_LENGTH: Key = Key {
+    name: KeyName::Length,
+    form: Form::Whole(Bounds {
+        low: 1,
+        high: limits::TRAIN_LENGTH,
+        default: 1,
+    }),
+    required: true,
+};
+
+pub(crate) const START: Key = Key {
+    name: KeyName::Start,
+    form: Form::Whole(Bounds {
+        low: 0,
+        high: limits::START,
+        default: 0,
+    }),
+    required: true,
+};
+
+pub(crate) const STOP: Key = Key {
+    name: KeyName::Stop,
+    form: Form::Whole(Bounds {
+        low: 0,
+        high: limits::STOP,
+        default: 0,
+    }),
+    required: true,
+};
+
+/// The keys of a train kind.
+pub(crate) const KIND_KEYS: [Key; 5] = [NAME, TRAIN_LENGTH, SPEED, START, STOP];
+
+pub(crate) const TRAIN_KIND: Key = Key {
+    name: KeyName::Kind,
+    form: Form::Name,
+    required: true,
+};
+
+pub(crate) const ENTRY: Key = Key {
+    name: KeyName::Entry,
+    form: Form::Time,
+    required: true,
+};
+
+pub(crate) const PRIORITY: Key = Key {
+    name: KeyName::Priority,
+    form: Form::Whole(Bounds {
+        low: 0,
+        high: 255,
+        default: 0,
+    }),
+    required: false,
+};
+
+pub(crate) const ROUTES: Key = Key {
+    name: KeyName::Routes,
+    form: Form::Itinerary,
+    required: true,
+};
+
+/// The keys of a train.
+pub(crate) const TRAIN_KEYS: [Key; 5] = [NAME, TRAIN_KIND, ENTRY, PRIORITY, ROUTES];

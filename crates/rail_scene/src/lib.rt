@@ -1,0 +1,29 @@
+//! Scenes: what a scene file spells, and the plant of a scene.
+//!
+//! This layer stands on `rail_routes` for networks and on `rail_plan` for plants. The order in which a
+//! scene is refused is one list of tests over the TOML tree, in `specs/`, apart from the code that reads.
+//!
+//! A file is read in two passes over its tree: whether each table is of its form, and then the values,
+//! item by item into the network, the kinds and the trains. Both go by the tables of keys in `keys`, which
+//! the definitions cite too: a key, its range or its default is changed there. The layers above use the
+//! contracts of the public calls alone, so the bodies may be changed freely.
+#![tactic(auto)]
+
+mod compiling;
+mod defaults;
+mod draft;
+mod entries;
+mod fields;
+mod forms;
+mod keys;
+mod places;
+mod reading;
+mod rosters;
+mod scene;
+#[cfg(test)]
+mod tests;
+
+pub use compiling::compile;
+pub use defaults::leaves_defaults;
+pub use reading::read_scene;
+pub use scene::{Scene, SceneTrain};

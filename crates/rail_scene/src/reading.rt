@@ -1,0 +1,169 @@
+//! Reading a scene file.
+ghost use Rattle.std.specs.Prelude.{◌≡◌, ◌∷◌, [], ◌≤◌, None, unwrap_or, OnOk, IfOk, IfErr};
+ghost use Rattle.toml.specs.View.{view};
+ghost use Rattle.rail_base.specs.declared.limits.TheConstants as limit;
+ghost use Rattle.rail_track.specs.Refusing.{first_failing, Answers};
+ghost use Rattle.rail_scene.specs.declared.keys.TheConstants.{ROOT_KEYS};
+ghost use Rattle.rail_scene.specs.Scenes.{IsScene};
+ghost use Rattle.rail_scene.specs.Fields.{policy_at};
+ghost use Rattle.rail_scene.specs.Entries.{spelled_number};
+ghost use Rattle.rail_scene.specs.Values.{value_tests};
+ghost use Rattle.rail_scene.specs.Order.{scene_refusal, scene_values, lists_values, lists_draft, AnswersScene, toml_test};
+ghost use Rattle.rail_scene.specs.Spelling.{spelled_scene, scene_of, root_of};
+
+use crate::draft::Draft;
+use crate::entries::read_number;
+use crate::fields::policy_at;
+use crate::forms::check_forms;
+use crate::keys::{DEPTH, LIST_PARTS, POLICY, RELEASE, VERSION};
+use crate::places::located;
+use crate::scene::Scene;
+use rail_base::{Fault, Name, Part, Reason, Refusal};
+use rail_track::NetFault;
+use std::alloc::Global;
+use toml::Value;
+
+/// The scene that the bytes of a scene file spell.
+///
+/// The file is TOML in UTF-8. Its root has `version`, which is 1, `release`, `depth`, `policy`, and a
+/// list of tables for each part: `section`, `portal`, `signal`, `board`, `turn`, `route`, `kind` and
+/// `train`. Times that are whole numbers are tenths of a second, lengths metres, speeds km/h.
+///
+/// It is refused with the first reason that holds: bytes that are no TOML; then the forms of all tables,
+/// the root first and then each list in order, where in each table a key that is missing or whose value
+/// is of another kind comes key by key, and then a key that is unknown; then the values, the root first
+/// and then each list in order. The values of an item are looked at in this order: one item too many; a
+/// bad name or a number, time, word or count out of range, key by key; a name that stands already; an
+/// unknown name; a place that is taken or wrong, or a crowded joint; a section that occurs twice in a
+/// route; a route that does not lead on. Items count from 1 in their part; the step is the number of the
+/// key in its table, of the joint in its section or of the step in its route, and 0 where none is meant.
+///
+/// The kinds and routes that trains name are not looked up here.
+pub fn read_scene(alloc: Global, bytes: &[u8]) -> Result<Scene, Fault>
+    ensures accepted { OnOk result (scene_refusal bytes.now ≡ None) }
+    ensures spelled { IfOk result (λ scene. scene ≡ spelled_scene bytes.now) }
+    ensures kept { IfOk result IsScene }
+    ensures refused { IfErr result (AnswersScene (scene_refusal bytes.now)) }
+{
+    let root = match read_root(alloc, bytes) {
+        Ok(root) => root,
+        Err(fault) => return Err(fault),
+    };
+    match check_forms(&root) {
+        Ok(()) => read_values(alloc, &root),
+        Err(fault) => Err(fault),
+    }
+}
+
+/// The root of the table that the bytes are by TOML.
+pub(crate) fn read_root(alloc: Global, bytes: &[u8]) -> Result<Value, Fault>
+    ensures accepted { OnOk result (first_failing (toml_test bytes.now ∷ []) ≡ None) }
+    ensures root { IfOk result (λ root. view root ≡ root_of bytes.now) }
+    ensures refused { IfErr result (AnswersScene (first_failing (toml_test bytes.now ∷ []))) }
+{
+    match toml::table_from_slice(alloc, bytes) {
+        Ok(table) => Ok(Value::Table(table)),
+        Err(error) => {
+            if error.is_memory() {
+                Err(Fault::OutOfMemory)
+            } else {
+                Err(Fault::Refused(Refusal {
+                    reason: Reason::NotToml,
+                    part: Part::Bytes,
+                    item: 0,
+                    step: 0,
+                }))
+            }
+        }
+    }
+}
+
+/// The scene of a root, whether or not its tables are of their form.
+fn read_values(alloc: Global, root: &Value) -> Result<Scene, Fault>
+    ensures accepted { OnOk result (first_failing (scene_values (view root.now)) ≡ None) }
+    ensures spelled { IfOk result (λ scene. scene ≡ scene_of (view root.now)) }
+    ensures kept { IfOk result IsScene }
+    ensures refused { IfErr result (AnswersScene (first_failing (scene_values (view root.now)))) }
+{
+    let header = match read_header(root) {
+        Ok(header) => header,
+        Err(fault) => return Err(located(Part::Root, 0, fault)),
+    };
+    match read_lists(alloc, root) {
+        Ok(draft) => Ok(finished(header, draft)),
+        Err(fault) => Err(fault),
+    }
+}
+
+/// The items of the lists of a root.
+fn read_lists(alloc: Global, root: &Value) -> Result<Draft, Fault>
+    ensures accepted { OnOk result (first_failing (lists_values (view root.now)) ≡ None) }
+    ensures draft { IfOk result (λ draft. draft ≡ lists_draft (view root.now)) }
+    ensures refused { IfErr result (AnswersScene (first_failing (lists_values (view root.now)))) }
+{
+    let mut draft = Draft::new(alloc);
+    match draft.add_lists(alloc, root, &LIST_PARTS) {
+        Ok(()) => Ok(draft),
+        Err(fault) => {
+            // A call of its own, so that the proof of this function does not go into each table of the draft.
+            drop(draft);
+            Err(fault)
+        }
+    }
+}
+
+/// The scene of what the root says beside its lists, and of the items of its lists.
+fn finished(header: Header, draft: Draft) -> Scene
+    requires release { header.release ≤ limit.RELEASE }
+    requires depth { header.depth ≤ limit.DEPTH }
+    ensures scene { result ≡ record { release = header.release; depth = header.depth; policy = header.policy; network = draft.network; kinds = draft.kinds; trains = draft.trains } }
+    ensures kept { IsScene result }
+{
+    let Draft {
+        network,
+        kinds,
+        trains,
+    } = draft;
+    Scene {
+        release: header.release,
+        depth: header.depth,
+        policy: header.policy,
+        network,
+        kinds: kinds.into_seq(),
+        trains: trains.into_seq(),
+    }
+}
+
+/// What the root of a scene file says beside its lists.
+#[derive(Clone, Copy)]
+struct Header {
+    release: u32,
+    depth: u8,
+    policy: Name,
+}
+
+/// What the root says beside its lists.
+fn read_header(root: &Value) -> Result<Header, NetFault>
+    ensures accepted { OnOk result (first_failing (value_tests 1 ROOT_KEYS (view root.now)) ≡ None) }
+    ensures release { IfOk result (λ header. header.release ≡ spelled_number RELEASE (view root.now)) }
+    ensures depth { IfOk result (λ header. header.depth ≡ spelled_number DEPTH (view root.now)) }
+    ensures policy { IfOk result (λ header. header.policy ≡ unwrap_or (policy_at POLICY (view root.now)) []) }
+    ensures release_fits { IfOk result (λ header. header.release ≤ limit.RELEASE) }
+    ensures depth_fits { IfOk result (λ header. header.depth ≤ limit.DEPTH) }
+    ensures refused { IfErr result (Answers (first_failing (value_tests 1 ROOT_KEYS (view root.now)))) }
+{
+    let _version = read_number(root, VERSION, 1)?;
+    let release = read_number(root, RELEASE, 2)?;
+    let depth = read_number(root, DEPTH, 3)?;
+    match policy_at(root, POLICY) {
+        Some(policy) => Ok(Header {
+            release,
+            depth: depth as u8,
+            policy,
+        }),
+        None => Err(NetFault::Refused {
+            reason: Reason::BadName,
+            step: 4,
+        }),
+    }
+}

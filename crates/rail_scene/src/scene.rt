@@ -1,0 +1,30 @@
+use rail_base::{Name, Seq, Time, TrainKind};
+use rail_routes::Network;
+
+/// A scene as its file spells it: the infrastructure, and the trains with their itineraries.
+#[derive(Drop)]
+pub struct Scene {
+    /// Release time in tenths of a second, one for the whole plant.
+    pub release: u32,
+    /// The greatest number of free legs in a list that the analysis looks for.
+    pub depth: u8,
+    /// The dispatching policy that is in force first.
+    pub policy: Name,
+    pub network: Network,
+    pub kinds: Seq<TrainKind>,
+    pub trains: Seq<SceneTrain>,
+}
+
+/// A train with its itinerary.
+#[derive(Debug, Drop)]
+pub struct SceneTrain {
+    pub name: Name,
+    /// The name of its train kind.
+    pub kind: Name,
+    /// When the head passes the entry portal, if nothing holds the train.
+    pub entry: Time,
+    /// 0 is the most important.
+    pub priority: u8,
+    /// The names of the routes of its itinerary, in order.
+    pub routes: Seq<Name>,
+}
