@@ -1,0 +1,149 @@
+//! The words of a line behind its time, put at the end of the line one after another.
+
+ghost use Rattle.std.specs.Prelude.{◌≡◌, ◌+◌, ◌≤◌, ◌<◌, [], ◌∷◌, ◌++◌, length, decimal, IsTrue};
+ghost use Rattle.rail_base.specs.Clock.{time_text};
+ghost use Rattle.rail_rules.specs.Plant.{Plant};
+ghost use Rattle.rail_rules.specs.Texts.{cause_words, section_word, train_word, what_words};
+ghost use Rattle.rail_texts.specs.Writable.{is_writable_cause, is_writable_what};
+ghost use Rattle.rail_history.specs.Lines.{HasNames, bare, behind, note_word};
+ghost use Rattle.rail_history.specs.declared.line.TheConstants.{ROOM};
+
+use crate::line::Line;
+use rail_base::{Cause, Entry, Names, Note, SectionNo, Time, TrainNo, What, write_time};
+
+/// Puts the time.
+pub(crate) fn put_time(line: &mut Line, time: Time)
+    requires { length line.old + 32 ≤ ROOM }
+    ensures text { line.new ≡ line.old ++ time_text time }
+    ensures short { length line.new ≤ length line.old + 32 }
+{
+    let mut text = [0; 32];
+    let len = write_time(time, &mut text);
+    line.put(&text[..len]);
+}
+
+/// Puts the name of a train.
+pub(crate) fn put_train(line: &mut Line, names: &Names, train: TrainNo)
+    requires room { length line.old + 17 ≤ ROOM }
+    requires known { train < length names.now.trains.keys }
+    ensures text { (plant : Plant) → HasNames plant names.now → line.new ≡ line.old ++ 32 ∷ train_word plant train }
+    ensures short { length line.new ≤ length line.old + 17 }
+{
+    line.put_name(names.trains.get_index(usize::from(train.0)).unwrap());
+}
+
+/// Puts the name of a section.
+fn put_section(line: &mut Line, names: &Names, section: SectionNo)
+    requires room { length line.old + 17 ≤ ROOM }
+    requires known { section < length names.now.sections.keys }
+    ensures text { (plant : Plant) → HasNames plant names.now → line.new ≡ line.old ++ 32 ∷ section_word plant section }
+    ensures short { length line.new ≤ length line.old + 17 }
+{
+    line.put_name(names.sections.get_index(usize::from(section.0)).unwrap());
+}
+
+/// Puts the words of an entry behind its time.
+pub(crate) fn put_what(line: &mut Line, names: &Names, entry: &Entry)
+    requires room { length line.old + 128 ≤ ROOM }
+    requires known { (plant : Plant) × HasNames plant names.now × IsTrue (is_writable_what plant (bare entry.now) entry.now.what) }
+    ensures text { (plant : Plant) → HasNames plant names.now → line.new ≡ line.old ++ behind (what_words plant (bare entry.now) entry.now.what) }
+    ensures short { length line.new ≤ length line.old + 128 }
+{
+    match entry.what {
+        What::Free { section, train } => {
+            line.put_word(b"free");
+            put_section(line, names, section);
+            put_train(line, names, train);
+        }
+        What::Arrive { train, place } => {
+            line.put_word(b"arrive");
+            put_move(line, names, train, place);
+        }
+        What::Enter {
+            train,
+            place,
+            section,
+        } => {
+            line.put_word(b"enter");
+            put_move(line, names, train, place);
+            put_section(line, names, section);
+        }
+        What::Out { train } => {
+            line.put_word(b"out");
+            put_train(line, names, train);
+        }
+        What::Ready { train, place } => {
+            line.put_word(b"ready");
+            put_move(line, names, train, place);
+        }
+        What::Told { command } => {
+            line.put_word(b"told");
+            line.put_number(u64::from(command));
+        }
+        What::Untold { command } => {
+            line.put_word(b"untold");
+            line.put_number(u64::from(command));
+        }
+        What::Admit { train, place, note } => {
+            line.put_word(b"admit");
+            put_move(line, names, train, place);
+            put_note(line, note);
+        }
+        What::Hold {
+            train,
+            place,
+            cause,
+        } => {
+            line.put_word(b"hold");
+            put_move(line, names, train, place);
+            put_cause(line, names, cause);
+        }
+        What::End => line.put_word(b"end"),
+    }
+}
+
+/// Puts the name of a train and the number of its move.
+fn put_move(line: &mut Line, names: &Names, train: TrainNo, place: u16)
+    requires room { length line.old + 58 ≤ ROOM }
+    requires known { train < length names.now.trains.keys }
+    ensures text { (plant : Plant) → HasNames plant names.now → line.new ≡ line.old ++ behind (train_word plant train ∷ decimal place ∷ []) }
+    ensures short { length line.new ≤ length line.old + 58 }
+{
+    put_train(line, names, train);
+    line.put_number(u64::from(place));
+}
+
+/// Puts a note.
+fn put_note(line: &mut Line, note: Note)
+    requires { length line.old + 9 ≤ ROOM }
+    ensures text { line.new ≡ line.old ++ 32 ∷ note_word note }
+    ensures short { length line.new ≤ length line.old + 9 }
+{
+    match note {
+        Note::Pulled => line.put_word(b"pulled"),
+        Note::Appended => line.put_word(b"appended"),
+        Note::Fresh => line.put_word(b"fresh"),
+    }
+}
+
+/// Puts the words of a cause.
+fn put_cause(line: &mut Line, names: &Names, cause: Cause)
+    requires room { length line.old + 43 ≤ ROOM }
+    requires known { (plant : Plant) × HasNames plant names.now × IsTrue (is_writable_cause plant cause) }
+    ensures text { (plant : Plant) → HasNames plant names.now → line.new ≡ line.old ++ behind (cause_words plant cause) }
+    ensures short { length line.new ≤ length line.old + 43 }
+{
+    match cause {
+        Cause::Stopped => line.put_word(b"stopped"),
+        Cause::Closed { section } => {
+            line.put_word(b"closed");
+            put_section(line, names, section);
+        }
+        Cause::Blocked { section, holder } => {
+            line.put_word(b"blocked");
+            put_section(line, names, section);
+            put_train(line, names, holder);
+        }
+        Cause::NoList => line.put_word(b"nolist"),
+    }
+}

@@ -1,0 +1,30 @@
+ghost use Rattle.std.specs.Prelude.{◌≤◌, IsTrue, OnOk, OnErr};
+ghost use Rattle.rail_io.specs.Counting.{Rose};
+ghost use Rattle.rail_io.specs.Writing.{Adds, AddsPrefix};
+ghost use Rattle.rail_rules.specs.Plant.{Plant};
+ghost use Rattle.rail_rules.specs.Texts.{line_text};
+ghost use Rattle.rail_texts.specs.Writable.{is_writable};
+ghost use Rattle.rail_history.specs.Lines.{HasNames, bare};
+
+use crate::line::Line;
+use crate::words::{put_time, put_what};
+use rail_base::{Entry, Names};
+use rail_io::{Failed, Sink, write_whole};
+
+/// Writes the line of an entry that brings no trains, as one piece. Its trains and sections are those
+/// of the names. It takes no memory.
+pub fn write_bare<O: Sink>(names: &Names, entry: Entry, out: &mut O) -> Result<(), Failed>
+    requires { (plant : Plant) × HasNames plant names.now × IsTrue (is_writable plant (bare entry)) }
+    ensures adds { (plant : Plant) → HasNames plant names.now
+        → OnOk result (Adds (O.written out.old) (O.written out.new) (line_text plant (bare entry))) }
+    ensures failed_adds_prefix { (plant : Plant) → HasNames plant names.now
+        → OnErr result (AddsPrefix (O.written out.old) (O.written out.new) (line_text plant (bare entry))) }
+    ensures failed_rose { OnErr result (Rose (O.faults out.old) (O.faults out.new)) }
+    ensures faults_never_fall { O.faults out.old ≤ O.faults out.new }
+{
+    let mut line = Line::new();
+    put_time(&mut line, entry.at);
+    put_what(&mut line, names, &entry);
+    line.put(b"\n");
+    write_whole(out, line.as_slice())
+}

@@ -1,0 +1,142 @@
+//! Tests of the words of a line.
+
+ghost use Rattle.std.specs.Prelude.{◌≡◌, ◌≤◌, ◌^◌, ◌-◌, ◌==◌, ◌&&◌, not, is_some, length, min, true, false, [], ◌∷◌, List, ℕ, MatchOption};
+ghost use Rattle.std.specs.List.{list_all};
+ghost use Rattle.rail_base.specs.Naming.{is_name};
+ghost use Rattle.rail_words.specs.Verbs.{verb_of};
+ghost use Rattle.rail_words.specs.Lists.{is_decimal, is_digit, is_position, knows, train_of, value_of, words};
+
+use crate::cutting::next_word;
+use rail_base::{Name, Names, TrainNo};
+
+/// What the first word of a line asks for.
+#[derive(Clone, Copy, Debug, PartialEq, Eq)]
+pub(crate) enum Verb {
+    Comment,
+    At,
+    Move,
+    Other,
+}
+
+/// What the first word of a line asks for.
+pub(crate) fn verb_of(word: &[u8]) -> Verb
+    ensures { result ≡ verb_of word.now }
+{
+    if word.first() == Some(&b'#') {
+        Verb::Comment
+    } else if word == b"at".as_slice() {
+        Verb::At
+    } else if word == b"move".as_slice() {
+        Verb::Move
+    } else {
+        Verb::Other
+    }
+}
+
+/// Whether the word is a name.
+pub(crate) fn is_name(word: &[u8]) -> bool
+    ensures { result ≡ is_name word.now }
+{
+    Name::read(word).is_some()
+}
+
+/// Whether the word is a number in decimal digits without leading zeros.
+pub(crate) fn is_decimal(word: &[u8]) -> bool
+    ensures { result ≡ is_decimal word.now }
+{
+    match word {
+        [] => false,
+        [first, rest @ ..] => are_digits(word) && (*first != b'0' || rest.is_empty()),
+    }
+}
+
+/// Whether each byte is a digit.
+fn are_digits(word: &[u8]) -> bool
+    ensures { result ≡ list_all is_digit word.now }
+{
+    word.iter().all(|byte| b'0' <= *byte && *byte <= b'9')
+}
+
+/// The number that digits spell, or the greatest one of 64 bits where it is larger.
+pub(crate) fn value_of(digits: &[u8]) -> u64
+    ensures { result ≡ min (value_of digits.now) (2 ^ 64 - 1) }
+{
+    let mut value: u64 = 0;
+    for digit in digits {
+        value = value
+            .saturating_mul(10)
+            .saturating_add(u64::from(digit.saturating_sub(b'0')));
+    }
+    value
+}
+
+/// The name and the number that the words are, where they are a name and a number and no more.
+pub(crate) fn read_position(args: &[u8]) -> Option<(Name, u64)>
+    ensures { MatchOption result
+        (is_position (words args.now) ≡ false)
+        (λ read. (number : List ℕ) × (words args.now ≡ read.0 ∷ number ∷ []) × (is_position (words args.now) ≡ true) × (read.1 ≡ min (value_of number) (2 ^ 64 - 1))) }
+{
+    let Some((train, rest)) = next_word(args) else {
+        return None;
+    };
+    let Some((number, rest)) = next_word(rest) else {
+        return None;
+    };
+    if next_word(rest).is_some() || !is_decimal(number) {
+        return None;
+    }
+    match Name::read(train) {
+        Some(name) => Some((name, value_of(number))),
+        None => None,
+    }
+}
+
+/// Whether there is a word, and each is a name.
+pub(crate) fn are_names(args: &[u8]) -> bool
+    ensures { result ≡ (not (length (words args.now) == 0) && list_all is_name (words args.now)) }
+{
+    match next_word(args) {
+        Some((first, rest)) => is_name(first) && are_all_names(rest),
+        None => false,
+    }
+}
+
+/// Whether each word is a name.
+fn are_all_names(args: &[u8]) -> bool
+    ensures { result ≡ list_all is_name (words args.now) }
+{
+    let mut left = args;
+    while let Some((word, rest)) = next_word(left) {
+        if !is_name(word) {
+            return false;
+        }
+        left = rest;
+    }
+    true
+}
+
+/// The train that a word names.
+pub(crate) fn train_of(names: &Names, word: &[u8]) -> Option<TrainNo>
+    requires { length names.now.trains.keys ≤ 2 ^ 16 }
+    ensures { is_name word.now ≡ true → result ≡ train_of names.now.trains.keys word.now }
+{
+    match Name::read(word) {
+        Some(name) => names.train(name),
+        None => None,
+    }
+}
+
+/// Whether each word names a train.
+pub(crate) fn are_known(names: &Names, args: &[u8]) -> bool
+    requires { length names.now.trains.keys ≤ 2 ^ 16 }
+    ensures { list_all is_name (words args.now) ≡ true → result ≡ list_all (knows names.now.trains.keys) (words args.now) }
+{
+    let mut left = args;
+    while let Some((word, rest)) = next_word(left) {
+        if train_of(names, word).is_none() {
+            return false;
+        }
+        left = rest;
+    }
+    true
+}

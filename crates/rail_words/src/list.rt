@@ -1,0 +1,242 @@
+ghost use Rattle.std.specs.Prelude.{◌≡◌, ◌≢◌, ℕ, ◌+◌, ◌-◌, ◌<◌, ◌≤◌, ◌^◌, ◌∷◌, [], ◌++◌, ◌⊎◌, List, length, map, set, true, false, Some, None, OnOk, OnErr, IfOk, IfErr};
+ghost use Rattle.std.specs.List.{list_all};
+ghost use Rattle.rail_base.specs.Naming.{is_name};
+ghost use Rattle.rail_place.specs.Tables.{moves_in};
+ghost use Rattle.rail_track.specs.Refusing.{first_failing};
+ghost use Rattle.rail_rules.specs.Moves.{Moves as plan_of_moves};
+ghost use Rattle.rail_words.specs.Lists.{after_line, asked_tests, is_comment, knows, line_tests, list_line_refusal, listed_in, moves_trains, nothing_listed, number_of_train, sets, train_of, with_moves, with_position, words};
+ghost use Rattle.rail_words.specs.Listing.{Answers, IsListFor, IsPosition, refusal_at};
+ghost use Rattle.rail_base.specs.declared.refusals.Reason.TheVariants.{ListForm, ListName};
+
+use crate::checking::{Verb, are_known, are_names, read_position, train_of, verb_of};
+use crate::cutting::{next_line, next_word};
+use rail_base::{Fault, Name, Names, Part, Reason, Refusal, TrainNo};
+use rail_place::Moves;
+use std::alloc::{AllocError, Global};
+use std::marker::Model;
+
+/// What a list file says: where the trains stand, and the moves to be made.
+#[derive(Debug, Drop)]
+pub struct ListFile {
+    positions: Vec<u16>,
+    list: Vec<TrainNo>,
+    last_at: u32,
+    is_moving: bool,
+}
+
+impl Model for ListFile {
+    ghost use Rattle.rail_words.specs.Lists.{Listed};
+
+    ghost Value = { Listed };
+
+    ghost view = { λ file. record { positions = file.positions.items; list = file.list.items; last_at = file.last_at; is_moving = file.is_moving } };
+}
+
+impl ListFile {
+    /// Before the first line all trains are outside.
+    fn new(alloc: Global, trains: u16) -> Result<ListFile, AllocError>
+        ensures { IfOk result (λ file. file ≡ nothing_listed trains) }
+    {
+        Ok(ListFile {
+            positions: vec![in alloc; 0; usize::from(trains)]?,
+            list: Vec::new(alloc),
+            last_at: 0,
+            is_moving: false,
+        })
+    }
+
+    /// How many moves each train has made.
+    pub fn positions(&self) -> &[u16]
+        ensures { result.now ≡ self.now.positions }
+    {
+        self.positions.as_slice()
+    }
+
+    /// The trains that are to make a move, in order.
+    pub fn list(&self) -> &[TrainNo]
+        ensures { result.now ≡ self.now.list }
+    {
+        self.list.as_slice()
+    }
+
+    /// The last line that says where a train stands, counted from 1; 0 where there is none.
+    pub fn last_at(&self) -> u32
+        ensures { result ≡ self.now.last_at }
+    {
+        self.last_at
+    }
+
+    /// Reads a line, which has this number.
+    fn read_line(
+        &mut self,
+        names: &Names,
+        moves: &Moves,
+        number: u32,
+        line: &[u8],
+    ) -> Result<(), Fault>
+        requires names { length names.now.trains.keys ≡ length moves.now }
+        requires few { length moves.now ≤ 2 ^ 16 }
+        requires list { IsListFor moves.now self.old }
+        ensures accepted { OnOk result (first_failing (line_tests names.now.trains.keys (moves_in moves.now) self.old.is_moving number (words line.now)) ≡ None) }
+        ensures listed { OnOk result (self.new ≡ after_line names.now.trains.keys self.old number (words line.now)) }
+        ensures list { OnOk result (IsListFor moves.now self.new) }
+        ensures refused { IfErr result (Answers (first_failing (line_tests names.now.trains.keys (moves_in moves.now) self.old.is_moving number (words line.now)))) }
+    {
+        let Some((verb, args)) = next_word(line) else {
+            return Ok(());
+        };
+        match verb_of(verb) {
+            Verb::Comment => Ok(()),
+            Verb::At => self.read_at(names, moves, number, args),
+            Verb::Move => self.read_moves(names, number, args),
+            Verb::Other => Err(refusal_at(Reason::ListForm, number)),
+        }
+    }
+
+    /// Reads what stands behind `at`.
+    fn read_at(
+        &mut self,
+        names: &Names,
+        moves: &Moves,
+        number: u32,
+        args: &[u8],
+    ) -> Result<(), Fault>
+        requires names { length names.now.trains.keys ≡ length moves.now }
+        requires few { length moves.now ≤ 2 ^ 16 }
+        requires list { IsListFor moves.now self.old }
+        ensures accepted { (verb : List ℕ) → sets verb ≡ true → OnOk result (first_failing (asked_tests names.now.trains.keys (moves_in moves.now) self.old.is_moving number verb (words args.now)) ≡ None) }
+        ensures listed { OnOk result (self.new ≡ with_position names.now.trains.keys self.old number (words args.now)) }
+        ensures list { OnOk result (IsListFor moves.now self.new) }
+        ensures refused { (verb : List ℕ) → sets verb ≡ true → IfErr result (Answers (first_failing (asked_tests names.now.trains.keys (moves_in moves.now) self.old.is_moving number verb (words args.now)))) }
+    {
+        if self.is_moving {
+            return Err(refusal_at(Reason::ListForm, number));
+        }
+        match read_position(args) {
+            Some((train, position)) => self.set(names, moves, number, train, position),
+            None => Err(refusal_at(Reason::ListForm, number)),
+        }
+    }
+
+    /// Reads what stands behind `move`.
+    fn read_moves(&mut self, names: &Names, number: u32, args: &[u8]) -> Result<(), Fault>
+        requires few { length names.now.trains.keys ≤ 2 ^ 16 }
+        ensures accepted { (plan : plan_of_moves) (verb : List ℕ) → sets verb ≡ false → moves_trains verb ≡ true → OnOk result (first_failing (asked_tests names.now.trains.keys plan self.old.is_moving number verb (words args.now)) ≡ None) }
+        ensures listed { OnOk result (self.new ≡ with_moves names.now.trains.keys self.old (words args.now)) }
+        ensures known { OnOk result (list_all (knows names.now.trains.keys) (words args.now) ≡ true) }
+        ensures refused { (plan : plan_of_moves) (verb : List ℕ) → sets verb ≡ false → moves_trains verb ≡ true → IfErr result (Answers (first_failing (asked_tests names.now.trains.keys plan self.old.is_moving number verb (words args.now)))) }
+    {
+        if !are_names(args) {
+            return Err(refusal_at(Reason::ListForm, number));
+        }
+        self.add(names, number, args)
+    }
+
+    /// Puts a train at a position.
+    fn set(
+        &mut self,
+        names: &Names,
+        moves: &Moves,
+        number: u32,
+        name: Name,
+        position: u64,
+    ) -> Result<(), Fault>
+        requires names { length names.now.trains.keys ≡ length moves.now }
+        requires few { length moves.now ≤ 2 ^ 16 }
+        requires list { IsListFor moves.now self.old }
+        ensures accepted { OnOk result (IsPosition names.now.trains.keys (moves_in moves.now) name position) }
+        ensures listed { OnOk result (self.new ≡ record self.old { positions = set self.old.positions (number_of_train names.now.trains.keys name) position; last_at = number }) }
+        ensures list { OnOk result (IsListFor moves.now self.new) }
+        ensures refused { IfErr result (λ fault.
+            ((train_of names.now.trains.keys name ≡ None) × (fault ≡ refusal_at ListName number))
+            ⊎ ((train_of names.now.trains.keys name ≢ None) × ((moves_in moves.now).moves (number_of_train names.now.trains.keys name) < position) × (fault ≡ refusal_at ListForm number))) }
+    {
+        let Some(train) = names.train(name) else {
+            return Err(refusal_at(Reason::ListName, number));
+        };
+        if position > u64::from(moves.places(train)) {
+            return Err(refusal_at(Reason::ListForm, number));
+        }
+        self.positions[usize::from(train.0)] = position as u16;
+        self.last_at = number;
+        Ok(())
+    }
+
+    /// Adds a move of each train.
+    fn add(&mut self, names: &Names, number: u32, args: &[u8]) -> Result<(), Fault>
+        requires few { length names.now.trains.keys ≤ 2 ^ 16 }
+        requires named { list_all is_name (words args.now) ≡ true }
+        ensures known { OnOk result (list_all (knows names.now.trains.keys) (words args.now) ≡ true) }
+        ensures listed { OnOk result (self.new ≡ record self.old { list = self.old.list ++ map (number_of_train names.now.trains.keys) (words args.now); is_moving = true }) }
+        ensures refused { IfErr result (λ fault. (fault ≡ Fault.OutOfMemory) ⊎ ((list_all (knows names.now.trains.keys) (words args.now) ≡ false) × (fault ≡ refusal_at ListName number))) }
+    {
+        if !are_known(names, args) {
+            return Err(refusal_at(Reason::ListName, number));
+        }
+        push_trains(&mut self.list, names, args)?;
+        self.is_moving = true;
+        Ok(())
+    }
+}
+
+/// Pushes the train that each word names.
+fn push_trains(list: &mut Vec<TrainNo>, names: &Names, args: &[u8]) -> Result<(), AllocError>
+    requires few { length names.now.trains.keys ≤ 2 ^ 16 }
+    requires named { list_all is_name (words args.now) ≡ true }
+    requires known { list_all (knows names.now.trains.keys) (words args.now) ≡ true }
+    ensures { OnOk result (list.new.items ≡ list.old.items ++ map (number_of_train names.now.trains.keys) (words args.now)) }
+{
+    let mut left = args;
+    while let Some((word, rest)) = next_word(left) {
+        if let Some(train) = train_of(names, word) {
+            list.push(train)?;
+        }
+        left = rest;
+    }
+    Ok(())
+}
+
+/// The refusal of a line.
+fn refusal_at(reason: Reason, line: u32) -> Fault
+    ensures { result ≡ refusal_at reason line }
+{
+    Fault::Refused(Refusal {
+        reason,
+        part: Part::Line,
+        item: line,
+        step: 0,
+    })
+}
+
+/// Reads a list file. `names` has the names of the trains whose moves these are.
+///
+/// It is refused, line by line, by the first of these that holds: as no list file, where a line is not
+/// `at TRAIN POSITION`, before any train is moved, or `move TRAIN [TRAIN ..]`; as of an unknown name,
+/// where a train has none of the names; as no list file, where a position is above the train's number of
+/// moves. Lines count from 1; a line without a word, or whose first word begins with `#`, is skipped.
+pub fn read_list(
+    alloc: Global,
+    names: &Names,
+    moves: &Moves,
+    bytes: &[u8],
+) -> Result<ListFile, Fault>
+    requires names { length names.now.trains.keys ≡ length moves.now }
+    requires short { length bytes.now < 2 ^ 32 - 1 }
+    ensures accepted { OnOk result (list_line_refusal names.now.trains.keys (moves_in moves.now) (length moves.now) bytes.now ≡ None) }
+    ensures listed { IfOk result (λ file. file ≡ listed_in names.now.trains.keys (length moves.now) bytes.now) }
+    ensures list { IfOk result (IsListFor moves.now) }
+    ensures refused { IfErr result (Answers (list_line_refusal names.now.trains.keys (moves_in moves.now) (length moves.now) bytes.now)) }
+{
+    let mut file = ListFile::new(alloc, moves.trains())?;
+    let mut text = bytes;
+    let mut number = 0;
+    while let Some((line, rest)) = next_line(text) {
+        number += 1;
+        match file.read_line(names, moves, number, line) {
+            Ok(()) => {}
+            Err(fault) => return Err(fault),
+        }
+        text = rest;
+    }
+    Ok(file)
+}
