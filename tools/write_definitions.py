@@ -27,6 +27,15 @@ OF_HISTORIES = (
     "rail_texts",
     "rail_unique",
 )
+OF_INPUTS = (
+    "rail_track",
+    "rail_routes",
+    "rail_plan",
+    "rail_scene",
+    "rail_words",
+    "rail_history",
+    "rail_cli",
+)
 
 
 def definitions(path):
@@ -64,7 +73,7 @@ def main():
     modules = BASE + [
         (crate, name)
         for crate in crates
-        if crate in OF_HISTORIES
+        if crate in OF_HISTORIES or crate in OF_INPUTS
         for name in re.findall(r"^pub mod (\w+)", (REPOSITORY / "crates" / crate / "specs" / "Lib.antt").read_text(), re.M)
     ]
     for crate, module in modules:

@@ -1,0 +1,68 @@
+//! The program: it hands its words, the system's files and standard output to the top call of `rail_cli`,
+//! and ends with the status.
+#![tactic(auto)]
+
+use rail_base::Word;
+use rail_cli::{HELP, Status, VERSION, rail};
+use rail_io::{FileShelf, OutSink};
+use std::env;
+use std::io::{self, ErrorKind};
+use std::process::ExitCode;
+use std::rt::HostRuntime;
+
+/// The exit status where a word is no text.
+const WORDS_FAULT: u8 = 7;
+
+fn main(rt: HostRuntime) -> ExitCode {
+    match words_of(&rt) {
+        Ok(words) => answer(&rt, &words),
+        Err(error) if error.kind() == ErrorKind::OutOfMemory => end(&rt, Status::OutOfMemory),
+        Err(_) => {
+            let _ = rt.eprintln("words fault");
+            ExitCode::from(WORDS_FAULT)
+        }
+    }
+}
+
+/// The words of the command line after the name of the program.
+fn words_of(rt: &HostRuntime) -> io::Result<Vec<Word>> {
+    let mut words = Vec::new(rt.alloc());
+    for text in env::args(rt)?.skip(1) {
+        words.push(Word::from_string(text))?;
+    }
+    Ok(words)
+}
+
+/// Answers `--help` and `--version`, and hands all other words on.
+fn answer(rt: &HostRuntime, words: &[Word]) -> ExitCode {
+    match words {
+        [word] if word.as_str() == "--help" => show(rt, HELP),
+        [word] if word.as_str() == "--version" => show(rt, VERSION),
+        _ => {
+            let mut shelf = FileShelf::new(rt);
+            let mut out = OutSink::new(rt);
+            end(rt, rail(rt.alloc(), words, &mut shelf, &mut out))
+        }
+    }
+}
+
+/// Prints a text on standard output.
+fn show(rt: &HostRuntime, text: &str) -> ExitCode {
+    match rt.print(text) {
+        Ok(()) => ExitCode::SUCCESS,
+        Err(_) => end(rt, Status::WriteFault),
+    }
+}
+
+/// Prints the status text on standard error, and gives the exit status. What standard error does not take
+/// changes nothing.
+fn end(rt: &HostRuntime, status: Status) -> ExitCode {
+    let mut text = [0; 64];
+    let length = status.text(&mut text);
+    if let Ok(text) = str::from_utf8(&text[..length])
+        && !text.is_empty()
+    {
+        let _ = rt.eprintln(text);
+    }
+    ExitCode::from(status.exit())
+}

@@ -1,0 +1,9 @@
+pub mod SoFar
+pub mod Lone
+pub mod Histories
+pub mod Told
+pub mod Results
+pub mod Firsts
+pub mod Listed
+pub mod Answers
+pub mod Asked

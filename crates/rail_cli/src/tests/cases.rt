@@ -1,0 +1,163 @@
+//! Command lines, each with what the rules give by hand.
+
+/// Cases, each begun by a line `== WORDS / SCENE / LIST / CALL / STATUS`, behind which stands the output.
+///
+/// SCENE names the two pieces of which the file `scene` is made; LIST has the lines of the file `list`,
+/// with `, ` between them; CALL is the call of the shelf or of the sink that fails. The calls of the shelf
+/// are the beginning of the file, a read of it, and a read at its end; those of the sink are its lines.
+pub const CASES: &str = "\
+== run scene / three at-2 /  / sure 0 / \n\
+00:01:48.0 ready A 1\n\
+00:01:48.0 admit A 1 appended\n\
+00:02:00.0 enter A 1 X1\n\
+00:02:40.0 enter A 1 X2\n\
+00:02:45.6 free X1 A\n\
+00:03:20.0 enter A 1 X3\n\
+00:03:25.6 free X2 A\n\
+00:04:00.0 arrive A 1\n\
+00:04:03.6 out A\n\
+00:04:05.6 free X3 A\n\
+00:04:05.6 end\n\
+== run scene / three none /  / sure 0 / \n\
+00:00:00.0 end\n\
+== run scene / three at-5 /  / sure 0 / \n\
+00:00:00.0 ready A 1\n\
+00:00:00.0 admit A 1 appended\n\
+00:00:12.0 enter A 1 X1\n\
+00:00:52.0 enter A 1 X2\n\
+00:00:57.6 free X1 A\n\
+00:01:32.0 enter A 1 X3\n\
+00:01:37.6 free X2 A\n\
+00:02:12.0 arrive A 1\n\
+00:02:15.6 out A\n\
+00:02:17.6 free X3 A\n\
+00:02:17.6 end\n\
+== run scene / long at-2 /  / sure 0 / \n\
+00:01:48.0 ready A 1\n\
+00:01:48.0 admit A 1 appended\n\
+00:02:00.0 enter A 1 X1\n\
+00:02:40.0 enter A 1 X2\n\
+00:02:44.0 arrive A 1\n\
+00:02:50.0 free X1 A\n\
+00:02:52.0 out A\n\
+00:02:54.0 free X2 A\n\
+00:02:54.0 end\n\
+== run scene / slow at-2 /  / sure 0 / \n\
+00:01:48.0 ready A 1\n\
+00:01:48.0 admit A 1 appended\n\
+00:02:00.0 enter A 1 X1\n\
+00:08:40.0 enter A 1 X2\n\
+00:08:44.0 arrive A 1\n\
+00:08:47.6 out A\n\
+00:08:49.6 free X2 A\n\
+00:09:18.0 free X1 A\n\
+00:09:18.0 end\n\
+== run scene / once at-2 /  / sure 0 / \n\
+00:01:48.0 ready A 1\n\
+00:01:48.0 admit A 1 appended\n\
+00:02:00.0 enter A 1 X1\n\
+00:03:20.0 enter A 1 X2\n\
+00:03:23.6 arrive A 1\n\
+00:03:27.2 out A\n\
+00:03:29.2 free X1 A\n\
+00:03:29.2 free X2 A\n\
+00:03:29.2 end\n\
+== run scene / release at-2 /  / sure 0 / \n\
+00:01:48.0 ready A 1\n\
+00:01:48.0 admit A 1 appended\n\
+00:02:00.0 enter A 1 X1\n\
+00:02:40.0 arrive A 1\n\
+00:02:43.6 free X1 A\n\
+00:02:43.6 out A\n\
+00:02:43.6 end\n\
+== run scene / three at-2 /  / shelf 1 / read fault\n\
+== run scene / three at-2 /  / shelf 3 / read fault\n\
+== run scene / three at-2 /  / shelf 4 / \n\
+00:01:48.0 ready A 1\n\
+00:01:48.0 admit A 1 appended\n\
+00:02:00.0 enter A 1 X1\n\
+00:02:40.0 enter A 1 X2\n\
+00:02:45.6 free X1 A\n\
+00:03:20.0 enter A 1 X3\n\
+00:03:25.6 free X2 A\n\
+00:04:00.0 arrive A 1\n\
+00:04:03.6 out A\n\
+00:04:05.6 free X3 A\n\
+00:04:05.6 end\n\
+== run scene / three at-2 /  / sink 1 / write fault\n\
+== run scene / three at-2 /  / sink 3 / write fault\n\
+00:01:48.0 ready A 1\n\
+00:01:48.0 admit A 1 appended\n\
+== run scene / three at-2 /  / sink 12 / \n\
+00:01:48.0 ready A 1\n\
+00:01:48.0 admit A 1 appended\n\
+00:02:00.0 enter A 1 X1\n\
+00:02:40.0 enter A 1 X2\n\
+00:02:45.6 free X1 A\n\
+00:03:20.0 enter A 1 X3\n\
+00:03:25.6 free X2 A\n\
+00:04:00.0 arrive A 1\n\
+00:04:03.6 out A\n\
+00:04:05.6 free X3 A\n\
+00:04:05.6 end\n\
+== infra scene / loop apart /  / sure 0 / \n\
+infra sections 6 portals 2 signals 6 boards 0 turns 1 routes 14 kinds 1 trains 2\n\
+route we1 West E1 2050 3\n\
+route we2 West E2 2050 3\n\
+route ee1 E1 East 1050 2\n\
+route ee2 E2 East 1050 2\n\
+route ww1 East W1 2050 3\n\
+route ww2 East W2 2050 3\n\
+route xw1 W1 West 1050 2\n\
+route xw2 W2 West 1050 2\n\
+route w0 West SW 1000 1\n\
+route wl1 SW E1 1050 2\n\
+route wl2 SW E2 1050 2\n\
+route e0 East SE 1000 1\n\
+route el1 SE W1 1050 2\n\
+route el2 SE W2 1050 2\n\
+== infra scene / loop apart /  / sink 1 / write fault\n\
+== play scene list / loop apart / at A 1, at B 1, move A B / sure 0 / \n\
+completes\n\
+== play scene list / loop apart / at A 1, at B 1, move B / sure 0 / \n\
+inside A\n\
+== play scene list / loop apart / at A 1, at B 1, move A A / sure 0 / \n\
+illegal 2 out A\n\
+== play scene list / loop apart / move A / sure 0 / \n\
+illegal 1 outside A\n\
+== play scene list / loop one-track / at A 1, at B 1, move A / sure 0 / \n\
+illegal 1 held A L1 B\n\
+== play scene list / loop one-track / at A 2, at B 1 / sure 0 / refused 36 ListPlaces line 2 0\n\
+== play scene list / loop fits / at A 1, at B 1, move B / sure 0 / \n\
+illegal 1 held B PW A\n\
+== play scene list / loop too-long /  / sure 0 / refused 15 TooLong train 1 1\n\
+== play scene list / loop itself /  / sure 0 / refused 16 SelfBlocked train 1 1\n\
+== play scene list / loop from-signal /  / sure 0 / refused 14 NotPortal train 1 0\n\
+== play scene list / loop to-signal /  / sure 0 / refused 14 NotPortal train 1 1\n\
+== play scene list / loop broken /  / sure 0 / refused 13 ItineraryBroken train 1 1\n\
+==  / three none /  / sure 0 / usage\n\
+== run / three none /  / sure 0 / usage\n\
+== gen 01 / three none /  / sure 0 / usage\n\
+== run scene list list list / three none /  / sure 0 / usage\n\
+== run absent / three none /  / sure 0 / read fault\n\
+== play scene absent / loop apart /  / sure 0 / read fault\n\
+== run scene list / three none /  / sure 0 / refused 39 NotYet root 0 0\n\
+== report absent / three none /  / sure 0 / refused 39 NotYet root 0 0\n\
+== run scene / loop apart /  / sure 0 / refused 39 NotYet root 0 0\n\
+== run scene / none none /  / sure 0 / refused 2 KeyMissing root 0 1\n\
+== run scene / cut none /  / sure 0 / refused 1 NotToml bytes 0 0\n\
+== run scene / three best /  / sure 0 / refused 39 NotYet root 0 0\n\
+== run scene / three no-kind /  / sure 0 / refused 7 Unknown train 1 2\n\
+== play scene list / loop apart / at Z 1 / sure 0 / refused 35 ListName line 1 0\n\
+== play scene absent / cut none /  / sure 0 / read fault\n\
+== play scene list / loop apart / at A 2, at A 1, at B 1, move A B / sure 0 / \n\
+completes\n\
+== play scene list / loop apart / at A 1 / sure 0 / \n\
+inside A\n\
+== play scene list / loop apart /  / sure 0 / \n\
+completes\n\
+== play scene list / loop apart / at A 3 / sure 0 / refused 34 ListForm line 1 0\n\
+== play scene list / loop apart / # none, at A 1, move A, at B 1 / sure 0 / refused 34 ListForm line 4 0\n\
+== play scene list / loop apart / at A 01 / sure 0 / refused 34 ListForm line 1 0\n\
+== play scene list / loop apart / move A, move Z / sure 0 / refused 35 ListName line 2 0\n\
+";
