@@ -66,3 +66,22 @@ fn end(rt: &HostRuntime, status: Status) -> ExitCode {
     }
     ExitCode::from(status.exit())
 }
+
+#[cfg(test)]
+mod tests {
+    use rail_cli::{HELP, VERSION};
+    use std::test::Fail;
+
+    #[test]
+    fn names_the_forms_that_are_built(rt: HostRuntime) -> Result<(), Fail> {
+        for form in [
+            "rail run SCENE ",
+            "rail infra SCENE ",
+            "rail play SCENE LIST ",
+        ] {
+            assert!(rt; HELP.contains(form), "{form}");
+        }
+        assert_eq!(rt; VERSION, "rail 0.1.0\n");
+        Ok(())
+    }
+}
