@@ -70,6 +70,8 @@ fn end(rt: &HostRuntime, status: Status) -> ExitCode {
 #[cfg(test)]
 mod tests {
     use rail_cli::{HELP, VERSION};
+    use rail_io::{FileShelf, OutSink, ReadWhole, read_whole, write_whole};
+    use std::fs;
     use std::test::Fail;
 
     #[test]
@@ -82,6 +84,28 @@ mod tests {
             assert!(rt; HELP.contains(form), "{form}");
         }
         assert_eq!(rt; VERSION, "rail 0.1.0\n");
+        Ok(())
+    }
+
+    #[test]
+    fn reads_a_file_of_the_system(rt: HostRuntime) -> Result<(), Fail> {
+        let name = "/tmp/rail-test-of-a-file";
+        fs::write(&rt, name, b"version = 1\n")?;
+        let mut shelf = FileShelf::new(&rt);
+        let bytes = read_whole(rt.alloc(), &mut shelf, name, 12)?;
+        assert!(rt; bytes.as_slice() == b"version = 1\n".as_slice());
+        let large = read_whole(rt.alloc(), &mut shelf, name, 11).err();
+        assert_eq!(rt; large, Some(ReadWhole::TooLarge));
+        fs::remove_file(&rt, name)?;
+        let absent = read_whole(rt.alloc(), &mut shelf, name, 12).err();
+        assert_eq!(rt; absent, Some(ReadWhole::ReadFault));
+        Ok(())
+    }
+
+    #[test]
+    fn writes_to_standard_output(rt: HostRuntime) -> Result<(), Fail> {
+        let mut out = OutSink::new(&rt);
+        assert_eq!(rt; write_whole(&mut out, b"a line\n"), Ok(()));
         Ok(())
     }
 }
