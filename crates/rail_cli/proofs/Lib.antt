@@ -7,3 +7,4 @@ pub mod Firsts
 pub mod Listed
 pub mod Answers
 pub mod Asked
+pub mod InLine

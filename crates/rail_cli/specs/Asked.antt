@@ -1,5 +1,5 @@
 -- What the words ask for, and what is answered.
-use Rattle.std.specs.Prelude.{◌≡◌, ℕ, ◌<◌, List, [], ◌∷◌, length, get_or, Option, Some}
+use Rattle.std.specs.Prelude.{◌≡◌, ℕ, ◌-◌, ◌<◌, Bool, true, false, List, [], ◌∷◌, length, get_or, Option, Some}
 use Rattle.rail_io.specs.Writing.{Adds, AddsPrefix}
 use Rattle.rail_rules.specs.Numbers.{or_else}
 use Rattle.rail_scene.specs.Spelling.{spelled_scene}
@@ -41,3 +41,14 @@ AnswersForm form words told before now status = status ≡ Refused not_yet
 -- a file of the command has this name: it is one of the words after the verb
 abbrev pub IsFileWord : List (List ℕ) → Option (List ℕ) → Type 0
 IsFileWord words name = (i : ℕ) × (0 < i) × (i < length words) × (name ≡ Some (get_or words i []))
+
+-- the words are those of a form that is built, so that their files are read
+abbrev pub reads_files : Form → List (List ℕ) → Bool
+reads_files form.Run (verb ∷ scene ∷ []) = true
+reads_files form.Infra (verb ∷ scene ∷ []) = true
+reads_files form.Play (verb ∷ scene ∷ list ∷ []) = true
+reads_files form words = false
+
+-- the last word
+abbrev pub last_word : List (List ℕ) → List ℕ
+last_word words = get_or words (length words - 1) []

@@ -1,7 +1,8 @@
 -- Why a file is not read.
-use Rattle.std.specs.Prelude.{◌≡◌, ℕ, ◌<◌, List, Option, Some}
+use Rattle.std.specs.Prelude.{◌≡◌, ℕ, ◌<◌, Bool, true, false, not, List, Option, Some, None}
 use Rattle.rail_base.specs.declared.limits.TheConstants.{FILE_BYTES}
 use Rattle.rail_base.specs.declared.refusals.Refusal.{Refusal}
+use Rattle.rail_base.specs.declared.refusals.Part.{Part}
 use Rattle.rail_base.specs.declared.refusals.Reason.TheVariants.{TooMany}
 use Rattle.rail_base.specs.declared.refusals.Part.TheVariants.{File}
 use Rattle.rail_io.specs.Counting.{Rose}
@@ -29,3 +30,21 @@ IsFileAnswer number name told before now failed moved ReadFault = IsReadFault na
 IsFileAnswer number name told before now failed moved WriteFault = ⊥
 IsFileAnswer number name told before now failed moved OutOfMemory = Unit {0}
 IsFileAnswer number name told before now failed moved (CheckedNo line law) = ⊥
+
+-- the file of this name was begun and read to its end, and no call failed at it
+pub record IsRead (name : List ℕ) (begun : Option (List ℕ)) (ended : Bool) (failed : Option (List ℕ)) : Type 0 where
+  pub is_begun : begun ≡ Some name
+  pub is_ended : ended ≡ true
+  pub none_failed : failed ≡ None
+
+-- the part is a file, which is refused for its size
+abbrev pub is_file : Part → Bool
+is_file File = true
+is_file part = false
+
+-- with this answer the last file was read to its end: the answer is no fault of reading, no want of memory and no refusal of a file for its size
+abbrev pub comes_of_files : Status → Bool
+comes_of_files Done = true
+comes_of_files WriteFault = true
+comes_of_files (Refused refusal) = not (is_file refusal.part)
+comes_of_files status = false

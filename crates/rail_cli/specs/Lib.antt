@@ -9,3 +9,4 @@ pub mod First
 pub mod Answers
 pub mod Files
 pub mod Asked
+pub mod InLine

@@ -1,9 +1,9 @@
 //! The files of a command, read one after another.
 
-ghost use Rattle.std.specs.Prelude.{◌≡◌, ◌<◌, ◌≤◌, ℕ, List, Some, IfOk, IfErr, length};
+ghost use Rattle.std.specs.Prelude.{◌≡◌, ◌<◌, ◌≤◌, ℕ, List, Some, IfOk, IfErr, OnOk, length};
 ghost use Rattle.rail_base.specs.declared.limits.TheConstants.{FILE_BYTES};
 ghost use Rattle.rail_cli.specs.Answers.{too_large};
-ghost use Rattle.rail_cli.specs.Files.{IsFileAnswer};
+ghost use Rattle.rail_cli.specs.Files.{IsFileAnswer, IsRead};
 
 use crate::status::Status;
 use rail_base::limits::FILE_BYTES;
@@ -22,6 +22,7 @@ pub fn read_file<S: Shelf>(
 ) -> Result<Vec<u8>, Status>
     ensures bytes { IfOk result (λ bytes. (told : List ℕ) → S.told shelf.old name.now ≡ Some told → bytes.items ≡ told) }
     ensures short { IfOk result (λ bytes. length bytes.items ≤ FILE_BYTES) }
+    ensures read { OnOk result (IsRead name.now (S.begun shelf.new) (S.ended shelf.new) (S.failed shelf.new)) }
     ensures refused { IfErr result (IsFileAnswer number name.now (S.told shelf.old name.now) (S.faults shelf.old) (S.faults shelf.new) (S.failed shelf.new) (S.moved shelf.new)) }
     ensures told_stays { S.told shelf.new ≡ S.told shelf.old }
     ensures faults_never_fall { S.faults shelf.old ≤ S.faults shelf.new }

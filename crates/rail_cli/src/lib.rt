@@ -10,6 +10,7 @@ mod files;
 mod first;
 mod help;
 mod infra;
+mod laws;
 mod playing;
 mod rides;
 mod riding;
@@ -21,5 +22,6 @@ mod tests;
 mod top;
 
 pub use help::{HELP, VERSION};
+pub use laws::{the_plant_of_a_line_scene_is_lone, the_sections_of_a_line_scene_are_in_line};
 pub use status::Status;
 pub use top::rail;

@@ -1,12 +1,12 @@
 //! The top call: what the words ask for, on files and an output.
 
-ghost use Rattle.std.specs.Prelude.{◌≡◌, ◌≢◌, ◌↔◌, ◌⊎◌, ◌≤◌};
+ghost use Rattle.std.specs.Prelude.{◌≡◌, ◌≢◌, ◌↔◌, ◌⊎◌, ◌≤◌, true, false};
 ghost use Rattle.rail_io.specs.Counting.{Rose};
 ghost use Rattle.rail_words.specs.Forms.{IsForm};
 ghost use Rattle.rail_words.specs.declared.forms.Form.{Form};
 ghost use Rattle.rail_cli.specs.declared.status.Status.TheVariants as status;
-ghost use Rattle.rail_cli.specs.Asked.{AnswersForm, AnswersInfra, AnswersPlay, AnswersRun, IsFileWord};
-ghost use Rattle.rail_cli.specs.Files.{IsReadFault};
+ghost use Rattle.rail_cli.specs.Asked.{AnswersForm, AnswersInfra, AnswersPlay, AnswersRun, IsFileWord, last_word, reads_files};
+ghost use Rattle.rail_cli.specs.Files.{IsRead, IsReadFault, comes_of_files};
 
 use crate::files::read_file;
 use crate::scenes::{NOT_YET, play_list, run_scene, show_infra};
@@ -28,6 +28,9 @@ pub fn rail<S: Shelf, O: Sink>(alloc: Global, words: &[Word], shelf: &mut S, out
     ensures read_fault { result ≡ status.ReadFault → Rose (S.faults shelf.old) (S.faults shelf.new) }
     ensures failed_name { result ≡ status.ReadFault → IsFileWord words.now (S.failed shelf.new) }
     ensures write_fault { result ≡ status.WriteFault → Rose (O.faults out.old) (O.faults out.new) }
+    ensures read { (form : Form) → IsForm form words.now → reads_files form words.now ≡ true → comes_of_files result ≡ true → IsRead (last_word words.now) (S.begun shelf.new) (S.ended shelf.new) (S.failed shelf.new) }
+    ensures unread { (form : Form) → IsForm form words.now → reads_files form words.now ≡ false → shelf.new ≡ shelf.old }
+    ensures usage_unread { result ≡ status.Usage → shelf.new ≡ shelf.old }
     ensures unwritten { result ≢ status.Done → result ≢ status.WriteFault → out.new ≡ out.old }
     ensures told_stays { S.told shelf.new ≡ S.told shelf.old }
     ensures shelf_faults_never_fall { S.faults shelf.old ≤ S.faults shelf.new }
@@ -52,6 +55,8 @@ fn answer<S: Shelf, O: Sink>(
     ensures failed_name { result ≡ status.ReadFault → IsFileWord words.now (S.failed shelf.new) }
     ensures write_fault { result ≡ status.WriteFault → Rose (O.faults out.old) (O.faults out.new) }
     ensures unwritten { result ≢ status.Done → result ≢ status.WriteFault → out.new ≡ out.old }
+    ensures read { reads_files form words.now ≡ true → comes_of_files result ≡ true → IsRead (last_word words.now) (S.begun shelf.new) (S.ended shelf.new) (S.failed shelf.new) }
+    ensures unread { reads_files form words.now ≡ false → shelf.new ≡ shelf.old }
     ensures in_table { result ≢ status.Usage }
     ensures told_stays { S.told shelf.new ≡ S.told shelf.old }
     ensures shelf_faults_never_fall { S.faults shelf.old ≤ S.faults shelf.new }
@@ -71,6 +76,7 @@ fn run<S: Shelf, O: Sink>(alloc: Global, scene: &str, shelf: &mut S, out: &mut O
     ensures read_fault { result ≡ status.ReadFault → IsReadFault scene.now (S.faults shelf.old) (S.faults shelf.new) (S.failed shelf.new) }
     ensures write_fault { result ≡ status.WriteFault → Rose (O.faults out.old) (O.faults out.new) }
     ensures unwritten { result ≢ status.Done → result ≢ status.WriteFault → out.new ≡ out.old }
+    ensures read { comes_of_files result ≡ true → IsRead scene.now (S.begun shelf.new) (S.ended shelf.new) (S.failed shelf.new) }
     ensures in_table { result ≢ status.Usage }
     ensures told_stays { S.told shelf.new ≡ S.told shelf.old }
     ensures shelf_faults_never_fall { S.faults shelf.old ≤ S.faults shelf.new }
@@ -88,6 +94,7 @@ fn infra<S: Shelf, O: Sink>(alloc: Global, scene: &str, shelf: &mut S, out: &mut
     ensures read_fault { result ≡ status.ReadFault → IsReadFault scene.now (S.faults shelf.old) (S.faults shelf.new) (S.failed shelf.new) }
     ensures write_fault { result ≡ status.WriteFault → Rose (O.faults out.old) (O.faults out.new) }
     ensures unwritten { result ≢ status.Done → result ≢ status.WriteFault → out.new ≡ out.old }
+    ensures read { comes_of_files result ≡ true → IsRead scene.now (S.begun shelf.new) (S.ended shelf.new) (S.failed shelf.new) }
     ensures in_table { result ≢ status.Usage }
     ensures told_stays { S.told shelf.new ≡ S.told shelf.old }
     ensures shelf_faults_never_fall { S.faults shelf.old ≤ S.faults shelf.new }
@@ -111,6 +118,7 @@ fn play<S: Shelf, O: Sink>(
     ensures read_fault { result ≡ status.ReadFault → (IsReadFault scene.now (S.faults shelf.old) (S.faults shelf.new) (S.failed shelf.new)) ⊎ (IsReadFault list.now (S.faults shelf.old) (S.faults shelf.new) (S.failed shelf.new)) }
     ensures write_fault { result ≡ status.WriteFault → Rose (O.faults out.old) (O.faults out.new) }
     ensures unwritten { result ≢ status.Done → result ≢ status.WriteFault → out.new ≡ out.old }
+    ensures read { comes_of_files result ≡ true → IsRead list.now (S.begun shelf.new) (S.ended shelf.new) (S.failed shelf.new) }
     ensures in_table { result ≢ status.Usage }
     ensures told_stays { S.told shelf.new ≡ S.told shelf.old }
     ensures shelf_faults_never_fall { S.faults shelf.old ≤ S.faults shelf.new }
