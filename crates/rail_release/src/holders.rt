@@ -1,0 +1,59 @@
+ghost use Rattle.std.specs.Prelude.{◌≡◌, ℕ, ◌<◌, length, get_or, set, replicate, IfOk, IsSome, Some, None};
+
+use rail_base::{OutOfMemory, SectionNo, TrainNo};
+use std::alloc::Global;
+use std::marker::Model;
+
+/// Which train holds each section. Sections and trains count from 0.
+#[derive(Debug, Drop)]
+pub struct Holders {
+    trains: Vec<Option<TrainNo>>,
+}
+
+impl Model for Holders {
+    ghost use Rattle.std.specs.Prelude.{List, Option, ℕ};
+
+    ghost Value = { List (Option ℕ) };
+
+    ghost view = { λ holders. holders.trains.items };
+}
+
+impl Holders {
+    /// Holders of so many sections, where nobody holds one.
+    pub fn new(alloc: Global, sections: u16) -> Result<Holders, OutOfMemory>
+        ensures { IfOk result (λ holders. holders ≡ replicate sections None) }
+    {
+        let trains = vec![in alloc; None; usize::from(sections)]?;
+        Ok(Holders { trains })
+    }
+
+    /// The train that holds the section, if one does.
+    pub fn holder(&self, section: SectionNo) -> Option<TrainNo>
+        requires { section < length self.now }
+        ensures { result ≡ get_or self.now section None }
+    {
+        self.trains[usize::from(section.0)]
+    }
+
+    /// The train holds the section from now on. Nobody held it before.
+    pub fn take(&mut self, section: SectionNo, train: TrainNo)
+        requires section { section < length self.old }
+        requires free { get_or self.old section None ≡ None }
+        ensures { self.new ≡ set self.old section (Some train) }
+    {
+        self.trains[usize::from(section.0)] = Some(train);
+    }
+
+    /// Nobody holds the section from now on. The answer is the train that held it.
+    pub fn free(&mut self, section: SectionNo) -> TrainNo
+        requires section { section < length self.old }
+        requires held { IsSome (get_or self.old section None) }
+        ensures holder { Some result ≡ get_or self.old section None }
+        ensures freed { self.new ≡ set self.old section None }
+    {
+        match self.trains[usize::from(section.0)].take() {
+            Some(train) => train,
+            None => unreachable!(),
+        }
+    }
+}
