@@ -1,0 +1,16 @@
+//! What is pending in a run: events in order of time, class and number.
+//!
+//! This layer stands on the plain data of `rail_base` and, for how numbers are compared in turn, on the
+//! definitions of `rail_rules`. Contracts see a queue as the list of its events, the next one first, and
+//! the room that is left; `specs/` says which of two events comes first. The events may be kept in another
+//! way as long as the contracts hold. What may not change is that only `with_room` takes memory, and that a
+//! push looks at no more events than a search by halves does.
+#![tactic(auto)]
+
+mod event;
+mod queue;
+#[cfg(test)]
+mod tests;
+
+pub use event::{Class, Event};
+pub use queue::EventQueue;

@@ -1,0 +1,79 @@
+ghost use Rattle.std.specs.Prelude.{◌≡◌, ℕ, ◌+◌, ◌≤◌, Bool, false, List, [], ◌∷◌, IfOk, IsTrue, IsNone, IfSome, ◌↔◌, MatchOption, count_by};
+ghost use Rattle.std.specs.List.{list_any};
+ghost use Rattle.rail_queue.specs.declared.event.Event.{Event};
+ghost use Rattle.rail_queue.specs.Order.{goes_before, inserted, is_sorted, first_time_of};
+
+use crate::event::Event;
+use rail_base::{OutOfMemory, Time};
+use std::alloc::Global;
+use std::marker::Model;
+
+/// Pending events, sorted by time, class and number. Of events that are equal in these the one that was
+/// pushed first comes first.
+#[derive(Debug, Drop)]
+pub struct EventQueue {
+    /// In falling order, so that the next event is the last item.
+    pending: Vec<Event>,
+}
+
+impl Model for EventQueue {
+    ghost use Rattle.rail_queue.specs.Queue.{Queue, events_of, spare_of, IsFalling};
+
+    ghost Value = { Queue };
+
+    ghost view = { λ queue. record { events = events_of queue.pending; spare = spare_of queue.pending } };
+
+    ghost invariant = { λ queue. IsFalling queue.pending };
+}
+
+impl EventQueue {
+    /// An empty queue with room for so many events.
+    pub fn with_room(alloc: Global, room: usize) -> Result<EventQueue, OutOfMemory>
+        ensures empty { IfOk result (λ queue. queue.events ≡ []) }
+        ensures spare { IfOk result (λ queue. queue.spare ≡ room) }
+    {
+        let pending = Vec::with_capacity(alloc, room)?;
+        Ok(EventQueue { pending })
+    }
+
+    /// How many more events there is room for.
+    pub fn spare(&self) -> usize
+        ensures spare { result ≡ self.now.spare }
+        ensures sorted { IsTrue (is_sorted self.now.events) }
+    {
+        self.pending.capacity() - self.pending.len()
+    }
+
+    /// Puts the event behind those that come before it and those that are equal to it in time, class and
+    /// number.
+    pub fn push(&mut self, event: Event)
+        requires { 1 ≤ self.old.spare }
+        ensures events { self.new.events ≡ inserted event self.old.events }
+        ensures spare { self.new.spare + 1 ≡ self.old.spare }
+        ensures counted { (p : Event → Bool) → count_by p self.new.events ≡ count_by p (event ∷ []) + count_by p self.old.events }
+    {
+        let place = self
+            .pending
+            .partition_point(|later| event.goes_before(later));
+        self.pending.insert(place, event).unwrap();
+    }
+
+    /// Takes out the next event, if there is one.
+    pub fn pop(&mut self) -> Option<Event>
+        ensures none { IsNone result ↔ (self.old.events ≡ []) }
+        ensures next { MatchOption result (self.new ≡ self.old) (λ event. self.old.events ≡ event ∷ self.new.events) }
+        ensures spare { MatchOption result (self.new.spare ≡ self.old.spare) (λ _. self.new.spare ≡ self.old.spare + 1) }
+        ensures least { IfSome result (λ event. list_any (λ other. goes_before other event) self.old.events ≡ false) }
+        ensures counted { IfSome result (λ event. (p : Event → Bool) → count_by p self.old.events ≡ count_by p (event ∷ []) + count_by p self.new.events) }
+    {
+        self.pending.pop()
+    }
+
+    /// When the next event happens, if there is one.
+    pub fn first_time(&self) -> Option<Time>
+        ensures time { result ≡ first_time_of self.now.events }
+        ensures sorted { IsTrue (is_sorted self.now.events) }
+    {
+        self.pending.last().map(|event| event.at)
+    }
+}
