@@ -1,5 +1,5 @@
 -- The list with the moves that are left to an entering train at its end, and how long a list that completes is.
-use Rattle.std.proofs.Common.{◌≡◌, ◌≢◌, ℕ, zero, suc, ◌+◌, ◌-◌, ◌<◌, ◌≤◌, Bool, true, false, not, ◌&&◌, cond, ltb, List, [], ◌∷◌, ◌++◌, length, replicate, set, refl, sym, ap, ◌∙◌, subst, ⊎_elim, arith}
+use Rattle.std.proofs.Common.{◌≡◌, ◌≢◌, ℕ, zero, suc, ◌+◌, ◌-◌, ◌<◌, ◌≤◌, true, false, not, ◌&&◌, ltb, List, [], ◌∷◌, ◌++◌, length, replicate, refl, sym, ap, ◌∙◌, subst, ⊎_elim, arith}
 use Rattle.std.specs.List.{All, list_any, list_all}
 use Rattle.std.proofs.lemmas.Bool.{and_parts, and_from, and_right, le-ltb, cases_eq, cases_Bool, cond-false, lt-ltb, ltb-true, not-true, not_from_false, false≢true, and_cases}
 use Rattle.std.proofs.lemmas.List.{get_or-set_same, length-set}
@@ -7,7 +7,6 @@ use Rattle.std.proofs.lemmas.List.Elements.{All-nil, All-cons}
 use Rattle.rail_rules.specs.Numbers.{any_below, sum_below, is_in, are_apart}
 use Rattle.rail_rules.specs.Moves.{Moves, stand, is_valid}
 use Rattle.rail_rules.specs.Places.{place_of, holds, is_held, is_inside, is_legal, after, nobody_inside, completes}
-use Rattle.rail_rules.specs.Analysis.{moves_left}
 use Rattle.rail_rules.proofs.Below.{any_below_at, any_below_none, sum_below-le}
 use Rattle.rail_rules.proofs.Members.{list_any_none, apart_at}
 use Rattle.rail_place.specs.Playing.{IsPlayed, plays}

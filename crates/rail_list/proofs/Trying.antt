@@ -1,5 +1,5 @@
 -- Places after a trial move was taken back, and what playing costs.
-use Rattle.std.proofs.Common.{◌≡◌, ℕ, ◌+◌, ◌<◌, ◌≤◌, ◌↔◌, ◌&&◌, cond, List, [], ◌∷◌, Option, Some, None, length, get_or, true, refl, sym, ap, ◌∙◌, subst, ⊎_elim, arith}
+use Rattle.std.proofs.Common.{◌≡◌, ℕ, ◌+◌, ◌≤◌, ◌↔◌, ◌&&◌, List, [], ◌∷◌, Option, Some, None, length, get_or, refl, sym, ap, ◌∙◌, ⊎_elim, arith}
 use Rattle.std.proofs.lemmas.Bool.{cases_Bool, cond-true, cond-false}
 use Rattle.std.proofs.lemmas.List.{same_lists, get_or_default}
 use Rattle.rail_rules.specs.Moves.{Moves}
@@ -17,8 +17,8 @@ same_option None None h = refl
 pub owners_same : (table : List (List (List ℕ) × List (List ℕ))) (s r : State) → IsMadeFor table s → IsMadeFor table r → r.positions ≡ s.positions → r.owners ≡ s.owners
 owners_same table s r made_s made_r same =
     let same_at : (x : ℕ) → get_or r.owners x None ≡ get_or s.owners x None = λ x. same_option (get_or r.owners x None) (get_or s.owners x None) (λ u. (
-    λ h. (made_s.told x u).1 (sym (ap (λ p. holds (moves_in table) p u x) same) ∙ (made_r.told x u).0 h),
-    λ h. (made_r.told x u).1 (ap (λ p. holds (moves_in table) p u x) same ∙ (made_s.told x u).0 h),
+      λ h. (made_s.told x u).1 (sym (ap (λ p. holds (moves_in table) p u x) same) ∙ (made_r.told x u).0 h),
+      λ h. (made_r.told x u).1 (ap (λ p. holds (moves_in table) p u x) same ∙ (made_s.told x u).0 h),
     )) in
     let long : length r.owners ≡ length s.owners = made_r.room ∙ sym made_s.room in
     same_lists r.owners s.owners long (λ k d lt.

@@ -70,7 +70,11 @@ fn push(alloc: Global, moves: &mut Moves, path: &str) -> Result<(), Fail> {
     if !apart || usize::from(moves.trains()) >= TRAINS {
         return Err(Fail::from("no moves"));
     }
-    let need = vec![in alloc; alone(alloc, first)?, alone(alloc, second)?, alone(alloc, third)?]?;
+    let need = vec![in alloc;
+        alone(alloc, first)?,
+        alone(alloc, second)?,
+        alone(alloc, third)?,
+    ]?;
     let stand = vec![in alloc; alone(alloc, first)?, alone(alloc, second)?]?;
     moves.push_train(alloc, need, stand)?;
     Ok(())

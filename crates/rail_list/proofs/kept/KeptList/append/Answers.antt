@@ -1,5 +1,4 @@
-use Rattle.std.proofs.Common.{◌≡◌, ℕ, suc, ◌-◌, ◌<◌, ◌≤◌, ◌++◌, true, List, length, replicate, sym, ap, ◌∙◌, arith}
-use Rattle.std.specs.List.{All}
+use Rattle.std.proofs.Common.{◌≡◌, ℕ, suc, ◌-◌, ◌<◌, ◌++◌, true, List, length, replicate, sym, ap, ◌∙◌, arith}
 use Rattle.std.proofs.lemmas.List.{length-append, length-replicate, length-set}
 use Rattle.std.proofs.lemmas.List.Elements.{All-same}
 use Rattle.rail_rules.specs.Moves.{Moves}
@@ -40,8 +39,8 @@ add_times-requires c =
     let same : c.self.inside.trains.items ≡ list = ap (λ (k : Kept). k.trains) c.self.view_is in
     let rest : List ℕ = replicate (plan.moves t - 1) t in
     let done : completes plan (after now.positions t) (list ++ rest) ≡ true =
-        sym (exact table now list c.deref.result.now t c.requires.made c.requires.train c.requires.legal c.requires.outside c.requires.completes (c.deref.ensures.value ∙ same))
-        ∙ sym c.plays_after-completes.ensures.exact ∙ c.if-completes.true in
+    sym (exact table now list c.deref.result.now t c.requires.made c.requires.train c.requires.legal c.requires.outside c.requires.completes (c.deref.ensures.value ∙ same))
+    ∙ sym c.plays_after-completes.ensures.exact ∙ c.if-completes.true in
     let fits = completing_fits plan (after now.positions t) (list ++ rest) done in
     let trains : length (after now.positions t) ≡ length table = length-set now.positions t (suc (place_of now.positions t)) ∙ made_long table now c.requires.made in
     let all : sum_below plan.moves (length (after now.positions t)) ≡ sum_below plan.moves (length table) = ap (sum_below plan.moves) trains in

@@ -5,7 +5,6 @@ use Rattle.rail_rules.specs.Moves.{Moves}
 use Rattle.rail_rules.specs.Places.{is_inside}
 use Rattle.rail_place.specs.Tables.{moves_in}
 use Rattle.rail_place.specs.declared.barring.Barred.{Barred}
-use Rattle.rail_place.specs.declared.barring.Played.{Played}
 use Rattle.rail_place.specs.declared.barring.Played.TheVariants.{Illegal}
 use Rattle.rail_place.specs.Barring.{ending, outcome}
 use Rattle.rail_place.specs.Playing.{plays}
