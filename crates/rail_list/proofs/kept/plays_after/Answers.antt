@@ -1,0 +1,31 @@
+use Rattle.std.proofs.Common.{◌≡◌, ◌<◌, List, ℕ, length, sym, ◌∙◌, arith}
+use Rattle.rail_rules.specs.Moves.{Moves}
+use Rattle.rail_rules.specs.Places.{after}
+use Rattle.rail_place.specs.Tables.{moves_in}
+use Rattle.rail_place.specs.Made.{State, IsMadeFor}
+use Rattle.rail_place.proofs.Making.{made_long}
+use Rattle.rail_place.proofs.Playing.{IsWayBack, way_back}
+use Rattle.rail_list.proofs.Trying.{owners_same, made_fewer}
+use Rattle.rail_list.proofs.kept.plays_after.Goals as goal
+
+-- the train's move can be taken back
+way : (table : List (List (List ℕ) × List (List ℕ))) (s : State) (r : List ℕ) (t : ℕ) → IsMadeFor table s → t < length table → r ≡ after s.positions t → IsWayBack (moves_in table) s.positions r t
+way table s r t made lt moved = way_back (moves_in table) s.positions r t made.valid (omega (arith, lt, made_long table s made)) (sym moved)
+
+pub retreat-requires-clause-free : goal.retreat-requires-clause-free
+retreat-requires-clause-free c =
+    (way c.args.moves.now c.args.places.now c.plays-plays.new.self.positions c.args.train c.requires.made c.requires.train (c.plays-plays.ensures.positions ∙ c.advance.ensures.positions)).free
+
+pub returns-clause-positions : goal.returns-clause-positions
+returns-clause-positions c =
+    c.retreat.ensures.positions
+    ∙ (way c.args.moves.now c.args.places.now c.plays-plays.new.self.positions c.args.train c.requires.made c.requires.train (c.plays-plays.ensures.positions ∙ c.advance.ensures.positions)).back
+
+pub returns-clause-owners : goal.returns-clause-owners
+returns-clause-owners c = owners_same c.args.moves.now c.args.places.now c.retreat.new.self c.requires.made c.retreat.ensures.made (returns-clause-positions c)
+
+pub returns-clause-short : goal.returns-clause-short
+returns-clause-short c =
+    let plan : Moves = moves_in c.args.moves.now in
+    let fewer = made_fewer plan c.advance.new.self.positions c.args.list.now in
+    omega (arith, fewer, c.requires.made.counted, c.advance.ensures.played, c.plays-plays.ensures.played, c.retreat.ensures.played)
