@@ -1,0 +1,50 @@
+use Rattle.std.proofs.Common.{◌≡◌, suc, ◌-◌, true, false, Some, None, sym, ap, ◌∙◌, arith}
+use Rattle.std.specs.Option.{option_copied}
+use Rattle.rail_rules.specs.Plant.{moves}
+use Rattle.rail_rules.specs.Times.{arrive, passes}
+use Rattle.rail_block.specs.declared.times.MoveTimes.{MoveTimes}
+use Rattle.rail_block.specs.Carried.{times_at, next_at}
+use Rattle.rail_block.proofs.Placing.{before, made_at}
+use Rattle.rail_block.proofs.Ending.{next-some, next-none, unadmitted, arrive-end, arrive-passing, arrive-stopping}
+use Rattle.rail_block.proofs.ends.arrive_time.Goals as goal
+
+pub returns-then-place-last_place-clause-time : goal.returns-then-place-last_place-clause-time
+returns-then-place-last_place-clause-time c = λ adms h.
+    let last : suc (c.args.place - 1) ≡ moves c.args.plant.now c.args.train = omega (arith, c.requires.first, c.if-place-last_place.true, c.last_place.ensures.places) in
+    ap (λ (own : MoveTimes). own.free_run) (made_at c.args.plant.now c.args.train adms c.args.place c.args.times.now c.requires.first h.times)
+    ∙ arrive-end c.args.plant.now c.args.train adms (c.args.place - 1) last
+
+pub returns-then-next-clause-time : goal.returns-then-next-clause-time
+returns-then-next-clause-time c = λ adms h.
+    let plant = c.args.plant.now in
+    let t = c.args.train in
+    let m = c.args.place - 1 in
+    let not_last : suc m ≡ moves plant t → ⊥ = λ e. c.if-place-last_place.false (before c.args.place c.requires.first ∙ e ∙ sym c.last_place.ensures.places) in
+    let there = next-some plant t adms c.args.place c.in-Some.next.now (sym (ap option_copied c.in-Some.is) ∙ h.next) in
+    let own = there.1 ∙ ap (λ i. times_at plant t adms (suc i)) (before c.args.place c.requires.first) in
+    let does_pass : passes plant t adms (suc m) ≡ true = sym (ap (λ (n : MoveTimes). n.passes) own) ∙ c.if-next.true in
+    ap (λ (n : MoveTimes). n.go) own ∙ arrive-passing plant t adms m not_last does_pass
+
+pub returns-then-next-clause-below : goal.returns-then-next-clause-below
+returns-then-next-clause-below c = omega (arith, (c.requires.next c.in-Some.next.now (ap option_copied c.in-Some.is)).go)
+
+pub returns-else-next-clause-time : goal.returns-else-next-clause-time
+returns-else-next-clause-time c = λ adms h.
+    let plant = c.args.plant.now in
+    let t = c.args.train in
+    let m = c.args.place - 1 in
+    let not_last : suc m ≡ moves plant t → ⊥ = λ e. c.if-place-last_place.false (before c.args.place c.requires.first ∙ e ∙ sym c.last_place.ensures.places) in
+    let there = next-some plant t adms c.args.place c.in-Some.next.now (sym (ap option_copied c.in-Some.is) ∙ h.next) in
+    let own = there.1 ∙ ap (λ i. times_at plant t adms (suc i)) (before c.args.place c.requires.first) in
+    let stops : passes plant t adms (suc m) ≡ false = sym (ap (λ (n : MoveTimes). n.passes) own) ∙ c.if-next.false in
+    c.stop_at.ensures.time adms m (made_at plant t adms c.args.place c.args.times.now c.requires.first h.times) ∙ arrive-stopping plant t adms m not_last stops
+
+pub returns-in-None-clause-time : goal.returns-in-None-clause-time
+returns-in-None-clause-time c = λ adms h.
+    let plant = c.args.plant.now in
+    let t = c.args.train in
+    let m = c.args.place - 1 in
+    let not_last : suc m ≡ moves plant t → ⊥ = λ e. c.if-place-last_place.false (before c.args.place c.requires.first ∙ e ∙ sym c.last_place.ensures.places) in
+    let none = next-none plant t adms c.args.place (sym (ap option_copied c.in-None.is) ∙ h.next) in
+    let stops : passes plant t adms (suc m) ≡ false = ap (passes plant t adms) (sym (before c.args.place c.requires.first)) ∙ unadmitted plant t adms c.args.place none in
+    c.stop_at-in-None.ensures.time adms m (made_at plant t adms c.args.place c.args.times.now c.requires.first h.times) ∙ arrive-stopping plant t adms m not_last stops

@@ -1,0 +1,25 @@
+use Rattle.std.proofs.Common.{◌≡◌, ◌-◌, true, false, Some, None, sym, ap, ◌∙◌}
+use Rattle.rail_rules.specs.Intervals.{is_undecided}
+use Rattle.rail_rules.specs.Times.{enter, leave}
+use Rattle.rail_block.proofs.Parting.{admitted-is, undecided, undecided-part, decided-part}
+use Rattle.rail_block.proofs.intervals.running_part.Goals as goal
+
+pub returns-then-is_undecided : goal.returns-then-is_undecided
+returns-then-is_undecided c = λ adms h.
+    let plant = c.args.plant.now in
+    let t = c.args.train in
+    let m = c.args.place - 1 in
+    let j = c.args.step - 1 in
+    let test = undecided plant t adms c.args.place c.args.step c.is_some.result c.requires.first c.requires.first_step (c.is_some.ensures ∙ admitted-is plant t adms c.args.place c.args.next h.next) in
+    undecided-part (is_undecided plant t adms m j) (Some (leave plant t adms m j - enter plant t adms m j)) (sym test ∙ sym c.is_undecided.ensures ∙ c.if-is_undecided.true)
+
+pub returns : goal.returns
+returns c = λ adms h.
+    let plant = c.args.plant.now in
+    let t = c.args.train in
+    let m = c.args.place - 1 in
+    let j = c.args.step - 1 in
+    let test = undecided plant t adms c.args.place c.args.step c.is_some.result c.requires.first c.requires.first_step (c.is_some.ensures ∙ admitted-is plant t adms c.args.place c.args.next h.next) in
+    let entered = c.enter_time-entered.ensures.time adms h.times in
+    let left = c.leave_time-left.ensures.time adms h in
+    decided-part (is_undecided plant t adms m j) c.between.result (leave plant t adms m j - enter plant t adms m j) (sym test ∙ sym c.is_undecided.ensures ∙ c.if-is_undecided.false) (c.between.ensures ∙ (λ k. left k - entered k))
