@@ -1,0 +1,2 @@
+-- Kinds of lines of a train.
+pub mod Kinds
