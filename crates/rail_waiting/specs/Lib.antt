@@ -1,2 +1,3 @@
--- Kinds of lines of a train.
+-- Kinds of lines and boxes, and how far times reach.
 pub mod Kinds
+pub mod Limits
