@@ -26,6 +26,7 @@ OF_HISTORIES = (
     "rail_completion",
     "rail_texts",
     "rail_unique",
+    "rail_waiting",
 )
 OF_INPUTS = (
     "rail_track",

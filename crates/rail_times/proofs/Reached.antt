@@ -37,14 +37,14 @@ use Rattle.rail_times.proofs.Limits.{IsLimited, limited, sum-limited}
 
 -- the times of a train whose free running times reach so far
 module _ (plant : Plant) (fine : IsFine plant) (h : IsLimited plant) (t : ℕ) (known : t < trains plant) (adms : List ℕ) (few : length adms ≤ moves plant t) (v : ℕ) (high : 8640000 ≤ v) (runs : (m : ℕ) → m ≤ length adms → free_run plant t adms m ≤ v) where
-  depart_within : (p arrived : ℕ) → p ≤ moves plant t → arrived ≤ v → depart_time plant t p arrived ≤ v + 8646000
+  pub depart_within : (p arrived : ℕ) → p ≤ moves plant t → arrived ≤ v → depart_time plant t p arrived ≤ v + 8646000
   depart_within zero arrived le near = omega (arith, near, h.stop t known)
   depart_within (suc m) arrived le near =
       cond_both (is_forced plant t (suc m)) (max (stop_time plant t arrived + dwell plant t (suc m)) (departure plant t (suc m))) (stop_time plant t arrived) (λ x. x ≤ v + 8646000)
       (λ _. omega (arith, near, h.stop t known, h.stands t m (omega (arith, le)), h.departs t m (omega (arith, le)), high))
       (λ _. omega (arith, near, h.stop t known))
 
-  ready_within : (m : ℕ) → m ≤ length adms → previous adms m ≤ v + 8646000 → ready plant t adms m ≤ v + 8646000
+  pub ready_within : (m : ℕ) → m ≤ length adms → previous adms m ≤ v + 8646000 → ready plant t adms m ≤ v + 8646000
   ready_within m le before =
       let near = runs m le in
       cond_both (is_forced plant t m)
@@ -54,16 +54,16 @@ module _ (plant : Plant) (fine : IsFine plant) (h : IsLimited plant) (t : ℕ) (
       (λ _. omega (arith, before, depart_within m (free_run plant t adms m) (omega (arith, le, few)) near))
       (λ _. omega (arith, before, near))
 
-  go_within : (m : ℕ) → m < length adms → go plant t adms m ≤ v
+  pub go_within : (m : ℕ) → m < length adms → go plant t adms m ≤ v
   go_within m lt = omega (arith, run_after_go plant t fine adms m (omega (arith, lt, few)), runs (suc m) (omega (arith, lt)))
 
-  enter_within : (m j : ℕ) → m < length adms → j ≤ steps plant t m → enter plant t adms m j ≤ v
+  pub enter_within : (m j : ℕ) → m < length adms → j ≤ steps plant t m → enter plant t adms m j ≤ v
   enter_within m j lt le = omega (arith, enter_before_run plant t adms m j le, runs (suc m) (omega (arith, lt)))
 
   admitted_next : (m : ℕ) → passes plant t adms (suc m) ≡ true → suc m < length adms
   admitted_next m passing = ltb-true (suc m) (length adms) (and_parts (is_admitted adms (suc m)) (does_pass plant t (suc m) (previous adms (suc m)) (free_run plant t adms (suc m)) (admitted adms (suc m))) passing).0
 
-  arrive_within : (m : ℕ) → m < length adms → arrive plant t adms m ≤ v + 6000
+  pub arrive_within : (m : ℕ) → m < length adms → arrive plant t adms m ≤ v + 6000
   arrive_within m lt =
       let near = runs (suc m) (omega (arith, lt)) in
       cond_both (eqb (suc m) (moves plant t)) (free_run plant t adms (suc m)) (cond (passes plant t adms (suc m)) (go plant t adms (suc m)) (stop_at plant t adms m)) (λ x. x ≤ v + 6000)
@@ -82,7 +82,7 @@ module _ (plant : Plant) (fine : IsFine plant) (h : IsLimited plant) (t : ℕ) (
   loss_within true m = omega arith
   loss_within false m = omega (arith, h.start t known)
 
-  end_within : (m j : ℕ) → m < length adms → j < steps plant t m → is_open plant t adms m j ≡ false → end_time plant t adms m j ≤ v + 8646000
+  pub end_within : (m j : ℕ) → m < length adms → j < steps plant t m → is_open plant t adms m j ≡ false → end_time plant t adms m j ≤ v + 8646000
   end_within m j lt lj closed =
       let clear = h.clears t m j (omega (arith, lt, few)) lj in
       let from : clears_from plant t adms m j ≤ v + 6000 =
@@ -97,7 +97,7 @@ module _ (plant : Plant) (fine : IsFine plant) (h : IsLimited plant) (t : ℕ) (
       (λ _. leave_within m j lt lj) in
       omega (arith, from, clear, h.release)
 
-  out_within : (m : ℕ) → m < length adms → out plant t adms m ≤ v + 8646000
+  pub out_within : (m : ℕ) → m < length adms → out plant t adms m ≤ v + 8646000
   out_within m lt =
       omega (arith, arrive_within m lt, h.clears t m (steps plant t m - 1) (omega (arith, lt, few)) (omega (arith, fine.some_step t m (omega (arith, lt, few)))))
 
@@ -143,6 +143,11 @@ all_admitted plant front = sum_below (place front) (trains plant)
 record IsWithin (plant : Plant) (front : Front) : Type 0 where
   now : instant front ≤ reach (all_admitted plant front) + 8646000
   free : (t m : ℕ) → t < trains plant → m ≤ place front t → free_run plant t (admissions front t) m ≤ reach (all_admitted plant front)
+
+-- how far the times of any lawful front reach
+pub record Reaches (plant : Plant) (front : Front) : Type 0 where
+  pub admission : (t m : ℕ) → m < place front t → admitted (admissions front t) m ≤ 1015816640000 + 8646000
+  pub run : (t m : ℕ) → t < trains plant → m ≤ place front t → free_run plant t (admissions front t) m ≤ 1015816640000
 
 -- a command of an accepted input comes within the limit
 command_within : (plant : Plant) (earliest : ℕ) (commands : List Command) (k : ℕ) (command : Command) → are_fine_commands plant earliest commands ≡ true → slice_get commands k ≡ Some command → command.at ≤ 8640000
@@ -257,18 +262,43 @@ module _ (input : Input) (accepted : is_accepted input.plant ≡ true) (commands
       step h (by_hold t m why holds) = idle_within line front (ap is_admission holds.what) h (omega (arith, holds.now, h.now))
       step h (by_end ends) = idle_within line front (ap is_admission ends.what) h (omega (arith, ends.now, h.now))
 
-  time_below : (line : Line) (front : Front) → is_lawful input (line ∷ front) ≡ true → line.entry.at < 2 ^ 50
-  unfolding reach all_admitted
-  time_below line front lawful =
-      let all : sum_below (place (line ∷ front)) (trains input.plant) ≤ 64 * trains input.plant =
-      sum-limited (place (line ∷ front)) 64 (trains input.plant) (λ t lt. omega (arith, few_admissions input fine (line ∷ front) lawful t lt, limits.few_moves t lt)) in
-      omega (arith, (within (line ∷ front) lawful).now, all, limits.few)
+  -- no front has more admissions than there may be moves
+  few_admitted : (front : Front) → is_lawful input front ≡ true → all_admitted input.plant front ≤ 8192
+  unfolding all_admitted
+  few_admitted front lawful =
+      omega (
+        arith,
+        sum-limited (place front) 64 (trains input.plant) (λ t lt. omega (arith, few_admissions input fine front lawful t lt, limits.few_moves t lt)),
+        limits.few,
+      )
 
-pub times_below : (input : Input) → is_accepted_input input ≡ true → (line : Line) (front : Front) → is_lawful input (line ∷ front) ≡ true → line.entry.at < 2 ^ 50
-times_below input accepted line front lawful =
+  time_below : (line : Line) (front : Front) → is_lawful input (line ∷ front) ≡ true → line.entry.at < 2 ^ 50
+  unfolding reach
+  time_below line front lawful = omega (arith, (within (line ∷ front) lawful).now, few_admitted (line ∷ front) lawful)
+
+  train_reaches : (front : Front) → is_lawful input front ≡ true → Reaches input.plant front
+  unfolding reach
+  train_reaches front lawful = record {
+    admission = λ t m lt. omega (arith, (timely input fine front lawful).admitted_by t m lt, (within front lawful).now, few_admitted front lawful);
+    run = λ t m known le. omega (arith, (within front lawful).free t m known le, few_admitted front lawful);
+  }
+
+-- what an accepted input says of its plant and of its commands
+pub input_parts : (input : Input) → is_accepted_input input ≡ true → (is_accepted input.plant ≡ true) × (are_fine_commands input.plant 0 input.commands ≡ true)
+input_parts input accepted =
     let of_deck = and_parts _ _ accepted in
     let of_names = and_parts _ _ of_deck.0 in
     let of_policies = and_parts _ _ of_names.0 in
     let of_commands = and_parts (is_accepted input.plant && leb (length input.commands) COMMANDS) (are_fine_commands input.plant 0 input.commands) of_policies.0 in
     let of_plant = and_parts (is_accepted input.plant) (leb (length input.commands) COMMANDS) of_commands.0 in
-    time_below input of_plant.0 of_commands.1 line front lawful
+    (of_plant.0, of_commands.1)
+
+pub times_below : (input : Input) → is_accepted_input input ≡ true → (line : Line) (front : Front) → is_lawful input (line ∷ front) ≡ true → line.entry.at < 2 ^ 50
+times_below input accepted line front lawful =
+    let parts = input_parts input accepted in
+    time_below input parts.0 parts.1 line front lawful
+
+pub reaches : (input : Input) → is_accepted_input input ≡ true → (front : Front) → is_lawful input front ≡ true → Reaches input.plant front
+reaches input accepted front lawful =
+    let parts = input_parts input accepted in
+    train_reaches input parts.0 parts.1 front lawful

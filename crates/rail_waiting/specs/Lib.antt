@@ -1,0 +1,3 @@
+-- Kinds of lines and boxes, and how far times reach.
+pub mod Kinds
+pub mod Limits
