@@ -74,6 +74,7 @@ pub head_first : (plant : Plant) → IsFine plant → (t : ℕ) → IsHead plant
 head_first plant fine t = record {
   reached = omega arith;
   within = λ some. fine.some_step t 0 some;
+  first = λ _. refl;
   entered = λ m j lm lj. absurd (omega (arith, lm));
 }
 
@@ -123,6 +124,14 @@ next_behind plant t n i le =
     let last = le-ltb (suc i) (steps plant t n) le in
     (cond-false (ltb (suc i) (steps plant t n)) n (suc n) last, cond-false (ltb (suc i) (steps plant t n)) (suc i) 0 last)
 
+-- the step behind the last of these moves is the first of the next one
+pub next_first : (plant : Plant) (t n i p : ℕ) → n < p → next_move plant t n i ≡ p → next_step plant t n i ≡ 0
+next_first plant t n i p lt is =
+    ⊎_elim
+    (λ more. absurd (omega (arith, lt, is, (next_within plant t n i more).0)))
+    (λ last. (next_behind plant t n i last).1)
+    (cases_lt (suc i) (steps plant t n))
+
 -- what comes before the step behind this one is this step and what comes before it
 before_itself : (plant : Plant) (t n i : ℕ) → is_before n i (next_move plant t n i) (next_step plant t n i) ≡ true
 before_itself plant t n i =
@@ -161,12 +170,13 @@ before_other plant t n i m j lj other =
     under same le = ⊎_elim (λ lt. lt) (λ ge. absurd (other same (omega (arith, le, ge)))) (cases_lt j i)
 
 -- a head by the admissions of its train
-head_from : (plant : Plant) (front : Front) (t n i : ℕ) (adms : List ℕ) → admissions front t ≡ adms → n ≤ length adms → (n < moves plant t → i < steps plant t n) → ((m j : ℕ) → m < length adms → j < steps plant t m → stands front (enter_line plant t adms m j) ≡ is_before m j n i) → IsHead plant front t n i
-head_from plant front t n i adms same reached within entered =
+head_from : (plant : Plant) (front : Front) (t n i : ℕ) (adms : List ℕ) → admissions front t ≡ adms → n ≤ length adms → (n < moves plant t → i < steps plant t n) → (n ≡ length adms → i ≡ 0) → ((m j : ℕ) → m < length adms → j < steps plant t m → stands front (enter_line plant t adms m j) ≡ is_before m j n i) → IsHead plant front t n i
+head_from plant front t n i adms same reached within first entered =
     let P : List ℕ → Type 0 = λ list. (m j : ℕ) → m < length list → j < steps plant t m → stands front (enter_line plant t list m j) ≡ is_before m j n i in
     record {
       reached = omega (arith, reached, ap length same);
       within = within;
+      first = λ is. first (is ∙ ap length same);
       entered = subst P (sym same) entered;
     }
 
@@ -179,6 +189,7 @@ head_enters input fine line front lawful t n i lt same head =
     (admissions_kept line front t (ap (λ (x : Entry). is_admission x.what) same))
     (next_reached (place front t) lt)
     next_fits
+    (next_first plant t n i (length adms) lt)
     (λ m j lm lj. ⊎_elim
     (λ same_move. ⊎_elim
     (λ same_step.
@@ -228,14 +239,6 @@ head_enters input fine line front lawful t n i lt same head =
         subst (λ k. P k (next_step plant t n i)) (sym goes_on.0) (subst (λ l. P (suc n) l) (sym goes_on.1) (fine.some_step t (suc n) (omega (arith, room, goes_on.0)))))
         (cases_lt (suc i) (steps plant t n))
 
--- the step behind the last of these moves is the first of the next one
-pub next_first : (plant : Plant) (t n i p : ℕ) → n < p → next_move plant t n i ≡ p → next_step plant t n i ≡ 0
-next_first plant t n i p lt is =
-    ⊎_elim
-    (λ more. absurd (omega (arith, lt, is, (next_within plant t n i more).0)))
-    (λ last. (next_behind plant t n i last).1)
-    (cases_lt (suc i) (steps plant t n))
-
 -- no line of a move that isn't admitted stands
 unentered : (input : Input) → IsFine input.plant → (front : Front) → is_lawful input front ≡ true → (t m x time : ℕ) → place front t ≤ m → stands front (at_time time (Enter t (suc m) x)) ≡ false
 unentered input fine front lawful t m x time past =
@@ -263,8 +266,8 @@ no_step plant line t m j adms other =
     false≢true (sym other ∙ sym (ap (λ (x : Entry). enters t x.what) (one_entry e line.entry one)) ∙ eq-eqb t t refl))
 
 -- any other line: what was entered stays, and nothing of a new move was entered; at its admission a head that has no admitted step ahead is at the first step of the new move
-pub head_kept : (input : Input) → IsFine input.plant → (line : Line) (front : Front) → is_lawful input (line ∷ front) ≡ true → (t n i : ℕ) → enters t line.entry.what ≡ false → (admits t line.entry.what ≡ true → n ≡ place front t → i ≡ 0) → IsHead input.plant front t n i → IsHead input.plant (line ∷ front) t n i
-head_kept input fine line front lawful t n i other starts head =
+pub head_kept : (input : Input) → IsFine input.plant → (line : Line) (front : Front) → is_lawful input (line ∷ front) ≡ true → (t n i : ℕ) → enters t line.entry.what ≡ false → IsHead input.plant front t n i → IsHead input.plant (line ∷ front) t n i
+head_kept input fine line front lawful t n i other head =
     let plant : Plant = input.plant in
     let adms : List ℕ = admissions front t in
     let more : List ℕ = adms ++ line.entry.at ∷ [] in
@@ -272,6 +275,7 @@ head_kept input fine line front lawful t n i other starts head =
     ⊎_elim
     (λ admitted.
     head_from plant (line ∷ front) t n i more (cond-true (admits t line.entry.what) more adms admitted) (omega (arith, head.reached, length_added adms line.entry.at)) head.within
+    (λ is. absurd (omega (arith, is, head.reached, length_added adms line.entry.at)))
     (λ m j lm lj.
     behind (enter_line plant t more m j) (no_step plant line t m j more other)
     ∙ ⊎_elim
@@ -283,9 +287,9 @@ head_kept input fine line front lawful t n i other starts head =
     unentered input fine front (lawful_before input line front lawful) t m (step_section plant t m j) (enter plant t more m j) (omega (arith, new))
     ∙ sym (not_before m j n i
     (λ less. absurd (omega (arith, less, new, head.reached)))
-    (λ same under. absurd (omega (arith, under, starts admitted (sym same ∙ last))))))
+    (λ same under. absurd (omega (arith, under, head.first (sym same ∙ last))))))
     (cases_lt m (length adms))))
     (λ idle.
-    head_from plant (line ∷ front) t n i adms (cond-false (admits t line.entry.what) more adms idle) head.reached head.within
+    head_from plant (line ∷ front) t n i adms (cond-false (admits t line.entry.what) more adms idle) head.reached head.within head.first
     (λ m j lm lj. behind (enter_line plant t adms m j) (no_step plant line t m j adms other) ∙ head.entered m j lm lj))
     (cases_Bool (admits t line.entry.what))

@@ -5,7 +5,7 @@ ghost use Rattle.rail_pending.specs.Coming.{ToCome};
 ghost use Rattle.rail_pending.specs.Entered.{IsHead, enters, next_move, next_step};
 ghost use Rattle.rail_rules.specs.Causes.{place};
 ghost use Rattle.rail_rules.specs.Events.{due_lines, enter_line, is_least, is_quiet};
-ghost use Rattle.rail_rules.specs.Fronts.{Front, Line, admissions, admits, rank, same_entry, stands};
+ghost use Rattle.rail_rules.specs.Fronts.{Front, Line, admissions, rank, same_entry, stands};
 ghost use Rattle.rail_rules.specs.Lawful.{is_lawful};
 ghost use Rattle.rail_rules.specs.Numbers.{comes_before};
 ghost use Rattle.rail_rules.specs.Orders.{Input, told};
@@ -107,12 +107,10 @@ pub fn behind_the_admitted_moves_a_head_is_at_a_first_step()
         → n < p → next_move plant t n i ≡ p → next_step plant t n i ≡ 0 }
 {}
 
-/// Every line but an enter line of the train leaves its head where it is. At an admission of the train
-/// a head that has entered all before has to be at the first step of the move that is admitted.
+/// Every line but an enter line of the train leaves its head where it is, also an admission of it.
 pub fn other_lines_leave_the_head()
     ensures { (input : Input) → IsFine input.plant → (line : Line) (front : Front)
         → IsTrue (is_lawful input (line ∷ front)) → (t n i : ℕ)
         → enters t line.entry.what ≡ false
-        → (admits t line.entry.what ≡ true → n ≡ place front t → i ≡ 0)
         → IsHead input.plant front t n i → IsHead input.plant (line ∷ front) t n i }
 {}
