@@ -1,0 +1,2 @@
+-- The holders of sections.
+pub mod Holding
