@@ -1,17 +1,15 @@
 -- At a decision the holders are the blockers.
-use Rattle.std.proofs.Common.{◌≡◌, ℕ, zero, suc, ◌+◌, ◌-◌, ◌<◌, ◌≤◌, Bool, true, false, not, ◌&&◌, ◌||◌, cond, eqb, ltb, leb, List, [], ◌∷◌, ◌++◌, length, get_or, Option, Some, None, refl, sym, ap, ◌∙◌, subst, ⊎_elim, arith}
+use Rattle.std.proofs.Common.{◌≡◌, ℕ, zero, suc, ◌+◌, ◌<◌, ◌≤◌, Bool, true, false, ◌&&◌, ◌||◌, cond, eqb, ltb, leb, List, [], ◌∷◌, length, get_or, Option, Some, None, refl, sym, ap, ◌∙◌, subst, ⊎_elim, arith}
 use Rattle.std.specs.List.{list_any}
 use Rattle.std.specs.Option.{option_map}
-use Rattle.std.proofs.lemmas.Bool.{or_left, or_right, and_left, and_right, and_from, and_parts, cases_Bool, cases_lt, cond-true, cond-false, eqb-true, eq-eqb, ne_eqb, leb-true, le-leb, lt-ltb, le-ltb, ltb-true, false≢true, not-true, not_from_true}
-use Rattle.std.proofs.lemmas.Option.{none-some}
-use Rattle.rail_base.specs.declared.history.Cause.{Cause}
+use Rattle.std.proofs.lemmas.Bool.{or_left, or_right, and_parts, cases_Bool, cases_lt, cond-true, cond-false, eq-eqb, ne_eqb, leb-true, le-leb, lt-ltb, le-ltb, false≢true, not-true}
 use Rattle.rail_base.specs.declared.history.Cause.TheVariants.{Blocked}
 use Rattle.rail_base.specs.declared.history.Entry.{Entry}
 use Rattle.rail_rules.specs.Accepted.{is_accepted}
 use Rattle.rail_rules.specs.Numbers.{any_below, first_below, or_else, sum_below}
 use Rattle.rail_rules.specs.Orders.{Input}
 use Rattle.rail_rules.specs.Plant.{Plant, steps, step_section, trains}
-use Rattle.rail_rules.specs.Fronts.{Front, Line, admissions, instant, stands}
+use Rattle.rail_rules.specs.Fronts.{Front, admissions, instant, stands}
 use Rattle.rail_rules.specs.Times.{admitted}
 use Rattle.rail_rules.specs.Intervals.{blocks, contains_instant, end_time, is_open}
 use Rattle.rail_rules.specs.Events.{due_lines}
@@ -22,9 +20,9 @@ use Rattle.rail_view.proofs.Accepting.{fine_from_accepted}
 use Rattle.rail_invariant.specs.Invariant.{IsTimely}
 use Rattle.rail_invariant.proofs.Due.{deciding_quiet, same_entry_refl, stands_or_due}
 use Rattle.rail_invariant.proofs.Timely.{same_time, timely}
-use Rattle.rail_account.specs.Accounts.{all_events, is_train_event, tally, to_come, written}
+use Rattle.rail_account.specs.Accounts.{is_train_event, tally, to_come, written}
 use Rattle.rail_account.proofs.Balance.{account}
-use Rattle.rail_account.proofs.Tallies.{tally-append, tally-cons_no, tally-cons_yes, tally-filter, tally-none, tally-some, tally-same}
+use Rattle.rail_account.proofs.Tallies.{tally-append}
 use Rattle.rail_holding.specs.Holding.{AreHolders, frees, held_cause, is_train, taken}
 use Rattle.rail_holding.proofs.Amounts.{sum-none, sum-some, sum-two}
 use Rattle.rail_holding.proofs.Frees.{all_freed, freed, freed_one, frees_by}
@@ -32,8 +30,6 @@ use Rattle.rail_pending.specs.Coming.{ToCome}
 use Rattle.rail_pending.proofs.Coming.{to_come_found}
 use Rattle.rail_view.specs.Indexed.{IsEvent}
 use Rattle.rail_view.specs.Indexed.IsEvent.{entering, arriving, freeing, leaving, readying}
-use Rattle.rail_base.specs.declared.history.What.{What}
-use Rattle.rail_base.specs.declared.history.What.TheVariants.{Free, Arrive, Enter, Out, Ready, Told, Untold, Admit, Hold, End}
 use Rattle.rail_rules.specs.Fronts.{same_entry}
 use Rattle.rail_rules.specs.Orders.{is_cancelled, told}
 use Rattle.rail_view.proofs.Gathered.{both_found}

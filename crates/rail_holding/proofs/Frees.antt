@@ -1,6 +1,6 @@
 -- Counting the free lines of a train on a section.
-use Rattle.std.proofs.Common.{◌≡◌, ℕ, zero, suc, ◌+◌, ◌<◌, ◌≤◌, min, Bool, true, false, not, ◌&&◌, ◌||◌, cond, eqb, List, [], ◌∷◌, ◌++◌, length, Option, Some, None, refl, sym, ap, ◌∙◌, subst, ⊎_elim, arith}
-use Rattle.std.proofs.lemmas.Bool.{and_left, and_right, and_from, and_parts, cases_Bool, cond-true, cond-false, eqb-true, eq-eqb, ne_eqb, false≢true}
+use Rattle.std.proofs.Common.{◌≡◌, ℕ, suc, ◌+◌, ◌<◌, min, Bool, true, false, ◌&&◌, cond, eqb, List, [], ◌∷◌, ◌++◌, length, Option, Some, None, refl, sym, ap, ◌∙◌, arith}
+use Rattle.std.proofs.lemmas.Bool.{and_right, cond-false, eq-eqb, ne_eqb}
 use Rattle.rail_base.specs.declared.history.Entry.{Entry}
 use Rattle.rail_base.specs.declared.history.What.TheVariants.{Free}
 use Rattle.rail_rules.specs.Numbers.{gather, sum_below}
@@ -11,7 +11,7 @@ use Rattle.rail_rules.specs.Events.{arrive_line, enter_line, free_lines, move_ev
 use Rattle.rail_account.specs.Accounts.{all_events, tally}
 use Rattle.rail_account.proofs.Changing.{tally-gather}
 use Rattle.rail_account.proofs.Tallies.{tally-append}
-use Rattle.rail_holding.specs.Holding.{frees, frees_for}
+use Rattle.rail_holding.specs.Holding.{frees}
 use Rattle.rail_holding.proofs.Amounts.{sum-equal, sum-only, sum-zero}
 
 -- the free line of an interval that ended, and passes a test of its time

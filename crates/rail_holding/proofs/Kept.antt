@@ -1,17 +1,17 @@
 -- The table of holders from line to line.
-use Rattle.std.proofs.Common.{◌≡◌, ℕ, zero, suc, ◌+◌, ◌-◌, ◌<◌, ◌≤◌, Bool, true, false, not, ◌&&◌, ◌||◌, cond, eqb, ltb, List, [], ◌∷◌, ◌++◌, length, get_or, set, replicate, Option, Some, None, refl, sym, ap, ◌∙◌, subst, ⊎_elim, arith}
+use Rattle.std.proofs.Common.{◌≡◌, ℕ, zero, suc, ◌+◌, ◌<◌, ◌≤◌, Bool, true, false, ◌&&◌, cond, eqb, ltb, List, [], ◌∷◌, length, get_or, set, replicate, Option, Some, None, refl, sym, ap, ◌∙◌, subst, ⊎_elim, arith}
 use Rattle.std.specs.List.{list_all}
-use Rattle.std.proofs.lemmas.Bool.{and_left, and_right, and_from, and_parts, cases_Bool, cases_lt, cond-true, cond-false, eqb-true, eq-eqb, ne_eqb, lt-ltb, ltb-true, false≢true, or_cases, or_left, or_right}
+use Rattle.std.proofs.lemmas.Bool.{and_left, and_from, and_parts, cases_Bool, cases_lt, cond-true, cond-false, eqb-true, eq-eqb, ne_eqb, ltb-true, false≢true, or_cases, or_left, or_right}
 use Rattle.std.proofs.lemmas.List.{length-set, get_or-set_same, get_or-set_other, get_or_past}
 use Rattle.std.proofs.lemmas.Option.{none-some}
 use Rattle.rail_base.specs.declared.history.Entry.{Entry}
 use Rattle.rail_base.specs.declared.history.Note.{Note}
 use Rattle.rail_base.specs.declared.history.What.{What}
 use Rattle.rail_base.specs.declared.history.What.TheVariants.{Free, Arrive, Enter, Out, Ready, Told, Untold, Admit, Hold, End}
-use Rattle.rail_rules.specs.Accepted.{is_accepted, is_fine_move}
+use Rattle.rail_rules.specs.Accepted.{is_accepted}
 use Rattle.rail_rules.specs.Numbers.{is_in, sum_below}
 use Rattle.rail_rules.specs.Orders.{Input}
-use Rattle.rail_rules.specs.Plant.{Plant, move_row, moves, needed, no_move, steps, step_section, train, trains}
+use Rattle.rail_rules.specs.Plant.{Plant, move_row, moves, needed, steps, step_section, trains}
 use Rattle.rail_rules.specs.Fronts.{Front, Line, admissions, is_admission, same_entry}
 use Rattle.rail_rules.specs.Intervals.{end_time, is_open}
 use Rattle.rail_rules.specs.Causes.{place}
@@ -19,13 +19,13 @@ use Rattle.rail_rules.specs.Lawful.{is_lawful}
 use Rattle.rail_rules.proofs.Unchanged.{admissions_kept}
 use Rattle.rail_view.specs.Premises.{IsFine}
 use Rattle.rail_view.specs.Views.{Admits}
-use Rattle.rail_view.proofs.Accepting.{IsAccepted, accepted_parts, fine_from_accepted, fine_move, fine_row, list_all_get}
+use Rattle.rail_view.proofs.Accepting.{accepted_parts, fine_from_accepted, fine_move, fine_row}
 use Rattle.rail_view.proofs.Agreeing.{length_added}
 use Rattle.rail_view.proofs.Viewing.{lawful_before}
 use Rattle.rail_invariant.proofs.Growing.{admission_added, admission_of_other, waiting_parts}
 use Rattle.rail_invariant.proofs.PlacesKept.{waiting_known}
 use Rattle.rail_invariant.proofs.Unblocked.{needed_step, step_needed}
-use Rattle.rail_account.specs.Accounts.{all_events, is_train_event, tally, to_come, written}
+use Rattle.rail_account.specs.Accounts.{all_events, is_train_event, tally, written}
 use Rattle.rail_account.proofs.Balance.{account}
 use Rattle.rail_account.proofs.Coding.{one_entry}
 use Rattle.rail_invariant.proofs.Due.{same_entry_refl}
