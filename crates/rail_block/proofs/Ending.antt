@@ -1,12 +1,11 @@
 -- When a move arrives and when its intervals end, by the times of the move and of the next one.
-use Rattle.std.proofs.Common.{◌≡◌, ℕ, suc, ◌+◌, ◌-◌, ◌<◌, ◌≤◌, Bool, true, false, not, ◌&&◌, eqb, List, cond, is_some, Option, Some, None, refl, sym, ap, ◌∙◌, subst, ⊎_elim, arith}
+use Rattle.std.proofs.Common.{◌≡◌, ℕ, suc, ◌+◌, Bool, true, false, not, ◌&&◌, eqb, List, cond, is_some, Option, Some, None, refl, sym, ap, ◌∙◌, ⊎_elim}
 use Rattle.std.proofs.lemmas.Bool.{eq-eqb, ne_eqb, cond-true, cond-false, cases_Bool}
 use Rattle.rail_rules.specs.Intervals.{does_stand, is_open, clears_from, end_time, end_of}
 use Rattle.rail_rules.specs.Plant.{Plant, moves, steps}
-use Rattle.rail_rules.specs.Times.{is_admitted, passes, does_pass, go, free_run, stop_at, arrive, enter, leave, clearing, start_loss, previous, admitted}
+use Rattle.rail_rules.specs.Times.{is_admitted, passes, does_pass, go, free_run, stop_at, arrive, enter, leave, start_loss, previous, admitted}
 use Rattle.rail_block.specs.declared.times.MoveTimes.{MoveTimes}
-use Rattle.rail_block.specs.Carried.{times_at, next_at, AreTimes}
-use Rattle.rail_block.proofs.Placing.{before, made_at}
+use Rattle.rail_block.specs.Carried.{times_at, next_at}
 
 -- the next move is admitted, and its times are handed in
 pub next-some : (plant : Plant) (t : ℕ) (adms : List ℕ) (place : ℕ) (n : MoveTimes) → Some n ≡ next_at plant t adms place → (is_admitted adms place ≡ true) × (n ≡ times_at plant t adms (suc place))

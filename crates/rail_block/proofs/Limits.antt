@@ -1,11 +1,11 @@
 -- What a plant that may be run says of single times, in tenths of a second.
-use Rattle.std.proofs.Common.{◌≡◌, ℕ, zero, suc, ◌+◌, ◌-◌, ◌*◌, ◌<◌, ◌≤◌, min, Bool, true, not, ◌&&◌, eqb, ltb, leb, List, [], ◌∷◌, length, get_or, map, is_some, Option, Some, None, arith}
+use Rattle.std.proofs.Common.{◌≡◌, ℕ, zero, suc, ◌+◌, ◌-◌, ◌<◌, ◌≤◌, Bool, true, not, ◌&&◌, eqb, ltb, leb, List, [], ◌∷◌, length, get_or, map, is_some, Option, Some, None, arith}
 use Rattle.std.specs.List.{list_all}
 use Rattle.std.specs.Option.{option_map_or}
 use Rattle.std.proofs.lemmas.Bool.{and_parts, ltb-true, leb-true}
 use native.Mathlib.Nat.{div-le_self}
 use Rattle.rail_base.specs.Naming.{is_name}
-use Rattle.rail_base.specs.declared.limits.TheConstants.{SECTIONS, TRAINS, RELEASE, DEPTH, INPUT_TIME, SECTION_LENGTH, SPEED, START, STOP, TRAIN_LENGTH, TURN_TIME, SETTING, WATCHING, APPROACH, ITINERARY_ROUTES, ROUTE_SECTIONS}
+use Rattle.rail_base.specs.declared.limits.TheConstants.{SECTIONS, TRAINS, RELEASE, DEPTH, INPUT_TIME, SPEED, START, STOP, TRAIN_LENGTH, TURN_TIME, SETTING, WATCHING, APPROACH, ITINERARY_ROUTES, ROUTE_SECTIONS}
 use Rattle.rail_base.specs.declared.plant.Call.{Call}
 use Rattle.rail_base.specs.declared.plant.MoveRow.{MoveRow}
 use Rattle.rail_base.specs.declared.plant.SectionRow.{SectionRow}

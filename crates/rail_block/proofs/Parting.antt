@@ -1,10 +1,10 @@
 -- The parts of an interval, as the code decides them.
-use Rattle.std.proofs.Common.{◌≡◌, ℕ, suc, ◌-◌, ◌≤◌, Bool, true, false, not, ◌&&◌, eqb, List, cond, is_some, Option, Some, None, Bor, refl, sym, ap, ◌∙◌}
+use Rattle.std.proofs.Common.{◌≡◌, ℕ, ◌-◌, ◌≤◌, Bool, true, false, not, ◌&&◌, eqb, List, cond, is_some, Option, Some, None, Bor, refl, sym, ap, ◌∙◌}
 use Rattle.std.specs.Option.{option_copied}
 use Rattle.std.proofs.lemmas.Bool.{cond-true, cond-false}
-use Rattle.rail_rules.specs.Intervals.{does_stand, is_open, is_undecided, clears_from, standing_part}
+use Rattle.rail_rules.specs.Intervals.{does_stand, is_undecided, clears_from, standing_part}
 use Rattle.rail_rules.specs.Plant.{Plant, steps, is_forced}
-use Rattle.rail_rules.specs.Times.{is_admitted, enter, leave}
+use Rattle.rail_rules.specs.Times.{is_admitted, leave}
 use Rattle.rail_block.specs.declared.times.MoveTimes.{MoveTimes}
 use Rattle.rail_block.specs.Carried.{next_at}
 use Rattle.rail_block.proofs.Placing.{before}

@@ -1,8 +1,8 @@
 -- Times of a move, whose places and steps the code counts from 1.
-use Rattle.std.proofs.Common.{◌≡◌, ℕ, zero, suc, ◌+◌, ◌-◌, ◌<◌, ◌≤◌, Bool, true, false, eqb, ltb, List, cond, refl, sym, ap, ◌∙◌, subst, ⊎_elim, arith}
+use Rattle.std.proofs.Common.{◌≡◌, ℕ, zero, suc, ◌+◌, ◌-◌, ◌<◌, ◌≤◌, Bool, ltb, List, refl, sym, ap, ◌∙◌, arith}
 use Rattle.std.proofs.lemmas.Bool.{lt-ltb, le-ltb, cond-true, cond-false}
 use Rattle.rail_rules.specs.Plant.{Plant, moves}
-use Rattle.rail_rules.specs.Times.{go, passes, free_run, ready_time, start_loss, head_time, enter}
+use Rattle.rail_rules.specs.Times.{ready_time, start_loss, head_time, enter}
 use Rattle.rail_block.specs.declared.times.MoveTimes.{MoveTimes}
 use Rattle.rail_block.specs.Carried.{times_at, ready_after}
 use Rattle.rail_block.specs.Stepping.{step_time}

@@ -1,9 +1,9 @@
-use Rattle.std.proofs.Common.{◌≡◌, suc, ◌-◌, true, false, Some, None, sym, ap, ◌∙◌, arith}
+use Rattle.std.proofs.Common.{◌≡◌, suc, ◌-◌, true, false, sym, ap, ◌∙◌, arith}
 use Rattle.std.specs.Option.{option_copied}
 use Rattle.rail_rules.specs.Plant.{moves}
-use Rattle.rail_rules.specs.Times.{arrive, passes}
+use Rattle.rail_rules.specs.Times.{passes}
 use Rattle.rail_block.specs.declared.times.MoveTimes.{MoveTimes}
-use Rattle.rail_block.specs.Carried.{times_at, next_at}
+use Rattle.rail_block.specs.Carried.{times_at}
 use Rattle.rail_block.proofs.Placing.{before, made_at}
 use Rattle.rail_block.proofs.Ending.{next-some, next-none, unadmitted, arrive-end, arrive-passing, arrive-stopping}
 use Rattle.rail_block.proofs.ends.arrive_time.Goals as goal

@@ -1,5 +1,4 @@
 use Rattle.std.proofs.Common.{◌≡◌, suc, ◌+◌, ◌-◌, sym, ap, ◌∙◌, arith}
-use Rattle.rail_rules.specs.Plant.{steps}
 use Rattle.rail_rules.specs.Times.{enter}
 use Rattle.rail_block.proofs.Placing.{before}
 use Rattle.rail_block.proofs.Ending.{leave-last, leave-before}

@@ -1,4 +1,4 @@
-use Rattle.std.proofs.Common.{◌≡◌, ◌+◌, ◌-◌, cond, Some, ap, ◌∙◌}
+use Rattle.std.proofs.Common.{◌+◌, ◌-◌, cond, Some, ap, ◌∙◌}
 use Rattle.rail_base.specs.declared.plant.MoveRow.{MoveRow}
 use Rattle.rail_rules.specs.Plant.{move_row}
 use Rattle.rail_rules.specs.Times.{clearing}

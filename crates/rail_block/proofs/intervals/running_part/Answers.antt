@@ -1,4 +1,4 @@
-use Rattle.std.proofs.Common.{◌≡◌, ◌-◌, true, false, Some, None, sym, ap, ◌∙◌}
+use Rattle.std.proofs.Common.{◌-◌, Some, sym, ◌∙◌}
 use Rattle.rail_rules.specs.Intervals.{is_undecided}
 use Rattle.rail_rules.specs.Times.{enter, leave}
 use Rattle.rail_block.proofs.Parting.{admitted-is, undecided, undecided-part, decided-part}

@@ -1,4 +1,4 @@
-use Rattle.std.proofs.Common.{◌<◌, ap, ◌∙◌, arith}
+use Rattle.std.proofs.Common.{ap, ◌∙◌, arith}
 use Rattle.rail_rules.specs.Moves.{Moves}
 use Rattle.rail_block.proofs.Limits.{fine_train}
 use Rattle.rail_block.proofs.running.last_place.Goals as goal

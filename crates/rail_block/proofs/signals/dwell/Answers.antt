@@ -1,4 +1,4 @@
-use Rattle.std.proofs.Common.{ℕ, ◌-◌, ◌<◌, Option, length, ap, arith}
+use Rattle.std.proofs.Common.{◌-◌, ◌<◌, Option, length, ap, arith}
 use Rattle.std.specs.Option.{option_map_or}
 use Rattle.rail_base.specs.declared.plant.Call.{Call}
 use Rattle.rail_rules.specs.Plant.{moves}

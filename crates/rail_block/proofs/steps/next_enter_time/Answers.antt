@@ -1,4 +1,4 @@
-use Rattle.std.proofs.Common.{◌≡◌, ◌+◌, ◌-◌, ◌≤◌, sym, ap, ◌∙◌, arith}
+use Rattle.std.proofs.Common.{◌≡◌, ◌+◌, ◌-◌, ◌≤◌, sym, ◌∙◌, arith}
 use Rattle.rail_rules.specs.Times.{start_loss}
 use Rattle.rail_block.proofs.Placing.{enter-at, head_time-next}
 use Rattle.rail_block.proofs.steps.next_enter_time.Goals as goal

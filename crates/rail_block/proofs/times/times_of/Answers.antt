@@ -1,8 +1,7 @@
-use Rattle.std.proofs.Common.{◌≡◌, ℕ, suc, ◌+◌, ◌-◌, ◌<◌, Bool, true, List, [], ◌∷◌, ◌++◌, sym, ap, ◌∙◌, arith}
-use Rattle.rail_rules.specs.Plant.{Plant, moves}
+use Rattle.std.proofs.Common.{◌≡◌, ℕ, suc, ◌-◌, ◌<◌, true, sym, ap, ◌∙◌, arith}
+use Rattle.rail_rules.specs.Plant.{moves}
 use Rattle.rail_rules.specs.Times.{previous, free_run, ready_time, head_time}
 use Rattle.rail_block.specs.declared.times.MoveTimes.{MoveTimes}
-use Rattle.rail_block.specs.Carried.{times_at}
 use Rattle.rail_block.proofs.Carrying.{moved, free_run-at, next_ready-at, times-last, computed}
 use Rattle.rail_block.proofs.times.times_of.Goals as goal
 
