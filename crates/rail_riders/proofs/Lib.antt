@@ -1,0 +1,3 @@
+-- Lemmas on the list of trains.
+pub mod Changed
+pub mod First

@@ -1,0 +1,3 @@
+-- What a run keeps of each train.
+pub mod Riding
+pub mod Looking
