@@ -1,0 +1,3 @@
+-- What the events of a move are, counted by tests.
+pub mod Counting
+pub mod Leaving

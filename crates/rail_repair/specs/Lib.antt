@@ -1,0 +1,2 @@
+-- The kept list repaired for an admission, or a fresh one.
+pub mod Repairing

@@ -1,0 +1,23 @@
+-- Lemmas on what a run stands for, which the laws cite.
+pub mod Below
+pub mod Fields
+pub mod Times
+pub mod Pending
+pub mod Codes
+pub mod Counts
+pub mod Next
+pub mod Settling
+pub mod Lines
+pub mod Changed
+pub mod Freed
+pub mod Happening
+pub mod Happened
+pub mod Holding
+pub mod Ending
+pub mod Passing
+pub mod Admitting
+pub mod Admitted
+pub mod Looking
+pub mod Beginning
+pub mod Ready
+pub mod Deciding

@@ -1,0 +1,2 @@
+-- What a run keeps, and the front that it stands for.
+pub mod Parts
