@@ -7,6 +7,8 @@
 #![tactic(auto)]
 
 mod line;
+#[cfg(test)]
+mod tests;
 mod trains;
 mod words;
 mod writing;
