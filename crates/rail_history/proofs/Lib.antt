@@ -1,1 +1,4 @@
+pub mod Brought
+pub mod Items
+pub mod Pieces
 pub mod Spacing

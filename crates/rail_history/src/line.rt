@@ -73,6 +73,17 @@ impl Line {
         self.put_word(digits.format(number).as_bytes());
     }
 
+    /// Puts a star and the count in decimal digits at the end.
+    pub fn put_count(&mut self, count: u64)
+        requires { length self.old + 41 ≤ ROOM }
+        ensures text { self.new ≡ self.old ++ 42 ∷ decimal count }
+        ensures short { length self.new ≤ length self.old + 41 }
+    {
+        let mut digits = Buffer::new();
+        self.put(b"*");
+        self.put(digits.format(count).as_bytes());
+    }
+
     /// Puts a space and the name at the end.
     pub fn put_name(&mut self, name: &Name)
         requires { length self.old + 17 ≤ ROOM }

@@ -5,7 +5,7 @@ ghost use Rattle.rail_base.specs.Clock.{time_text};
 ghost use Rattle.rail_rules.specs.Plant.{Plant};
 ghost use Rattle.rail_rules.specs.Texts.{cause_words, section_word, train_word, what_words};
 ghost use Rattle.rail_texts.specs.Writable.{is_writable_cause, is_writable_what};
-ghost use Rattle.rail_history.specs.Lines.{HasNames, bare, behind, note_word};
+ghost use Rattle.rail_history.specs.Lines.{HasNames, bare, behind, note_word, train_name};
 ghost use Rattle.rail_history.specs.declared.line.TheConstants.{ROOM};
 
 use crate::line::Line;
@@ -27,6 +27,7 @@ pub(crate) fn put_train(line: &mut Line, names: &Names, train: TrainNo)
     requires room { length line.old + 17 ≤ ROOM }
     requires known { train < length names.now.trains.keys }
     ensures text { (plant : Plant) → HasNames plant names.now → line.new ≡ line.old ++ 32 ∷ train_word plant train }
+    ensures named { line.new ≡ line.old ++ 32 ∷ train_name names.now train }
     ensures short { length line.new ≤ length line.old + 17 }
 {
     line.put_name(names.trains.get_index(usize::from(train.0)).unwrap());

@@ -4,12 +4,38 @@ ghost use Rattle.rail_io.specs.Writing.{Adds, AddsPrefix};
 ghost use Rattle.rail_rules.specs.Plant.{Plant};
 ghost use Rattle.rail_rules.specs.Texts.{line_text};
 ghost use Rattle.rail_texts.specs.Writable.{is_writable};
-ghost use Rattle.rail_history.specs.Lines.{HasNames, bare};
+ghost use Rattle.rail_history.specs.Lines.{HasNames, bare, line_of};
 
 use crate::line::Line;
+use crate::trains::put_brought;
 use crate::words::{put_time, put_what};
-use rail_base::{Entry, Names};
+use rail_base::{Entry, Names, TrainNo};
 use rail_io::{Failed, Sink, write_whole};
+
+/// Writes the line of an entry. `kept` is the list of a fresh admission, or the trains that an end line
+/// names; at another entry it isn't looked at. The trains and sections are those of the names. A line
+/// that names no list is one piece. It takes no memory.
+pub fn write_entry<O: Sink>(
+    names: &Names,
+    entry: Entry,
+    kept: &[TrainNo],
+    out: &mut O,
+) -> Result<(), Failed>
+    requires { (plant : Plant) × HasNames plant names.now × IsTrue (is_writable plant (line_of entry kept.now)) }
+    ensures adds { (plant : Plant) → HasNames plant names.now
+        → OnOk result (Adds (O.written out.old) (O.written out.new) (line_text plant (line_of entry kept.now))) }
+    ensures failed_adds_prefix { (plant : Plant) → HasNames plant names.now
+        → OnErr result (AddsPrefix (O.written out.old) (O.written out.new) (line_text plant (line_of entry kept.now))) }
+    ensures failed_rose { OnErr result (Rose (O.faults out.old) (O.faults out.new)) }
+    ensures faults_never_fall { O.faults out.old ≤ O.faults out.new }
+{
+    let mut line = Line::new();
+    put_time(&mut line, entry.at);
+    put_what(&mut line, names, &entry);
+    put_brought(&mut line, names, &entry, kept, out)?;
+    line.put(b"\n");
+    write_whole(out, line.as_slice())
+}
 
 /// Writes the line of an entry that brings no trains, as one piece. Its trains and sections are those
 /// of the names. It takes no memory.
@@ -22,9 +48,5 @@ pub fn write_bare<O: Sink>(names: &Names, entry: Entry, out: &mut O) -> Result<(
     ensures failed_rose { OnErr result (Rose (O.faults out.old) (O.faults out.new)) }
     ensures faults_never_fall { O.faults out.old ≤ O.faults out.new }
 {
-    let mut line = Line::new();
-    put_time(&mut line, entry.at);
-    put_what(&mut line, names, &entry);
-    line.put(b"\n");
-    write_whole(out, line.as_slice())
+    write_entry(names, entry, &[], out)
 }

@@ -1,0 +1,119 @@
+-- The trains that a line brings, as words.
+use Rattle.std.proofs.Common.{◌≡◌, ℕ, ◌<◌, true, ◌==◌, cond, List, [], ◌∷◌, ◌++◌, length, map, get_or, codes, decimal, refl, sym, ap, ◌∙◌, arith, append_assoc, All}
+use Rattle.std.specs.List.{list_all, AllByRecursion}
+use Rattle.std.proofs.lemmas.List.{append-nil, length-map}
+use Rattle.std.proofs.lemmas.List.Elements.{All-from_recursion}
+use Rattle.std.proofs.Math.ListN.{get_or-map}
+use Rattle.std.proofs.lemmas.Bool.{and_parts, and_from, ltb-true}
+use Rattle.rail_base.specs.Clock.{time_text}
+use Rattle.rail_base.specs.declared.history.Entry.{Entry}
+use Rattle.rail_base.specs.declared.history.What.{What}
+use Rattle.rail_base.specs.declared.history.What.TheVariants.{Free, Arrive, Enter, Out, Ready, Told, Untold, Admit, Hold, End}
+use Rattle.rail_base.specs.declared.history.Note.{Note}
+use Rattle.rail_base.specs.declared.history.Note.TheVariants.{Pulled, Appended, Fresh}
+use Rattle.rail_base.specs.declared.names.Names.{Names}
+use Rattle.rail_base.specs.declared.plant.TrainRow.{TrainRow}
+use Rattle.rail_rules.specs.Plant.{Plant, no_train, trains}
+use Rattle.rail_rules.specs.Texts.{Item, cause_words, items_of, item_word, line_text, note_words, train_word, what_words}
+use Rattle.rail_texts.specs.Writable.{is_known_move, is_known_train, is_writable_what}
+use Rattle.rail_history.specs.Lines.{HasNames, bare, behind, brought, brought_by_note, brought_words, item_text, line_of, note_brought_words, train_name}
+use Rattle.rail_history.proofs.Spacing.{spaced-behind}
+
+-- the names are those of the plant's trains
+pub name_is : (plant : Plant) (names : Names) → HasNames plant names → (t : ℕ) → train_word plant t ≡ train_name names t
+name_is plant names named t =
+    sym (ap (λ (keys : List (List ℕ)). get_or keys t []) named.trains ∙ get_or-map (λ (row : TrainRow). row.name) plant.tables.trains t no_train)
+
+-- words in a row
+pub behind_append : (xs ys : List (List ℕ)) → behind (xs ++ ys) ≡ behind xs ++ behind ys
+behind_append [] ys = refl
+behind_append (x ∷ xs) ys = ap (λ rest. 32 ∷ x ++ rest) (behind_append xs ys) ∙ sym (append_assoc (32 ∷ x) (behind xs) (behind ys))
+
+items_are : (plant : Plant) (names : Names) → HasNames plant names → (kept : List ℕ) → map (item_word plant) (items_of kept) ≡ map (item_text names) (items_of kept)
+items_are plant names named kept = λ i. map (λ (item : Item). name_is plant names named item.train i ++ cond (item.count == 1) [] (42 ∷ decimal item.count)) (items_of kept)
+
+names_are : (plant : Plant) (names : Names) → HasNames plant names → (kept : List ℕ) → map (train_word plant) kept ≡ map (train_name names) kept
+names_are plant names named kept = λ i. map (λ (t : ℕ). name_is plant names named t i) kept
+
+note_words_are : (plant : Plant) (names : Names) → HasNames plant names → (entry : Entry) (kept : List ℕ) (note : Note)
+    → note_words plant (record { entry = entry; trains = brought_by_note note kept }) note ≡ note_words plant (bare entry) note ++ note_brought_words names note kept
+note_words_are plant names named entry kept Pulled = refl
+note_words_are plant names named entry kept Appended = refl
+note_words_are plant names named entry kept Fresh = ap (λ (words : List (List ℕ)). codes "fresh" ∷ words) (items_are plant names named kept)
+
+-- the words of a line are those of a bare one, and those for its trains
+words_are : (plant : Plant) (names : Names) → HasNames plant names → (at : ℕ) (kept : List ℕ) (what : What)
+    → what_words plant (line_of (record { at = at; what = what }) kept) what ≡ what_words plant (bare (record { at = at; what = what })) what ++ brought_words names what kept
+words_are plant names named at kept (Free x t) = refl
+words_are plant names named at kept (Arrive t m) = refl
+words_are plant names named at kept (Enter t m x) = refl
+words_are plant names named at kept (Out t) = refl
+words_are plant names named at kept (Ready t m) = refl
+words_are plant names named at kept (Told k) = refl
+words_are plant names named at kept (Untold k) = refl
+words_are plant names named at kept (Admit t m note) = ap (λ (words : List (List ℕ)). codes "admit" ∷ train_word plant t ∷ decimal m ∷ words) (note_words_are plant names named (record { at = at; what = Admit t m note }) kept note)
+words_are plant names named at kept (Hold t m cause) = sym (append-nil (codes "hold" ∷ train_word plant t ∷ decimal m ∷ cause_words plant cause))
+words_are plant names named at kept End = ap (λ (words : List (List ℕ)). codes "end" ∷ words) (names_are plant names named kept)
+
+-- a line that was put together from its time, the words of a bare line, those for its trains and a line feed
+pub text_together : (plant : Plant) (names : Names) → HasNames plant names → (entry : Entry) (kept : List ℕ) {said begun empty : List ℕ} → said ≡ begun ++ behind (what_words plant (bare entry) entry.what) → begun ≡ empty ++ time_text entry.at → empty ≡ []
+    → (said ++ behind (brought_words names entry.what kept)) ++ 10 ∷ [] ≡ line_text plant (line_of entry kept)
+text_together plant names named entry kept {said} {begun} {empty} a b c =
+    let time : List ℕ = time_text entry.at in
+    let first : List (List ℕ) = what_words plant (bare entry) entry.what in
+    let more : List (List ℕ) = brought_words names entry.what kept in
+    let words : List (List ℕ) = what_words plant (line_of entry kept) entry.what in
+    let e : behind words ≡ behind first ++ behind more = ap behind (words_are plant names named entry.at kept entry.what) ∙ behind_append first more in
+    let all : said ≡ time ++ behind first = rw (a, b, c) refl in
+    ap (λ (xs : List ℕ). (xs ++ behind more) ++ 10 ∷ []) all
+    ∙ ap (λ (xs : List ℕ). xs ++ 10 ∷ []) (append_assoc time (behind first) (behind more))
+    ∙ sym (ap (λ (xs : List ℕ). (time ++ xs) ++ 10 ∷ []) e)
+    ∙ sym (spaced-behind time words)
+
+bare_what : (plant : Plant) (at : ℕ) (kept : List ℕ) (what : What) → is_writable_what plant (line_of (record { at = at; what = what }) kept) what ≡ true → is_writable_what plant (bare (record { at = at; what = what })) what ≡ true
+bare_what plant at kept (Free x t) h = h
+bare_what plant at kept (Arrive t m) h = h
+bare_what plant at kept (Enter t m x) h = h
+bare_what plant at kept (Out t) h = h
+bare_what plant at kept (Ready t m) h = h
+bare_what plant at kept (Told k) h = h
+bare_what plant at kept (Untold k) h = h
+bare_what plant at kept (Admit t m Pulled) h = h
+bare_what plant at kept (Admit t m Appended) h = h
+bare_what plant at kept (Admit t m Fresh) h = and_from (is_known_move plant t m) true (and_parts (is_known_move plant t m) _ h).0 refl
+bare_what plant at kept (Hold t m cause) h = h
+bare_what plant at kept End h = refl
+
+-- what a line says can be written without its trains too
+pub bare_writable : (plant : Plant) (entry : Entry) (kept : List ℕ) → is_writable_what plant (line_of entry kept) entry.what ≡ true → is_writable_what plant (bare entry) entry.what ≡ true
+bare_writable plant entry kept h = bare_what plant entry.at kept entry.what h
+
+known_each : (plant : Plant) (count : ℕ) → count ≡ trains plant → (kept : List ℕ) → list_all (is_known_train plant) kept ≡ true → AllByRecursion (λ t. t < count) kept
+known_each plant count e [] h = tt
+known_each plant count e (t ∷ kept) h =
+    let both = and_parts (is_known_train plant t) (list_all (is_known_train plant) kept) h in
+    (omega (arith, e, ltb-true t (trains plant) both.0), known_each plant count e kept both.1)
+
+-- trains of the plant have names
+pub all_named : (plant : Plant) (names : Names) → HasNames plant names → (kept : List ℕ) → list_all (is_known_train plant) kept ≡ true → All (λ t. t < length names.trains.keys) kept
+all_named plant names named kept h =
+    let count : length names.trains.keys ≡ trains plant = ap length named.trains ∙ length-map plant.tables.trains (λ (row : TrainRow). row.name) in
+    All-from_recursion (λ t. t < length names.trains.keys) kept (known_each plant (length names.trains.keys) count kept h)
+
+none_brought : (what : What) → brought what [] ≡ []
+none_brought (Free x t) = refl
+none_brought (Arrive t m) = refl
+none_brought (Enter t m x) = refl
+none_brought (Out t) = refl
+none_brought (Ready t m) = refl
+none_brought (Told k) = refl
+none_brought (Untold k) = refl
+none_brought (Admit t m Pulled) = refl
+none_brought (Admit t m Appended) = refl
+none_brought (Admit t m Fresh) = refl
+none_brought (Hold t m cause) = refl
+none_brought End = refl
+
+-- without trains every line is a bare one
+pub line_of_none : (entry : Entry) → line_of entry [] ≡ bare entry
+line_of_none entry = λ i. record { entry = entry; trains = none_brought entry.what i }
