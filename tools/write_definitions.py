@@ -27,8 +27,18 @@ OF_HISTORIES = (
     "rail_texts",
     "rail_unique",
     "rail_waiting",
+    "rail_pending",
+    "rail_holding",
+    "rail_riders",
+    "rail_standing",
+    "rail_run",
 )
 OF_INPUTS = (
+    "rail_queue",
+    "rail_block",
+    "rail_events",
+    "rail_list",
+    "rail_repair",
     "rail_track",
     "rail_routes",
     "rail_plan",
