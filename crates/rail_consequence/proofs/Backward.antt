@@ -1,12 +1,11 @@
 -- The last move of the list, taken back.
-use Rattle.std.proofs.Common.{◌≡◌, ◌≢◌, ℕ, suc, ◌+◌, ◌-◌, ◌<◌, ◌≤◌, true, List, [], ◌∷◌, ◌++◌, length, set, take, drop, Option, sym, ap, ◌∙◌, subst, arith}
+use Rattle.std.proofs.Common.{◌≡◌, ◌≢◌, ℕ, suc, ◌-◌, ◌<◌, ◌≤◌, true, List, [], ◌∷◌, ◌++◌, length, set, drop, Option, sym, ap, ◌∙◌, subst, arith}
 use Rattle.std.proofs.lemmas.List.{drop-append-le, length_push}
-use Rattle.rail_base.specs.declared.limits.TheConstants.{SECTIONS}
 use Rattle.rail_rules.specs.Numbers.{are_apart}
 use Rattle.rail_rules.specs.Moves.{Moves, stand}
-use Rattle.rail_rules.specs.Places.{place_of, is_inside, is_legal, after, is_valid_state}
+use Rattle.rail_rules.specs.Places.{place_of, is_inside, after, is_valid_state}
 use Rattle.rail_rules.proofs.StatesKept.{state_parts}
-use Rattle.rail_place.specs.Tables.{moves_in, IsTable}
+use Rattle.rail_place.specs.Tables.{moves_in}
 use Rattle.rail_place.specs.Made.{State, IsMadeFor}
 use Rattle.rail_place.specs.Playing.{IsPlayed}
 use Rattle.rail_place.proofs.Playing.{played_last, way_back, step_back}

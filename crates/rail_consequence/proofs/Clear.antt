@@ -1,9 +1,9 @@
 -- A standing set is clear where no train but its own is counted for a section of it.
 use Rattle.std.proofs.Common.{◌≡◌, ◌≢◌, ℕ, ◌+◌, ◌<◌, ◌≤◌, Bool, true, false, cond, not, ◌&&◌, ◌||◌, eqb, leb, ltb, List, [], ◌∷◌, length, refl, sym, ap, ◌∙◌, ⊎_elim, arith}
-use Rattle.std.proofs.lemmas.Bool.{and_from, and_parts, cases_Bool, cases_eq, cases_lt, false≢true, cond-true, cond-false, eq-eqb, ne_eqb, eqb-true, le-leb, leb-true, lt-leb, ltb-true, lt-ltb, le-ltb, not_from_false, not_from_true, or_right}
+use Rattle.std.proofs.lemmas.Bool.{and_from, cases_Bool, cases_eq, cases_lt, false≢true, cond-true, cond-false, eq-eqb, ne_eqb, eqb-true, le-leb, lt-leb, le-ltb, not_from_false, not_from_true, or_right}
 use Rattle.std.specs.List.{list_all}
 use Rattle.rail_base.specs.declared.limits.TheConstants.{SECTIONS}
-use Rattle.rail_rules.specs.Numbers.{any_below, sum_below, is_in, are_apart}
+use Rattle.rail_rules.specs.Numbers.{any_below, sum_below, is_in}
 use Rattle.rail_rules.specs.Moves.{Moves, stand}
 use Rattle.rail_rules.specs.Places.{place_of, is_inside}
 use Rattle.rail_rules.specs.Analysis.{needs_later, is_safe}

@@ -1,17 +1,16 @@
 -- Counting the needs of the moves that are left.
-use Rattle.std.proofs.Common.{◌≡◌, ◌≢◌, ℕ, zero, suc, ◌+◌, ◌*◌, ◌<◌, ◌≤◌, ◌^◌, Bool, true, false, cond, not, ◌&&◌, ◌||◌, eqb, ltb, leb, List, [], ◌∷◌, length, get_or, set, take, count_by, refl, sym, ap, ◌∙◌, subst, ◌⊎◌, inl, inr, ⊎_elim, arith}
-use Rattle.std.proofs.lemmas.Bool.{cases_lt, cases_eq, cases_Bool, false≢true, eqb-true, eqb-false, eq-eqb, ne_eqb, leb-true, le-leb, lt-leb, lt-ltb, cond-true, cond-false, or_parts, or_cases}
-use Rattle.std.proofs.lemmas.Bool.Decides.{nat_tests}
-use Rattle.std.proofs.lemmas.List.{get_or-set_same, get_or-set_other, length-set, get_or_past, take_all}
+use Rattle.std.proofs.Common.{◌≡◌, ◌≢◌, ℕ, zero, suc, ◌+◌, ◌*◌, ◌<◌, ◌≤◌, Bool, true, false, cond, ◌||◌, eqb, ltb, leb, List, [], ◌∷◌, length, get_or, take, replicate, refl, sym, ap, ◌∙◌, subst, ◌⊎◌, inl, inr, ⊎_elim, arith}
+use Rattle.std.proofs.lemmas.Bool.{cases_lt, cases_eq, false≢true, eqb-true, eq-eqb, ne_eqb, le-leb, lt-leb, lt-ltb, cond-true, cond-false, or_parts, or_cases}
+use Rattle.std.proofs.lemmas.List.{get_or-set_same, get_or-set_other, length-set, get_or_past, get_or-replicate, length-replicate, take_all}
 use Rattle.std.proofs.lemmas.List.Folds.{list_any_at, list_any_more}
 use Rattle.std.proofs.lemmas.List.Sums.{sum_by-cons, sum_by_more, sum_by_more_le, count_by-le-length}
-use Rattle.rail_base.specs.declared.limits.TheConstants.{SECTIONS, TRAINS, ROUTE_SECTIONS, ITINERARY_ROUTES}
+use Rattle.rail_base.specs.declared.limits.TheConstants.{SECTIONS}
 use Rattle.rail_rules.specs.Numbers.{sum_below, is_in}
 use Rattle.rail_rules.specs.Moves.{Moves}
 use Rattle.rail_rules.specs.Places.{place_of, is_inside, after}
 use Rattle.rail_rules.proofs.Below.{sum_below_same}
 use Rattle.rail_place.specs.Tables.{moves_in, IsTable}
-use Rattle.rail_consequence.specs.Needing.{Counts, IsWide, own_of, trains_of, present, times, needs_between, needs_left, IsCounted, IsMore, IsRoomFor}
+use Rattle.rail_consequence.specs.Needing.{Counts, own_of, trains_of, present, times, needs_between, needs_left, IsCounted, IsMore, IsRoomFor}
 use Rattle.rail_consequence.proofs.Legs.{inside_parts, inside_listed}
 
 -- numbers in a list
@@ -54,8 +53,19 @@ in_take_more x y xs i lt is found =
     let split = or_cases (is_in x (take i xs)) (eqb y x) (ap (λ z. is_in x (take i xs) || eqb z x) is ∙ sym (list_any_more (λ z. eqb z x) xs i y lt) ∙ found) in
     ⊎_elim (λ earlier. inl earlier) (λ here. inr (eqb-true y x here)) split
 
+pub in_take_earlier : (x y : ℕ) (xs : List ℕ) (i : ℕ) → i < length xs → y ≡ get_or xs i y → x ≢ y → is_in x (take (i + 1) xs) ≡ true → is_in x (take i xs) ≡ true
+in_take_earlier x y xs i lt is ne found = ⊎_elim (λ earlier. earlier) (λ here. absurd (ne (sym here))) (in_take_more x y xs i lt is found)
+
 pub in_take_all : (x : ℕ) (xs : List ℕ) (i : ℕ) → length xs ≤ i → is_in x xs ≡ true → is_in x (take i xs) ≡ true
 in_take_all x xs i le is = ap (is_in x) (take_all i xs le) ∙ is
+
+-- counts that are all 0
+pub zeros_at : (n i : ℕ) → get_or {A = ℕ} (replicate n 0) i 0 ≡ 0
+zeros_at n i =
+    ⊎_elim
+    (λ within. get_or-replicate n i 0 0 within)
+    (λ past. get_or_past (replicate n 0) i 0 (omega (arith, past, length-replicate {A = ℕ} n 0)))
+    (cases_lt i n)
 
 -- sums over numbers
 pub sum_zero : (f : ℕ → ℕ) (n : ℕ) → ((i : ℕ) → i < n → f i ≡ 0) → sum_below f n ≡ 0

@@ -7,3 +7,4 @@ pub mod Counts
 pub mod Clear
 pub mod Backward
 pub mod Stopping
+pub mod Listing

@@ -1,26 +1,26 @@
 -- Stopped trains have no safe leg, and which moves of others leave them so.
-use Rattle.std.proofs.Common.{◌≡◌, ◌≢◌, ◌↔◌, ℕ, zero, suc, ◌+◌, ◌-◌, ◌<◌, ◌≤◌, Bool, true, false, not, ◌&&◌, ◌||◌, eqb, ltb, leb, List, [], ◌∷◌, length, get_or, set, Option, Some, None, refl, sym, ap, ◌∙◌, subst, ⊎_elim, arith}
-use Rattle.std.proofs.lemmas.Bool.{and_parts, and_from, cases_Bool, cases_eq, cases_lt, false≢true, lt-ltb, ltb-true, le-ltb, eqb-true, eq-eqb, or_left, or_right, not-true, not_from_false}
-use Rattle.std.proofs.lemmas.List.{get_or-set_same, get_or-set_other, get_or_past, length-set, set-get_or, set-set}
+use Rattle.std.proofs.Common.{◌≡◌, ◌≢◌, ℕ, zero, suc, ◌+◌, ◌<◌, ◌≤◌, true, false, not, eqb, ltb, List, length, get_or, set, Option, Some, None, refl, sym, ap, ◌∙◌, subst, ⊎_elim, arith}
+use Rattle.std.proofs.lemmas.Bool.{and_parts, and_from, cases_Bool, cases_eq, cases_lt, false≢true, lt-ltb, eq-eqb, or_left, not-true, not_from_false}
+use Rattle.std.proofs.lemmas.List.{get_or-set_same, get_or-set_other, length-set}
 use Rattle.std.specs.List.{list_any}
 use Rattle.rail_base.specs.declared.limits.TheConstants.{SECTIONS}
-use Rattle.rail_rules.specs.Numbers.{any_below, sum_below, is_in, are_apart}
+use Rattle.rail_rules.specs.Numbers.{is_in, are_apart}
 use Rattle.rail_rules.specs.Moves.{Moves, stand, is_valid}
-use Rattle.rail_rules.specs.Places.{place_of, is_inside, is_legal, is_held, holds, is_valid_state}
+use Rattle.rail_rules.specs.Places.{place_of, is_legal, is_held, holds, is_valid_state}
 use Rattle.rail_rules.specs.Analysis.{Leg, is_leg, is_safe}
-use Rattle.rail_rules.proofs.Below.{any_below_at, any_below_none, any_below_from}
-use Rattle.rail_rules.proofs.Members.{list_any_at, list_any_none, apart_at, apart_from, apart_sym}
+use Rattle.rail_rules.proofs.Below.{any_below_at, any_below_none}
+use Rattle.rail_rules.proofs.Members.{list_any_at, list_any_none, apart_at, apart_from}
 use Rattle.rail_rules.proofs.StatesKept.{state_parts, stand_needed}
-use Rattle.rail_place.specs.Tables.{moves_in, IsTable}
+use Rattle.rail_place.specs.Tables.{moves_in}
 use Rattle.rail_place.specs.Made.{State, IsMadeFor}
 use Rattle.rail_place.proofs.Making.{holder_listed}
 use Rattle.rail_place.proofs.Playing.{state_apart}
 use Rattle.rail_place.proofs.Tables.{move_valid}
-use Rattle.rail_consequence.specs.Needing.{Counts, IsCounted, own_of, trains_of, present, times, needs_left}
-use Rattle.rail_consequence.specs.Stopping.{IsHeldByOther, IsStopped, IsSettled, stop_at}
+use Rattle.rail_consequence.specs.Needing.{Counts, IsCounted, own_of, trains_of, present, needs_left}
+use Rattle.rail_consequence.specs.Stopping.{IsHeldByOther, IsStopped}
 use Rattle.rail_consequence.proofs.Legs.{Goes, goes_parts, leg_from, inside_parts, inside_from, inside_listed, IsClear}
 use Rattle.rail_consequence.proofs.Safe.{safe_from_clear, clear_from_safe}
-use Rattle.rail_consequence.proofs.Counts.{present_some, present_none, left_entered, times_present, needs_within}
+use Rattle.rail_consequence.proofs.Counts.{present_some, left_entered, times_present, needs_within}
 use Rattle.rail_consequence.proofs.Clear.{none_from_clear, sum_alone}
 
 -- a stopped train has no safe leg

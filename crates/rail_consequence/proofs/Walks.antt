@@ -1,7 +1,8 @@
 -- A train that goes on move by move, and the legs that end where it stands.
-use Rattle.std.proofs.Common.{◌≡◌, ◌≢◌, ◌↔◌, ℕ, suc, ◌+◌, ◌-◌, ◌<◌, ◌≤◌, Bool, true, false, ◌&&◌, List, [], ◌∷◌, ◌++◌, length, set, sym, ap, ◌∙◌, subst, ⊎_elim, arith}
+use Rattle.std.proofs.Common.{◌≡◌, ◌≢◌, ◌↔◌, ℕ, suc, ◌+◌, ◌-◌, ◌<◌, ◌≤◌, Bool, true, false, ◌&&◌, List, [], ◌∷◌, ◌++◌, length, get_or, set, take, sym, ap, ◌∙◌, subst, ⊎_elim, arith}
 use Rattle.std.proofs.lemmas.Bool.{and_parts, and_from, cases_lt, cases_Bool, false≢true}
 use Rattle.std.proofs.lemmas.List.{get_or-set_same, get_or-set_other, get_or_past, set-set, set-get_or, append-nil}
+use Rattle.rail_rules.specs.Numbers.{is_in}
 use Rattle.rail_rules.specs.Moves.{Moves, stand}
 use Rattle.rail_rules.specs.Places.{place_of, is_inside, is_legal, after, nobody_inside}
 use Rattle.rail_rules.specs.Analysis.{Leg, is_leg, after_leg, is_safe, clears, free_legs, Finds, moves_left}
@@ -9,6 +10,7 @@ use Rattle.rail_rules.proofs.StatesKept.{state_parts}
 use Rattle.rail_place.specs.Tables.{moves_in}
 use Rattle.rail_consequence.specs.Working.{Work, IsReady, GoesOn, IsBack}
 use Rattle.rail_consequence.proofs.Legs.{goes_parts, leg_from, IsClear, inside_from, inside_parts, inside_same, inside_listed}
+use Rattle.rail_consequence.proofs.Counts.{in_take_more}
 use Rattle.rail_consequence.proofs.Safe.{safe_leg_keeps, safe_from_clear, clear_from_safe, found_front, cost, cost-safe, cost-free, free_legs-cons}
 use Rattle.rail_consequence.proofs.Played.{goes_nowhere, goes_further, goes_step, fewer_at}
 
@@ -209,20 +211,16 @@ both_ways plan a b c first later k = (λ found. (later k).0 ((first k).0 found),
 pub found_nobody : (plan : Moves) (k : ℕ) (s : List ℕ) → nobody_inside plan s ≡ true → Finds plan k s
 found_nobody plan k s nobody = ([], nobody, omega arith)
 
-pub nobody_back : (plan : Moves) (b d : Work) → IsBack b d → nobody_inside plan b.places.positions ≡ true → nobody_inside plan d.places.positions ≡ true
-nobody_back plan b d back nobody = ap (nobody_inside plan) back.positions ∙ nobody
-
 -- the legs of one train more were tried
-pub tried_more : (plan : Moves) (k : ℕ) (a b : List ℕ) (n : ℕ) → b ≡ a → ((u p : ℕ) → u < n → is_leg plan a (record { train = u; place = p }) ≡ true → Finds plan k (set a u p) → ⊥) → ((p : ℕ) → is_leg plan b (record { train = n; place = p }) ≡ true → Finds plan k (set b n p) → ⊥) → (u p : ℕ) → u < n + 1 → is_leg plan a (record { train = u; place = p }) ≡ true → Finds plan k (set a u p) → ⊥
-tried_more plan k a b n same before here u p lt is found =
+pub tried_more : (plan : Moves) (k : ℕ) (a b : List ℕ) (n i : ℕ) (trains : List ℕ) → i < length trains → n ≡ get_or trains i n → b ≡ a → ((u p : ℕ) → is_in u (take i trains) ≡ true → is_leg plan a (record { train = u; place = p }) ≡ true → Finds plan k (set a u p) → ⊥) → ((p : ℕ) → is_leg plan b (record { train = n; place = p }) ≡ true → Finds plan k (set b n p) → ⊥) → (u p : ℕ) → is_in u (take (i + 1) trains) ≡ true → is_leg plan a (record { train = u; place = p }) ≡ true → Finds plan k (set a u p) → ⊥
+tried_more plan k a b n i trains lt at same before here u p listed is found =
     let leg_of : ℕ → Leg = λ v. record { train = v; place = p } in
     ⊎_elim
-    (λ below. before u p below is found)
-    (λ above.
-    let last : u ≡ n = omega arith in
-    here p (ap (λ s. is_leg plan s (leg_of n)) same ∙ ap (λ v. is_leg plan a (leg_of v)) (sym last) ∙ is)
-    (finds_at plan k (set a u p) (set b n p) (ap (λ v. set a v p) last ∙ ap (λ s. set s n p) (sym same)) found))
-    (cases_lt u n)
+    (λ earlier. before u p earlier is found)
+    (λ last.
+    here p (ap (λ s. is_leg plan s (leg_of n)) same ∙ ap (λ v. is_leg plan a (leg_of v)) last ∙ is)
+    (finds_at plan k (set a u p) (set b n p) (ap (λ v. set a v p) (sym last) ∙ ap (λ s. set s n p) (sym same)) found))
+    (in_take_more u n trains i lt at listed)
 
 -- the way back to where a walk began
 pub walk_home : (plan : Moves) (t from : ℕ) (a b : Work) → IsWalk plan t a b → from ≡ place_of a.places.positions t → set b.places.positions t from ≡ a.places.positions

@@ -1,5 +1,5 @@
 -- How often the moves that are left need each section.
-use Rattle.std.specs.Prelude.{◌≡◌, ℕ, ◌+◌, ◌*◌, ◌<◌, ◌≤◌, ◌^◌, ◌==◌, cond, nat_lt, nat_le, List, length, get_or, count_by}
+use Rattle.std.specs.Prelude.{◌≡◌, ℕ, ◌+◌, ◌*◌, ◌<◌, ◌≤◌, ◌^◌, ◌==◌, Bool, false, cond, nat_lt, nat_le, List, length, get_or, count_by}
 use Rattle.rail_base.specs.declared.limits.TheConstants.{SECTIONS, TRAINS}
 use Rattle.rail_rules.specs.Numbers.{sum_below}
 use Rattle.rail_rules.specs.Moves.{Moves}
@@ -10,10 +10,12 @@ pub record Counts : Type 0 where
   pub own : List ℕ
   pub trains : List ℕ
 
--- there is a count for each section of each train, and one of trains for each section
-pub record IsWide (own trains : List ℕ) : Type 0 where
+-- there is a count for each section of each train, and one of trains for each section; nothing is counted of a train that is not marked
+pub record IsWide (own trains : List ℕ) (counted : List Bool) : Type 0 where
   pub of_own : length own ≡ TRAINS * SECTIONS
   pub of_trains : length trains ≡ SECTIONS
+  pub of_counted : length counted ≡ TRAINS
+  pub unmarked : (t x : ℕ) → get_or counted t false ≡ false → x < SECTIONS → get_or own (t * SECTIONS + x) 0 ≡ 0
 
 -- the count of the section for the train
 abbrev pub own_of : Counts → ℕ → ℕ → ℕ

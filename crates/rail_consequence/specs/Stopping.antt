@@ -1,5 +1,5 @@
 -- Trains that have no safe leg, and what stops them.
-use Rattle.std.specs.Prelude.{◌≡◌, ◌≢◌, ℕ, ◌+◌, ◌*◌, ◌<◌, ◌≤◌, false, List, Option, Some, None, length, get_or, IsTrue}
+use Rattle.std.specs.Prelude.{◌≡◌, ◌≢◌, ℕ, ◌+◌, ◌*◌, ◌<◌, ◌≤◌, false, List, Option, Some, None, get_or, IsTrue}
 use Rattle.rail_base.specs.declared.limits.TheConstants.{TRAINS}
 use Rattle.rail_rules.specs.Numbers.{is_in}
 use Rattle.rail_rules.specs.Moves.{Moves}
@@ -28,9 +28,9 @@ pub record IsStopped (plan : Moves) (s : List ℕ) (u x : ℕ) : Type 0 where
   pub held : IsHeldByOther plan s u x
   pub unsafe : (p : ℕ) → place_of s u < p → p ≤ place → is_safe plan s (record { train = u; place = p }) ≡ false
 
--- what is noted of the trains is so
+-- what is noted of the trains inside is so
 abbrev pub IsSettled : Moves → List ℕ → List (Option ℕ) → ℕ → Type 0
-IsSettled plan s stops level = (u x : ℕ) → u < length s → stop_at stops level u ≡ Some x → IsStopped plan s u x
+IsSettled plan s stops level = (u x : ℕ) → IsTrue (is_inside plan s u) → stop_at stops level u ≡ Some x → IsStopped plan s u x
 
 -- what looking at a train shows: it is not inside, a leg to the place is safe, or the section stops it
 abbrev pub Shows : Moves → List ℕ → ℕ → Look → Type 0

@@ -1,7 +1,8 @@
 -- What the analyst works on: places of its own, and the moves that it has made on them.
-use Rattle.std.specs.Prelude.{◌≡◌, ℕ, List, ◌++◌, IsTrue, Option}
+use Rattle.std.specs.Prelude.{◌≡◌, ℕ, ◌<◌, List, ◌++◌, IsTrue, Option}
 use Rattle.rail_rules.specs.Moves.{Moves}
-use Rattle.rail_rules.specs.Places.{is_valid_state}
+use Rattle.rail_rules.specs.Numbers.{is_in}
+use Rattle.rail_rules.specs.Places.{is_inside, is_valid_state}
 use Rattle.rail_place.specs.Tables.{moves_in}
 use Rattle.rail_place.specs.Made.{State, IsMadeFor}
 use Rattle.rail_place.specs.Playing.{IsPlayed}
@@ -32,3 +33,8 @@ pub record GoesOn (plan : Moves) (old new : Work) : Type 0 where
 pub record IsBack (old new : Work) : Type 0 where
   pub list : new.list ≡ old.list
   pub positions : new.places.positions ≡ old.places.positions
+
+-- the list names each train that is inside, and nothing but trains
+pub record IsListing (plan : Moves) (s inside : List ℕ) : Type 0 where
+  pub trains : (t : ℕ) → IsTrue (is_in t inside) → t < plan.trains
+  pub all : (t : ℕ) → IsTrue (is_inside plan s t) → IsTrue (is_in t inside)

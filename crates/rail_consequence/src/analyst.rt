@@ -1,19 +1,19 @@
-ghost use Rattle.std.specs.Prelude.{◌≡◌, ℕ, ◌+◌, ◌-◌, ◌<◌, ◌≤◌, ◌≢◌, ◌↔◌, [], ◌∷◌, ◌++◌, List, Some, None, true, false, get_or, ◌&&◌, length, take, drop, set, IsTrue, IsNone, IsOk, IfSome, MatchOption};
+ghost use Rattle.std.specs.Prelude.{◌≡◌, ℕ, ◌+◌, ◌-◌, ◌<◌, ◌≤◌, ◌≢◌, ◌↔◌, [], ◌∷◌, ◌++◌, List, Some, None, true, false, get_or, ◌&&◌, length, take, drop, set, IsTrue, IsNone, IsOk, IfSome, MatchOption, vec_capacity};
 ghost use Rattle.rail_rules.specs.Analysis.{Finds, Leg, after_leg, is_leg, is_safe, moves_left};
 ghost use Rattle.rail_rules.specs.Places.{after, completes, is_inside, is_legal, is_valid_state, nobody_inside, place_of};
 ghost use Rattle.rail_place.specs.Made.{IsMadeFor};
 ghost use Rattle.rail_place.specs.Playing.{IsPlayed};
-ghost use Rattle.rail_place.specs.Tables.{IsTable, moves_in};
+ghost use Rattle.rail_place.specs.Tables.{moves_in};
 ghost use Rattle.rail_rules.specs.Numbers.{is_in};
 ghost use Rattle.rail_consequence.specs.Needing.{own_of, trains_of};
 ghost use Rattle.rail_consequence.specs.Stopping.{IsHeldByOther, IsSettled, Shows, stop_at};
-ghost use Rattle.rail_consequence.specs.Working.{GoesOn, IsBack, IsReady, Work};
+ghost use Rattle.rail_consequence.specs.Working.{GoesOn, IsBack, IsListing, IsReady, Work};
 
 use crate::needs::Needs;
 use crate::stops::Stops;
 use rail_base::limits::{LIST_TRAINS, SECTIONS, TRAINS};
 use rail_base::{OutOfMemory, SectionNo, TrainNo};
-use rail_place::{Moves, Places, Played};
+use rail_place::{Moves, Places};
 use std::alloc::Global;
 use std::marker::Model;
 
@@ -32,36 +32,51 @@ enum Look {
 /// for the longest list, so that a search takes no memory.
 #[derive(Debug, Drop)]
 pub struct Analyst {
+    /// The trains that were inside when the last search began, by number.
+    inside: Vec<TrainNo>,
+    sheet: Worksheet,
+}
+
+impl Model for Analyst {
+    ghost use Rattle.std.specs.Prelude.{◌≤◌, vec_capacity};
+    ghost use Rattle.rail_base.specs.declared.limits.TheConstants.{TRAINS};
+    ghost use Rattle.rail_consequence.specs.Working.{Work};
+
+    ghost Value = { Work };
+
+    ghost view = { λ analyst. analyst.sheet };
+
+    ghost invariant = { λ analyst. TRAINS ≤ vec_capacity analyst.inside };
+}
+
+/// What a search works on. Nobody enters in a search: the calls that go over trains are handed a list
+/// of those that were inside when it began, and look at no others.
+#[derive(Debug, Drop)]
+struct Worksheet {
     places: Places,
     needs: Needs,
     stops: Stops,
     list: Vec<TrainNo>,
 }
 
-impl Model for Analyst {
+impl Model for Worksheet {
     ghost use Rattle.std.specs.Prelude.{◌≤◌, vec_capacity};
     ghost use Rattle.rail_base.specs.declared.limits.TheConstants.{LIST_TRAINS};
     ghost use Rattle.rail_consequence.specs.Working.{Work};
 
     ghost Value = { Work };
 
-    ghost view = { λ analyst. record { places = analyst.places; needs = analyst.needs; stops = analyst.stops; list = analyst.list.items } };
+    ghost view = { λ sheet. record { places = sheet.places; needs = sheet.needs; stops = sheet.stops; list = sheet.list.items } };
 
-    ghost invariant = { λ analyst. LIST_TRAINS ≤ vec_capacity analyst.list };
+    ghost invariant = { λ sheet. LIST_TRAINS ≤ vec_capacity sheet.list };
 }
 
 impl Analyst {
     /// An analyst, with all the memory that it ever takes.
     pub fn new(alloc: Global, moves: &Moves) -> Result<Analyst, OutOfMemory> {
-        let outside = vec![in alloc; 0u16; usize::from(moves.trains())]?;
-        let Ok(places) = Places::new(alloc, moves, &outside) else {
-            return Err(OutOfMemory);
-        };
         Ok(Analyst {
-            places,
-            needs: Needs::new(alloc)?,
-            stops: Stops::new(alloc)?,
-            list: Vec::with_capacity(alloc, LIST_TRAINS)?,
+            inside: Vec::with_capacity(alloc, TRAINS)?,
+            sheet: Worksheet::new(alloc, moves)?,
         })
     }
 
@@ -69,33 +84,98 @@ impl Analyst {
     /// free ones brings every train inside to its exit; none exactly where there is no such list of
     /// legs. It takes no memory.
     ///
-    /// Whether a leg is safe costs the sections on which the train would stand. A train that has no safe
-    /// leg is looked at again only once the section that stopped it is free, or it is left alone in need
-    /// of a section. So at depth 0 the cost grows with the moves that are left where each train waits for
-    /// the one before it. At worst, each safe leg lets every train be looked at again over all its moves.
-    /// With free legs this is done after each choice of at most `depth` of them: the cost then grows with
-    /// the number of legs, to the power of the depth, where no list is found.
+    /// The search goes over the trains inside alone, which are listed once when it begins. Whether a leg
+    /// is safe costs the sections on which the train would stand. A train that has no safe leg is looked
+    /// at again only once the section that stopped it is free, or it is left alone in need of a section.
+    /// So at depth 0 the cost grows with the moves that are left where each train waits for the one before
+    /// it. At worst, each safe leg lets every train be looked at again over all its moves. With free legs
+    /// this is done after each choice of at most `depth` of them: the cost then grows with the number of
+    /// legs, to the power of the depth, where no list is found.
     pub fn find(&mut self, moves: &Moves, places: &Places, depth: u8) -> Option<&[TrainNo]>
         requires { IsMadeFor moves.now places.now }
         ensures some { IfSome result (λ list. IsTrue (completes (moves_in moves.now) places.now.positions list.now)) }
         ensures none { IsNone result ↔ (Finds (moves_in moves.now) depth places.now.positions → ⊥) }
     {
-        self.places.copy_from(places);
-        self.needs.set_up(moves, places);
-        self.list.clear();
-        self.stops.clear(depth, moves.trains());
-        if self.search(moves, depth) {
-            Some(self.list.as_slice())
+        list_inside(&mut self.inside, moves, places);
+        let inside = self.inside.as_slice();
+        self.sheet.begin(moves, places, inside, depth);
+        if self.sheet.search(moves, inside, depth) {
+            Some(self.sheet.list())
         } else {
             None
         }
+    }
+}
+
+/// Lists the trains that are inside, by number.
+fn list_inside(inside: &mut Vec<TrainNo>, moves: &Moves, places: &Places)
+    requires made { IsMadeFor moves.now places.now }
+    requires room { TRAINS ≤ vec_capacity inside.old }
+    ensures listed { IsListing (moves_in moves.now) places.now.positions inside.new.items }
+    ensures room { TRAINS ≤ vec_capacity inside.new }
+{
+    inside.clear();
+    for number in 0..moves.trains() {
+        let train = TrainNo(number);
+        if stands_inside(moves, places, train) {
+            inside.push_reserved(train);
+        }
+    }
+}
+
+/// The train is inside.
+fn stands_inside(moves: &Moves, places: &Places, train: TrainNo) -> bool
+    requires made { IsMadeFor moves.now places.now }
+    requires train { train < length moves.now }
+    ensures { result ≡ is_inside (moves_in moves.now) places.now.positions train }
+{
+    let place = places.position(train);
+    0 < place && place < moves.places(train)
+}
+
+impl Worksheet {
+    /// A worksheet, with all the memory that it ever takes.
+    fn new(alloc: Global, moves: &Moves) -> Result<Worksheet, OutOfMemory> {
+        let outside = vec![in alloc; 0u16; usize::from(moves.trains())]?;
+        let Ok(places) = Places::new(alloc, moves, &outside) else {
+            return Err(OutOfMemory);
+        };
+        Ok(Worksheet {
+            places,
+            needs: Needs::new(alloc)?,
+            stops: Stops::new(alloc)?,
+            list: Vec::with_capacity(alloc, LIST_TRAINS)?,
+        })
+    }
+
+    /// Begins a search from the places: no moves are made, and nothing is noted of the trains inside.
+    fn begin(&mut self, moves: &Moves, places: &Places, inside: &[TrainNo], depth: u8)
+        requires made { IsMadeFor moves.now places.now }
+        requires listed { IsListing (moves_in moves.now) places.now.positions inside.now }
+        ensures ready { IsReady moves.now self.new }
+        ensures settled { IsSettled (moves_in moves.now) self.new.places.positions self.new.stops depth }
+        ensures positions { self.new.places.positions ≡ places.now.positions }
+        ensures list { self.new.list ≡ [] }
+    {
+        self.places.copy_from(places);
+        self.needs.set_up(moves, places);
+        self.list.clear();
+        self.stops.clear(depth, inside);
+    }
+
+    /// The moves that were made.
+    fn list(&self) -> &[TrainNo]
+        ensures { result.now ≡ self.now.list }
+    {
+        self.list.as_slice()
     }
 
     /// Makes moves until nobody is inside, by legs of which at most `depth` are free; or leaves all as
     /// it was where that can't be done.
     #[cycle(search)]
-    fn search(&mut self, moves: &Moves, depth: u8) -> bool
+    fn search(&mut self, moves: &Moves, inside: &[TrainNo], depth: u8) -> bool
         requires ready { IsReady moves.now self.old }
+        requires listed { IsListing (moves_in moves.now) self.old.places.positions inside.now }
         requires settled { IsSettled (moves_in moves.now) self.old.places.positions self.old.stops depth }
         ensures ready { IsReady moves.now self.new }
         ensures kept { (l u : ℕ) → depth < l → u < TRAINS → stop_at self.new.stops l u ≡ stop_at self.old.stops l u }
@@ -103,15 +183,15 @@ impl Analyst {
         ensures none { result ≡ false → IsBack self.old self.new × (Finds (moves_in moves.now) depth self.old.places.positions → ⊥) }
     {
         let mark = self.list.len();
-        self.close(moves, depth);
-        if self.is_done(moves) {
+        self.close(moves, inside, depth);
+        if self.is_done(moves, inside) {
             return true;
         }
         if depth == 0 {
             self.go_back(moves, mark);
             return false;
         }
-        if self.try_free_legs(moves, depth - 1) {
+        if self.try_free_legs(moves, inside, depth - 1) {
             return true;
         }
         self.go_back(moves, mark);
@@ -120,8 +200,9 @@ impl Analyst {
 
     /// As `search`, with a first leg of any train, from places where no leg is safe.
     #[cycle(search)]
-    fn try_free_legs(&mut self, moves: &Moves, depth: u8) -> bool
+    fn try_free_legs(&mut self, moves: &Moves, inside: &[TrainNo], depth: u8) -> bool
         requires ready { IsReady moves.now self.old }
+        requires listed { IsListing (moves_in moves.now) self.old.places.positions inside.now }
         requires room { depth < 255 }
         requires settled { IsSettled (moves_in moves.now) self.old.places.positions self.old.stops (depth + 1) }
         ensures ready { IsReady moves.now self.new }
@@ -129,8 +210,8 @@ impl Analyst {
         ensures found { IsTrue result → GoesOn (moves_in moves.now) self.old self.new × IsTrue (nobody_inside (moves_in moves.now) self.new.places.positions) × Finds (moves_in moves.now) (depth + 1) self.old.places.positions }
         ensures none { result ≡ false → IsBack self.old self.new × ((leg : Leg) → IsTrue (is_leg (moves_in moves.now) self.old.places.positions leg) → Finds (moves_in moves.now) depth (after_leg self.old.places.positions leg) → ⊥) }
     {
-        for number in 0..moves.trains() {
-            if self.try_legs_of(moves, TrainNo(number), depth) {
+        for train in inside {
+            if self.try_legs_of(moves, inside, *train, depth) {
                 return true;
             }
         }
@@ -139,8 +220,9 @@ impl Analyst {
 
     /// As `search`, with a first leg of this train: each place that it can go on to is tried.
     #[cycle(search)]
-    fn try_legs_of(&mut self, moves: &Moves, train: TrainNo, depth: u8) -> bool
+    fn try_legs_of(&mut self, moves: &Moves, inside: &[TrainNo], train: TrainNo, depth: u8) -> bool
         requires ready { IsReady moves.now self.old }
+        requires listed { IsListing (moves_in moves.now) self.old.places.positions inside.now }
         requires train { train < length moves.now }
         requires room { depth < 255 }
         requires settled { IsSettled (moves_in moves.now) self.old.places.positions self.old.stops (depth + 1) }
@@ -152,8 +234,8 @@ impl Analyst {
         let mark = self.list.len();
         let from = self.places.position(train);
         while self.can_go_on(moves, train) {
-            self.make_free_move(moves, train, depth, from);
-            if self.search(moves, depth) {
+            self.make_free_move(moves, inside, train, depth, from);
+            if self.search(moves, inside, depth) {
                 return true;
             }
         }
@@ -163,8 +245,16 @@ impl Analyst {
 
     /// Makes the next move of a free leg from this place, after which `depth` free legs may be left, and
     /// notes what stops the other trains still.
-    fn make_free_move(&mut self, moves: &Moves, train: TrainNo, depth: u8, from: u16)
+    fn make_free_move(
+        &mut self,
+        moves: &Moves,
+        inside: &[TrainNo],
+        train: TrainNo,
+        depth: u8,
+        from: u16,
+    )
         requires ready { IsReady moves.now self.old }
+        requires listed { IsListing (moves_in moves.now) self.old.places.positions inside.now }
         requires train { train < length moves.now }
         requires room { depth < 255 }
         requires inside { IsTrue (is_inside (moves_in moves.now) self.old.places.positions train) }
@@ -179,12 +269,13 @@ impl Analyst {
         ensures kept { (l u : ℕ) → l ≢ depth → u < TRAINS → stop_at self.new.stops l u ≡ stop_at self.old.stops l u }
     {
         self.step(moves, train);
-        self.settle(moves, depth + 1, depth, train, from);
+        self.settle(moves, inside, depth + 1, depth, train, from);
     }
 
     /// Makes safe legs until there is none.
-    fn close(&mut self, moves: &Moves, level: u8)
+    fn close(&mut self, moves: &Moves, inside: &[TrainNo], level: u8)
         requires ready { IsReady moves.now self.old }
+        requires listed { IsListing (moves_in moves.now) self.old.places.positions inside.now }
         requires settled { IsSettled (moves_in moves.now) self.old.places.positions self.old.stops level }
         ensures ready { IsReady moves.now self.new }
         ensures moves { GoesOn (moves_in moves.now) self.old self.new }
@@ -193,12 +284,13 @@ impl Analyst {
         ensures settled { IsSettled (moves_in moves.now) self.new.places.positions self.new.stops level }
         ensures kept { (l u : ℕ) → l ≢ level → u < TRAINS → stop_at self.new.stops l u ≡ stop_at self.old.stops l u }
     {
-        while self.make_safe_legs(moves, level) {}
+        while self.make_safe_legs(moves, inside, level) {}
     }
 
     /// Makes a safe leg of each train that has one at its turn, and says whether any was made.
-    fn make_safe_legs(&mut self, moves: &Moves, level: u8) -> bool
+    fn make_safe_legs(&mut self, moves: &Moves, inside: &[TrainNo], level: u8) -> bool
         requires ready { IsReady moves.now self.old }
+        requires listed { IsListing (moves_in moves.now) self.old.places.positions inside.now }
         requires settled { IsSettled (moves_in moves.now) self.old.places.positions self.old.stops level }
         ensures ready { IsReady moves.now self.new }
         ensures moves { GoesOn (moves_in moves.now) self.old self.new }
@@ -209,8 +301,8 @@ impl Analyst {
         ensures kept { (l u : ℕ) → l ≢ level → u < TRAINS → stop_at self.new.stops l u ≡ stop_at self.old.stops l u }
     {
         let mut moved = false;
-        for number in 0..moves.trains() {
-            if self.make_safe_leg(moves, TrainNo(number), level) {
+        for train in inside {
+            if self.make_safe_leg(moves, inside, *train, level) {
                 moved = true;
             }
         }
@@ -219,8 +311,15 @@ impl Analyst {
 
     /// Makes the shortest safe leg of the train; or notes what stops it, where it has none. A train is
     /// not looked at again as long as what stopped it does.
-    fn make_safe_leg(&mut self, moves: &Moves, train: TrainNo, level: u8) -> bool
+    fn make_safe_leg(
+        &mut self,
+        moves: &Moves,
+        inside: &[TrainNo],
+        train: TrainNo,
+        level: u8,
+    ) -> bool
         requires ready { IsReady moves.now self.old }
+        requires listed { IsListing (moves_in moves.now) self.old.places.positions inside.now }
         requires train { train < length moves.now }
         requires settled { IsSettled (moves_in moves.now) self.old.places.positions self.old.stops level }
         ensures ready { IsReady moves.now self.new }
@@ -243,7 +342,7 @@ impl Analyst {
             Look::Leads(place) => {
                 let from = self.places.position(train);
                 self.go_to(moves, train, place);
-                self.settle(moves, level, level, train, from);
+                self.settle(moves, inside, level, level, train, from);
                 true
             }
         }
@@ -318,8 +417,17 @@ impl Analyst {
     /// After a leg of the train from this place, notes for the one level what still stops the trains of
     /// which it was noted for the other: the section is still held, and each section that the train needs
     /// no more is needed by two others, so that none of them got a safe leg.
-    fn settle(&mut self, moves: &Moves, above: u8, level: u8, train: TrainNo, from: u16)
+    fn settle(
+        &mut self,
+        moves: &Moves,
+        inside: &[TrainNo],
+        above: u8,
+        level: u8,
+        train: TrainNo,
+        from: u16,
+    )
         requires ready { IsReady moves.now self.old }
+        requires listed { IsListing (moves_in moves.now) self.old.places.positions inside.now }
         requires train { train < length moves.now }
         requires valid { IsTrue (is_valid_state (moves_in moves.now) (set self.old.places.positions train from)) }
         requires leg { IsTrue (is_leg (moves_in moves.now) (set self.old.places.positions train from) (record { train = train; place = place_of self.old.places.positions train })) }
@@ -328,23 +436,23 @@ impl Analyst {
         ensures kept { (l u : ℕ) → l ≢ level → u < TRAINS → stop_at self.new.stops l u ≡ stop_at self.old.stops l u }
         ensures rest { self.new ≡ record self.old { stops = self.new.stops } }
     {
-        self.keep_stops(moves, above, level, train);
+        self.keep_stops(inside, above, level, train);
         let place = self.places.position(train);
         for made in from..place {
-            self.free_needers(moves, moves.need(train, made + 1), level, train);
+            self.free_needers(inside, moves.need(train, made + 1), level, train);
         }
     }
 
     /// Notes for the one level what was noted for the other of trains that are still stopped, but for
     /// this train.
-    fn keep_stops(&mut self, moves: &Moves, above: u8, level: u8, train: TrainNo)
-        requires { IsReady moves.now self.old }
-        ensures held { (u x : ℕ) → u < length moves.now → stop_at self.new.stops level u ≡ Some x → (u ≢ train) × (stop_at self.old.stops above u ≡ Some x) × (get_or self.old.places.owners x None ≡ None → ⊥) }
+    fn keep_stops(&mut self, inside: &[TrainNo], above: u8, level: u8, train: TrainNo)
+        requires { (u : ℕ) → IsTrue (is_in u inside.now) → u < TRAINS }
+        ensures held { (u x : ℕ) → IsTrue (is_in u inside.now) → stop_at self.new.stops level u ≡ Some x → (u ≢ train) × (stop_at self.old.stops above u ≡ Some x) × (get_or self.old.places.owners x None ≡ None → ⊥) }
         ensures kept { (l u : ℕ) → l ≢ level → u < TRAINS → stop_at self.new.stops l u ≡ stop_at self.old.stops l u }
         ensures rest { self.new ≡ record self.old { stops = self.new.stops } }
     {
-        for number in 0..moves.trains() {
-            self.keep_stop(above, level, TrainNo(number), train);
+        for other in inside {
+            self.keep_stop(above, level, *other, train);
         }
     }
 
@@ -373,26 +481,32 @@ impl Analyst {
 
     /// Where the train needs one of the sections no more, and one train alone does, notes nothing of
     /// what stops that one.
-    fn free_needers(&mut self, moves: &Moves, sections: &[SectionNo], level: u8, train: TrainNo)
-        requires table { IsTable moves.now }
-        requires train { train < length moves.now }
+    fn free_needers(
+        &mut self,
+        inside: &[TrainNo],
+        sections: &[SectionNo],
+        level: u8,
+        train: TrainNo,
+    )
+        requires listed { (u : ℕ) → IsTrue (is_in u inside.now) → u < TRAINS }
+        requires train { train < TRAINS }
         requires in_range { (x : ℕ) → IsTrue (is_in x sections.now) → x < SECTIONS }
-        ensures freed { (x u y : ℕ) → IsTrue (is_in x sections.now) → own_of self.old.needs train x ≡ 0 → trains_of self.old.needs x ≡ 1 → u < length moves.now → stop_at self.new.stops level u ≡ Some y → own_of self.old.needs u x ≡ 0 }
+        ensures freed { (x u y : ℕ) → IsTrue (is_in x sections.now) → own_of self.old.needs train x ≡ 0 → trains_of self.old.needs x ≡ 1 → IsTrue (is_in u inside.now) → stop_at self.new.stops level u ≡ Some y → own_of self.old.needs u x ≡ 0 }
         ensures fewer { (u y : ℕ) → u < TRAINS → stop_at self.new.stops level u ≡ Some y → stop_at self.old.stops level u ≡ Some y }
         ensures kept { (l u : ℕ) → l ≢ level → u < TRAINS → stop_at self.new.stops l u ≡ stop_at self.old.stops l u }
         ensures rest { self.new ≡ record self.old { stops = self.new.stops } }
     {
         for section in sections {
-            self.free_needer(moves, *section, level, train);
+            self.free_needer(inside, *section, level, train);
         }
     }
 
     /// The same of one section.
-    fn free_needer(&mut self, moves: &Moves, section: SectionNo, level: u8, train: TrainNo)
-        requires table { IsTable moves.now }
-        requires train { train < length moves.now }
+    fn free_needer(&mut self, inside: &[TrainNo], section: SectionNo, level: u8, train: TrainNo)
+        requires listed { (u : ℕ) → IsTrue (is_in u inside.now) → u < TRAINS }
+        requires train { train < TRAINS }
         requires section { section < SECTIONS }
-        ensures freed { own_of self.old.needs train section ≡ 0 → trains_of self.old.needs section ≡ 1 → (u y : ℕ) → u < length moves.now → stop_at self.new.stops level u ≡ Some y → own_of self.old.needs u section ≡ 0 }
+        ensures freed { own_of self.old.needs train section ≡ 0 → trains_of self.old.needs section ≡ 1 → (u y : ℕ) → IsTrue (is_in u inside.now) → stop_at self.new.stops level u ≡ Some y → own_of self.old.needs u section ≡ 0 }
         ensures fewer { (u y : ℕ) → u < TRAINS → stop_at self.new.stops level u ≡ Some y → stop_at self.old.stops level u ≡ Some y }
         ensures kept { (l u : ℕ) → l ≢ level → u < TRAINS → stop_at self.new.stops l u ≡ stop_at self.old.stops l u }
         ensures rest { self.new ≡ record self.old { stops = self.new.stops } }
@@ -400,8 +514,8 @@ impl Analyst {
         if self.needs.has(train, section) || !self.needs.is_for_one(section) {
             return;
         }
-        for number in 0..moves.trains() {
-            self.forget_needer(TrainNo(number), section, level);
+        for other in inside {
+            self.forget_needer(*other, section, level);
         }
     }
 
@@ -420,17 +534,17 @@ impl Analyst {
     }
 
     /// Nobody is inside.
-    fn is_done(&mut self, moves: &Moves) -> bool
-        requires { IsReady moves.now self.old }
-        ensures ready { IsReady moves.now self.new }
-        ensures back { IsBack self.old self.new }
-        ensures stops { self.new.stops ≡ self.old.stops }
-        ensures done { IsTrue result ↔ IsTrue (nobody_inside (moves_in moves.now) self.old.places.positions) }
+    fn is_done(&self, moves: &Moves, inside: &[TrainNo]) -> bool
+        requires ready { IsReady moves.now self.now }
+        requires listed { IsListing (moves_in moves.now) self.now.places.positions inside.now }
+        ensures { IsTrue result ↔ IsTrue (nobody_inside (moves_in moves.now) self.now.places.positions) }
     {
-        match self.places.play(moves, &[]) {
-            Played::Completes => true,
-            _ => false,
+        for train in inside {
+            if stands_inside(moves, &self.places, *train) {
+                return false;
+            }
         }
+        true
     }
 
     /// The train is inside, and its next move is legal.

@@ -1,6 +1,6 @@
 //! How often the moves that the trains have left need each section.
 
-ghost use Rattle.std.specs.Prelude.{◌≡◌, ℕ, ◌+◌, ◌-◌, ◌*◌, ◌<◌, ◌≤◌, ◌^◌, ◌==◌, [], ◌∷◌, nat_lt, length, get_or, set, IsTrue};
+ghost use Rattle.std.specs.Prelude.{◌≡◌, ◌≢◌, ℕ, ◌+◌, ◌-◌, ◌*◌, ◌<◌, ◌≤◌, ◌^◌, ◌==◌, [], ◌∷◌, nat_lt, length, get_or, set, IsTrue};
 ghost use Rattle.std.specs.List.{list_all};
 ghost use Rattle.rail_rules.specs.Numbers.{is_in};
 ghost use Rattle.rail_place.specs.Made.{IsMadeFor};
@@ -20,6 +20,8 @@ pub struct Needs {
     /// The sections of each train, one train after another.
     own: Vec<u16>,
     trains: Vec<u16>,
+    /// The trains for which something may be counted, so that no others need to be cleared.
+    counted: Vec<bool>,
 }
 
 impl Model for Needs {
@@ -29,7 +31,7 @@ impl Model for Needs {
 
     ghost view = { λ needs. record { own = needs.own.items; trains = needs.trains.items } };
 
-    ghost invariant = { λ needs. IsWide needs.own.items needs.trains.items };
+    ghost invariant = { λ needs. IsWide needs.own.items needs.trains.items needs.counted.items };
 }
 
 impl Needs {
@@ -38,6 +40,7 @@ impl Needs {
         Ok(Needs {
             own: vec![in alloc; 0u16; TRAINS * SECTIONS]?,
             trains: vec![in alloc; 0u16; SECTIONS]?,
+            counted: vec![in alloc; false; TRAINS]?,
         })
     }
 
@@ -59,8 +62,23 @@ impl Needs {
         ensures own { (u x : ℕ) → u < trains → x < SECTIONS → own_of self.new u x ≡ 0 }
         ensures trains { (x : ℕ) → trains_of self.new x ≡ 0 }
     {
-        clear_front(&mut self.own, usize::from(trains) * SECTIONS);
+        for number in 0..trains {
+            self.clear_train(TrainNo(number));
+        }
         self.trains.fill(0);
+    }
+
+    /// Counts nothing of the train.
+    fn clear_train(&mut self, train: TrainNo)
+        requires { train < TRAINS }
+        ensures here { (x : ℕ) → x < SECTIONS → own_of self.new train x ≡ 0 }
+        ensures others { (u x : ℕ) → u ≢ train → x < SECTIONS → own_of self.new u x ≡ own_of self.old u x }
+    {
+        if self.counted[usize::from(train.0)] {
+            let first = usize::from(train.0) * SECTIONS;
+            clear_part(&mut self.own, first, first + SECTIONS);
+            self.counted[usize::from(train.0)] = false;
+        }
     }
 
     /// Counts the moves that a train has left at the place, if it has entered.
@@ -116,6 +134,7 @@ impl Needs {
         let cell = cell(train, section);
         if self.own[cell] == 0 {
             self.trains[usize::from(section.0)] += 1;
+            self.counted[usize::from(train.0)] = true;
         }
         self.own[cell] += 1;
     }
@@ -177,15 +196,16 @@ impl Needs {
     }
 }
 
-/// Sets these many counts in front to 0.
-fn clear_front(counts: &mut Vec<u16>, many: usize)
-    requires { many ≤ length counts.old.items }
-    ensures zeros { (i : ℕ) → i < many → get_or counts.new.items i 0 ≡ 0 }
-    ensures length { length counts.new.items ≡ length counts.old.items }
+/// Sets the counts from the one number to below the other to 0.
+fn clear_part(counts: &mut [u16], from: usize, to: usize)
+    requires ordered { from ≤ to }
+    requires within { to ≤ length counts.old }
+    ensures zeros { (i : ℕ) → from ≤ i → i < to → get_or counts.new i 0 ≡ 0 }
+    ensures before { (i : ℕ) → i < from → get_or counts.new i 0 ≡ get_or counts.old i 0 }
+    ensures after { (i : ℕ) → to ≤ i → get_or counts.new i 0 ≡ get_or counts.old i 0 }
+    ensures length { length counts.new ≡ length counts.old }
 {
-    for index in 0..many {
-        counts[index] = 0;
-    }
+    counts[from..to].fill(0);
 }
 
 /// Where the needs of the train for the section are counted.

@@ -1,6 +1,7 @@
 //! What stops each train, for each number of free legs that may be left.
 
-ghost use Rattle.std.specs.Prelude.{◌≡◌, ◌≢◌, ℕ, ◌+◌, ◌*◌, ◌<◌, ◌≤◌, ◌&&◌, ◌==◌, cond, length, get_or, set, None, Some};
+ghost use Rattle.std.specs.Prelude.{◌≡◌, ◌≢◌, ℕ, ◌+◌, ◌*◌, ◌<◌, ◌&&◌, ◌==◌, cond, length, get_or, set, None, Some, IsTrue};
+ghost use Rattle.rail_rules.specs.Numbers.{is_in};
 ghost use Rattle.rail_consequence.specs.Stopping.{stop_at};
 
 use rail_base::limits::TRAINS;
@@ -54,13 +55,13 @@ impl Stops {
         self.sections[slot(level, train)] = stop;
     }
 
-    /// Notes nothing of what stops these many trains.
-    pub fn clear(&mut self, level: u8, trains: u16)
-        requires { trains ≤ TRAINS }
-        ensures none { (u : ℕ) → u < trains → stop_at self.new level u ≡ None }
+    /// Notes nothing of what stops these trains.
+    pub fn clear(&mut self, level: u8, trains: &[TrainNo])
+        requires { (u : ℕ) → IsTrue (is_in u trains.now) → u < TRAINS }
+        ensures none { (u : ℕ) → IsTrue (is_in u trains.now) → stop_at self.new level u ≡ None }
     {
-        for number in 0..trains {
-            self.set(level, TrainNo(number), None);
+        for train in trains {
+            self.set(level, *train, None);
         }
     }
 }

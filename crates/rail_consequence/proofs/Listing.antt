@@ -1,0 +1,34 @@
+-- The list of the trains that were inside when a search began: it names all that are inside later.
+use Rattle.std.proofs.Common.{◌≡◌, ℕ, suc, ◌<◌, true, List, [], ◌∷◌, length, sym, ap, ◌∙◌, subst, ⊎_elim, arith}
+use Rattle.std.proofs.lemmas.Bool.{cases_eq}
+use Rattle.std.proofs.lemmas.List.{get_or-set_other}
+use Rattle.rail_base.specs.declared.limits.TheConstants.{TRAINS}
+use Rattle.rail_rules.specs.Numbers.{is_in}
+use Rattle.rail_rules.specs.Moves.{Moves}
+use Rattle.rail_rules.specs.Places.{place_of, is_inside, after}
+use Rattle.rail_place.specs.Tables.{moves_in, IsTable}
+use Rattle.rail_place.specs.Playing.{IsPlayed}
+use Rattle.rail_consequence.specs.Working.{Work, GoesOn, IsListing}
+use Rattle.rail_consequence.proofs.Legs.{inside_same}
+
+-- a train that is inside after moves was inside before them
+played_inside : (plan : Moves) (s xs r : List ℕ) (u : ℕ) → IsPlayed plan s xs r → is_inside plan r u ≡ true → is_inside plan s u ≡ true
+played_inside plan s [] r u same inside = ap (λ q. is_inside plan q u) same ∙ inside
+played_inside plan s (t ∷ rest) r u played inside =
+    ⊎_elim
+    (λ is. ap (is_inside plan s) is ∙ played.0)
+    (λ ne. inside_same plan (after s t) s u (sym (get_or-set_other s t u (suc (place_of s t)) 0 ne)) (played_inside plan (after s t) rest r u played.2 inside))
+    (cases_eq u t)
+
+pub listed_on : (plan : Moves) (a b : Work) (inside : List ℕ) → GoesOn plan a b → IsListing plan a.places.positions inside → IsListing plan b.places.positions inside
+listed_on plan a b inside goes listed = record {
+  trains = listed.trains;
+  all = λ u is. listed.all u (played_inside plan a.places.positions goes.more b.places.positions u goes.played is);
+}
+
+pub listed_at : (plan : Moves) (s r inside : List ℕ) → s ≡ r → IsListing plan s inside → IsListing plan r inside
+listed_at plan s r inside same listed = let P : List ℕ → Type 0 = λ q. IsListing plan q inside in subst P same listed
+
+-- the trains that are listed are within the limits
+pub listed_few : (table : List (List (List ℕ) × List (List ℕ))) (s inside : List ℕ) → IsTable table → IsListing (moves_in table) s inside → (u : ℕ) → is_in u inside ≡ true → u < TRAINS
+listed_few table s inside moves listed u is = let lt : u < length table = listed.trains u is in omega (arith, lt, moves.few)

@@ -1,0 +1,14 @@
+use Rattle.std.proofs.Common.{◌≡◌, ◌≢◌, ℕ, ◌<◌, true, take, Some}
+use Rattle.rail_base.specs.declared.limits.TheConstants.{TRAINS}
+use Rattle.rail_rules.specs.Numbers.{is_in}
+use Rattle.rail_consequence.specs.Needing.{own_of}
+use Rattle.rail_consequence.specs.Stopping.{stop_at}
+use Rattle.rail_consequence.proofs.analyst.Worksheet.free_needer.Given as goal
+
+abbrev pub invariant-loop-other : goal.invariant-loop-other
+invariant-loop-other l = record {
+  freed : (u y : ℕ) → u < TRAINS → is_in u (take l.other-index l.inside) ≡ true → stop_at l.self.stops l.level u ≡ Some y → own_of l.fn.self.needs u l.section ≡ 0;
+  fewer : (u y : ℕ) → u < TRAINS → stop_at l.self.stops l.level u ≡ Some y → stop_at l.fn.self.stops l.level u ≡ Some y;
+  kept : (m u : ℕ) → m ≢ l.level → u < TRAINS → stop_at l.self.stops m u ≡ stop_at l.fn.self.stops m u;
+  rest : l.self ≡ record l.fn.self { stops = l.self.stops };
+}
