@@ -1,52 +1,63 @@
--- The list of trains where one of them, or each, is changed.
-use Rattle.std.proofs.Common.{◌≡◌, ℕ, zero, suc, ◌+◌, ◌<◌, Bool, true, false, not, ◌||◌, List, [], ◌∷◌, ◌++◌, length, get_or, map, take, drop, add-one, refl, sym, ◌∙◌, ap, ⊎_elim, arith}
-use Rattle.std.specs.List.{filter, list_any}
-use Rattle.std.proofs.lemmas.List.{append-nil, get_or_default}
-use Rattle.std.proofs.lemmas.Bool.{cond-true, cond-false, or_cases, or_parts, false≢true}
-use Rattle.std.proofs.lemmas.List.Elements.{filter-append}
-use Rattle.std.proofs.lemmas.List.Folds.{list_any_more}
+-- The list of trains where some of them are changed in turn.
+use Rattle.std.proofs.Common.{◌≡◌, ◌≢◌, ℕ, ◌+◌, ◌<◌, ◌≤◌, Bool, true, false, not, List, [], ◌∷◌, ◌++◌, length, get_or, set, add-one, refl, sym, ◌∙◌, ap, subst, ⊎_elim, arith}
+use Rattle.std.specs.List.{filter}
+use Rattle.std.proofs.lemmas.List.{get_or-set_same, get_or-set_other, length-set, get_or_past, get_or_default}
+use Rattle.std.proofs.lemmas.Bool.{cases_lt}
 use Rattle.rail_rules.specs.Numbers.{listed}
 use Rattle.rail_riders.specs.declared.rider.Rider.{Rider}
-use Rattle.rail_riders.specs.Riding.{no_rider, rider_of, is_blocked_at, without_known}
+use Rattle.rail_riders.specs.Riding.{no_rider, rider_of}
+use Rattle.rail_riders.proofs.Numbers.{numbers, passes_too, passes_not}
+
+-- the trains below the bound are changed, and the others are as they were
+pub record IsChanged (change : ℕ → Rider → Rider) (old now : List Rider) (bound : ℕ) : Type 0 where
+  pub long : length now ≡ length old
+  pub below : (t : ℕ) → t < bound → rider_of now t ≡ change t (rider_of old t)
+  pub from : (t : ℕ) → bound ≤ t → rider_of now t ≡ rider_of old t
+
+-- before the first train nothing is changed
+pub changed_none : (change : ℕ → Rider → Rider) (old : List Rider) → IsChanged change old old 0
+changed_none change old = record {
+  long = refl;
+  below = λ t lt. absurd (omega arith);
+  from = λ t _. refl;
+}
+
+-- what holds of the train at a bound holds of the trains below the next one
+one_more : (P : ℕ → Type 0) (i : ℕ) → ((t : ℕ) → t < i → P t) → P i → (t : ℕ) → t < i + 1 → P t
+one_more P i before here t lt =
+    ⊎_elim
+    (λ below. before t below)
+    (λ above. let same : i ≡ t = omega arith in subst P same here)
+    (cases_lt t i)
+
+-- one more train is changed
+pub changed_more : (change : ℕ → Rider → Rider) (old now : List Rider) (i : ℕ) → i < length old → IsChanged change old now i → IsChanged change old (set now i (change i (rider_of now i))) (i + 1)
+changed_more change old now i lt h =
+    let there : i < length now = omega (arith, lt, h.long) in
+    let rider : Rider = change i (rider_of now i) in
+    let others : (t : ℕ) → t ≢ i → rider_of (set now i rider) t ≡ rider_of now t = λ t ne. get_or-set_other now i t rider no_rider ne in
+    let here : rider_of (set now i rider) i ≡ change i (rider_of old i) = get_or-set_same now i rider no_rider there ∙ ap (change i) (h.from i (omega arith)) in
+    record {
+      long = length-set now i rider ∙ h.long;
+      below = one_more (λ t. rider_of (set now i rider) t ≡ change t (rider_of old t)) i (λ t lower. others t (omega arith) ∙ h.below t lower) here;
+      from = λ t above. others t (omega arith) ∙ h.from t (omega arith);
+    }
+
+-- one more train would be as it was
+pub changed_over : (change : ℕ → Rider → Rider) (old now : List Rider) (i : ℕ) → change i (rider_of old i) ≡ rider_of old i → IsChanged change old now i → IsChanged change old now (i + 1)
+changed_over change old now i same h = record {
+  long = h.long;
+  below = one_more (λ t. rider_of now t ≡ change t (rider_of old t)) i h.below (h.from i (omega arith) ∙ sym same);
+  from = λ t above. h.from t (omega arith);
+}
 
 -- each train is changed, but what stands for one that isn't there stays
-pub changed_each : (change : Rider → Rider) (riders : List Rider) (t : ℕ) → change no_rider ≡ no_rider → rider_of (map change riders) t ≡ change (rider_of riders t)
-changed_each change [] t none = sym none
-changed_each change (r ∷ rest) zero none = refl
-changed_each change (r ∷ rest) (suc t) none = changed_each change rest t none
-
--- the train was blocked at the section
-abbrev was_blocked : ℕ → Rider → Bool
-was_blocked x rider = is_blocked_at x rider.known
-
--- no train was blocked at the section, where none of the list was
-pub none_blocked : (x : ℕ) (riders : List Rider) → list_any (λ (rider : Rider). is_blocked_at x rider.known) riders ≡ false → (t : ℕ) → is_blocked_at x (rider_of riders t).known ≡ false
-none_blocked x [] none t = refl
-none_blocked x (r ∷ rest) none zero = (or_parts (was_blocked x r) (list_any (was_blocked x) rest) none).0
-none_blocked x (r ∷ rest) none (suc t) = none_blocked x rest (or_parts (was_blocked x r) (list_any (was_blocked x) rest) none).1 t
-
--- some train was blocked at the section, where one of the list was
-pub some_blocked : (x : ℕ) (riders : List Rider) → list_any (λ (rider : Rider). is_blocked_at x rider.known) riders ≡ true → (t : ℕ) × (is_blocked_at x (rider_of riders t).known ≡ true)
-some_blocked x [] some = absurd (false≢true some)
-some_blocked x (r ∷ rest) some =
+pub changed_all : (change : ℕ → Rider → Rider) (old now : List Rider) → IsChanged change old now (length old) → ((t : ℕ) → change t no_rider ≡ no_rider) → (t : ℕ) → rider_of now t ≡ change t (rider_of old t)
+changed_all change old now h none t =
     ⊎_elim
-    (λ here. (0, here))
-    (λ later. let found = some_blocked x rest later in (suc found.0, found.1))
-    (or_cases (was_blocked x r) (list_any (was_blocked x) rest) some)
-
--- behind the trains that are changed so far, each is as it was
-later_same : (change : Rider → Rider) (riders : List Rider) (i : ℕ) (d : Rider) → i < length riders → get_or (map change (take i riders) ++ drop i riders) i d ≡ get_or riders i d
-later_same change [] i d lt = absurd (omega arith)
-later_same change (r ∷ rest) zero d lt = refl
-later_same change (r ∷ rest) (suc i) d lt = later_same change rest i d (omega arith)
-
--- whether one of the trains so far was blocked at the section, with the next train
-pub blocked_more : (x : ℕ) (old now : List Rider) (i : ℕ) (rider : Rider) (any was : Bool) → i < length old → now ≡ map (without_known x) (take i old) ++ drop i old → rider ≡ get_or now i rider → any ≡ list_any (λ (r : Rider). is_blocked_at x r.known) (take i old) → was ≡ is_blocked_at x rider.known → (any || was) ≡ list_any (λ (r : Rider). is_blocked_at x r.known) (take (i + 1) old)
-blocked_more x old now i rider any was lt is item any_is was_is =
-    let same : rider ≡ get_or old i rider = item ∙ ap (λ riders. get_or riders i rider) is ∙ later_same (without_known x) old i rider lt in
-    ap (λ b. b || was) any_is
-    ∙ ap (λ b. list_any (was_blocked x) (take i old) || b) (was_is ∙ ap (was_blocked x) same)
-    ∙ sym (list_any_more (was_blocked x) old i rider lt)
+    (λ below. h.below t below)
+    (λ above. h.from t above ∙ get_or_past old t no_rider above ∙ sym (none t) ∙ ap (change t) (sym (get_or_past old t no_rider above)))
+    (cases_lt t (length old))
 
 -- the item that was read says whether the train stays
 pub stays_read : (riders : List Rider) (i : ℕ) (rider : Rider) (is_out : Bool) → i < length riders → rider ≡ get_or riders i rider → rider.is_out ≡ is_out → not (rider_of riders i).is_out ≡ not is_out
@@ -55,18 +66,8 @@ stays_read riders i rider is_out lt read is = ap (λ (r : Rider). not r.is_out) 
 -- the numbers that pass, with the next one, which passes
 pub passed_here : (p : ℕ → Bool) (i : ℕ) (old new : List ℕ) → p i ≡ true → old ≡ filter p (listed (λ t. t) i) → new ≡ old ++ i ∷ [] → new ≡ filter p (listed (λ t. t) (i + 1))
 passed_here p i old new passes old_is new_is =
-    new_is
-    ∙ ap (λ list. list ++ i ∷ []) old_is
-    ∙ ap (λ list. filter p (listed (λ t. t) i) ++ list) (sym (cond-true (p i) (i ∷ []) [] passes))
-    ∙ sym (filter-append p (listed (λ t. t) i) (i ∷ []))
-    ∙ ap (λ k. filter p (listed (λ t. t) k)) (sym (add-one i))
+    new_is ∙ ap (λ list. list ++ i ∷ []) old_is ∙ sym (passes_too p i passes) ∙ ap (λ k. filter p (numbers k)) (sym (add-one i))
 
 -- the numbers that pass, with the next one, which doesn't
 pub passed_over : (p : ℕ → Bool) (i : ℕ) (old new : List ℕ) → p i ≡ false → old ≡ filter p (listed (λ t. t) i) → new ≡ old → new ≡ filter p (listed (λ t. t) (i + 1))
-passed_over p i old new fails old_is new_is =
-    new_is
-    ∙ old_is
-    ∙ sym (append-nil (filter p (listed (λ t. t) i)))
-    ∙ ap (λ list. filter p (listed (λ t. t) i) ++ list) (sym (cond-false (p i) (i ∷ []) [] fails))
-    ∙ sym (filter-append p (listed (λ t. t) i) (i ∷ []))
-    ∙ ap (λ k. filter p (listed (λ t. t) k)) (sym (add-one i))
+passed_over p i old new fails old_is new_is = new_is ∙ old_is ∙ sym (passes_not p i fails) ∙ ap (λ k. filter p (numbers k)) (sym (add-one i))

@@ -1,13 +1,15 @@
 -- The loop over all trains: which of them were looked at, and which of those is the first.
-use Rattle.std.proofs.Common.{◌≡◌, ◌≢◌, ℕ, ◌+◌, ◌<◌, ◌≤◌, Bool, true, false, ◌&&◌, eqb, nat_le, nat_lt, List, [], ◌∷◌, length, set, Option, Some, None, MatchOption, refl, sym, ◌∙◌, ap, subst, ⊎_elim, arith}
-use Rattle.std.proofs.lemmas.List.{get_or-set_same, get_or-set_other, length-set, get_or_past}
+use Rattle.std.proofs.Common.{◌≡◌, ℕ, ◌+◌, ◌<◌, ◌≤◌, Bool, true, false, ◌&&◌, eqb, nat_le, nat_lt, List, [], ◌∷◌, length, set, Option, Some, None, MatchOption, cond, sym, ◌∙◌, ap, subst, ⊎_elim, arith}
+use Rattle.std.proofs.lemmas.List.{get_or-set_other, get_or_past}
 use Rattle.std.proofs.lemmas.Bool.{cases_lt, cases_Bool, cond-true, cond-false, false≢true, or_parts}
 use Rattle.std.proofs.lemmas.Bool.Decides.{nat_tests}
-use Rattle.rail_rules.specs.Plant.{Plant}
+use Rattle.rail_rules.specs.Plant.{Plant, needed}
+use Rattle.rail_holding.specs.Holding.{held_cause}
 use Rattle.rail_rules.specs.Numbers.{comes_before}
 use Rattle.rail_riders.specs.declared.rider.Rider.{Rider}
 use Rattle.rail_riders.specs.Riding.{IsFirst, no_rider, rider_of, is_untried, looked_at, turn}
 use Rattle.rail_riders.specs.Looking.{ready_of, earlier, first_with}
+use Rattle.rail_riders.proofs.Changed.{IsChanged, changed_none, changed_more, changed_over}
 
 -- of the trains below the bound this one is the first untried one
 pub record IsFirstBelow (riders : List Rider) (bound t : ℕ) : Type 0 where
@@ -21,9 +23,7 @@ IsFirstOf riders bound first = MatchOption first ((t : ℕ) → t < bound → is
 
 -- the trains below the bound were looked at
 pub record IsLookedAt (plant : Plant) (holders : List (Option ℕ)) (old now : List Rider) (bound : ℕ) (chosen : Option ℕ) : Type 0 where
-  pub long : length now ≡ length old
-  pub below : (t : ℕ) → t < bound → rider_of now t ≡ looked_at plant holders t (rider_of old t)
-  pub from : (t : ℕ) → bound ≤ t → rider_of now t ≡ rider_of old t
+  pub riders : IsChanged (looked_at plant holders) old now bound
   pub first : IsFirstOf now bound chosen
 
 -- one that is ready later, or at once with no lesser number, doesn't come before
@@ -126,31 +126,26 @@ first_more riders i first h =
 -- before the first train nothing was looked at
 pub looked_none : (plant : Plant) (holders : List (Option ℕ)) (old : List Rider) → IsLookedAt plant holders old old 0 None
 looked_none plant holders old = record {
-  long = refl;
-  below = λ t lt. absurd (omega arith);
-  from = λ t _. refl;
+  riders = changed_none (looked_at plant holders) old;
   first = λ t lt. absurd (omega arith);
 }
 
 -- one more train is looked at
-pub looked_more : (plant : Plant) (holders : List (Option ℕ)) (old now new : List Rider) (i : ℕ) (first : Option ℕ) → i < length old → IsLookedAt plant holders old now i first → new ≡ set now i (looked_at plant holders i (rider_of now i)) → IsLookedAt plant holders old new (i + 1) (first_with new first i)
-looked_more plant holders old now new i first lt h is =
-    let there : i < length now = omega (arith, lt, h.long) in
-    let others : (t : ℕ) → t ≢ i → rider_of new t ≡ rider_of now t = λ t ne. ap (λ riders. rider_of riders t) is ∙ get_or-set_other now i t (looked_at plant holders i (rider_of now i)) no_rider ne in
-    let here : rider_of new i ≡ looked_at plant holders i (rider_of old i) =
-    ap (λ riders. rider_of riders i) is ∙ get_or-set_same now i (looked_at plant holders i (rider_of now i)) no_rider there ∙ ap (looked_at plant holders i) (h.from i (omega arith)) in
+pub looked_more : (plant : Plant) (holders : List (Option ℕ)) (old now : List Rider) (i : ℕ) (first : Option ℕ) → i < length old → IsLookedAt plant holders old now i first → IsLookedAt plant holders old (set now i (looked_at plant holders i (rider_of now i))) (i + 1) (first_with (set now i (looked_at plant holders i (rider_of now i))) first i)
+looked_more plant holders old now i first lt h =
+    let rider : Rider = looked_at plant holders i (rider_of now i) in
     record {
-      long = ap length is ∙ length-set now i (looked_at plant holders i (rider_of now i)) ∙ h.long;
-      below = λ t within.
-          ⊎_elim
-          (λ below. others t (omega arith) ∙ h.below t below)
-          (λ above.
-          let same : i ≡ t = omega arith in
-          let P : ℕ → Type 0 = λ k. rider_of new k ≡ looked_at plant holders k (rider_of old k) in
-          subst P same here)
-          (cases_lt t i);
-      from = λ t above. others t (omega arith) ∙ h.from t (omega arith);
-      first = first_more new i first (first_same now new i first (λ t below. others t (omega arith)) h.first);
+      riders = changed_more (looked_at plant holders) old now i lt h.riders;
+      first = first_more (set now i rider) i first (first_same now (set now i rider) i first (λ t below. get_or-set_other now i t rider no_rider (omega arith)) h.first);
+    }
+
+-- one that isn't untried would be as it was
+pub looked_over : (plant : Plant) (holders : List (Option ℕ)) (old now : List Rider) (i : ℕ) (first : Option ℕ) → is_untried (rider_of old i) ≡ false → IsLookedAt plant holders old now i first → IsLookedAt plant holders old now (i + 1) first
+looked_over plant holders old now i first tried h =
+    let rider : Rider = rider_of old i in
+    record {
+      riders = changed_over (looked_at plant holders) old now i (ap (λ b. record rider { known = cond b (held_cause holders (needed plant i rider.place)) rider.known }) tried) h.riders;
+      first = first_kept now i first (ap is_untried (h.riders.from i (omega arith)) ∙ tried) h.first;
     }
 
 -- past the list nobody waits

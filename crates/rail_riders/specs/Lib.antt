@@ -1,3 +1,4 @@
 -- What a run keeps of each train.
 pub mod Riding
 pub mod Looking
+pub mod Watching

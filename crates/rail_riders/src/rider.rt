@@ -6,6 +6,7 @@ ghost use Rattle.rail_base.specs.declared.limits.TheConstants.{ITINERARY_ROUTES}
 ghost use Rattle.rail_rules.specs.Plant.{moves, needed, steps, trains};
 ghost use Rattle.rail_holding.specs.Holding.{held_cause};
 ghost use Rattle.rail_riders.specs.Riding.{admitted, head_behind, is_blocked_at, is_untold, is_untried, looked_at, outside, told_why, without_known};
+ghost use Rattle.rail_riders.specs.Watching.{is_watched};
 
 use rail_base::{Cause, SectionNo, Time, TrainNo};
 use rail_block::{MoveTimes, entry_times};
@@ -52,6 +53,13 @@ impl Rider {
         ensures { result ≡ is_untold self.now }
     {
         self.waits && self.known.is_some() && self.told != self.known
+    }
+
+    /// Whether the train waits, or the cause of its next move is known.
+    pub(crate) fn is_watched(&self) -> bool
+        ensures { result ≡ is_watched self.now }
+    {
+        self.waits || self.known.is_some()
     }
 
     /// Whether the known cause is that this section is blocked.

@@ -1,17 +1,17 @@
 //! All trains of a run.
 
-ghost use Rattle.std.specs.Prelude.{◌≡◌, ℕ, ◌-◌, ◌<◌, ◌≤◌, not, [], length, map, set, true, false, IfOk, MatchOption, vec_capacity};
-ghost use Rattle.std.specs.List.{filter, list_any};
-ghost use Rattle.std.specs.Option.{ForSome};
+ghost use Rattle.std.specs.Prelude.{◌≡◌, ℕ, ◌-◌, ◌<◌, ◌≤◌, not, [], length, set, true, false, IfOk, MatchOption, vec_capacity};
+ghost use Rattle.std.specs.List.{filter};
 ghost use Rattle.rail_base.specs.declared.history.Cause.TheVariants.{NoList};
 ghost use Rattle.rail_base.specs.declared.history.What.TheVariants.{Free, Enter, Out, Ready};
 ghost use Rattle.rail_rules.specs.Plant.{Plant, moves, step_section, steps, trains};
 ghost use Rattle.rail_rules.specs.Numbers.{listed};
-ghost use Rattle.rail_riders.specs.declared.rider.Rider.{Rider};
-ghost use Rattle.rail_riders.specs.Riding.{IsFirst, is_blocked_at, is_untold, is_untried, looked_at, outside, rider_admitted, rider_after, rider_of, told_why, without_known};
-ghost use Rattle.rail_riders.specs.Looking.{first_with};
+ghost use Rattle.rail_riders.specs.Riding.{IsFirst, is_blocked_at, is_untold, is_untried, looked_at, outside, rider_admitted, rider_after, rider_of, told_why};
 
 use crate::rider::{Rider, head_behind, push_outside};
+use crate::watched::{
+    first_untold, forget_causes, keep_waiting, look_again_at_each, look_at_each, watch,
+};
 use rail_base::{Cause, OutOfMemory, SectionNo, Time, TrainNo};
 use rail_block::MoveTimes;
 use rail_plan::Plant;
@@ -23,17 +23,21 @@ use std::marker::Model;
 #[derive(Debug, Drop)]
 pub struct Riders {
     rows: Vec<Rider>,
+    /// By number, the trains that wait, and those with a known cause: `note_no_list` gives one to any train.
+    /// The others need no look.
+    watched: Vec<TrainNo>,
 }
 
 impl Model for Riders {
-    ghost use Rattle.std.specs.Prelude.{List, ◌<◌, length};
+    ghost use Rattle.std.specs.Prelude.{List};
     ghost use Rattle.rail_riders.specs.declared.rider.Rider.{Rider};
+    ghost use Rattle.rail_riders.specs.Watching.{AreWatched};
 
     ghost Value = { List Rider };
 
     ghost view = { λ riders. riders.rows.items };
 
-    ghost invariant = { λ riders. length riders.rows.items < 65536 };
+    ghost invariant = { λ riders. AreWatched riders.rows.items riders.watched };
 }
 
 impl Riders {
@@ -43,10 +47,11 @@ impl Riders {
     {
         let trains = plant.moves().trains();
         let mut rows = Vec::with_capacity(alloc, usize::from(trains))?;
+        let watched = Vec::with_capacity(alloc, usize::from(trains))?;
         for number in 0..trains {
             push_outside(&mut rows, plant, TrainNo(number));
         }
-        Ok(Riders { rows })
+        Ok(Riders { rows, watched })
     }
 
     /// What is kept of the train.
@@ -91,6 +96,7 @@ impl Riders {
         ensures length { length self.new ≡ length self.old }
         ensures riders { (plant : Plant) (m t : ℕ) → rider_of self.new t ≡ rider_after plant (Ready train m) t (rider_of self.old t) }
     {
+        watch(&mut self.watched, &self.rows, train);
         let rider = &mut self.rows[usize::from(train.0)];
         rider.waits = true;
     }
@@ -102,7 +108,7 @@ impl Riders {
         ensures any { result ≡ false → (t : ℕ) → is_blocked_at section (rider_of self.old t).known ≡ false }
         ensures some { result ≡ true → (t : ℕ) × (is_blocked_at section (rider_of self.old t).known ≡ true) }
     {
-        forget_all(&mut self.rows, section)
+        look_again_at_each(&mut self.rows, &self.watched, section)
     }
 
     /// Looks at the trains that wait without a known cause: where a needed section of the next move is
@@ -116,48 +122,7 @@ impl Riders {
         ensures riders { (t : ℕ) → t < length self.old → rider_of self.new t ≡ looked_at plant.now holders.now t (rider_of self.old t) }
         ensures first { MatchOption result ((t : ℕ) → is_untried (rider_of self.new t) ≡ false) (λ train. (train < length self.new) × IsFirst self.new train) }
     {
-        let mut first = None;
-        for number in 0..plant.moves().trains() {
-            let train = TrainNo(number);
-            self.look_at(plant, holders, train);
-            first = self.first_with(first, train);
-        }
-        first
-    }
-
-    /// Looks at this train.
-    fn look_at(&mut self, plant: &Plant, holders: &Holders, train: TrainNo)
-        requires train { train < length self.old }
-        requires known { train < trains plant.now }
-        requires sections { length holders.now ≡ length plant.now.tables.sections }
-        requires moves { (rider_of self.old train).waits ≡ true → (rider_of self.old train).place < moves plant.now train }
-        ensures { self.new ≡ set self.old train (looked_at plant.now holders.now train (rider_of self.old train)) }
-    {
-        let rider = &mut self.rows[usize::from(train.0)];
-        rider.look(plant, holders, train);
-    }
-
-    /// Of the first of the untried trains before this one and this one, the first.
-    fn first_with(&self, first: Option<TrainNo>, train: TrainNo) -> Option<TrainNo>
-        requires train { train < length self.now }
-        requires first { ForSome first (λ u. u < length self.now) }
-        ensures { result ≡ first_with self.now first train }
-    {
-        if !self.get(train).is_untried() {
-            return first;
-        }
-        match first {
-            Some(other) if self.ready(other) <= self.ready(train) => first,
-            _ => Some(train),
-        }
-    }
-
-    /// When the train is ready for its next move.
-    fn ready(&self, train: TrainNo) -> Time
-        requires { train < length self.now }
-        ensures { result ≡ (rider_of self.now train).times.next_ready }
-    {
-        self.get(train).times.next_ready
+        look_at_each(&mut self.rows, &self.watched, plant, holders)
     }
 
     /// No list is known for the train.
@@ -165,6 +130,7 @@ impl Riders {
         requires { train < length self.old }
         ensures { self.new ≡ set self.old train (record (rider_of self.old train) { known = Some NoList }) }
     {
+        watch(&mut self.watched, &self.rows, train);
         let rider = &mut self.rows[usize::from(train.0)];
         rider.known = Some(Cause::NoList);
     }
@@ -173,12 +139,7 @@ impl Riders {
     pub fn first_untold(&self) -> Option<TrainNo>
         ensures { MatchOption result ((t : ℕ) → is_untold (rider_of self.now t) ≡ false) (λ train. (train < length self.now) × (is_untold (rider_of self.now train) ≡ true) × ((u : ℕ) → u < train → is_untold (rider_of self.now u) ≡ false)) }
     {
-        for (number, rider) in self.rows.iter().enumerate() {
-            if rider.is_untold() {
-                return Some(TrainNo(number as u16));
-            }
-        }
-        None
+        first_untold(&self.rows, &self.watched)
     }
 
     /// The hold line of the train's next move was given, with its known cause. No arrival is held back then: the one that was is the answer.
@@ -198,18 +159,10 @@ impl Riders {
         ensures length { length self.new ≡ length self.old }
         ensures riders { (t : ℕ) → t < length self.old → rider_of self.new t ≡ rider_admitted train times arrival t (rider_of self.old t) }
     {
-        self.forget_causes();
+        forget_causes(&mut self.rows, &self.watched);
         let rider = &mut self.rows[usize::from(train.0)];
         rider.admit(times, arrival);
-    }
-
-    /// No cause is known.
-    fn forget_causes(&mut self)
-        ensures { self.new ≡ map (λ (rider : Rider). record rider { known = None }) self.old }
-    {
-        for rider in self.rows.iter_mut() {
-            rider.known = None;
-        }
+        keep_waiting(&mut self.watched, &self.rows);
     }
 
     /// Puts the trains that are not out into the list, by number.
@@ -224,16 +177,4 @@ impl Riders {
             }
         }
     }
-}
-
-/// The causes of the trains that were held for this section are no longer known. Whether there were any.
-fn forget_all(riders: &mut [Rider], section: SectionNo) -> bool
-    ensures riders { riders.new ≡ map (without_known section) riders.old }
-    ensures any { result ≡ list_any (λ (rider : Rider). is_blocked_at section rider.known) riders.old }
-{
-    let mut any = false;
-    for rider in riders.iter_mut() {
-        any |= rider.forget(section);
-    }
-    any
 }

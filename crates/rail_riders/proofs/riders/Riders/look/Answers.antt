@@ -1,14 +1,37 @@
-use Rattle.std.proofs.Common.{◌+◌, ℕ, Option, sym, subst, arith}
-use Rattle.rail_riders.proofs.First.{IsLookedAt, looked_more}
+use Rattle.std.proofs.Common.{◌≡◌, ℕ, length, List, ◌++◌, take, drop, ap, sym, refl, subst, ◌∙◌, arith}
+use Rattle.rail_riders.specs.declared.rider.Rider.{Rider}
+use Rattle.rail_riders.specs.Riding.{looked_at, rider_of}
+use Rattle.rail_riders.proofs.Changed.{changed_all}
+use Rattle.rail_riders.proofs.First.{IsFirstOf, IsLookedAt, first_of_all}
+use Rattle.rail_riders.proofs.Kept.{shown_below, written_back}
+use Rattle.rail_riders.proofs.Turns.{looked_at_kept, looked_now}
 use Rattle.rail_riders.proofs.riders.Riders.look.Goals as goal
 
-pub loop-number-preserved : goal.loop-number-preserved
-loop-number-preserved c =
-    let plant = c.args.plant.now in
-    let holders = c.args.holders.now in
-    let old = c.args.self.now in
-    let new = c.look_at.new.self in
-    let i = c.loop-number.number in
-    let P : Option ℕ → Type 0 = λ chosen. IsLookedAt plant holders old new (i + 1) chosen in
-    subst P (sym c.first_with-first.ensures)
-    (looked_more plant holders old c.loop-number.self new i c.loop-number.first (omega arith) c.loop-number.invariant c.look_at.ensures)
+pub look_at_each-requires-clause-watched : goal.look_at_each-requires-clause-watched
+look_at_each-requires-clause-watched c = shown_below c.self.inside.rows.items c.deref_mut.result.now c.self.inside.watched c.deref.result.now c.self.invariant c.deref_mut.ensures.value c.deref.ensures.value
+
+-- all trains were looked at
+looked : (c : goal.After-self-1) → IsLookedAt c.args.plant.now c.args.holders.now c.self.inside.rows.items c.look_at_each.new.rows (length c.self.inside.rows.items) c.look_at_each.result
+looked c = looked_now c.args.plant.now c.args.holders.now c.self.inside.rows.items c.deref_mut.result.now c.look_at_each.new.rows c.self.inside.watched c.deref.result.now c.look_at_each.result c.self.invariant c.deref_mut.ensures.value c.deref.ensures.value c.look_at_each.ensures
+
+-- what was written back
+new_rows : (c : goal.After-self-1) → take c.self.inside.rows.len (c.look_at_each.new.rows ++ drop (length c.look_at_each.new.rows) c.self.inside.rows.items) ≡ c.look_at_each.new.rows
+new_rows c = written_back c.look_at_each.new.rows c.self.inside.rows.items c.self.inside.rows.len (omega arith)
+
+pub invariant_of-self : goal.invariant_of-self
+invariant_of-self c =
+    rw (new_rows c) (looked_at_kept c.args.plant.now c.args.holders.now c.self.inside.rows.items c.look_at_each.new.rows c.self.inside.watched c.look_at_each.result c.self.invariant (looked c))
+
+pub returns-clause-riders : goal.returns-clause-riders
+returns-clause-riders c = λ t _.
+    let looked_at_now : Rider → Rider = looked_at c.args.plant.now c.args.holders.now t in
+    ap (λ (rows : List Rider). rider_of rows t) (new_rows c)
+    ∙ changed_all (looked_at c.args.plant.now c.args.holders.now) c.self.inside.rows.items c.look_at_each.new.rows (looked c).riders (λ t. refl) t
+    ∙ ap (λ (rows : List Rider). looked_at_now (rider_of rows t)) c.self.view_is
+
+pub returns-clause-first : goal.returns-clause-first
+returns-clause-first c =
+    let new = c.look_at_each.new.rows in
+    let first = c.look_at_each.result in
+    let all : IsFirstOf new (length new) first = subst (λ (n : ℕ). IsFirstOf new n first) (sym (looked c).riders.long) (looked c).first in
+    rw (new_rows c) (first_of_all new first all)
