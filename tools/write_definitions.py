@@ -31,7 +31,7 @@ OF_HISTORIES = (
     "rail_holding",
     "rail_riders",
     "rail_standing",
-    "rail_run",
+    "rail_engine",
 )
 OF_INPUTS = (
     "rail_queue",

@@ -1,10 +1,8 @@
-pub mod SoFar
-pub mod Lone
+pub mod Counting
 pub mod Histories
+pub mod SoFar
 pub mod Told
 pub mod Results
-pub mod Firsts
 pub mod Listed
 pub mod Answers
 pub mod Asked
-pub mod InLine

@@ -1,5 +1,6 @@
 -- What each form answers, and why.
-use Rattle.std.specs.Prelude.{◌≡◌, ℕ, Bool, ◌&&◌, cond, nat_lt, List, [], ◌∷◌, length, map, Option, Some, None}
+use Rattle.std.specs.Prelude.{◌≡◌, ℕ, Bool, cond, nat_lt, List, [], ◌∷◌, length, map, codes, Option, Some, None}
+use Rattle.rail_base.specs.Naming.{same_name}
 use Rattle.rail_base.specs.declared.limits.TheConstants.{FILE_BYTES}
 use Rattle.rail_base.specs.declared.plant.SectionRow.{SectionRow}
 use Rattle.rail_base.specs.declared.plant.TrainRow.{TrainRow}
@@ -16,11 +17,9 @@ use Rattle.rail_scene.specs.Order.{scene_refusal}
 use Rattle.rail_scene.specs.Spelling.{spelled_scene}
 use Rattle.rail_scene.specs.Compiling.{compile_refusal}
 use Rattle.rail_scene.specs.Itineraries.{plant_of_scene}
-use Rattle.rail_scene.specs.Defaults.{leaves_defaults}
 use Rattle.rail_words.specs.Lists.{Listed, list_line_refusal, listed_in, places_test}
 use Rattle.rail_cli.specs.declared.status.Status.{Status}
 use Rattle.rail_cli.specs.declared.status.Status.TheVariants.{Done, Usage, Refused, ReadFault, WriteFault, OutOfMemory, CheckedNo}
-use Rattle.rail_cli.specs.First.{is_line_scene}
 use Rattle.rail_cli.specs.Answering.{NameLists, played_line}
 
 -- a form that is not built yet
@@ -39,13 +38,13 @@ plant_refusal bytes = or_else (scene_refusal bytes) (compile_refusal (spelled_sc
 abbrev pub plant_in : List ℕ → Plant
 plant_in bytes = plant_of_scene (spelled_scene bytes)
 
--- the scene is a line of plain sections with one train at most, and leaves all that may be left to its default
-abbrev pub is_first : List ℕ → Bool
-is_first bytes = is_line_scene (spelled_scene bytes) && leaves_defaults bytes
+-- the scene's policy is `fcfs`, by which the train that was ready first goes first
+abbrev pub is_first_come : List ℕ → Bool
+is_first_come bytes = same_name (spelled_scene bytes).policy (codes "fcfs")
 
--- why a run is refused; other scenes are not run yet
+-- why a run is refused; scenes of other policies are not run yet
 abbrev pub run_refusal : List ℕ → Option Refusal
-run_refusal bytes = or_else (plant_refusal bytes) (cond (is_first bytes) None (Some not_yet))
+run_refusal bytes = or_else (plant_refusal bytes) (cond (is_first_come bytes) None (Some not_yet))
 
 -- the names of the sections and trains of a plant
 abbrev pub names_of : Plant → NameLists

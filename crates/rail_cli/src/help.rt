@@ -10,8 +10,8 @@ rail simulates the operation of railway lines and stations, and proves what it p
     rail --help             this text
     rail --version          the version
 
-SCENE is a TOML file and LIST a file of lines. `run` takes scenes of one train at most over a line of
-plain sections, and refuses other scenes with `refused 39`.
+SCENE is a TOML file and LIST a file of lines. `run` takes scenes of the policy `fcfs`, which is that of
+a scene that names none, and refuses scenes of other policies with `refused 39`.
 
 Exit status: 0 done, 1 words not in the table, 2 input refused, 3 read fault, 4 write fault, 5 out of
 memory, 7 words that are no text. The status text is the last line on standard error.

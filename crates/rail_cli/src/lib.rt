@@ -7,13 +7,9 @@
 #![tactic(auto)]
 
 mod files;
-mod first;
 mod help;
 mod infra;
-mod laws;
 mod playing;
-mod rides;
-mod riding;
 mod running;
 mod scenes;
 mod status;
@@ -22,6 +18,5 @@ mod tests;
 mod top;
 
 pub use help::{HELP, VERSION};
-pub use laws::{the_plant_of_a_line_scene_is_lone, the_sections_of_a_line_scene_are_in_line};
 pub use status::Status;
 pub use top::rail;

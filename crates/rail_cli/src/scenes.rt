@@ -1,25 +1,24 @@
 //! What the forms do with the bytes of their files.
 
-ghost use Rattle.std.specs.Prelude.{◌≡◌, ◌≢◌, ◌-◌, ◌<◌, ◌≤◌, ◌^◌, length, IfOk, IfErr, OnOk, None, Err};
+ghost use Rattle.std.specs.Prelude.{◌≡◌, ◌≢◌, ℕ, ◌-◌, ◌<◌, ◌≤◌, ◌^◌, List, length, IfOk, IfErr, OnOk, None, Err};
 ghost use Rattle.rail_io.specs.Counting.{Rose};
 ghost use Rattle.rail_io.specs.Writing.{Adds, AddsPrefix};
 ghost use Rattle.rail_scene.specs.Spelling.{spelled_scene};
 ghost use Rattle.rail_words.specs.Listing.{Answers};
 ghost use Rattle.rail_cli.specs.declared.status.Status.TheVariants as status;
-ghost use Rattle.rail_cli.specs.Answers.{IsAnswer, is_first, list_refusal, play_refusal, play_text, plant_in, plant_refusal, run_refusal, shared_at, status_of};
+ghost use Rattle.rail_cli.specs.Answers.{IsAnswer, is_first_come, list_refusal, play_refusal, play_text, plant_in, plant_refusal, run_refusal, shared_at, status_of};
 ghost use Rattle.rail_cli.specs.Counts.{infra_text};
 ghost use Rattle.rail_cli.specs.Runs.{IsRun, IsRunInPart};
 
-use crate::first::is_line_scene;
 use crate::infra::write_infra;
 use crate::playing::write_played;
 use crate::running::write_run;
 use crate::status::Status;
-use rail_base::{Fault, OutOfMemory, Part, Reason, Refusal};
+use rail_base::{Fault, Part, Reason, Refusal};
 use rail_io::Sink;
 use rail_place::{Places, PlacesFault};
 use rail_plan::Plant;
-use rail_scene::{Scene, compile, leaves_defaults, read_scene};
+use rail_scene::{Scene, compile, read_scene};
 use rail_words::read_list;
 use std::alloc::Global;
 
@@ -30,6 +29,9 @@ pub const NOT_YET: Refusal = Refusal {
     item: 0,
     step: 0,
 };
+
+/// The policy by which the train that was ready first goes first.
+const FIRST_COME: &[u8] = b"fcfs";
 
 /// The scene that the bytes spell, and its plant.
 #[derive(Drop)]
@@ -65,16 +67,11 @@ fn status_of(fault: Fault) -> Status
     }
 }
 
-/// Whether the scene is run already.
-fn is_first(alloc: Global, bytes: &[u8], scene: &Scene) -> Result<bool, OutOfMemory>
-    requires { scene.now ≡ spelled_scene bytes.now }
-    ensures { IfOk result (λ first. first ≡ is_first bytes.now) }
+/// Whether the scene's policy is `fcfs`.
+fn is_first_come(scene: &Scene) -> bool
+    ensures { (bytes : List ℕ) → scene.now ≡ spelled_scene bytes → result ≡ is_first_come bytes }
 {
-    if is_line_scene(scene) {
-        leaves_defaults(alloc, bytes)
-    } else {
-        Ok(false)
-    }
+    scene.policy.as_bytes() == FIRST_COME
 }
 
 /// `run SCENE`: the history of the scene.
@@ -91,12 +88,11 @@ pub fn run_scene<O: Sink>(alloc: Global, bytes: &[u8], out: &mut O) -> Status
         Ok(planned) => planned,
         Err(fault) => return status_of(fault),
     };
-    match is_first(alloc, bytes, &planned.scene) {
-        Ok(true) => {}
-        Ok(false) => return Status::Refused(NOT_YET),
-        Err(_) => return Status::OutOfMemory,
+    let Planned { scene, plant } = planned;
+    if !is_first_come(&scene) {
+        return Status::Refused(NOT_YET);
     }
-    match write_run(alloc, &planned.plant, out) {
+    match write_run(alloc, plant, out) {
         Ok(()) => Status::Done,
         Err(status) => status,
     }

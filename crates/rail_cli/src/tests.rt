@@ -3,7 +3,7 @@ mod cases;
 mod scenes;
 
 use crate::rail;
-use cases::CASES;
+use cases::{AMONG, CASES};
 use rail_base::{Seq, Word};
 use rail_io::{File, MemoryShelf, MemorySink};
 use scenes::piece;
@@ -104,6 +104,34 @@ fn is_answered(rt: &impl Abort, alloc: Global, case: &str) -> Result<(), AllocEr
     let (told, written) = got.split_once("\n").expect(rt, "a status");
     assert_eq!(rt; told, status, "at {case}");
     assert_eq!(rt; written, output, "at {case}");
+    Ok(())
+}
+
+#[test]
+fn runs_with_these_lines_among_others(rt: HostRuntime) -> Result<(), Fail> {
+    for case in AMONG.split("== ").skip(1) {
+        has_lines(&rt, rt.alloc(), case)?;
+    }
+    Ok(())
+}
+
+/// The output of the case has its lines in this order.
+fn has_lines(rt: &impl Abort, alloc: Global, case: &str) -> Result<(), AllocError> {
+    let (head, lines) = case.split_once("\n").expect(rt, "a line");
+    let (words, rest) = head.split_once(" / ").expect(rt, "words");
+    let (scene, _) = rest.split_once(" / ").expect(rt, "a scene");
+    let got = answer(
+        alloc,
+        words,
+        scene_of(alloc, scene)?,
+        String::new(alloc),
+        "sure 0",
+    )?;
+    let mut rest = got.as_str();
+    for line in lines.lines() {
+        let (_, behind) = rest.split_once(line).expect(rt, line);
+        rest = behind;
+    }
     Ok(())
 }
 

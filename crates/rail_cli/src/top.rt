@@ -19,6 +19,12 @@ use std::alloc::Global;
 /// Does what the words ask for. The files that they name are read from the shelf, all of them before
 /// anything is refused but their size, and what is answered is added to the output.
 ///
+/// What a run promises is `IsRun` in `specs/Runs.antt`, which the clause `answer` comes to: `run` that ends
+/// `Done` has added the text of one history in which every event line is the due one, blocking intervals of
+/// one section never overlap, the kept list brings every train inside to its exit after every line, each hold
+/// line names the true cause, a repaired list goes before a fresh one, every train has left at the end, and
+/// there are exactly as many lines as the bound says, hold lines aside.
+///
 /// `Usage` comes exactly where the words are not in the table of words, and before any file. A refusal is
 /// the first one in the order of refusals. `ReadFault` and `WriteFault` come only where the count of
 /// faults of the shelf and of the output rose in this call.

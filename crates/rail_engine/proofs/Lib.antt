@@ -1,11 +1,12 @@
--- Lemmas on the order of lines, the soonest line, the times of a ride, and how its history goes on.
-pub mod Order
-pub mod Rows
-pub mod Soonest
-pub mod Matching
-pub mod Counting
-pub mod Due
-pub mod Beginning
-pub mod Following
-pub mod History
-pub mod Worked
+-- Lemmas on a run.
+pub mod Saying
+pub mod Starting
+pub mod Going
+pub mod Room
+pub mod Telling
+pub mod Finding
+pub mod Looking
+pub mod Making
+pub mod Deciding
+pub mod Taking
+pub mod Bounding

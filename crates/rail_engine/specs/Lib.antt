@@ -1,4 +1,4 @@
--- The lines of a ride, in what order they come, and for which inputs they are its history.
-pub mod Timing
-pub mod Course
-pub mod Example
+-- What a run keeps, and the front that it stands for.
+pub mod Standing
+pub mod Giving
+pub mod Running

@@ -14,4 +14,4 @@ mod words;
 mod writing;
 
 pub use line::{Line, ROOM};
-pub use writing::{write_bare, write_entry};
+pub use writing::write_entry;

@@ -4,7 +4,7 @@ ghost use Rattle.rail_io.specs.Writing.{Adds, AddsPrefix};
 ghost use Rattle.rail_rules.specs.Plant.{Plant};
 ghost use Rattle.rail_rules.specs.Texts.{line_text};
 ghost use Rattle.rail_texts.specs.Writable.{is_writable};
-ghost use Rattle.rail_history.specs.Lines.{HasNames, bare, line_of};
+ghost use Rattle.rail_history.specs.Lines.{HasNames, line_of};
 
 use crate::line::Line;
 use crate::trains::put_brought;
@@ -35,18 +35,4 @@ pub fn write_entry<O: Sink>(
     put_brought(&mut line, names, &entry, kept, out)?;
     line.put(b"\n");
     write_whole(out, line.as_slice())
-}
-
-/// Writes the line of an entry that brings no trains, as one piece. Its trains and sections are those
-/// of the names. It takes no memory.
-pub fn write_bare<O: Sink>(names: &Names, entry: Entry, out: &mut O) -> Result<(), Failed>
-    requires { (plant : Plant) × HasNames plant names.now × IsTrue (is_writable plant (bare entry)) }
-    ensures adds { (plant : Plant) → HasNames plant names.now
-        → OnOk result (Adds (O.written out.old) (O.written out.new) (line_text plant (bare entry))) }
-    ensures failed_adds_prefix { (plant : Plant) → HasNames plant names.now
-        → OnErr result (AddsPrefix (O.written out.old) (O.written out.new) (line_text plant (bare entry))) }
-    ensures failed_rose { OnErr result (Rose (O.faults out.old) (O.faults out.new)) }
-    ensures faults_never_fall { O.faults out.old ≤ O.faults out.new }
-{
-    write_entry(names, entry, &[], out)
 }

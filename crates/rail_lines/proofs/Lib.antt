@@ -1,3 +1,4 @@
 pub mod Known
 pub mod Causing
+pub mod Listing
 pub mod Writing

@@ -1,8 +1,9 @@
--- Each line that brings no trains can be written.
-use Rattle.std.proofs.Common.{◌≡◌, ℕ, zero, suc, cond, leb, ◌+◌, ◌<◌, ◌≤◌, ◌^◌, Bool, true, not, ◌&&◌, ltb, List, [], ◌∷◌, length, Option, Some, slice_get, refl, sym, subst, ⊎_elim, arith}
+-- Each line of a lawful front can be written.
+use Rattle.std.proofs.Common.{◌≡◌, ℕ, zero, suc, cond, leb, ap, ◌∙◌, ◌+◌, ◌<◌, ◌≤◌, ◌^◌, Bool, true, not, ◌&&◌, ltb, List, [], ◌∷◌, length, Option, Some, slice_get, sym, subst, ⊎_elim, arith}
 use Rattle.std.specs.List.{list_all}
-use Rattle.std.proofs.lemmas.Bool.{and_parts, and_from, cond_both, ltb-true, leb-true, eqb-true}
-use Rattle.std.proofs.lemmas.List.{nil_from_length}
+use Rattle.std.specs.Cmp.Lexicographic.{bytes_decides}
+use Rattle.std.proofs.lemmas.Bool.{and_parts, and_from, cond_both, ltb-true, leb-true}
+use Rattle.std.proofs.lemmas.List.{length-set}
 use Rattle.rail_base.specs.declared.limits.TheConstants.{COMMANDS, POLICIES}
 use Rattle.rail_base.specs.declared.orders.Command.{Command}
 use Rattle.rail_base.specs.declared.history.Entry.{Entry}
@@ -12,15 +13,16 @@ use Rattle.rail_base.specs.declared.history.Note.{Note}
 use Rattle.rail_base.specs.declared.history.Note.TheVariants.{Pulled, Appended, Fresh}
 use Rattle.rail_base.specs.declared.history.Cause.{Cause}
 use Rattle.rail_rules.specs.Accepted.{is_accepted, is_accepted_input, are_fine_commands, is_from_one, are_distinct_names}
-use Rattle.rail_rules.specs.Plant.{Plant, trains, moves}
-use Rattle.rail_rules.specs.Fronts.{Line, Front, admissions, same_entry}
+use Rattle.rail_rules.specs.Places.{completes, place_of}
+use Rattle.rail_rules.specs.Plant.{Plant, trains, moves, moves_of}
+use Rattle.rail_rules.specs.Fronts.{Line, Front, admissions, kept, kept_after, places, same_entry}
 use Rattle.rail_rules.specs.Orders.{Input, told, is_cancelled}
-use Rattle.rail_rules.specs.Causes.{place, is_ready, is_deciding, cause, is_told_so}
-use Rattle.rail_rules.specs.Lawful.{is_bare, is_lawful}
+use Rattle.rail_rules.specs.Causes.{place, is_ready, is_deciding, cause, is_told_so, places_after}
+use Rattle.rail_rules.specs.Lawful.{is_bare, is_lawful, remaining}
 use Rattle.rail_texts.specs.Writable.{does_fit_counter, is_known_move, is_known_train, is_writable, is_writable_what, is_writable_note, is_writable_cause}
 use Rattle.rail_view.specs.Indexed.{IsEvent}
 use Rattle.rail_view.specs.Indexed.IsEvent.{entering, arriving, freeing, leaving, readying}
-use Rattle.rail_view.specs.Views.{Follows}
+use Rattle.rail_view.specs.Views.{Admits, Follows}
 use Rattle.rail_view.specs.Views.Follows.{by_event, by_admission, by_hold, by_end}
 use Rattle.rail_view.specs.Premises.{IsFine}
 use Rattle.rail_view.proofs.Accepting.{fine_from_accepted, known_train}
@@ -31,6 +33,8 @@ use Rattle.rail_account.proofs.Written.{few_admissions}
 use Rattle.rail_times.proofs.Reached.{times_below}
 use Rattle.rail_lines.proofs.Known.{fits_counter, train_known, move_known, step_known}
 use Rattle.rail_lines.proofs.Causing.{names_known, cause_known, one_cause}
+use Rattle.rail_lines.proofs.Listing.{list_known, remaining_known}
+use Rattle.rail_invariant.proofs.PlacesKept.{length-listed}
 
 -- a train that is ready has a move left
 ready_moves : (input : Input) (front : Front) (t : ℕ) → is_ready input front t ≡ true → place front t < moves input.plant t
@@ -70,14 +74,15 @@ command_known plant line b k lt bare =
     (λ _. and_from _ _ (fits_counter k lt) bare)
     (λ _. and_from _ _ (fits_counter k lt) bare)
 
--- a note with which no trains come
-note_known : (plant : Plant) (line : Line) (note : Note) → is_bare line ≡ true → is_writable_note plant line note ≡ true
-note_known plant line Pulled bare = bare
-note_known plant line Appended bare = bare
-note_known plant line Fresh bare =
-    let none : line.trains ≡ [] = nil_from_length line.trains (eqb-true (length line.trains) 0 bare) in
-    let P : List ℕ → Type 0 = λ ts. (list_all (is_known_train plant) ts && does_fit_counter (length ts)) ≡ true in
-    subst P (sym none) refl
+-- the trains that the note of an admission brings
+note_known : (input : Input) → is_accepted input.plant ≡ true → (front : Front) (line : Line) (t m : ℕ) (note : Note) → Admits input front line t m note → is_writable_note input.plant line note ≡ true
+note_known input ok front line t m Pulled h = (and_parts (is_bare line) _ h.fits).0
+note_known input ok front line t m Appended h = (and_parts (is_bare line) _ h.fits).0
+note_known input ok front line t m Fresh h =
+    let brought : kept input.plant (line ∷ front) ≡ line.trains = ap (kept_after input.plant (kept input.plant front) line) h.what in
+    let s : List ℕ = places_after input front t in
+    let long : length s ≡ trains input.plant = length-set (places input.plant front) t (suc (place_of (places input.plant front) t)) ∙ length-listed (λ u. length (admissions front u)) (trains input.plant) in
+    list_known input.plant ok s line.trains long (subst (λ (list : List ℕ). completes (moves_of input.plant) s list ≡ true) brought h.completing)
 
 below_listed : (xs : List Command) (i : ℕ) (x : Command) → slice_get xs i ≡ Some x → i < length xs
 below_listed [] i x h = absurd (nothing h)
@@ -116,27 +121,27 @@ plant_accepted input h =
     let p2 = and_parts (a1 && a2) a3 p3.0 in
     (and_parts a1 a2 p2.0).0
 
--- what a line says that follows a lawful front without trains beside it
-what_known : (input : Input) → is_accepted_input input ≡ true → (front : Front) → is_lawful input front ≡ true → (line : Line) → is_bare line ≡ true → Follows input front line → is_writable_what input.plant line line.entry.what ≡ true
-what_known input accepted front lawful line bare (by_event h) =
+-- what a line says that follows a lawful front
+what_known : (input : Input) → is_accepted_input input ≡ true → (front : Front) → is_lawful input front ≡ true → (line : Line) → Follows input front line → is_writable_what input.plant line line.entry.what ≡ true
+what_known input accepted front lawful line (by_event h) =
     let ok = plant_accepted input accepted in
     let fine : IsFine input.plant = fine_from_accepted input.plant ok in
     let P : Entry → Type 0 = λ e. is_writable_what input.plant line e.what ≡ true in
     ⊎_elim
     (λ (due : IsEventDue input front (same_entry line.entry)).
     subst P (sym (one_entry line.entry due.entry due.passing))
-    (event_known input.plant ok due.train (admissions front due.train) _ line due.known (few_admissions input fine front lawful due.train due.known) bare due.entry due.event))
+    (event_known input.plant ok due.train (admissions front due.train) _ line due.known (few_admissions input fine front lawful due.train due.known) h.bare due.entry due.event))
     (λ (due : IsCommandDue input front input.commands 0 (same_entry line.entry)).
     subst P (sym (one_entry line.entry _ due.passing))
-    (command_known input.plant line _ (suc (0 + due.index)) (omega (arith, below_listed input.commands due.index due.command due.listed, few_commands input accepted)) bare))
+    (command_known input.plant line _ (suc (0 + due.index)) (omega (arith, below_listed input.commands due.index due.command due.listed, few_commands input accepted)) h.bare))
     (due_found input front (same_entry line.entry) h.due)
-what_known input accepted front lawful line bare (by_admission t m note h) =
+what_known input accepted front lawful line (by_admission t m note h) =
     let ok = plant_accepted input accepted in
     let ready = (and_parts (is_deciding input front) (is_ready input front t) h.waiting).1 in
     let known : is_known_move input.plant t m ≡ true = subst (λ (k : ℕ). is_known_move input.plant t k ≡ true) (sym h.next) (ready_known input ok front t ready) in
     subst (λ (what : What). is_writable_what input.plant line what ≡ true) (sym h.what)
-    (and_from (is_known_move input.plant t m) (is_writable_note input.plant line note) known (note_known input.plant line note bare))
-what_known input accepted front lawful line bare (by_hold t m why h) =
+    (and_from (is_known_move input.plant t m) (is_writable_note input.plant line note) known (note_known input ok front line t m note h))
+what_known input accepted front lawful line (by_hold t m why h) =
     let ok = plant_accepted input accepted in
     let ready = (and_parts (is_ready input front t) (not (is_told_so input front t)) h.due).0 in
     let known : is_known_move input.plant t m ≡ true = subst (λ (k : ℕ). is_known_move input.plant t k ≡ true) (sym h.next) (ready_known input ok front t ready) in
@@ -145,15 +150,16 @@ what_known input accepted front lawful line bare (by_hold t m why h) =
     (cause_known input ok front t (ready_moves input front t ready)) in
     subst (λ (what : What). is_writable_what input.plant line what ≡ true) (sym h.what)
     (and_from (is_known_move input.plant t m && is_writable_cause input.plant why) (is_bare line)
-    (and_from (is_known_move input.plant t m) (is_writable_cause input.plant why) known caused) bare)
-what_known input accepted front lawful line bare (by_end h) =
-    let none : line.trains ≡ [] = nil_from_length line.trains (eqb-true (length line.trains) 0 bare) in
-    let all : list_all (is_known_train input.plant) line.trains ≡ true = subst (λ (ts : List ℕ). list_all (is_known_train input.plant) ts ≡ true) (sym none) refl in
+    (and_from (is_known_move input.plant t m) (is_writable_cause input.plant why) known caused) h.bare)
+what_known input accepted front lawful line (by_end h) =
+    let names : line.trains ≡ remaining input front = (bytes_decides line.trains (remaining input front)).0 h.names in
+    let all : list_all (is_known_train input.plant) line.trains ≡ true =
+    subst (λ (ts : List ℕ). list_all (is_known_train input.plant) ts ≡ true) (sym names) (remaining_known input front) in
     subst (λ (what : What). is_writable_what input.plant line what ≡ true) (sym h.what) all
 
--- each line of a lawful front that brings no trains can be written
-pub line_writable : (input : Input) → is_accepted_input input ≡ true → (line : Line) (front : Front) → is_lawful input (line ∷ front) ≡ true → is_bare line ≡ true → is_writable input.plant line ≡ true
-line_writable input accepted line front lawful bare =
+-- each line of a lawful front can be written
+pub line_writable : (input : Input) → is_accepted_input input ≡ true → (line : Line) (front : Front) → is_lawful input (line ∷ front) ≡ true → is_writable input.plant line ≡ true
+line_writable input accepted line front lawful =
     and_from (does_fit_counter line.entry.at) (is_writable_what input.plant line line.entry.what)
     (fits_counter line.entry.at (omega (arith, times_below input accepted line front lawful)))
-    (what_known input accepted front (lawful_before input line front lawful) line bare (lawful_last input line front lawful))
+    (what_known input accepted front (lawful_before input line front lawful) line (lawful_last input line front lawful))

@@ -17,4 +17,3 @@ pub mod CompileNames
 pub mod CompileTrains
 pub mod CompileMoves
 pub mod CompileTables
-pub mod Leaving

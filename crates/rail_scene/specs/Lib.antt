@@ -12,4 +12,3 @@ pub mod Order
 pub mod Itineraries
 pub mod Compiling
 pub mod Typed
-pub mod Defaults

@@ -10,7 +10,6 @@
 #![tactic(auto)]
 
 mod compiling;
-mod defaults;
 mod draft;
 mod entries;
 mod fields;
@@ -24,6 +23,5 @@ mod scene;
 mod tests;
 
 pub use compiling::compile;
-pub use defaults::leaves_defaults;
 pub use reading::read_scene;
 pub use scene::{Scene, SceneTrain};

@@ -143,7 +143,105 @@ illegal 1 held B PW A\n\
 == play scene absent / loop apart /  / sure 0 / read fault\n\
 == run scene list / three none /  / sure 0 / refused 39 NotYet root 0 0\n\
 == report absent / three none /  / sure 0 / refused 39 NotYet root 0 0\n\
-== run scene / loop apart /  / sure 0 / refused 39 NotYet root 0 0\n\
+== run scene / loop apart /  / sure 0 / \n\
+00:01:48.0 ready A 1\n\
+00:01:48.0 ready B 1\n\
+00:01:48.0 admit A 1 appended\n\
+00:01:48.0 admit B 1 appended\n\
+00:02:00.0 enter A 1 W\n\
+00:02:00.0 enter B 1 E\n\
+00:02:40.0 enter A 1 PW\n\
+00:02:40.0 enter B 1 PE\n\
+00:02:42.0 enter A 1 L1\n\
+00:02:42.0 enter B 1 L2\n\
+00:02:45.6 free W A\n\
+00:02:45.6 free E B\n\
+00:02:47.6 free PW A\n\
+00:02:47.6 free PE B\n\
+00:03:10.0 ready A 2\n\
+00:03:10.0 ready B 2\n\
+00:03:10.0 admit A 2 pulled\n\
+00:03:10.0 admit B 2 pulled\n\
+00:03:22.0 arrive A 1\n\
+00:03:22.0 arrive B 1\n\
+00:03:22.0 enter A 2 PE\n\
+00:03:22.0 enter B 2 PW\n\
+00:03:24.0 enter A 2 E\n\
+00:03:24.0 enter B 2 W\n\
+00:03:27.6 free L1 A\n\
+00:03:27.6 free L2 B\n\
+00:03:29.6 free PW B\n\
+00:03:29.6 free PE A\n\
+00:04:04.0 arrive A 2\n\
+00:04:04.0 arrive B 2\n\
+00:04:07.6 out A\n\
+00:04:07.6 out B\n\
+00:04:09.6 free W B\n\
+00:04:09.6 free E A\n\
+00:04:09.6 end\n\
+== run scene / loop one-track /  / sure 0 / \n\
+00:01:48.0 ready A 1\n\
+00:01:48.0 ready B 1\n\
+00:01:48.0 admit A 1 appended\n\
+00:01:48.0 hold B 1 nolist\n\
+00:02:00.0 enter A 1 W\n\
+00:02:28.0 ready A 2\n\
+00:02:28.0 admit A 2 pulled\n\
+00:02:28.0 hold B 1 blocked L1 A\n\
+00:02:40.0 arrive A 1\n\
+00:02:40.0 enter A 2 PW\n\
+00:02:42.0 enter A 2 L1\n\
+00:02:45.6 free W A\n\
+00:02:47.6 free PW A\n\
+00:03:10.0 ready A 3\n\
+00:03:10.0 admit A 3 pulled\n\
+00:03:10.0 hold B 1 blocked E A\n\
+00:03:22.0 arrive A 2\n\
+00:03:22.0 enter A 3 PE\n\
+00:03:24.0 enter A 3 E\n\
+00:03:27.6 free L1 A\n\
+00:03:29.6 free PE A\n\
+00:04:04.0 arrive A 3\n\
+00:04:07.6 out A\n\
+00:04:09.6 free E A\n\
+00:04:09.6 admit B 1 appended\n\
+00:04:11.6 enter B 1 E\n\
+00:05:01.6 enter B 1 PE\n\
+00:05:03.6 enter B 1 L1\n\
+00:05:07.2 free E B\n\
+00:05:09.2 free PE B\n\
+00:05:31.6 ready B 2\n\
+00:05:31.6 admit B 2 pulled\n\
+00:05:43.6 arrive B 1\n\
+00:05:43.6 enter B 2 PW\n\
+00:05:45.6 enter B 2 W\n\
+00:05:49.2 free L1 B\n\
+00:05:51.2 free PW B\n\
+00:06:25.6 arrive B 2\n\
+00:06:29.2 out B\n\
+00:06:31.2 free W B\n\
+00:06:31.2 end\n\
+== run scene / loop turned /  / sure 0 / \n\
+00:01:48.0 ready A 1\n\
+00:01:48.0 admit A 1 appended\n\
+00:02:00.0 enter A 1 W\n\
+00:02:40.0 enter A 1 PW\n\
+00:02:42.0 enter A 1 L1\n\
+00:03:20.0 ready A 2\n\
+00:03:20.0 hold A 2 blocked PW A\n\
+00:03:22.0 free W A\n\
+00:03:22.0 arrive A 1\n\
+00:03:24.0 free PW A\n\
+00:03:24.0 admit A 2 pulled\n\
+00:03:26.0 enter A 2 PW\n\
+00:03:38.0 enter A 2 W\n\
+00:04:18.0 free L1 A\n\
+00:04:18.0 arrive A 2\n\
+00:04:20.0 free PW A\n\
+00:04:58.0 out A\n\
+00:05:00.0 free W A\n\
+00:05:00.0 end\n\
+== run scene / loop broken /  / sure 0 / refused 13 ItineraryBroken train 1 1\n\
 == run scene / none none /  / sure 0 / refused 2 KeyMissing root 0 1\n\
 == run scene / cut none /  / sure 0 / refused 1 NotToml bytes 0 0\n\
 == run scene / three best /  / sure 0 / refused 39 NotYet root 0 0\n\
@@ -160,4 +258,19 @@ completes\n\
 == play scene list / loop apart / # none, at A 1, move A, at B 1 / sure 0 / refused 34 ListForm line 4 0\n\
 == play scene list / loop apart / at A 01 / sure 0 / refused 34 ListForm line 1 0\n\
 == play scene list / loop apart / move A, move Z / sure 0 / refused 35 ListName line 2 0\n\
+";
+
+/// The same, but the lines behind the first one are some of the output, in this order.
+pub const AMONG: &str = "\
+== run scene / one-free-leg opposed /  / sure 0 / \n\
+00:03:27.6 free L1 A1\n\
+00:03:27.6 ready A2 1\n\
+00:03:27.6 admit A2 1 appended\n\
+00:03:40.0 ready B 1\n\
+00:03:40.0 admit B 1 fresh \n\
+== run scene / no-free-leg opposed /  / sure 0 / \n\
+00:03:40.0 ready B 1\n\
+00:03:40.0 hold B 1 nolist\n\
+00:03:52.0 admit A1 3 \n\
+00:03:52.0 admit B 1 fresh \n\
 ";

@@ -21,6 +21,10 @@ pub fn piece(name: &str) -> &'static str {
         "from-signal" => FROM_A_SIGNAL,
         "to-signal" => TO_A_SIGNAL,
         "broken" => BROKEN,
+        "turned" => TURNED,
+        "opposed" => OPPOSED,
+        "one-free-leg" => ONE_FREE_LEG,
+        "no-free-leg" => NO_FREE_LEG,
         "cut" => CUT_OFF,
         _ => "",
     }
@@ -222,4 +226,62 @@ train = [{ name = "A", kind = "R", entry = "00:02:00", routes = ["we1"] }]
 /// The second route begins on the other track.
 const BROKEN: &str = r#"kind = [{ name = "R", length = 90, speed = 90, start = 100, stop = 50 }]
 train = [{ name = "A", kind = "R", entry = "00:02:00", routes = ["we1", "ee2"] }]
+"#;
+
+/// A train of 1,000 m that turns on the first track, and is held by its own tail.
+const TURNED: &str = r#"kind = [{ name = "Q", length = 1000, speed = 90, start = 100, stop = 0 }]
+train = [{ name = "A", kind = "Q", entry = "00:02:00", routes = ["we1", "xw1"] }]
+"#;
+
+/// Lists of one free leg at most.
+const ONE_FREE_LEG: &str = "depth = 1\n";
+
+/// Lists of safe legs alone.
+const NO_FREE_LEG: &str = "depth = 0\n";
+
+/// Two trains that follow one another, and one that comes against them, for which one of the two has to go
+/// on to a track that the other one needs.
+const OPPOSED: &str = r#"version = 1
+release = 20
+section = [
+    { name = "W", kind = "plain", length = 1000, speed = 90, joints = ["a", "b"] },
+    { name = "PW", kind = "points", length = 50, speed = 90, joints = ["b", "c", "d"] },
+    { name = "L1", kind = "plain", length = 1000, speed = 90, joints = ["c", "e"] },
+    { name = "L2", kind = "plain", length = 1000, speed = 90, joints = ["d", "f"] },
+    { name = "PE", kind = "points", length = 50, speed = 90, joints = ["g", "e", "f"] },
+    { name = "C", kind = "plain", length = 1000, speed = 90, joints = ["g", "h"] },
+    { name = "QW", kind = "points", length = 50, speed = 90, joints = ["h", "i", "j"] },
+    { name = "N1", kind = "plain", length = 1000, speed = 90, joints = ["i", "k"] },
+    { name = "N2", kind = "plain", length = 1000, speed = 90, joints = ["j", "l"] },
+    { name = "QE", kind = "points", length = 50, speed = 90, joints = ["m", "k", "l"] },
+    { name = "X", kind = "plain", length = 1000, speed = 90, joints = ["m", "n"] },
+]
+portal = [
+    { name = "West", joint = "a", setting = 10, watching = 10, approach = 100 },
+    { name = "East", joint = "n", setting = 10, watching = 10, approach = 100 },
+]
+signal = [
+    { name = "E1", joint = "e", ahead = "PE", setting = 10, watching = 10, approach = 100 },
+    { name = "W2", joint = "d", ahead = "PW", setting = 10, watching = 10, approach = 100 },
+    { name = "SC", joint = "h", ahead = "QW", setting = 10, watching = 10, approach = 100 },
+    { name = "NX", joint = "k", ahead = "QE", setting = 10, watching = 10, approach = 100 },
+    { name = "SX", joint = "m", ahead = "QE", setting = 10, watching = 10, approach = 100 },
+]
+route = [
+    { name = "we1", from = "West", to = "E1", path = ["a", "W", "b", "PW", "c", "L1", "e"] },
+    { name = "c1", from = "E1", to = "SC", path = ["e", "PE", "g", "C", "h"] },
+    { name = "n1", from = "SC", to = "NX", path = ["h", "QW", "i", "N1", "k"] },
+    { name = "x1", from = "NX", to = "East", path = ["k", "QE", "m", "X", "n"] },
+    { name = "y0", from = "East", to = "SX", path = ["n", "X", "m"] },
+    { name = "y1", from = "SX", to = "W2", path = ["m", "QE", "l", "N2", "j", "QW", "h", "C", "g", "PE", "f", "L2", "d"] },
+    { name = "y2", from = "W2", to = "West", path = ["d", "PW", "b", "W", "a"] },
+]
+kind = [
+    { name = "R", length = 90, speed = 90, start = 100, stop = 50 },
+]
+train = [
+    { name = "A1", kind = "R", entry = "00:02:00", routes = ["we1", "c1", "n1", "x1"] },
+    { name = "A2", kind = "R", entry = "00:03:39.6", routes = ["we1", "c1", "n1", "x1"] },
+    { name = "B", kind = "R", entry = "00:03:52", routes = ["y0", "y1", "y2"] },
+]
 "#;

@@ -1,0 +1,131 @@
+//! A train is given its next move.
+
+ghost use Rattle.std.specs.Prelude.{◌≡◌, ℕ, suc, ◌+◌, ◌-◌, ◌<◌, ◌≤◌, ◌^◌, ◌⊎◌, Bool, true, false, List, Option, Some, None, length, count_by};
+ghost use Rattle.rail_account.specs.Accounts.{tally};
+ghost use Rattle.rail_account.specs.Changes.{freed_before};
+ghost use Rattle.rail_block.specs.Carried.{AreBelow, times_at};
+ghost use Rattle.rail_block.specs.declared.times.MoveTimes.{MoveTimes};
+ghost use Rattle.rail_engine.specs.Giving.{CanBeTaken, IsGivable, MOVE_EVENTS};
+ghost use Rattle.rail_events.specs.Events.{end_lines, event_of, held_event, step_lines};
+ghost use Rattle.rail_holding.specs.Holding.{held_cause, taken_by};
+ghost use Rattle.rail_queue.specs.declared.event.Event.{Event};
+ghost use Rattle.rail_riders.specs.Riding.{rider_of};
+ghost use Rattle.rail_rules.specs.Fronts.{Front};
+ghost use Rattle.rail_rules.specs.Plant.{is_forced, moves, needed, steps, trains};
+ghost use Rattle.rail_rules.specs.Times.{stop_time};
+ghost use Rattle.rail_standing.specs.Parts.{IsAdmitLine, passing_event};
+
+use rail_base::{SectionNo, Time, TrainNo};
+use rail_block::{MoveTimes, times_of};
+use rail_events::{push_end, push_passing, push_steps, push_stood};
+use rail_plan::Plant;
+use rail_queue::EventQueue;
+use rail_release::Holders;
+use rail_riders::Riders;
+
+/// The train's next move is admitted at the instant: its events are pending, its needed sections are held by
+/// the train, and its times are carried.
+pub fn give_move(
+    plant: &Plant,
+    queue: &mut EventQueue,
+    riders: &mut Riders,
+    holders: &mut Holders,
+    instant: Time,
+    train: TrainNo,
+)
+    requires givable { (front : Front) × IsGivable plant.now front riders.old instant train }
+    requires room { MOVE_EVENTS ≤ queue.old.spare }
+    requires sections { length holders.old ≡ length plant.now.tables.sections }
+    requires free { held_cause holders.old (needed plant.now train (rider_of riders.old train).place) ≡ None }
+    ensures given { (front : Front) → IsGivable plant.now front riders.old instant train
+        → (times : MoveTimes) × (arrival : Option ℕ) × ((settled : Bool) → IsAdmitLine plant.now front train times arrival
+        (record { events = queue.old.events; holders = holders.old; riders = riders.old; now = instant; is_settled = settled; has_ended = false })
+        (record { events = queue.new.events; holders = holders.new; riders = riders.new; now = instant; is_settled = false; has_ended = false })) }
+    ensures room { length queue.new.events + queue.new.spare ≡ length queue.old.events + queue.old.spare }
+    ensures riders { length riders.new ≡ length riders.old }
+{
+    let before = *riders.get(train);
+    let place = before.place + 1;
+    let times = times_of(plant, train, place, instant, &before.times);
+    let arrival = push_move(plant, queue, train, place, &times);
+    riders.admit(train, times, arrival);
+    take_sections(plant, holders, train, place);
+}
+
+/// Pushes the events that are known once the move to this place is admitted. The answer is the arrival
+/// that is held back.
+fn push_move(
+    plant: &Plant,
+    queue: &mut EventQueue,
+    train: TrainNo,
+    place: u16,
+    times: &MoveTimes,
+) -> Option<Time>
+    requires train { train < trains plant.now }
+    requires first { 1 ≤ place }
+    requires last { place ≤ moves plant.now train }
+    requires times { AreBelow (2 ^ 51) times.now }
+    requires room { MOVE_EVENTS ≤ queue.old.spare }
+    ensures counted { (adms : List ℕ) → length adms ≡ place → times.now ≡ times_at plant.now train adms place → (q : Event → Bool)
+        → count_by q queue.new.events + count_by q (held_event train place result)
+        ≡ count_by q queue.old.events + tally (λ e. q (event_of e)) (freed_before plant.now train adms (place - 1)) + count_by q (passing_event train (place - 1) times.now)
+        + tally (λ e. q (event_of e)) (step_lines plant.now train adms (place - 1)) + tally (λ e. q (event_of e)) (end_lines plant.now train adms (place - 1)) }
+    ensures held { (at : ℕ) → result ≡ Some at → (is_forced plant.now train place ≡ false) × (place < moves plant.now train) × (at ≡ stop_time plant.now train times.now.free_run) }
+    ensures not_held { result ≡ None → (is_forced plant.now train place ≡ true) ⊎ (place ≡ moves plant.now train) }
+    ensures room { length queue.new.events + queue.new.spare ≡ length queue.old.events + queue.old.spare }
+{
+    // A plant that may be run has few steps in a move, so there is room for its events.
+    plant.moves();
+    push_beginning(plant, queue, train, place - 1, times);
+    push_steps(plant, queue, train, place, times);
+    push_end(plant, queue, train, place, times)
+}
+
+/// Pushes the events at the place at which a move begins: the sections on which the train stood there are
+/// given free, and it arrives there where it passes. Before the first move there are none. `next` is the
+/// times of the move.
+fn push_beginning(
+    plant: &Plant,
+    queue: &mut EventQueue,
+    train: TrainNo,
+    place: u16,
+    next: &MoveTimes,
+)
+    requires train { train < trains plant.now }
+    requires last { place < moves plant.now train }
+    requires times { AreBelow (2 ^ 51) next.now }
+    requires room { steps plant.now train (place - 1) + 1 ≤ queue.old.spare }
+    ensures counted { (adms : List ℕ) → length adms ≡ place + 1 → next.now ≡ times_at plant.now train adms (place + 1) → (q : Event → Bool)
+        → count_by q queue.new.events ≡ count_by q queue.old.events + tally (λ e. q (event_of e)) (freed_before plant.now train adms place) + count_by q (passing_event train place next.now) }
+    ensures room { length queue.new.events + queue.new.spare ≡ length queue.old.events + queue.old.spare }
+    ensures spare { queue.old.spare ≤ queue.new.spare + steps plant.now train (place - 1) + 1 }
+{
+    if place == 0 {
+        return;
+    }
+    push_stood(plant, queue, train, place, next);
+    push_passing(queue, train, place, next);
+}
+
+/// The train takes the needed sections of its move to this place, which nobody holds.
+fn take_sections(plant: &Plant, holders: &mut Holders, train: TrainNo, place: u16)
+    requires train { train < trains plant.now }
+    requires first { 1 ≤ place }
+    requires last { place ≤ moves plant.now train }
+    requires sections { length holders.old ≡ length plant.now.tables.sections }
+    requires free { held_cause holders.old (needed plant.now train (place - 1)) ≡ None }
+    ensures { holders.new ≡ taken_by holders.old (needed plant.now train (place - 1)) train }
+{
+    let row = plant.move_row(train, place);
+    take_each(holders, row.sections.as_slice(), train);
+}
+
+/// The train takes these sections, which are known and distinct, and which nobody holds.
+fn take_each(holders: &mut Holders, sections: &[SectionNo], train: TrainNo)
+    requires { CanBeTaken holders.old sections.now }
+    ensures { holders.new ≡ taken_by holders.old sections.now train }
+{
+    for section in sections {
+        holders.take(*section, train);
+    }
+}
