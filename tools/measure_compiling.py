@@ -46,8 +46,8 @@ def scene(trains):
 
 
 def inclusive(listing, function):
-    """The instructions of a function with all that it calls."""
-    counts = [int(count.replace(",", "")) for count, name in re.findall(r"^ *([\d,]+) \([^)]*\) +\S*?:(\S+)", listing, re.M) if name.startswith(function)]
+    """The instructions of a function, by its crate and name, with all that it calls."""
+    counts = [int(count.replace(",", "")) for count, name in re.findall(r"^ *([\d,]+) \([^)]*\) +\S*?:(\S+)", listing, re.M) if re.match(function, name)]
     if not counts:
         sys.exit("no count of " + function)
     return max(counts)
@@ -63,8 +63,8 @@ def main():
             file.write_text(scene(trains))
             subprocess.run(["valgrind", "--tool=callgrind", "--callgrind-out-file=%s" % counts, program, "infra", file], capture_output=True, check=True)
             listing = subprocess.run(["callgrind_annotate", "--inclusive=yes", "--threshold=100", counts], capture_output=True, text=True, check=True).stdout
-            compiled = inclusive(listing, "rail_scene::compiling::compile")
-            read = inclusive(listing, "rail_cli::scenes::read_plant") - compiled
+            compiled = inclusive(listing, r"rail_scene::[\w:]*compile\b")
+            read = inclusive(listing, r"rail_cli::[\w:]*read_plant\b") - compiled
             print("%d trains of %d routes, %d bytes: read %d, compile %d" % (trains, LEGS, file.stat().st_size, read, compiled))
             good = good and (before is None or compiled <= 2.2 * before)
             before = compiled

@@ -37,7 +37,7 @@ def measure(program, scene):
             check=True,
         ).stdout
     whole = re.search(r"^\s*([\d,]+) \(100\.0%\)\s+PROGRAM TOTALS", listing, re.M)
-    parts = [inclusive(listing, it) for it in ("scenes::read_plant", "/write.c:write")]
+    parts = [inclusive(listing, it) for it in ("::read_plant", "/write.c:write")]
     return ran.stdout.count(b"\n"), int(whole[1].replace(",", "")), *parts
 
 

@@ -121,13 +121,14 @@ class Case:
             "true" if call["stops"] else "false", option(call["arrival"]), option(call["departure"]), call["dwell"])
 
     def definitions(self):
-        """The declarations of plant, seats and input."""
+        """The definitions of plant, deck and input."""
         sections = list_of("record { name = %s; length = %d; speed = %d }" % (codes(s["name"]), s["length"], s["speed"])
                            for s in self.sections)
         has_calls = any(call is not None for row in self.calls for call in row)
         calls = list_of("(%s)" % list_of(self.call_term(call) for call in row) for row in self.calls) if has_calls else "[]"
         names = [name for name, _ in DECK]
         return "\n".join([
+            "-- the plant",
             "abbrev pub plant : Plant",
             "plant = record {",
             "    tables = record {",
@@ -139,9 +140,11 @@ class Case:
             "    calls = %s;" % calls,
             "  }",
             "",
+            "-- the boxes of the deck",
             "abbrev pub seats : List Seat",
             "seats = %s" % list_of("record { name = %s; kind = %s; mark = 0 }" % (codes(n), "kind." + k) for n, k in DECK),
             "",
+            "-- the input",
             "abbrev pub input : Input",
             "input = record { plant = plant; commands = %s; deck = %s; force = %d }" % (
                 list_of("record { at = %d; what = %s }" % (at, paren("order." + what)) for at, what in self.commands),
@@ -184,8 +187,15 @@ class Case:
 
     def front_definition(self, name, lines):
         """A front of these lines, the newest first."""
-        terms = [self.line_term(line) for line in reversed(lines)]
-        return "abbrev pub %s : Front\n%s =\n%s    []" % (name, name, "".join("    %s ∷\n" % term for term in terms))
+        return self.list_definition(name, "Front", reversed(lines))
+
+    def lines_definition(self, name, lines):
+        """These lines, the oldest first."""
+        return self.list_definition(name, "List Line", lines)
+
+    def list_definition(self, name, kind, lines):
+        terms = "".join("    %s ∷\n" % self.line_term(line) for line in lines)
+        return "abbrev pub %s : %s\n%s =\n%s    []" % (name, kind, name, terms)
 
 
 USES = """use Rattle.std.specs.Prelude.{◌≡◌, Bool, true, false, List, [], ◌∷◌, Some, None, refl}
@@ -197,5 +207,5 @@ use Rattle.rail_base.specs.declared.history.Cause.TheVariants.{Stopped, Closed, 
 use Rattle.rail_rules.specs.Plant.{Plant}
 use Rattle.rail_rules.specs.Orders.{Input}
 use Rattle.rail_rules.specs.Fronts.{Line, Front}
-use Rattle.rail_rules.specs.Running.{Seat}
+use Rattle.rail_rules.specs.RunHistories.{Seat}
 """

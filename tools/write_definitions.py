@@ -1,113 +1,267 @@
 #!/usr/bin/env python3
-"""Writes docs/DEFINITIONS.md from the definitions and their comment lines.
+"""Writes docs/DEFINITIONS.md from the definitions and their comments, or checks it.
 
-usage: write_definitions.py
+usage: write_definitions.py [--check] REPOSITORY
 
-The part of the page above its line `<!-- the list -->` is kept; below it stands a table for each module of
-definitions, crate by crate as in crates.txt and in the order of the crate's Lib.antt, and one for the laws of each
-crate, from the doc comments of the functions that state them. The script fails where a definition or a law has no
-comment.
+The part of the page above its line `<!-- the list -->` is kept. Below it stand two parts. The first has what the
+contract of the top call reaches, by names that are followed exactly through the imports: the definitions, the types
+and the constants of the programs, and the names of the kit, each counted. The second has all other public definitions,
+crate by crate as in crates.txt, and the laws, which are the public functions without code.
+
+The status is 1 where a public definition or a law has no sentence, and with --check where the page is not what would
+be written; then nothing is written.
 """
 
+import argparse
+import collections
 import pathlib
 import re
 import sys
+import textwrap
 
-REPOSITORY = pathlib.Path(__file__).resolve().parent.parent
-PAGE = REPOSITORY / "docs" / "DEFINITIONS.md"
+sys.path.insert(0, str(pathlib.Path(__file__).resolve().parent))
+from rail_sources import Sources, sentence  # noqa: E402
+from rail_specs import Specs, Target, Terms, constructor_test, tree  # noqa: E402
+
 MARK = "<!-- the list -->"
-BASE = [("rail_base", "Naming"), ("rail_base", "Clock"), ("rail_base", "Refusing")]
-OF_HISTORIES = (
-    "rail_rules",
-    "rail_view",
-    "rail_invariant",
-    "rail_account",
-    "rail_bound",
-    "rail_completion",
-    "rail_texts",
-    "rail_unique",
-    "rail_waiting",
-    "rail_pending",
-    "rail_holding",
-    "rail_riders",
-    "rail_standing",
-    "rail_engine",
-)
-OF_INPUTS = (
-    "rail_queue",
-    "rail_block",
-    "rail_events",
-    "rail_list",
-    "rail_repair",
-    "rail_track",
-    "rail_routes",
-    "rail_plan",
-    "rail_scene",
-    "rail_words",
-    "rail_history",
-    "rail_cli",
+TOP = ("rail_cli", "top", "rail")
+EXAMPLES = "rail_worked"
+
+# Definitions of the top call's crate of which it is told how much they reach.
+PARTS = (
+    ("IsRun", "what `run` writes where it ends `Done`, of a plant"),
+    ("AnswersRun", "the same with the plant of a scene file, and its refusals"),
+    ("AnswersInfra", "what `infra` answers"),
+    ("AnswersPlay", "what `play` answers"),
 )
 
 
-def definitions(path):
-    """The module's own first comment, and (name, comment) of each public definition."""
-    comment, first, found = [], None, []
-    for line in path.read_text().splitlines():
-        if line.startswith("-- "):
-            comment.append(line[3:])
-            first = first or line[3:]
-            continue
-        named = re.match(r"(?:abbrev pub|unfoldable pub|pub record|pub data) (\S+)", line)
-        if named:
-            found.append((named[1], " ".join(comment)))
-        if line.strip():
-            comment = []
-    return first, found
+class Reader:
+    """The definitions and programs of a repository."""
+
+    def __init__(self, repository):
+        self.repository = repository
+        order = re.findall(r"^(\w+):", (repository / "crates.txt").read_text(), re.M)
+        self.specs = Specs(repository / "crates", order)
+        self.sources = Sources(repository / "crates", order)
+
+    def terms_of(self, source, texts, bound):
+        """What terms of a program name."""
+        terms = Terms(self.specs.meaning(source.ghosts), constructor_test(source.ghosts, None, self.specs))
+        for text in texts:
+            terms.term(tree(text), bound)
+        return terms.found
+
+    def top(self):
+        """How many clauses the top call has, and what they name; a member of a type parameter is its trait's."""
+        source = self.sources.files[TOP[:2]]
+        function = next(it for it in source.functions if it.name == TOP[2])
+        texts = [text for _, text in function.clauses]
+        found = self.terms_of(source, texts, function.parameters | set(function.bounds))
+        for name, bound in function.bounds.items():
+            if any(re.search(r"\b%s\.\w" % name, text) for text in texts):
+                found.add(self.sources.named(source, bound))
+        return len(function.clauses), found
+
+    def reached(self, named):
+        """What is named and all that this names, through definitions, types and models."""
+        found, left = set(), set(named)
+        while left:
+            found |= left
+            new = self.specs.reached(left)
+            for it in left | new:
+                if it.kind == "item":
+                    new |= self.sources.types_in(it)
+                    source, model = self.sources.model_of(it)
+                    if model:
+                        new |= self.terms_of(source, [model], set())
+            left = new - found
+        return found
+
+    def definition(self, target):
+        module = self.specs.modules.get((target.crate, target.module))
+        return module.definitions.get(target.name) if module else None
+
+    def counts(self, targets):
+        """How many definitions and how many of their lines there are, by crate."""
+        definitions, lines = collections.Counter(), collections.Counter()
+        for it in targets:
+            if it.kind == "spec":
+                definitions[it.crate] += 1
+                lines[it.crate] += self.definition(it).lines
+        return definitions, lines
 
 
-def laws(path):
-    comment, found = [], []
-    for line in path.read_text().splitlines():
-        if line.startswith("///"):
-            comment.append(line[3:].strip())
-            continue
-        named = re.match(r"pub fn (\w+)\(\)", line)
-        if named:
-            found.append((named[1], " ".join(comment)))
-        comment = []
-    return found
+def said(text):
+    return text[:1].upper() + text[1:]
+
+
+def table(kind, rows):
+    lines = ["| `%s` | %s |" % (name.replace("|", "\\|"), said(words)) for name, words in rows]
+    return ["", "| %s | It says |" % kind, "|---|---|"] + lines
+
+
+def paragraph(*sentences):
+    return textwrap.wrap(" ".join(sentences), 120, break_long_words=False, break_on_hyphens=False)
+
+
+def names_in(cells):
+    return ", ".join("`%s`" % it for it in cells)
+
+
+class Page:
+    def __init__(self, reader):
+        self.reader = reader
+        self.clauses, named = reader.top()
+        self.reached = {it for it in reader.reached(named) if it}
+        self.missing = []
+
+    def path(self, path):
+        return path.relative_to(self.reader.repository)
+
+    def reaches(self, module, name):
+        return Target("spec", module.crate, module.name, name) in self.reached
+
+    def module(self, module, names):
+        rows = [(name, module.definitions[name].sentence) for name in names]
+        self.missing += ["%s: %s" % (self.path(module.path), name) for name, words in rows if not words]
+        return ["", "### %s" % module.title, "", "`%s`" % self.path(module.path)] + table("Definition", rows)
+
+    def must(self):
+        """What must be believed."""
+        parts, files = [], 0
+        for module in self.reader.specs.modules.values():
+            names = [name for name in module.definitions if self.reaches(module, name)]
+            if names:
+                parts += self.module(module, names)
+                files += 1
+        (data, types), (constants, values), (kit, names) = self.types(), self.constants(), self.kit()
+        definitions, lines = self.reader.counts(self.reached)
+        self.summary = (sum(definitions.values()), sum(lines.values()), files, types, values, names)
+        head = ["", "## What you must believe", ""] + paragraph(
+            "The contract of the top call, `%s` in `crates/%s/src/%s.rt`," % (TOP[2], *TOP[:2]),
+            "has %d clauses." % self.clauses,
+            "They reach %d definitions," % self.summary[0],
+            "which are %s lines with their comments, in %d files;" % (format(self.summary[1], ","), files),
+            "%d types and traits and %d constants of the programs; and %d names of the kit." % (types, values, names))
+        head += ["", "| Crate | Definitions | Lines |", "|---|---|---|"]
+        head += ["| `%s` | %d | %d |" % (crate, definitions[crate], lines[crate]) for crate in self.reader.specs.order
+                 if definitions[crate]]
+        return head + self.shares() + parts + data + constants + kit
+
+    def shares(self):
+        """How much single parts of the contract reach."""
+        rows = []
+        for name, words in PARTS:
+            for target in [it for it in self.reached if (it.kind, it.crate, it.name) == ("spec", TOP[0], name)]:
+                reached = self.reader.reached({target})
+                definitions, lines = (sum(it.values()) for it in self.reader.counts(reached))
+                rows.append("| `%s` | %s | %d | %s |" % (name, said(words), definitions, format(lines, ",")))
+        return ["", "Of these, a single part of the contract reaches:", "",
+                "| Part | It says | Definitions | Lines |", "|---|---|---|---|"] + rows
+
+    def items(self, is_const):
+        for target in self.reached:
+            if target.kind == "item":
+                source, item = self.reader.sources.item(target)
+                if item and (item.kind == "const") == is_const:
+                    yield source, item
+
+    def types(self):
+        rows = {(str(self.path(source.path)), item.name): sentence(item.doc) for source, item in self.items(False)}
+        parts = ["", "### Types and traits of the programs", ""] + paragraph(
+            "A contract sees a struct as the record of its fields,",
+            "and one with a model, such as `Name`, as that model.",
+            "A ghost member of a trait, such as `told` of `Shelf`, is what each object of the trait is asked to say.")
+        parts += ["", "| Type | It says | File |", "|---|---|---|"]
+        parts += ["| `%s` | %s | `%s` |" % (name, said(words), path) for (path, name), words in sorted(rows.items())]
+        return parts, len(rows)
+
+    def constants(self):
+        found = collections.defaultdict(set)
+        for source, item in self.items(True):
+            value = item.body.partition("=")[2].strip()
+            shown = " = " + value if re.fullmatch(r"[\w *+()]{1,40}", value) else ""
+            found[str(self.path(source.path))].add("`%s`%s" % (item.name, shown))
+        parts = ["", "### Constants of the programs", "", "| File | Constants |", "|---|---|"]
+        parts += ["| `%s` | %s |" % (path, "; ".join(sorted(names))) for path, names in sorted(found.items())]
+        return parts, sum(map(len, found.values()))
+
+    def kit(self):
+        found = collections.defaultdict(set)
+        for it in self.reached:
+            if it.kind == "kit" and it.module.startswith("specs") and it.name and "◌" not in it.name:
+                found["%s %s" % (it.crate, it.module.removeprefix("specs."))].add(it.name)
+        parts = ["", "### Names of the kit", "", "Its operators aside.", "", "| Module | Names |", "|---|---|"]
+        parts += ["| `%s` | %s |" % (module, names_in(sorted(names))) for module, names in sorted(found.items())]
+        return parts, sum(map(len, found.values()))
+
+    def words(self):
+        """All other definitions."""
+        parts, count = [], 0
+        for module in self.reader.specs.modules.values():
+            names = [name for name in module.definitions if not self.reaches(module, name)]
+            if names and not self.is_example(module):
+                parts += self.module(module, names)
+                count += len(names)
+        return ["", "## Working words", ""] + paragraph(
+            "All other public definitions, %d of them, and the laws." % count,
+            "The contract of the top call reaches none of them:",
+            "who relies on another call or on a law reads the words that it names.") + parts
+
+    def is_example(self, module):
+        """The module has the data of a worked example: its definitions take no argument."""
+        return module.crate == EXAMPLES and not any("→" in it.text[0] for it in module.definitions.values())
+
+    def examples(self):
+        rows = []
+        for module in self.reader.specs.modules.values():
+            if self.is_example(module):
+                silent = [name for name, it in module.definitions.items() if not it.sentence]
+                self.missing += ["%s: %s" % (self.path(module.path), name) for name in silent]
+                rows.append("| `%s` | %s | %s |" % (module.name, module.title, names_in(module.definitions)))
+        return ["", "### Worked examples", "", "`crates/%s/specs`" % EXAMPLES, "",
+                "| Module | Example | Its data |", "|---|---|---|"] + rows
+
+    def laws(self):
+        """The public functions without code."""
+        rows = collections.defaultdict(list)
+        for (crate, _), source in self.reader.sources.files.items():
+            for it in source.functions:
+                if it.is_law:
+                    rows[crate].append("| `%s` | %s | `%s` |" % (it.name, said(it.doc), source.path.name))
+                    self.missing += [] if it.doc else ["%s: %s" % (self.path(source.path), it.name)]
+        parts = []
+        for crate, lines in rows.items():
+            parts += ["", "### Laws of `%s`" % crate, "", "`crates/%s/src`" % crate, "",
+                      "| Law | It says | File |", "|---|---|---|"] + lines
+        return parts
+
+    def text(self):
+        return "\n".join(self.must() + self.words() + self.examples() + self.laws()) + "\n"
 
 
 def main():
-    missing, parts = [], []
-    crates = re.findall(r"^(rail_\w+):", (REPOSITORY / "crates.txt").read_text(), re.M)
-    modules = BASE + [
-        (crate, name)
-        for crate in crates
-        if crate in OF_HISTORIES or crate in OF_INPUTS
-        for name in re.findall(r"^pub mod (\w+)", (REPOSITORY / "crates" / crate / "specs" / "Lib.antt").read_text(), re.M)
-    ]
-    for crate, module in modules:
-        path = REPOSITORY / "crates" / crate / "specs" / (module + ".antt")
-        title, found = definitions(path)
-        parts += ["", "## %s" % title.rstrip("."), "", "`%s`" % path.relative_to(REPOSITORY), "", "| Definition | It says |", "|---|---|"]
-        for name, comment in found:
-            if not comment:
-                missing.append("%s: %s" % (module, name))
-            parts.append("| `%s` | %s |" % (name.replace("|", "\\|"), comment[:1].upper() + comment[1:]))
-    for crate in [REPOSITORY / "crates" / name for name in crates]:
-        for path in sorted(crate.glob("src/*laws*.rt")):
-            found = laws(path)
-            if found:
-                parts += ["", "## Laws stated in `%s`" % crate.name, "", "`%s`" % path.relative_to(REPOSITORY), "", "| Law | It says |", "|---|---|"]
-                parts += ["| `%s` | %s |" % law for law in found]
-                missing += ["%s: %s" % (crate.name, name) for name, comment in found if not comment]
-    if missing:
-        print("no comment: " + ", ".join(missing))
-        return 1
-    head = PAGE.read_text().split(MARK)[0]
-    PAGE.write_text(head + MARK + "\n" + "\n".join(parts) + "\n")
-    return 0
+    parser = argparse.ArgumentParser(description=__doc__, formatter_class=argparse.RawDescriptionHelpFormatter)
+    parser.add_argument("--check", action="store_true", help="compare with the page, and write nothing")
+    parser.add_argument("repository", type=pathlib.Path)
+    arguments = parser.parse_args()
+    path = arguments.repository / "docs" / "DEFINITIONS.md"
+    page = Page(Reader(arguments.repository))
+    old = path.read_text()
+    new = old.split(MARK)[0] + MARK + "\n" + page.text()
+    print("definitions %d, lines %d, files %d, types %d, constants %d, names of the kit %d" % page.summary)
+    for it in page.missing:
+        print("no sentence: " + it)
+    is_wrong = bool(page.missing)
+    if arguments.check and new != old:
+        known = set(old.splitlines())
+        absent = [row for row in new.splitlines() if row.startswith("| `") and row not in known]
+        print("\n".join("not on the page: " + row for row in absent) or "the page differs")
+        is_wrong = True
+    if not arguments.check and not is_wrong:
+        path.write_text(new)
+    return 1 if is_wrong else 0
 
 
 if __name__ == "__main__":

@@ -1,11 +1,11 @@
 #!/usr/bin/env python3
-"""Writes the worked rows of crates/rail_rows from examples/.
+"""Writes the worked rows of crates/rail_worked from examples/.
 
-usage: write_rows.py
+usage: write_rows.py REPOSITORY
 
 Each row is a scene NAME.toml with its history NAME.history and perhaps commands NAME.cmd. For each the script
-writes a module of definitions into crates/rail_rows/specs, a function whose contract says of them what holds,
-into crates/rail_rows/src, and the answers to its clauses. It writes no claim that it has computed: the check
+writes a module of definitions into crates/rail_worked/specs, a function whose contract says of them what holds,
+into crates/rail_worked/src, and the answers to its clauses. It writes no claim that it has computed: the check
 evaluates them all. Run `rt tidy` in that crate afterwards: it drops the imports that a row does not need.
 """
 
@@ -14,9 +14,6 @@ import sys
 
 sys.path.insert(0, str(pathlib.Path(__file__).resolve().parent))
 from rail_terms import Case, USES, time_of  # noqa: E402
-
-REPOSITORY = pathlib.Path(__file__).resolve().parent.parent
-CRATE = REPOSITORY / "crates" / "rail_rows"
 
 # name, function, what it shows, whether it is whole, whether every train leaves,
 # and the lines (from 1) to change in time, to drop and to double
@@ -51,13 +48,14 @@ def write(path, text):
     path.write_text(text)
 
 
-def write_row(name, function, says, whole, leaves, places):
-    path = REPOSITORY / "examples" / name
+def write_row(repository, name, function, says, whole, leaves, places):
+    crate = repository / "crates" / "rail_worked"
+    path = repository / "examples" / name
     commands = path.with_suffix(".cmd")
     case = Case(path.with_suffix(".toml").read_text(), "", commands.read_text() if commands.exists() else "")
     lines = path.with_suffix(".history").read_text().splitlines()
     printed = "abbrev pub printed : List ℕ\nprinted = lines (%s)" % " ∷ ".join(['codes "%s"' % line for line in lines] + ["[]"])
-    parts = ["-- %s" % says, USES.replace("{◌≡◌,", "{ℕ, codes,"), "use Rattle.rail_rows.specs.Lines.{lines}", "", case.definitions(), "",
+    parts = ["-- %s" % says, USES.replace("{◌≡◌,", "{ℕ, codes,"), "use Rattle.rail_worked.specs.Lines.{lines}", "", case.definitions(), "",
              "-- the printed history, its lines the newest first", case.front_definition("front", lines), "", "-- its text", printed]
     variants = {}
     if places:
@@ -72,7 +70,7 @@ def write_row(name, function, says, whole, leaves, places):
     if name == "loop":
         parts += ["", "-- the history with a fresh list on its third line", case.front_definition("with_fresh", lines[:2] + ["00:01:48.0 admit A 1 fresh A"] + lines[3:])]
     module = camel(name)
-    write(CRATE / "specs" / (module + ".antt"), "\n".join(parts) + "\n")
+    write(crate / "specs" / (module + ".antt"), "\n".join(parts) + "\n")
     clauses = []
     if whole:
         clauses.append(("lawful", "IsTrue (is_complete input front)"))
@@ -91,24 +89,27 @@ def write_row(name, function, says, whole, leaves, places):
               "ghost use Rattle.rail_rules.specs.Fronts.{lines_beside_holds};",
               "ghost use Rattle.rail_rules.specs.Lawful.{is_complete};",
               "ghost use Rattle.rail_rules.specs.Plant.{bound};",
-              "ghost use Rattle.rail_rules.specs.Running.{is_run, is_run_history};",
+              "ghost use Rattle.rail_rules.specs.RunHistories.{is_run, is_run_history};",
               "ghost use Rattle.rail_rules.specs.Texts.{text};",
-              "ghost use Rattle.rail_rows.specs.%s.{%s};" % (module, ", ".join(names)), "",
+              "ghost use Rattle.rail_worked.specs.%s.{%s};" % (module, ", ".join(names)), "",
               "/// %s" % says, "pub fn %s()" % function]
     source += ["    ensures %s { %s }" % clause for clause in clauses] + ["{", "}", ""]
     rust = name.replace("-", "_") + "_row"
-    write(CRATE / "src" / (rust + ".rt"), "\n".join(source))
-    answers = ["use Rattle.std.proofs.Common.{refl, lit≤}", "use Rattle.std.specs.Fmt.{digits}", "use Rattle.rail_rows.proofs.%s.%s.Goals as goal" % (rust, function), ""]
+    write(crate / "src" / (rust + ".rt"), "\n".join(source))
+    answers = ["use Rattle.std.proofs.Common.{refl, lit≤}", "use Rattle.std.specs.Fmt.{digits}", "use Rattle.rail_worked.proofs.%s.%s.Goals as goal" % (rust, function), ""]
     for clause, statement in clauses:
         answers += ["pub returns-clause-%s : goal.returns-clause-%s%s" % (clause, clause, "\nunfolding digits" if clause == "text" else ""),
                     "returns-clause-%s c = %s" % (clause, "lit≤ tt" if "≤" in statement else "refl"), ""]
-    write(CRATE / "proofs" / rust / function / "Answers.antt", "\n".join(answers))
+    write(crate / "proofs" / rust / function / "Answers.antt", "\n".join(answers))
     return module, rust, function
 
 
 def main():
+    if len(sys.argv) != 2:
+        sys.exit(__doc__)
+    repository = pathlib.Path(sys.argv[1])
     for row in ROWS:
-        module, rust, function = write_row(*row)
+        module, rust, function = write_row(repository, *row)
         print(module, rust, function)
 
 

@@ -1,5 +1,7 @@
+-- The lemmas of this crate; those for the crates above stand in CallerLemmas.
+pub mod CallerLemmas
 mod Storing
 mod Reading
-pub mod Writing
+mod Writing
 mod Comparing
-pub mod Telling
+mod Telling

@@ -1,7 +1,7 @@
 -- How the bytes of a name are stored.
 use Rattle.std.proofs.Common.{◌≡◌, ℕ, ◌≤◌, List, ◌++◌, length, drop, take, replicate, arith, length-append, length-drop, ap, sym, ◌∙◌, IsTrue, subst}
 use Rattle.std.proofs.lemmas.List.{drop-replicate, drop_at, take_at, length-replicate}
-use Rattle.rail_base.specs.Naming.{is_name}
+use Rattle.rail_base.specs.NameForms.{is_name}
 use Rattle.rail_base.specs.NameFields.{IsNameInside}
 
 -- a name in front of zeros, sixteen bytes in all, is stored as a name

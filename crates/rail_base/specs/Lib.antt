@@ -1,5 +1,5 @@
 -- What the contracts of this crate, and the definitions above it, speak of.
-pub mod Naming
+pub mod NameForms
 pub mod NameFields
 pub mod Clock
-pub mod Refusing
+pub mod Refusals

@@ -3,12 +3,13 @@ use Rattle.std.specs.Prelude.{◌≡◌, ℕ, ◌-◌, ◌≤◌, List, ◌++◌
 use Rattle.std.proofs.Common.{ap, sym, ◌∙◌, arith}
 use Rattle.std.proofs.lemmas.List.{take-append-drop, length-take-le}
 use Rattle.rail_base.specs.declared.text.Name.TheInside.{Inside}
-use Rattle.rail_base.specs.Naming.{is_name}
+use Rattle.rail_base.specs.NameForms.{is_name}
 
 -- the bytes of the name
 abbrev pub bytes_of : Inside → List ℕ
 bytes_of a = take a.len a.bytes
 
+-- a name is stored so: its bytes, which are a name, fill the front of a room of sixteen, and zeros stand behind them
 pub record IsNameInside (a : Inside) : Type 0 where
   pub whole : length a.bytes ≡ 16
   pub short : a.len ≤ 16

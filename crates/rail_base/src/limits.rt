@@ -16,6 +16,11 @@ pub const KINDS: usize = 128;
 pub const TRAINS: usize = 128;
 /// Routes of an itinerary, of which there is at least one.
 pub const ITINERARY_ROUTES: usize = 64;
+/// Lines of a move, hold lines aside: its head enters and its tail frees each section, and it is ready,
+/// admitted and arrives.
+pub const MOVE_LINES: usize = 2 * ROUTE_SECTIONS + 3;
+/// Lines of the moves of a train, hold lines aside.
+pub const TRAIN_LINES: usize = ITINERARY_ROUTES * MOVE_LINES;
 /// Commands of a run.
 pub const COMMANDS: usize = 1024;
 /// Accepted edits that an editor keeps.
@@ -30,9 +35,9 @@ pub const FILE_BYTES: u64 = 1_048_576;
 /// Bytes of a history file that is read.
 pub const HISTORY_BYTES: u64 = 16_777_216;
 /// Trains of the list on a fresh line: the greatest number of moves of a plant.
-pub const LIST_TRAINS: usize = 8192;
+pub const LIST_TRAINS: usize = TRAINS * ITINERARY_ROUTES;
 /// Fresh lines of a history: the greatest number of moves of a plant.
-pub const FRESH_LINES: usize = 8192;
+pub const FRESH_LINES: usize = TRAINS * ITINERARY_ROUTES;
 
 /// Times in scene, timetable and command files, in tenths of a second: ten days.
 pub const INPUT_TIME: u64 = 8_640_000;

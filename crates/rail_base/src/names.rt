@@ -1,5 +1,5 @@
 ghost use Rattle.std.specs.Prelude.{◌≡◌, ◌≤◌, ◌^◌, length, position};
-ghost use Rattle.rail_base.specs.Naming.{same_name};
+ghost use Rattle.rail_base.specs.NameForms.{same_name};
 
 use crate::numbers::{SectionNo, TrainNo};
 use crate::text::Name;

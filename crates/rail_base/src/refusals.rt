@@ -1,5 +1,5 @@
 ghost use Rattle.std.specs.Prelude.{◌≡◌};
-ghost use Rattle.rail_base.specs.Refusing.{number_of};
+ghost use Rattle.rail_base.specs.Refusals.{number_of};
 
 use std::alloc::AllocError;
 use thiserror::Error;

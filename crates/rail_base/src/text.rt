@@ -1,7 +1,7 @@
 ghost use Rattle.std.specs.Prelude.{◌≡◌, ◌<◌, ◌≤◌, IsTrue, Some, None, if◌then◌else◌, length};
 ghost use Rattle.std.specs.List.{list_all};
 ghost use Rattle.std.specs.String.{string_bytes};
-ghost use Rattle.rail_base.specs.Naming.{is_name, is_name_byte};
+ghost use Rattle.rail_base.specs.NameForms.{is_name, is_name_byte};
 
 use crate::limits::NAME_BYTES;
 use std::hash::{Hash, Hasher};
@@ -58,7 +58,7 @@ impl Name {
 impl PartialEq for Name {
     ghost use Rattle.std.proofs.Common.{rules};
     ghost use Rattle.std.specs.Cmp.Rules.{comparing};
-    ghost use Rattle.rail_base.specs.Naming.{same_name};
+    ghost use Rattle.rail_base.specs.NameForms.{same_name};
 
     ghost eq = { same_name };
 

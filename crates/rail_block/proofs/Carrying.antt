@@ -6,7 +6,7 @@ use Rattle.std.proofs.Math.Seq.{get_or-append_seam}
 use Rattle.rail_rules.specs.Plant.{Plant, moves, steps, is_forced}
 use Rattle.rail_rules.specs.Times.{admitted, previous, is_admitted, free_run, ready_time, does_pass, start_time, head_time}
 use Rattle.rail_block.specs.declared.times.MoveTimes.{MoveTimes}
-use Rattle.rail_block.specs.Carried.{times_at, ready_after}
+use Rattle.rail_block.specs.CarriedTimes.{times_at, ready_after}
 
 -- the times of a move from whether it is admitted, the admission before, its own, and when the train runs freely to its beginning
 abbrev pub moved : Plant → ℕ → ℕ → Bool → ℕ → ℕ → ℕ → MoveTimes

@@ -5,7 +5,7 @@ use Rattle.rail_rules.specs.Intervals.{does_stand, is_open, clears_from, end_tim
 use Rattle.rail_rules.specs.Plant.{Plant, moves, steps}
 use Rattle.rail_rules.specs.Times.{is_admitted, passes, does_pass, go, free_run, stop_at, arrive, enter, leave, start_loss, previous, admitted}
 use Rattle.rail_block.specs.declared.times.MoveTimes.{MoveTimes}
-use Rattle.rail_block.specs.Carried.{times_at, next_at}
+use Rattle.rail_block.specs.CarriedTimes.{times_at, next_at}
 
 -- the next move is admitted, and its times are handed in
 pub next-some : (plant : Plant) (t : ℕ) (adms : List ℕ) (place : ℕ) (n : MoveTimes) → Some n ≡ next_at plant t adms place → (is_admitted adms place ≡ true) × (n ≡ times_at plant t adms (suc place))

@@ -6,7 +6,7 @@ use Rattle.rail_rules.specs.Intervals.{does_stand, is_undecided, clears_from, st
 use Rattle.rail_rules.specs.Plant.{Plant, steps, is_forced}
 use Rattle.rail_rules.specs.Times.{is_admitted, leave}
 use Rattle.rail_block.specs.declared.times.MoveTimes.{MoveTimes}
-use Rattle.rail_block.specs.Carried.{next_at}
+use Rattle.rail_block.specs.CarriedTimes.{next_at}
 use Rattle.rail_block.proofs.Placing.{before}
 use Rattle.rail_block.proofs.Ending.{next-is}
 

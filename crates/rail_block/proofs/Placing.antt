@@ -4,8 +4,8 @@ use Rattle.std.proofs.lemmas.Bool.{lt-ltb, le-ltb, cond-true, cond-false}
 use Rattle.rail_rules.specs.Plant.{Plant, moves}
 use Rattle.rail_rules.specs.Times.{ready_time, start_loss, head_time, enter}
 use Rattle.rail_block.specs.declared.times.MoveTimes.{MoveTimes}
-use Rattle.rail_block.specs.Carried.{times_at, ready_after}
-use Rattle.rail_block.specs.Stepping.{step_time}
+use Rattle.rail_block.specs.CarriedTimes.{times_at, ready_after}
+use Rattle.rail_block.specs.Steps.{step_time}
 
 -- the move that leads to a place
 pub before : (place : ℕ) → 1 ≤ place → place ≡ suc (place - 1)

@@ -1,3 +1,3 @@
 -- Which times a move carries to the next one.
-pub mod Carried
-pub mod Stepping
+pub mod CarriedTimes
+pub mod Steps

@@ -5,7 +5,7 @@ ghost use Rattle.std.specs.Option.{ForSome, option_copied};
 ghost use Rattle.rail_rules.specs.Intervals.{does_stand, end_of, end_time};
 ghost use Rattle.rail_rules.specs.Plant.{moves, step_section, steps, trains};
 ghost use Rattle.rail_rules.specs.Times.{arrive, clearing, leave, out, start_loss, stop_at};
-ghost use Rattle.rail_block.specs.Carried.{AreTimes, AreBelow, times_at};
+ghost use Rattle.rail_block.specs.CarriedTimes.{AreTimes, AreBelow, times_at};
 
 use crate::running::{
     after, clear_time_of, last_place, section_of_step, stand_at, start_loss, steps_of,

@@ -5,7 +5,7 @@ ghost use Rattle.std.specs.Option.{ForSome, option_copied};
 ghost use Rattle.rail_rules.specs.Intervals.{does_stand, interval_of, is_open, is_undecided, parts_of, standing_part};
 ghost use Rattle.rail_rules.specs.Plant.{is_forced, move_row, moves, steps, trains};
 ghost use Rattle.rail_rules.specs.Times.{enter, leave};
-ghost use Rattle.rail_block.specs.Carried.{AreBelow, AreTimes};
+ghost use Rattle.rail_block.specs.CarriedTimes.{AreBelow, AreTimes};
 
 use crate::ends::{cleared_from, does_stand, end_of, leave_time};
 use crate::running::{after, between, clear_time_of, section_of_step, steps_of};

@@ -2,7 +2,7 @@
 
 ghost use Rattle.std.specs.Prelude.{◌≡◌, ℕ, ◌≤◌, ◌++◌, List, length};
 ghost use Rattle.rail_rules.specs.Plant.{Plant};
-ghost use Rattle.rail_block.specs.Carried.{times_at};
+ghost use Rattle.rail_block.specs.CarriedTimes.{times_at};
 
 /// What is admitted later changes no times of a place that was reached before.
 pub fn later_admissions_change_no_earlier_times()

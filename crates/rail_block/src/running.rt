@@ -6,7 +6,7 @@ ghost use Rattle.rail_rules.specs.Accepted.{is_accepted, is_from_one};
 ghost use Rattle.rail_rules.specs.Moves.{stand};
 ghost use Rattle.rail_rules.specs.Plant.{moves, moves_of, run_over, section, step_section, steps, train, trains};
 ghost use Rattle.rail_rules.specs.Times.{clearing, start_loss};
-ghost use Rattle.rail_block.specs.Stepping.{step_time};
+ghost use Rattle.rail_block.specs.Steps.{step_time};
 
 use rail_base::{SectionNo, SectionRow, Time, TrainKind, TrainNo};
 use rail_plan::Plant;

@@ -3,7 +3,7 @@
 ghost use Rattle.std.specs.Prelude.{◌≡◌, ℕ, ◌+◌, ◌-◌, ◌<◌, ◌≤◌, ◌^◌, List};
 ghost use Rattle.rail_rules.specs.Plant.{moves, steps, trains};
 ghost use Rattle.rail_rules.specs.Times.{enter, head_time};
-ghost use Rattle.rail_block.specs.Carried.{AreBelow, times_at};
+ghost use Rattle.rail_block.specs.CarriedTimes.{AreBelow, times_at};
 
 use crate::running::{after, run_over, run_time_of_step, start_loss};
 use crate::times::MoveTimes;

@@ -2,7 +2,7 @@
 
 ghost use Rattle.std.specs.Prelude.{◌≡◌, ◌==◌, ◌&&◌, not, ℕ, ◌+◌, ◌-◌, ◌<◌, ◌≤◌, ◌^◌, ◌∷◌, ◌++◌, [], List, length, max};
 ghost use Rattle.rail_rules.specs.Plant.{is_forced, moves, trains};
-ghost use Rattle.rail_block.specs.Carried.{AreBelow, ready_after, times_at};
+ghost use Rattle.rail_block.specs.CarriedTimes.{AreBelow, ready_after, times_at};
 
 use crate::running::{last_place, may_be_run, steps_of};
 use crate::signals::{is_forced, ready_time, start_time};

@@ -1,22 +1,30 @@
 -- What a form answers, put together from what its parts answer.
-use Rattle.std.proofs.Common.{◌≡◌, ◌⊎◌, ℕ, Bool, true, false, cond, List, Option, Some, None, ⊎_elim, sym, ap, ◌∙◌, subst}
+use Rattle.std.proofs.Common.{◌≡◌, ℕ, ◌≤◌, ltb, cond, List, length, Option, Some, None, sym, ap, subst, ⊎_elim, arith}
+use Rattle.std.proofs.lemmas.Bool.{cases_Bool, ltb-true}
+use Rattle.rail_base.specs.declared.limits.TheConstants.{FILE_BYTES}
 use Rattle.rail_base.specs.declared.refusals.Refusal.{Refusal}
 use Rattle.rail_rules.specs.Numbers.{or_else}
-use Rattle.rail_rules.specs.Plant.{Plant}
-use Rattle.rail_scene.specs.Spelling.{spelled_scene}
+use Rattle.rail_io.specs.Writes.{Adds, AddsPrefix}
 use Rattle.rail_cli.specs.declared.status.Status.{Status}
-use Rattle.rail_cli.specs.declared.status.Status.TheVariants.{Done, Usage, Refused, ReadFault, WriteFault, OutOfMemory, CheckedNo}
-use Rattle.rail_cli.specs.Answers.{IsAnswer, is_first_come, list_refusal, not_yet, plant_in, plant_refusal, play_refusal, run_refusal}
+use Rattle.rail_cli.specs.Answers.{IsAnswer, plant_in}
+use Rattle.rail_cli.specs.Files.{too_large, too_many_bytes}
+use Rattle.rail_cli.specs.Plays.{play_refusal, play_text}
 
--- what was answered for one first refusal holds for the same one
-pub answer_from : (status : Status) (first other : Option Refusal) (whole part rest : Type 0) → other ≡ first → (part → rest) → IsAnswer first ⊥ part status → IsAnswer other whole rest status
-answer_from Done first other whole part rest e f h = absurd h.1
-answer_from Usage first other whole part rest e f h = h
-answer_from (Refused r) first other whole part rest e f h = e ∙ h
-answer_from ReadFault first other whole part rest e f h = h
-answer_from WriteFault first other whole part rest e f h = (e ∙ h.0, f h.1)
-answer_from OutOfMemory first other whole part rest e f h = h
-answer_from (CheckedNo line law) first other whole part rest e f h = h
+-- a file that is short enough is not refused for its size
+pub short_enough : (number : ℕ) (bytes : List ℕ) → length bytes ≤ FILE_BYTES → too_large number bytes ≡ None
+short_enough number bytes few = ap (λ b. cond b (Some (too_many_bytes number)) None)
+    (⊎_elim (λ large. absurd (omega (arith, ltb-true FILE_BYTES (length bytes) large, few))) (λ small. small) (cases_Bool (ltb FILE_BYTES (length bytes))))
 
-pub play_refused : (bytes list : List ℕ) (plant : Plant) → plant ≡ plant_in bytes → plant_refusal bytes ≡ None → play_refusal bytes list ≡ list_refusal plant list
-play_refused bytes list plant e accepted = ap (λ r. or_else r (list_refusal (plant_in bytes) list)) accepted ∙ ap (λ p. list_refusal p list) (sym e)
+-- where nothing is refused at first, the answer is that of what comes after it
+pub answer_after : (first later : Option Refusal) (whole part : Type 0) (status : Status) → first ≡ None → IsAnswer later whole part status → IsAnswer (or_else first later) whole part status
+answer_after first later whole part status none answer = subst (λ (refusal : Option Refusal). IsAnswer (or_else refusal later) whole part status) (sym none) answer
+
+-- what the player answers to files that were read whole
+pub play_answer : (before now : Option (List ℕ)) (status : Status) (bytes listed scene list : List ℕ) → scene ≡ bytes → list ≡ listed → too_large 1 scene ≡ None → too_large 2 list ≡ None
+    → IsAnswer (play_refusal scene list) (Adds before now (play_text (plant_in scene) list)) (AddsPrefix before now (play_text (plant_in scene) list)) status
+    → IsAnswer (or_else (too_large 1 bytes) (or_else (too_large 2 listed) (play_refusal bytes listed))) (Adds before now (play_text (plant_in bytes) listed)) (AddsPrefix before now (play_text (plant_in bytes) listed)) status
+play_answer before now status bytes listed scene list is_scene is_list short_scene short_list answer =
+    let Answer : List ℕ → List ℕ → Type 0 = λ scene list.
+    IsAnswer (or_else (too_large 1 scene) (or_else (too_large 2 list) (play_refusal scene list))) (Adds before now (play_text (plant_in scene) list)) (AddsPrefix before now (play_text (plant_in scene) list)) status in
+    let whole : Answer scene list = answer_after _ _ _ _ status short_scene (answer_after _ _ _ _ status short_list answer) in
+    subst (λ xs. Answer xs listed) is_scene (subst (λ xs. Answer scene xs) is_list whole)

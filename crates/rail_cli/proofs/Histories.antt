@@ -5,71 +5,68 @@ use Rattle.rail_base.specs.declared.history.What.{What}
 use Rattle.rail_base.specs.declared.history.What.TheVariants.{Free, Arrive, Enter, Out, Ready, Told, Untold, Admit, Hold, End}
 use Rattle.rail_base.specs.declared.history.Note.TheVariants.{Fresh}
 use Rattle.rail_base.specs.declared.history.Cause.{Cause}
-use Rattle.rail_bound.proofs.Bounded.{bounded}
-use Rattle.rail_bound.proofs.HoldLines.{holds_bounded}
-use Rattle.rail_completion.specs.Remaining.{NothingIsBarred}
-use Rattle.rail_completion.proofs.Ending.{complete_bound, complete_out}
-use Rattle.rail_invariant.proofs.Apart.{never_overlap}
-use Rattle.rail_invariant.proofs.PlacesKept.{kept_completes}
-use Rattle.rail_lines.proofs.Causing.{one_cause}
+use Rattle.rail_laws_events.proofs.CallerLemmas.{bounded, holds_bounded}
+use Rattle.rail_laws_end.specs.Remaining.{NothingIsBarred}
+use Rattle.rail_laws_end.proofs.CallerLemmas.{complete_bound, complete_out}
+use Rattle.rail_laws_front.proofs.CallerLemmas.{never_overlap, kept_completes, well_formed_from_accepted}
+use Rattle.rail_laws_text.proofs.CallerLemmas.{one_cause}
 use Rattle.rail_rules.specs.Accepted.{is_accepted, is_accepted_input}
 use Rattle.rail_rules.specs.Causes.{cause, is_repairable}
 use Rattle.rail_rules.specs.Fronts.{Front, Line, has_ended, lines_beside_holds, same_cause}
 use Rattle.rail_rules.specs.Lawful.{is_lawful, is_out, may_follow, may_follow_as}
 use Rattle.rail_rules.specs.Orders.{told, orders_of, is_closed, is_stopped, is_cancelled}
 use Rattle.rail_rules.specs.Plant.{Plant, bound, trains}
-use Rattle.rail_rules.specs.Running.{is_run, is_run_history, is_run_line, is_chosen}
-use Rattle.rail_standing.specs.Parts.{input_of, seats}
-use Rattle.rail_view.specs.Premises.{IsFine}
-use Rattle.rail_view.proofs.Accepting.{fine_from_accepted}
-use Rattle.rail_waiting.proofs.RunFronts.{run_lawful}
-use Rattle.rail_cli.specs.Runs.{IsSafe}
+use Rattle.rail_rules.specs.RunHistories.{is_run, is_run_history, is_run_line, is_chosen}
+use Rattle.rail_rules.specs.FcfsAlone.{seats}
+use Rattle.rail_laws_front.specs.Premises.{IsWellFormed}
+use Rattle.rail_laws_run.proofs.CallerLemmas.{run_lawful}
+use Rattle.rail_cli.specs.Runs.{IsSafe, run_input}
 
 -- the input of an accepted plant may be run
-pub input_accepted : (plant : Plant) → is_accepted plant ≡ true → is_accepted_input (input_of plant) ≡ true
+pub input_accepted : (plant : Plant) → is_accepted plant ≡ true → is_accepted_input (run_input plant) ≡ true
 input_accepted plant ok = and_from _ _ (and_from _ _ (and_from _ _ (and_from _ _ (and_from _ _ ok refl) refl) refl) refl) refl
 
 -- the first lines of a run are a run
-first_lines : (plant : Plant) (later before : Front) → is_run (input_of plant) seats (later ++ before) ≡ true → is_run (input_of plant) seats before ≡ true
+first_lines : (plant : Plant) (later before : Front) → is_run (run_input plant) seats (later ++ before) ≡ true → is_run (run_input plant) seats before ≡ true
 first_lines plant [] before run = run
 first_lines plant (line ∷ later) before run =
-    let both = and_parts (is_run (input_of plant) seats (later ++ before) && may_follow (input_of plant) (later ++ before) line) _ run in
-    first_lines plant later before (and_parts (is_run (input_of plant) seats (later ++ before)) _ both.0).0
+    let both = and_parts (is_run (run_input plant) seats (later ++ before) && may_follow (run_input plant) (later ++ before) line) _ run in
+    first_lines plant later before (and_parts (is_run (run_input plant) seats (later ++ before)) _ both.0).0
 
 -- what holds of the last line of a run
-last_line : (plant : Plant) (line : Line) (before : Front) → is_run (input_of plant) seats (line ∷ before) ≡ true → (may_follow_as (input_of plant) before line line.entry.what ≡ true) × (is_run_line (input_of plant) seats before line.entry.what ≡ true)
+last_line : (plant : Plant) (line : Line) (before : Front) → is_run (run_input plant) seats (line ∷ before) ≡ true → (may_follow_as (run_input plant) before line line.entry.what ≡ true) × (is_run_line (run_input plant) seats before line.entry.what ≡ true)
 last_line plant line before run =
-    let both = and_parts (is_run (input_of plant) seats before && may_follow (input_of plant) before line) (is_run_line (input_of plant) seats before line.entry.what) run in
-    let may = (and_parts (is_run (input_of plant) seats before) (may_follow (input_of plant) before line) both.0).1 in
-    ((and_parts (not (has_ended before)) (may_follow_as (input_of plant) before line line.entry.what) may).1, both.1)
+    let both = and_parts (is_run (run_input plant) seats before && may_follow (run_input plant) before line) (is_run_line (run_input plant) seats before line.entry.what) run in
+    let may = (and_parts (is_run (run_input plant) seats before) (may_follow (run_input plant) before line) both.0).1 in
+    ((and_parts (not (has_ended before)) (may_follow_as (run_input plant) before line line.entry.what) may).1, both.1)
 
 -- a hold line names the true cause
-true_cause : (plant : Plant) (line : Line) (before : Front) (t m : ℕ) (why : Cause) → is_run (input_of plant) seats (line ∷ before) ≡ true → line.entry.what ≡ Hold t m why → cause (input_of plant) before t ≡ Some why
+true_cause : (plant : Plant) (line : Line) (before : Front) (t m : ℕ) (why : Cause) → is_run (run_input plant) seats (line ∷ before) ≡ true → line.entry.what ≡ Hold t m why → cause (run_input plant) before t ≡ Some why
 true_cause plant line before t m why run is =
-    let holds = subst (λ (what : What). may_follow_as (input_of plant) before line what ≡ true) is (last_line plant line before run).0 in
-    sym (one_cause (Some why) (cause (input_of plant) before t) (and_parts _ (same_cause (Some why) (cause (input_of plant) before t)) holds).1)
+    let holds = subst (λ (what : What). may_follow_as (run_input plant) before line what ≡ true) is (last_line plant line before run).0 in
+    sym (one_cause (Some why) (cause (run_input plant) before t) (and_parts _ (same_cause (Some why) (cause (run_input plant) before t)) holds).1)
 
 -- a fresh list comes only where the repaired one doesn't complete
-repaired : (plant : Plant) (line : Line) (before : Front) (t m : ℕ) → is_run (input_of plant) seats (line ∷ before) ≡ true → line.entry.what ≡ Admit t m Fresh → is_repairable (input_of plant) before t ≡ false
+repaired : (plant : Plant) (line : Line) (before : Front) (t m : ℕ) → is_run (run_input plant) seats (line ∷ before) ≡ true → line.entry.what ≡ Admit t m Fresh → is_repairable (run_input plant) before t ≡ false
 repaired plant line before t m run is =
-    let of_run = subst (λ (what : What). is_run_line (input_of plant) seats before what ≡ true) is (last_line plant line before run).1 in
-    let both = and_parts (not (is_some (cause (input_of plant) before t)) && not (is_repairable (input_of plant) before t)) (is_chosen (input_of plant) seats before t) of_run in
-    not-true (is_repairable (input_of plant) before t) (and_parts (not (is_some (cause (input_of plant) before t))) (not (is_repairable (input_of plant) before t)) both.0).1
+    let of_run = subst (λ (what : What). is_run_line (run_input plant) seats before what ≡ true) is (last_line plant line before run).1 in
+    let both = and_parts (not (is_some (cause (run_input plant) before t)) && not (is_repairable (run_input plant) before t)) (is_chosen (run_input plant) seats before t) of_run in
+    not-true (is_repairable (run_input plant) before t) (and_parts (not (is_some (cause (run_input plant) before t))) (not (is_repairable (run_input plant) before t)) both.0).1
 
 -- what every run keeps
-pub safe_run : (plant : Plant) → is_accepted plant ≡ true → (front : Front) → is_run (input_of plant) seats front ≡ true → IsSafe plant front
+pub safe_run : (plant : Plant) → is_accepted plant ≡ true → (front : Front) → is_run (run_input plant) seats front ≡ true → IsSafe plant front
 safe_run plant ok front run =
-    let fine : IsFine plant = fine_from_accepted plant ok in
-    let lawful : is_lawful (input_of plant) front ≡ true = run_lawful (input_of plant) seats front run in
-    let first : (later before : Front) → front ≡ later ++ before → is_run (input_of plant) seats before ≡ true =
-    λ later before is. first_lines plant later before (subst (λ (f : Front). is_run (input_of plant) seats f ≡ true) is run) in
+    let fine : IsWellFormed plant = well_formed_from_accepted plant ok in
+    let lawful : is_lawful (run_input plant) front ≡ true = run_lawful (run_input plant) seats front run in
+    let first : (later before : Front) → front ≡ later ++ before → is_run (run_input plant) seats before ≡ true =
+    λ later before is. first_lines plant later before (subst (λ (f : Front). is_run (run_input plant) seats f ≡ true) is run) in
     record {
-      apart = never_overlap (input_of plant) fine front lawful;
-      complete = λ later before is. (kept_completes (input_of plant) fine before (run_lawful (input_of plant) seats before (first later before is))).completing;
+      apart = never_overlap (run_input plant) fine front lawful;
+      complete = λ later before is. (kept_completes (run_input plant) fine before (run_lawful (run_input plant) seats before (first later before is))).completing;
       causes = λ later before line t m why is what. true_cause plant line before t m why (first later (line ∷ before) is) what;
       repaired = λ later before line t m is what. repaired plant line before t m (first later (line ∷ before) is) what;
-      few = bounded (input_of plant) fine front lawful;
-      few_holds = λ t. holds_bounded (input_of plant) fine t front lawful;
+      few = bounded (run_input plant) fine front lawful;
+      few_holds = λ t. holds_bounded (run_input plant) fine t front lawful;
     }
 
 -- nothing was told where there is no command
@@ -90,14 +87,14 @@ told_none [] = refl
 told_none (line ∷ front) = rw (orders_none line.entry.what, told_none front) refl
 
 -- at the end of a run every train is out, and there are as many lines as the bound says
-pub all_left : (plant : Plant) → is_accepted plant ≡ true → (front : Front) → is_run_history (input_of plant) seats front ≡ true → ((t : ℕ) → t < trains plant → is_out front t ≡ true) × (lines_beside_holds front ≡ bound plant 0)
+pub all_left : (plant : Plant) → is_accepted plant ≡ true → (front : Front) → is_run_history (run_input plant) seats front ≡ true → ((t : ℕ) → t < trains plant → is_out front t ≡ true) × (lines_beside_holds front ≡ bound plant 0)
 all_left plant ok front history =
-    let fine : IsFine plant = fine_from_accepted plant ok in
-    let both = and_parts (is_run (input_of plant) seats front) (has_ended front) history in
-    let complete = and_from (is_lawful (input_of plant) front) (has_ended front) (run_lawful (input_of plant) seats front both.0) both.1 in
+    let fine : IsWellFormed plant = well_formed_from_accepted plant ok in
+    let both = and_parts (is_run (run_input plant) seats front) (has_ended front) history in
+    let complete = and_from (is_lawful (run_input plant) front) (has_ended front) (run_lawful (run_input plant) seats front both.0) both.1 in
     let none = told_none front in
     let running : (t : ℕ) → is_cancelled t (told [] front) ≡ false = λ t. ap (is_cancelled t) none in
-    let barred : NothingIsBarred (input_of plant) front = record { opened = λ x. ap (is_closed x) none; going = λ t. ap (is_stopped t) none } in (
-      λ t lt. ⊎_elim (λ out. out) (λ cancelled. absurd (false≢true (sym (running t) ∙ cancelled))) (complete_out (input_of plant) fine front complete barred t lt),
-      complete_bound (input_of plant) fine front complete barred running,
+    let barred : NothingIsBarred (run_input plant) front = record { opened = λ x. ap (is_closed x) none; going = λ t. ap (is_stopped t) none } in (
+      λ t lt. ⊎_elim (λ out. out) (λ cancelled. absurd (false≢true (sym (running t) ∙ cancelled))) (complete_out (run_input plant) fine front complete barred t lt),
+      complete_bound (run_input plant) fine front complete barred running,
     )

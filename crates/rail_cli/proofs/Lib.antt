@@ -1,8 +1,8 @@
-pub mod Counting
-pub mod Histories
-pub mod SoFar
-pub mod Told
-pub mod Results
-pub mod Listed
-pub mod Answers
-pub mod Asked
+mod LineBounds
+mod Histories
+mod Progress
+mod InfraTexts
+mod Writes
+mod Lists
+mod Answers
+mod Forms

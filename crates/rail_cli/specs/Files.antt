@@ -1,48 +1,67 @@
--- Why a file is not read.
-use Rattle.std.specs.Prelude.{◌≡◌, ℕ, ◌<◌, Bool, true, false, not, List, Option, Some, None}
+-- The files of a command, and why one is not read.
+use Rattle.std.specs.Prelude.{◌≡◌, ◌⊎◌, ℕ, ◌<◌, Bool, true, false, not, cond, nat_lt, length, List, [], ◌∷◌, Option, Some, None}
 use Rattle.rail_base.specs.declared.limits.TheConstants.{FILE_BYTES}
 use Rattle.rail_base.specs.declared.refusals.Refusal.{Refusal}
 use Rattle.rail_base.specs.declared.refusals.Part.{Part}
 use Rattle.rail_base.specs.declared.refusals.Reason.TheVariants.{TooMany}
 use Rattle.rail_base.specs.declared.refusals.Part.TheVariants.{File}
-use Rattle.rail_io.specs.Counting.{Rose}
+use Rattle.rail_io.specs.FaultCounts.{Rose}
+use Rattle.rail_io.specs.declared.shelf.Shelf.{Ghosts}
 use Rattle.rail_cli.specs.declared.status.Status.{Status}
 use Rattle.rail_cli.specs.declared.status.Status.TheVariants.{Done, Usage, Refused, ReadFault, WriteFault, OutOfMemory, CheckedNo}
-use Rattle.rail_cli.specs.Answers.{too_large}
 
--- the file is too large: it is the one of this number, more bytes were moved than a file may have, and where its bytes are told they are more
-pub record IsTooLarge (number : ℕ) (told : Option (List ℕ)) (moved : ℕ) (answer : Refusal) : Type 0 where
-  pub is : answer ≡ record { reason = TooMany; part = File; item = number; step = 0 }
-  pub over : FILE_BYTES < moved
-  pub larger : (bytes : List ℕ) → told ≡ Some bytes → too_large number bytes ≡ Some answer
+-- the refusal of a file for its size, by its number among the file words
+abbrev pub too_many_bytes : ℕ → Refusal
+too_many_bytes number = record { reason = TooMany; part = File; item = number; step = 0 }
 
--- a fault of reading: the count of faults rose, and the failed name is this one
-pub record IsReadFault (name : List ℕ) (before now : ℕ) (failed : Option (List ℕ)) : Type 0 where
-  pub rose : Rose before now
-  pub named : failed ≡ Some name
+-- why bytes of the file of this number are refused before they are read: they are more than a file may have
+abbrev pub too_large : ℕ → List ℕ → Option Refusal
+too_large number bytes = cond (nat_lt FILE_BYTES (length bytes)) (Some (too_many_bytes number)) None
 
--- why the file of this name was not read
-abbrev pub IsFileAnswer : ℕ → List ℕ → Option (List ℕ) → ℕ → ℕ → Option (List ℕ) → ℕ → Status → Type 0
-IsFileAnswer number name told before now failed moved Done = ⊥
-IsFileAnswer number name told before now failed moved Usage = ⊥
-IsFileAnswer number name told before now failed moved (Refused refusal) = IsTooLarge number told moved refusal
-IsFileAnswer number name told before now failed moved ReadFault = IsReadFault name before now failed
-IsFileAnswer number name told before now failed moved WriteFault = ⊥
-IsFileAnswer number name told before now failed moved OutOfMemory = Unit {0}
-IsFileAnswer number name told before now failed moved (CheckedNo line law) = ⊥
+-- one of the files has this name
+abbrev pub IsOneOf : List (List ℕ) → Option (List ℕ) → Type 0
+IsOneOf [] name = ⊥
+IsOneOf (file ∷ files) name = (name ≡ Some file) ⊎ IsOneOf files name
+
+-- the last of the files
+abbrev pub last_file : List (List ℕ) → Option (List ℕ)
+last_file [] = None
+last_file (file ∷ []) = Some file
+last_file (file ∷ next ∷ files) = last_file (next ∷ files)
+
+-- a fault of reading: the count of faults rose, and the failed name is that of one of the files
+pub record IsReadFault {S : Type 0} (shelf : Ghosts S) (files : List (List ℕ)) (before now : S) : Type 0 where
+  pub rose : Rose (shelf.faults before) (shelf.faults now)
+  pub named : IsOneOf files (shelf.failed now)
 
 -- the file of this name was begun and read to its end, and no call failed at it
-pub record IsRead (name : List ℕ) (begun : Option (List ℕ)) (ended : Bool) (failed : Option (List ℕ)) : Type 0 where
-  pub is_begun : begun ≡ Some name
-  pub is_ended : ended ≡ true
-  pub none_failed : failed ≡ None
+pub record IsRead {S : Type 0} (shelf : Ghosts S) (file : List ℕ) (now : S) : Type 0 where
+  pub is_begun : shelf.begun now ≡ Some file
+  pub is_ended : shelf.ended now ≡ true
+  pub none_failed : shelf.failed now ≡ None
+
+-- the file is too large: more bytes were moved than a file may have, and where its bytes are told they are more
+pub record IsTooLarge {S : Type 0} (shelf : Ghosts S) (number : ℕ) (file : List ℕ) (before now : S) (answer : Refusal) : Type 0 where
+  pub is : answer ≡ too_many_bytes number
+  pub over : FILE_BYTES < shelf.moved now
+  pub larger : (bytes : List ℕ) → shelf.told before file ≡ Some bytes → too_large number bytes ≡ Some answer
+
+-- why the file of this name, which has this number, was not read
+abbrev pub IsFileAnswer : {S : Type 0} → Ghosts S → ℕ → List ℕ → S → S → Status → Type 0
+IsFileAnswer shelf number file before now Done = ⊥
+IsFileAnswer shelf number file before now Usage = ⊥
+IsFileAnswer shelf number file before now (Refused refusal) = IsTooLarge shelf number file before now refusal
+IsFileAnswer shelf number file before now ReadFault = IsReadFault shelf (file ∷ []) before now
+IsFileAnswer shelf number file before now WriteFault = ⊥
+IsFileAnswer shelf number file before now OutOfMemory = Unit {0}
+IsFileAnswer shelf number file before now (CheckedNo line law) = ⊥
 
 -- the part is a file, which is refused for its size
 abbrev pub is_file : Part → Bool
 is_file File = true
 is_file part = false
 
--- with this answer the last file was read to its end: the answer is no fault of reading, no want of memory and no refusal of a file for its size
+-- with this status the last file was read to its end: it is no fault of reading, no want of memory and no refusal of a file for its size
 abbrev pub comes_of_files : Status → Bool
 comes_of_files Done = true
 comes_of_files WriteFault = true

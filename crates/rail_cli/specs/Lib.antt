@@ -1,8 +1,9 @@
--- What the contracts of this crate speak of.
+-- What the contracts of this crate speak of: statuses, what every form promises, what each form answers, and the table of the forms.
 pub mod Statuses
-pub mod Runs
-pub mod Counts
-pub mod Answering
-pub mod Answers
 pub mod Files
-pub mod Asked
+pub mod Promises
+pub mod Answers
+pub mod Runs
+pub mod Infra
+pub mod Plays
+pub mod Forms

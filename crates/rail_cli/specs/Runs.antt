@@ -1,33 +1,57 @@
--- What a run writes.
-use Rattle.std.specs.Prelude.{◌≡◌, ℕ, ◌<◌, ◌≤◌, false, IsTrue, List, ◌∷◌, ◌++◌, Option, Some}
+-- The form `run`: the history of a scene.
+use Rattle.std.specs.Prelude.{◌≡◌, ℕ, ◌<◌, ◌≤◌, Bool, false, cond, IsTrue, List, ◌∷◌, ◌++◌, codes, Option, Some, None}
+use Rattle.rail_base.specs.NameForms.{same_name}
+use Rattle.rail_base.specs.declared.refusals.Refusal.{Refusal}
 use Rattle.rail_base.specs.declared.history.Note.TheVariants.{Fresh}
 use Rattle.rail_base.specs.declared.history.Cause.{Cause}
 use Rattle.rail_base.specs.declared.history.What.TheVariants.{Admit, Hold}
-use Rattle.rail_bound.specs.Counts.{holds_train, lines_that}
-use Rattle.rail_io.specs.Writing.{Adds, AddsPrefix}
-use Rattle.rail_invariant.specs.Invariant.{NeverOverlap}
+use Rattle.rail_rules.specs.LineCounts.{holds_train, lines_that}
+use Rattle.rail_io.specs.Writes.{Adds, AddsPrefix}
 use Rattle.rail_rules.specs.Causes.{cause, is_repairable}
 use Rattle.rail_rules.specs.Fronts.{Front, Line, kept, lines_beside_holds, places}
 use Rattle.rail_rules.specs.Lawful.{is_out}
 use Rattle.rail_rules.specs.Places.{completes}
 use Rattle.rail_rules.specs.Plant.{Plant, bound, moves_of, trains}
-use Rattle.rail_rules.specs.Running.{is_run, is_run_history}
+use Rattle.rail_rules.specs.RunHistories.{is_run, is_run_history}
 use Rattle.rail_rules.specs.Texts.{text}
-use Rattle.rail_standing.specs.Parts.{input_of, seats}
+use Rattle.rail_rules.specs.FcfsAlone.{fcfs_alone, seats}
+use Rattle.rail_rules.specs.Overlaps.{NeverOverlap}
+use Rattle.rail_rules.specs.Orders.{Input, input_of}
+use Rattle.rail_rules.specs.Numbers.{or_else}
+use Rattle.rail_scene.specs.SpelledScenes.{spelled_scene}
+use Rattle.rail_scene.specs.declared.scene.Scene.{Scene}
+use Rattle.rail_cli.specs.declared.status.Status.{Status}
+use Rattle.rail_cli.specs.Answers.{IsAnswer, Told, not_yet, plant_in, plant_refusal}
+use Rattle.rail_cli.specs.Files.{too_large}
+
+-- the input of a run: the plant, no commands, and the one policy `fcfs`
+abbrev pub run_input : Plant → Input
+run_input plant = input_of fcfs_alone plant
+
+-- the scene's policy is `fcfs`, by which the train that was ready first goes first
+abbrev pub is_first_come : Scene → Bool
+is_first_come scene = same_name scene.policy (codes "fcfs")
+
+-- why a run is refused; scenes of other policies are not run yet
+abbrev pub run_refusal : List ℕ → Option Refusal
+run_refusal bytes = or_else (plant_refusal bytes) (cond (is_first_come (spelled_scene bytes)) None (Some not_yet))
 
 -- what a run keeps at each of its lines: blocking intervals of one section never overlap, the kept list always brings every train inside to its exit, each hold line names the true cause, a repaired list goes before a fresh one, and no line and no hold line of a train is more than the bound says
 pub record IsSafe (plant : Plant) (front : Front) : Type 0 where
   pub apart : NeverOverlap plant front
-  pub complete : (later before : Front) → front ≡ later ++ before → IsTrue (completes (moves_of plant) (places plant before) (kept plant before))
-  pub causes : (later before : Front) (line : Line) (t m : ℕ) (why : Cause) → front ≡ later ++ line ∷ before → line.entry.what ≡ Hold t m why → cause (input_of plant) before t ≡ Some why
-  pub repaired : (later before : Front) (line : Line) (t m : ℕ) → front ≡ later ++ line ∷ before → line.entry.what ≡ Admit t m Fresh → is_repairable (input_of plant) before t ≡ false
+  pub complete : (later before : Front) → front ≡ later ++ before
+      → IsTrue (completes (moves_of plant) (places plant before) (kept plant before))
+  pub causes : (later before : Front) (line : Line) (t m : ℕ) (why : Cause) → front ≡ later ++ line ∷ before
+      → line.entry.what ≡ Hold t m why → cause (run_input plant) before t ≡ Some why
+  pub repaired : (later before : Front) (line : Line) (t m : ℕ) → front ≡ later ++ line ∷ before
+      → line.entry.what ≡ Admit t m Fresh → is_repairable (run_input plant) before t ≡ false
   pub few : lines_beside_holds front ≤ bound plant 0
   pub few_holds : (t : ℕ) → lines_that (holds_train t) front ≤ bound plant 0
 
 -- the bytes added are the text of a run history, in which every event line is the due one; at its end every train has left, and it has exactly as many lines as the bound says, hold lines aside
 pub record IsRun (plant : Plant) (before now : Option (List ℕ)) : Type 0 where
   pub front : Front
-  pub history : IsTrue (is_run_history (input_of plant) seats front)
+  pub history : IsTrue (is_run_history (run_input plant) seats front)
   pub safe : IsSafe plant front
   pub left : (t : ℕ) → t < trains plant → IsTrue (is_out front t)
   pub exact : lines_beside_holds front ≡ bound plant 0
@@ -36,6 +60,12 @@ pub record IsRun (plant : Plant) (before now : Option (List ℕ)) : Type 0 where
 -- the bytes added are a first part of the text of a run front
 pub record IsRunInPart (plant : Plant) (before now : Option (List ℕ)) : Type 0 where
   pub front : Front
-  pub run : IsTrue (is_run (input_of plant) seats front)
+  pub run : IsTrue (is_run (run_input plant) seats front)
   pub safe : IsSafe plant front
   pub adds : AddsPrefix before now (text plant front)
+
+-- the history of the scene, where the bytes of its file are told
+abbrev pub AnswersRun : List ℕ → Told → Option (List ℕ) → Option (List ℕ) → Status → Type 0
+AnswersRun scene told before now status = (bytes : List ℕ) → told scene ≡ Some bytes
+    → IsAnswer (or_else (too_large 1 bytes) (run_refusal bytes))
+    (IsRun (plant_in bytes) before now) (IsRunInPart (plant_in bytes) before now) status

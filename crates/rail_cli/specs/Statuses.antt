@@ -1,11 +1,12 @@
 -- The status of a command, as a number and as text.
-use Rattle.std.specs.Prelude.{ℕ, List, [], ◌++◌, codes, decimal}
-use Rattle.rail_base.specs.Refusing.{number_of}
+use Rattle.std.specs.Prelude.{ℕ, List, [], ◌∷◌, ◌++◌, codes, decimal}
+use Rattle.rail_base.specs.Refusals.{number_of}
 use Rattle.rail_base.specs.declared.refusals.Refusal.{Refusal}
 use Rattle.rail_base.specs.declared.refusals.Reason.{Reason}
 use Rattle.rail_base.specs.declared.refusals.Reason.TheVariants.{NotToml, KeyMissing, WrongKind, KeyUnknown, BadName, Repeated, Unknown, Range, JointCrowded, PostPlace, RouteBroken, RouteRepeat, ItineraryBroken, NotPortal, TooLong, SelfBlocked, TooMany, TimetableForm, TimetableValue, InUse, UnknownPolicy, CommandForm, CommandName, CommandOrder, HistoryForm, LineEmpty, WindowEmpty, SnapshotForm, SnapshotOther, NoPath, EditForm, NothingToUndo, NothingToRedo, ListForm, ListName, ListPlaces, RerouteForm, RerouteName, NotYet}
 use Rattle.rail_base.specs.declared.refusals.Part.{Part}
 use Rattle.rail_base.specs.declared.refusals.Part.TheVariants.{Bytes, Root, Section, Portal, Signal, Board, Turn, Route, Kind, Train, Row, Line, Word, File}
+use Rattle.rail_history.specs.Lines.{behind}
 use Rattle.rail_cli.specs.declared.status.Status.{Status}
 use Rattle.rail_cli.specs.declared.status.Status.TheVariants.{Done, Usage, Refused, ReadFault, WriteFault, OutOfMemory, CheckedNo}
 
@@ -81,8 +82,8 @@ part_text File = codes "file"
 -- a refusal is told by its number and reason, and where it lies
 abbrev pub refusal_text : Refusal → List ℕ
 refusal_text refusal =
-    codes "refused " ++ decimal (number_of refusal.reason) ++ codes " " ++ reason_text refusal.reason ++ codes " " ++ part_text refusal.part
-    ++ codes " " ++ decimal refusal.item ++ codes " " ++ decimal refusal.step
+    codes "refused" ++ behind (decimal (number_of refusal.reason) ∷ reason_text refusal.reason ∷ part_text refusal.part
+    ∷ decimal refusal.item ∷ decimal refusal.step ∷ [])
 
 -- the text of a status
 abbrev pub status_text : Status → List ℕ
@@ -92,4 +93,4 @@ status_text (Refused refusal) = refusal_text refusal
 status_text ReadFault = codes "read fault"
 status_text WriteFault = codes "write fault"
 status_text OutOfMemory = codes "out of memory"
-status_text (CheckedNo line law) = codes "checked no " ++ decimal line ++ codes " " ++ decimal law
+status_text (CheckedNo line law) = codes "checked no" ++ behind (decimal line ∷ decimal law ∷ [])

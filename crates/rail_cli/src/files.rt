@@ -1,9 +1,8 @@
 //! The files of a command, read one after another.
 
-ghost use Rattle.std.specs.Prelude.{◌≡◌, ◌<◌, ◌≤◌, ℕ, List, Some, IfOk, IfErr, OnOk, length};
+ghost use Rattle.std.specs.Prelude.{◌≡◌, ◌≤◌, ℕ, List, None, Some, IfOk, IfErr, OnOk, length};
 ghost use Rattle.rail_base.specs.declared.limits.TheConstants.{FILE_BYTES};
-ghost use Rattle.rail_cli.specs.Answers.{too_large};
-ghost use Rattle.rail_cli.specs.Files.{IsFileAnswer, IsRead};
+ghost use Rattle.rail_cli.specs.Files.{IsFileAnswer, IsRead, too_large, too_many_bytes};
 
 use crate::status::Status;
 use rail_base::limits::FILE_BYTES;
@@ -22,20 +21,28 @@ pub fn read_file<S: Shelf>(
 ) -> Result<Vec<u8>, Status>
     ensures bytes { IfOk result (λ bytes. (told : List ℕ) → S.told shelf.old name.now ≡ Some told → bytes.items ≡ told) }
     ensures short { IfOk result (λ bytes. length bytes.items ≤ FILE_BYTES) }
-    ensures read { OnOk result (IsRead name.now (S.begun shelf.new) (S.ended shelf.new) (S.failed shelf.new)) }
-    ensures refused { IfErr result (IsFileAnswer number name.now (S.told shelf.old name.now) (S.faults shelf.old) (S.faults shelf.new) (S.failed shelf.new) (S.moved shelf.new)) }
+    ensures fits { IfOk result (λ bytes. too_large number bytes.items ≡ None) }
+    ensures read { OnOk result (IsRead S.Shelf name.now shelf.new) }
+    ensures refused { IfErr result (IsFileAnswer S.Shelf number name.now shelf.old shelf.new) }
     ensures told_stays { S.told shelf.new ≡ S.told shelf.old }
     ensures faults_never_fall { S.faults shelf.old ≤ S.faults shelf.new }
 {
     match read_whole(alloc, shelf, name, FILE_BYTES) {
         Ok(bytes) => Ok(bytes),
         Err(ReadWhole::ReadFault) => Err(Status::ReadFault),
-        Err(ReadWhole::TooLarge) => Err(Status::Refused(Refusal {
-            reason: Reason::TooMany,
-            part: Part::File,
-            item: number,
-            step: 0,
-        })),
+        Err(ReadWhole::TooLarge) => Err(Status::Refused(too_many_bytes(number))),
         Err(ReadWhole::OutOfMemory) => Err(Status::OutOfMemory),
+    }
+}
+
+/// The refusal of a file for its size, by its number.
+fn too_many_bytes(number: u32) -> Refusal
+    ensures { result ≡ too_many_bytes number }
+{
+    Refusal {
+        reason: Reason::TooMany,
+        part: Part::File,
+        item: number,
+        step: 0,
     }
 }

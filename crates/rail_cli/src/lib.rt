@@ -1,16 +1,16 @@
 //! The top call: what a command line asks for, from the bytes of its files to the bytes of its answer.
 //!
-//! This layer stands on all others and joins them: `rail` in `src/top.rt` reads the files from a shelf and hands
-//! them to one form, and its contract is the promise of the program. What each form answers is defined in
-//! `specs/Answers.antt` and `specs/Asked.antt`, and what a run writes in `specs/Runs.antt`. The contract of `rail`,
-//! the exit statuses and the texts are relied upon; how the forms are put together may be changed freely.
+//! This layer stands on all others and joins them: `rail` in `src/top.rt` hands the words to the module of their
+//! form in `src/commands`, and its contract is the promise of the program. What every form promises of the files
+//! and of the output is one record, `KeepsPromise` in `specs/Promises.antt`; what it answers is defined in a module
+//! of its own, as what a run writes in `specs/Runs.antt`, and `specs/Forms.antt` has the table of the forms. The
+//! contract of `rail`, the exit statuses and the texts are relied upon; how the forms are put together may be
+//! changed freely.
 #![tactic(auto)]
 
+mod commands;
 mod files;
 mod help;
-mod infra;
-mod playing;
-mod running;
 mod scenes;
 mod status;
 #[cfg(test)]

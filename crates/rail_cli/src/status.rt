@@ -1,9 +1,13 @@
-ghost use Rattle.std.specs.Prelude.{◌≡◌, ℕ, ◌+◌, ◌≤◌, ◌++◌, decimal, drop, length, take};
-ghost use Rattle.rail_base.specs.Refusing.{number_of};
+//! How a command ended, its exit status and its text.
+
+ghost use Rattle.std.specs.Prelude.{◌≡◌, ◌+◌, ◌≤◌, ◌++◌, ◌∷◌, [], decimal, drop, length, take};
+ghost use Rattle.rail_base.specs.Refusals.{number_of};
+ghost use Rattle.rail_history.specs.declared.line.TheConstants.{ROOM};
 ghost use Rattle.rail_cli.specs.Statuses.{exit_of, part_text, reason_text, refusal_text, status_text};
 
-use itoa::Buffer;
-use rail_base::{Part, Reason, Refusal};
+use rail_base::{Fault, OutOfMemory, Part, Reason, Refusal};
+use rail_history::Line;
+use rail_io::Failed;
 
 /// How a command ended.
 #[derive(Clone, Copy, Debug, PartialEq, Eq)]
@@ -24,6 +28,14 @@ pub enum Status {
     /// from 1, and the law that it breaks.
     CheckedNo { line: u32, law: u8 },
 }
+
+/// The refusal of a form that is not built yet.
+pub const NOT_YET: Refusal = Refusal {
+    reason: Reason::NotYet,
+    part: Part::Root,
+    item: 0,
+    step: 0,
+};
 
 impl Status {
     /// The exit status of the program.
@@ -47,63 +59,89 @@ impl Status {
         ensures len { result ≡ length (status_text self.now) }
         ensures rest { drop result into.new ≡ drop result into.old }
     {
-        match *self {
-            Status::Done => 0,
-            Status::Usage => put(into, 0, b"usage"),
-            Status::Refused(refusal) => put_refusal(into, refusal),
-            Status::ReadFault => put(into, 0, b"read fault"),
-            Status::WriteFault => put(into, 0, b"write fault"),
-            Status::OutOfMemory => put(into, 0, b"out of memory"),
-            Status::CheckedNo { line, law } => {
-                let at = put(into, 0, b"checked no ");
-                let at = put_number(into, at, line);
-                let at = put(into, at, b" ");
-                put_number(into, at, u32::from(law))
-            }
+        let mut line = Line::new();
+        put_status(&mut line, *self);
+        let text = line.as_slice();
+        into[..text.len()].copy_from_slice(text);
+        text.len()
+    }
+}
+
+impl From<Fault> for Status {
+    ghost use Rattle.rail_cli.specs.Answers.{status_of};
+
+    ghost from_gives = { λ fault end. end ≡ status_of fault };
+
+    fn from(fault: Fault) -> Status {
+        match fault {
+            Fault::Refused(refusal) => Status::Refused(refusal),
+            Fault::OutOfMemory => Status::OutOfMemory,
         }
     }
 }
 
-/// Puts the text of a refusal at the front, and gives its length.
-fn put_refusal(into: &mut [u8; 64], refusal: Refusal) -> usize
-    ensures text { take result into.new ≡ refusal_text refusal }
-    ensures len { result ≡ length (refusal_text refusal) }
-    ensures rest { drop result into.new ≡ drop result into.old }
-{
-    let at = put(into, 0, b"refused ");
-    let at = put_number(into, at, u32::from(refusal.reason.number()));
-    let at = put(into, at, b" ");
-    let at = put(into, at, reason_text(refusal.reason));
-    let at = put(into, at, b" ");
-    let at = put(into, at, part_text(refusal.part));
-    let at = put(into, at, b" ");
-    let at = put_number(into, at, refusal.item);
-    let at = put(into, at, b" ");
-    put_number(into, at, refusal.step)
+impl From<OutOfMemory> for Status {
+    ghost use Rattle.rail_cli.specs.declared.status.Status.TheVariants as status;
+
+    ghost from_gives = { λ _ end. end ≡ status.OutOfMemory };
+
+    fn from(_: OutOfMemory) -> Status {
+        Status::OutOfMemory
+    }
 }
 
-/// Puts the bytes at `at`, and gives the place behind them.
-fn put(into: &mut [u8; 64], at: usize, bytes: &[u8]) -> usize
-    requires { at + length bytes.now ≤ 64 }
-    ensures end { result ≡ at + length bytes.now }
-    ensures written { take result into.new ≡ take at into.old ++ bytes.now }
-    ensures rest { (n : ℕ) → result ≤ n → drop n into.new ≡ drop n into.old }
-{
-    let end = at + bytes.len();
-    into[at..end].copy_from_slice(bytes);
-    end
+impl From<Failed> for Status {
+    ghost use Rattle.rail_cli.specs.declared.status.Status.TheVariants as status;
+
+    ghost from_gives = { λ _ end. end ≡ status.WriteFault };
+
+    fn from(_: Failed) -> Status {
+        Status::WriteFault
+    }
 }
 
-/// Puts the number at `at`, and gives the place behind it.
-fn put_number(into: &mut [u8; 64], at: usize, number: u32) -> usize
-    requires { at + 10 ≤ 64 }
-    ensures end { result ≡ at + length (decimal number) }
-    ensures short { result ≤ at + 10 }
-    ensures written { take result into.new ≡ take at into.old ++ decimal number }
-    ensures rest { (n : ℕ) → result ≤ n → drop n into.new ≡ drop n into.old }
+/// Puts the text of a status.
+fn put_status(line: &mut Line, status: Status)
+    requires { line.old ≡ [] }
+    ensures text { line.new ≡ status_text status }
+    ensures short { length line.new ≤ 64 }
 {
-    let mut digits = Buffer::new();
-    put(into, at, digits.format(number).as_bytes())
+    match status {
+        Status::Done => {}
+        Status::Usage => line.put(b"usage"),
+        Status::Refused(refusal) => put_refusal(line, refusal),
+        Status::ReadFault => line.put(b"read fault"),
+        Status::WriteFault => line.put(b"write fault"),
+        Status::OutOfMemory => line.put(b"out of memory"),
+        Status::CheckedNo { line: number, law } => {
+            line.put(b"checked no");
+            put_number(line, number);
+            put_number(line, u32::from(law));
+        }
+    }
+}
+
+/// Puts the text of a refusal.
+fn put_refusal(line: &mut Line, refusal: Refusal)
+    requires { line.old ≡ [] }
+    ensures text { line.new ≡ refusal_text refusal }
+    ensures short { length line.new ≤ 64 }
+{
+    line.put(b"refused");
+    put_number(line, u32::from(refusal.reason.number()));
+    line.put_word(reason_text(refusal.reason));
+    line.put_word(part_text(refusal.part));
+    put_number(line, refusal.item);
+    put_number(line, refusal.step);
+}
+
+/// Puts a space and the number.
+fn put_number(line: &mut Line, number: u32)
+    requires { length line.old + 41 ≤ ROOM }
+    ensures text { line.new ≡ line.old ++ 32 ∷ decimal number }
+    ensures short { length line.new ≤ length line.old + 11 }
+{
+    line.put_number(u64::from(number));
 }
 
 /// The word for a reason.

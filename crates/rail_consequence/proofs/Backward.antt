@@ -4,19 +4,20 @@ use Rattle.std.proofs.lemmas.List.{drop-append-le, length_push}
 use Rattle.rail_rules.specs.Numbers.{are_apart}
 use Rattle.rail_rules.specs.Moves.{Moves, stand}
 use Rattle.rail_rules.specs.Places.{place_of, is_inside, after, is_valid_state}
-use Rattle.rail_rules.proofs.StatesKept.{state_parts}
-use Rattle.rail_place.specs.Tables.{moves_in}
+use Rattle.rail_rules.proofs.CallerLemmas.{state_parts}
+use Rattle.rail_place.specs.Tables.{moves_in, MoveLists}
 use Rattle.rail_place.specs.Made.{State, IsMadeFor}
-use Rattle.rail_place.specs.Playing.{IsPlayed}
-use Rattle.rail_place.proofs.Playing.{played_last, way_back, step_back}
-use Rattle.rail_consequence.specs.Needing.{Counts, IsCounted, IsMore, IsRoomFor, times}
-use Rattle.rail_consequence.specs.Working.{Work, IsReady}
+use Rattle.rail_place.specs.Plays.{IsPlayed}
+use Rattle.rail_place.proofs.CallerLemmas.{played_last, way_back, step_back}
+use Rattle.rail_consequence.specs.Needs.{Counts, IsCounted, IsMore, IsRoomFor, times}
+use Rattle.rail_consequence.specs.Workspace.{Work, IsReady}
 use Rattle.rail_consequence.proofs.Legs.{inside_listed}
 use Rattle.rail_consequence.proofs.Played.{played_valid}
 use Rattle.rail_consequence.proofs.Counts.{next_place, counted_before, room_before, length_after}
+use Rattle.rail_base.specs.declared.limits.TheConstants.{TRAINS}
 
 -- the state before the last move, which the train made
-pub record IsLastMove (table : List (List (List ℕ) × List (List ℕ))) (w : Work) (earlier : List ℕ) (t : ℕ) : Type 0 where
+pub record IsLastMove (table : List MoveLists) (w : Work) (earlier : List ℕ) (t : ℕ) : Type 0 where
   pub start : List ℕ
   pub valid_start : is_valid_state (moves_in table) start ≡ true
   pub before : List ℕ
@@ -28,7 +29,7 @@ pub record IsLastMove (table : List (List (List ℕ) × List (List ℕ))) (w : W
   pub free : (u : ℕ) → u ≢ t → are_apart (stand (moves_in table) t (place_of w.places.positions t - 1)) (stand (moves_in table) u (place_of w.places.positions u)) ≡ true
   pub back : set w.places.positions t (place_of w.places.positions t - 1) ≡ before
 
-module _ (table : List (List (List ℕ) × List (List ℕ))) (w : Work) (earlier : List ℕ) (t : ℕ) (ready : IsReady table w) (list : w.list ≡ earlier ++ t ∷ []) where
+module _ (table : List MoveLists) (w : Work) (earlier : List ℕ) (t : ℕ) (ready : IsReady table w) (list : w.list ≡ earlier ++ t ∷ []) where
   abbrev plan : Moves
   plan = moves_in table
 
@@ -53,19 +54,19 @@ module _ (table : List (List (List ℕ) × List (List ℕ))) (w : Work) (earlier
       }
 
   -- the needs of the move that is taken back
-  pub needed_back : (xs : List ℕ) (place : ℕ) → xs ≡ plan.need t (place - 1) → place ≡ place_of w.places.positions t → xs ≡ plan.need t (place_of last_move.before t)
-  needed_back xs place is at = let same : place - 1 ≡ place_of last_move.before t = omega (arith, at, last_move.place) in is ∙ ap (plan.need t) same
+  pub needed_back : (xs : List ℕ) (place : ℕ) → xs ≡ plan.claim t (place - 1) → place ≡ place_of w.places.positions t → xs ≡ plan.claim t (place_of last_move.before t)
+  needed_back xs place is at = let same : place - 1 ≡ place_of last_move.before t = omega (arith, at, last_move.place) in is ∙ ap (plan.claim t) same
 
-  pub room_back : (xs : List ℕ) → xs ≡ plan.need t (place_of last_move.before t) → IsRoomFor w.needs t (λ x. times x xs)
+  pub room_back : (xs : List ℕ) → xs ≡ plan.claim t (place_of last_move.before t) → IsRoomFor w.needs t (λ x. times x xs)
   room_back xs is =
       let C : List ℕ → Type 0 = λ s. IsCounted plan s w.needs in
       let P : List ℕ → Type 0 = λ ys. IsRoomFor w.needs t (λ x. times x ys) in
       subst P (sym is) (room_before table last_move.before t last_move.inside w.needs ready.made.moves (few last_move.next) (subst C (sym last_move.next) ready.counted))
     where
-      few : (next : after last_move.before t ≡ w.places.positions) → length last_move.before ≤ 128
+      few : (next : after last_move.before t ≡ w.places.positions) → length last_move.before ≤ TRAINS
       few next = omega (arith, (state_parts plan w.places.positions ready.made.valid).long, ready.made.moves.few, ap length next, length_after last_move.before t)
 
-  pub ready_back : (places : State) (needs : Counts) (stops : List (Option ℕ)) (list : List ℕ) (xs : List ℕ) → IsMadeFor table places → places.positions ≡ set w.places.positions t (place_of w.places.positions t - 1) → xs ≡ plan.need t (place_of last_move.before t)
+  pub ready_back : (places : State) (needs : Counts) (stops : List (Option ℕ)) (list : List ℕ) (xs : List ℕ) → IsMadeFor table places → places.positions ≡ set w.places.positions t (place_of w.places.positions t - 1) → xs ≡ plan.claim t (place_of last_move.before t)
       → IsMore w.needs needs t (λ x. times x xs) → list ≡ earlier → IsReady table (record { places = places; needs = needs; stops = stops; list = list })
   ready_back places needs stops list xs made positions is more at =
       let there : places.positions ≡ last_move.before = positions ∙ last_move.back in

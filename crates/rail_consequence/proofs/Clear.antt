@@ -7,8 +7,8 @@ use Rattle.rail_rules.specs.Numbers.{any_below, sum_below, is_in}
 use Rattle.rail_rules.specs.Moves.{Moves, stand}
 use Rattle.rail_rules.specs.Places.{place_of, is_inside}
 use Rattle.rail_rules.specs.Analysis.{needs_later, is_safe}
-use Rattle.rail_rules.proofs.Members.{is_in-head, list_all_at, apart_at, apart_from, apart_sym}
-use Rattle.rail_consequence.specs.Needing.{Counts, own_of, trains_of, present, times, needs_between, needs_left, IsCounted}
+use Rattle.rail_rules.proofs.CallerLemmas.{is_in-head, list_all_at, apart_at, apart_from, apart_sym}
+use Rattle.rail_consequence.specs.Needs.{Counts, own_of, trains_of, present, times, needs_between, needs_left, IsCounted}
 use Rattle.rail_consequence.proofs.Legs.{IsClear, clear_from, clear_to, inside_parts, inside_from, inside_listed}
 use Rattle.rail_consequence.proofs.Counts.{times_absent, times_present, sum_zero, zero_at, sum_shift, present_none, left_entered}
 
@@ -32,24 +32,24 @@ module _ (f : ℕ → ℕ) (n t : ℕ) (lt : t < n) where
   sum_alone none = omega (arith, split, sum_zero others n (λ i below. ⊎_elim (λ same. cond-true (eqb i t) 0 (f i) (eq-eqb i t same)) (λ ne. cond-false (eqb i t) 0 (f i) (ne_eqb i t ne) ∙ none i below ne) (cases_eq i t)))
 
 -- a train inside that is not counted for a section needs it no more
-left_apart : (plan : Moves) (s : List ℕ) (u i x : ℕ) → needs_left plan u (place_of s u) x ≡ 0 → is_inside plan s u ≡ true → place_of s u ≤ i → i < plan.moves u → is_in x (plan.need u i) ≡ false
+left_apart : (plan : Moves) (s : List ℕ) (u i x : ℕ) → needs_left plan u (place_of s u) x ≡ 0 → is_inside plan s u ≡ true → place_of s u ≤ i → i < plan.moves u → is_in x (plan.claim u i) ≡ false
 left_apart plan s u i x none inside from below =
     let p : ℕ = place_of s u in
-    let f : ℕ → ℕ = λ j. cond (leb p j) (times x (plan.need u j)) 0 in
+    let f : ℕ → ℕ = λ j. cond (leb p j) (times x (plan.claim u j)) 0 in
     let between : sum_below f (plan.moves u) ≡ 0 = omega (arith, left_entered plan u p x (inside_parts plan s u inside).0, none) in
-    let here : times x (plan.need u i) ≡ 0 = sym (cond-true (leb p i) (times x (plan.need u i)) 0 (le-leb p i from)) ∙ zero_at f (plan.moves u) i between below in
-    ⊎_elim (λ is. absurd (omega (arith, times_present x (plan.need u i) is, here))) (λ out. out) (cases_Bool (is_in x (plan.need u i)))
+    let here : times x (plan.claim u i) ≡ 0 = sym (cond-true (leb p i) (times x (plan.claim u i)) 0 (le-leb p i from)) ∙ zero_at f (plan.moves u) i between below in
+    ⊎_elim (λ is. absurd (omega (arith, times_present x (plan.claim u i) is, here))) (λ out. out) (cases_Bool (is_in x (plan.claim u i)))
 
-left_none : (plan : Moves) (u p x : ℕ) → ((i : ℕ) → 0 < p → p ≤ i → i < plan.moves u → is_in x (plan.need u i) ≡ false) → needs_left plan u p x ≡ 0
+left_none : (plan : Moves) (u p x : ℕ) → ((i : ℕ) → 0 < p → p ≤ i → i < plan.moves u → is_in x (plan.claim u i) ≡ false) → needs_left plan u p x ≡ 0
 left_none plan u p x out =
     ⊎_elim
     (λ low.
-    let f : ℕ → ℕ = λ j. cond (leb p j) (times x (plan.need u j)) 0 in
+    let f : ℕ → ℕ = λ j. cond (leb p j) (times x (plan.claim u j)) 0 in
     left_entered plan u p x low
     ∙ sum_zero f (plan.moves u) (λ i below.
     ⊎_elim
-    (λ before. cond-false (leb p i) (times x (plan.need u i)) 0 (lt-leb p i before))
-    (λ from. cond-true (leb p i) (times x (plan.need u i)) 0 (le-leb p i from) ∙ times_absent x (plan.need u i) (out i low from below))
+    (λ before. cond-false (leb p i) (times x (plan.claim u i)) 0 (lt-leb p i before))
+    (λ from. cond-true (leb p i) (times x (plan.claim u i)) 0 (le-leb p i from) ∙ times_absent x (plan.claim u i) (out i low from below))
     (cases_lt i p)))
     (λ zero. cond-false (ltb 0 p) (needs_between plan u p (plan.moves u) x) 0 (le-ltb 0 p zero))
     (cases_lt 0 p)
@@ -63,11 +63,11 @@ module _ (plan : Moves) (s : List ℕ) (t : ℕ) (sections : List ℕ) where
   none_from_clear clear x u is below ne =
       left_none plan u (place_of s u) x (λ i low from last.
       let inside : is_inside plan s u ≡ true = inside_from plan s u low (omega arith) in
-      apart_at sections (plan.need u i) x (apart_sym (plan.need u i) sections (clear u i ne inside from last)) is)
+      apart_at sections (plan.claim u i) x (apart_sym (plan.claim u i) sections (clear u i ne inside from last)) is)
 
   clear_from_none : OthersNone → ((u : ℕ) → is_inside plan s u ≡ true → u < length s) → IsClear plan s t sections
   clear_from_none none listed u i ne inside from below =
-      apart_from (plan.need u i) sections (λ x needed.
+      apart_from (plan.claim u i) sections (λ x needed.
       ⊎_elim
       (λ is. absurd (false≢true (sym (left_apart plan s u i x (none x u is (listed u inside) ne) inside from below) ∙ needed)))
       (λ out. out)

@@ -4,13 +4,13 @@ use Rattle.std.proofs.lemmas.Bool.{cases_lt, cases_eq, false≢true, eqb-true, e
 use Rattle.std.proofs.lemmas.List.{get_or-set_same, get_or-set_other, length-set, get_or_past, get_or-replicate, length-replicate, take_all}
 use Rattle.std.proofs.lemmas.List.Folds.{list_any_at, list_any_more}
 use Rattle.std.proofs.lemmas.List.Sums.{sum_by-cons, sum_by_more, sum_by_more_le, count_by-le-length}
-use Rattle.rail_base.specs.declared.limits.TheConstants.{SECTIONS}
+use Rattle.rail_base.specs.declared.limits.TheConstants.{SECTIONS, TRAINS, ITINERARY_ROUTES, ROUTE_SECTIONS}
 use Rattle.rail_rules.specs.Numbers.{sum_below, is_in}
 use Rattle.rail_rules.specs.Moves.{Moves}
 use Rattle.rail_rules.specs.Places.{place_of, is_inside, after}
-use Rattle.rail_rules.proofs.Below.{sum_below_same}
-use Rattle.rail_place.specs.Tables.{moves_in, IsTable}
-use Rattle.rail_consequence.specs.Needing.{Counts, own_of, trains_of, present, times, needs_between, needs_left, IsCounted, IsMore, IsRoomFor}
+use Rattle.rail_rules.proofs.CallerLemmas.{sum_below_same}
+use Rattle.rail_place.specs.Tables.{moves_in, IsTable, MoveLists}
+use Rattle.rail_consequence.specs.Needs.{Counts, own_of, trains_of, present, times, needs_between, needs_left, IsCounted, IsMore, IsRoomFor}
 use Rattle.rail_consequence.proofs.Legs.{inside_parts, inside_listed}
 
 -- numbers in a list
@@ -140,46 +140,46 @@ between_next f p (suc n) lt =
     omega (arith, between_none f p n (omega arith), between_none f (suc p) n (omega arith), cond-true (leb p n) (f n) 0 (le-leb p n (omega arith)), cond-false (leb (suc p) n) (f n) 0 (lt-leb (suc p) n (omega arith)), ap f last))
     (cases_lt p n)
 
-pub needs_next : (plan : Moves) (t p x : ℕ) → 0 < p → p < plan.moves t → needs_left plan t p x ≡ needs_left plan t (suc p) x + times x (plan.need t p)
+pub needs_next : (plan : Moves) (t p x : ℕ) → 0 < p → p < plan.moves t → needs_left plan t p x ≡ needs_left plan t (suc p) x + times x (plan.claim t p)
 needs_next plan t p x low high =
     let here : needs_left plan t p x ≡ needs_between plan t p (plan.moves t) x = cond-true (ltb 0 p) (needs_between plan t p (plan.moves t) x) 0 (lt-ltb 0 p low) in
     let there : needs_left plan t (suc p) x ≡ needs_between plan t (suc p) (plan.moves t) x = cond-true (ltb 0 (suc p)) (needs_between plan t (suc p) (plan.moves t) x) 0 (lt-ltb 0 (suc p) (omega arith)) in
-    omega (arith, here, there, between_next (λ i. times x (plan.need t i)) p (plan.moves t) high)
+    omega (arith, here, there, between_next (λ i. times x (plan.claim t i)) p (plan.moves t) high)
 
 -- one move more is counted
-pub needs_more : (plan : Moves) (t p i x : ℕ) → p ≤ i → needs_between plan t p (i + 1) x ≡ needs_between plan t p i x + times x (plan.need t i)
+pub needs_more : (plan : Moves) (t p i x : ℕ) → p ≤ i → needs_between plan t p (i + 1) x ≡ needs_between plan t p i x + times x (plan.claim t i)
 needs_more plan t p i x le =
-    let f : ℕ → ℕ = λ j. cond (leb p j) (times x (plan.need t j)) 0 in
+    let f : ℕ → ℕ = λ j. cond (leb p j) (times x (plan.claim t j)) 0 in
     let next : i + 1 ≡ suc i = omega arith in
-    omega (arith, ap (sum_below f) next, cond-true (leb p i) (times x (plan.need t i)) 0 (le-leb p i le))
+    omega (arith, ap (sum_below f) next, cond-true (leb p i) (times x (plan.claim t i)) 0 (le-leb p i le))
 
 pub needs_none : (plan : Moves) (t p x : ℕ) → needs_between plan t p p x ≡ 0
-needs_none plan t p x = between_none (λ i. times x (plan.need t i)) p p (omega arith)
+needs_none plan t p x = between_none (λ i. times x (plan.claim t i)) p p (omega arith)
 
-pub needs_within : (plan : Moves) (t p i n x : ℕ) → p ≤ i → i < n → needs_between plan t p i x + times x (plan.need t i) ≤ needs_between plan t p n x
+pub needs_within : (plan : Moves) (t p i n x : ℕ) → p ≤ i → i < n → needs_between plan t p i x + times x (plan.claim t i) ≤ needs_between plan t p n x
 needs_within plan t p i n x le lt =
-    omega (arith, needs_more plan t p i x le, sum_longer (λ j. cond (leb p j) (times x (plan.need t j)) 0) (i + 1) n (omega arith))
+    omega (arith, needs_more plan t p i x le, sum_longer (λ j. cond (leb p j) (times x (plan.claim t j)) 0) (i + 1) n (omega arith))
 
 pub left_entered : (plan : Moves) (t p x : ℕ) → 0 < p → needs_left plan t p x ≡ needs_between plan t p (plan.moves t) x
 left_entered plan t p x low = cond-true (ltb 0 p) (needs_between plan t p (plan.moves t) x) 0 (lt-ltb 0 p low)
 
 -- the needs of one train are few, and so are those of all
-pub needs_few : (table : List (List (List ℕ) × List (List ℕ))) (t p x : ℕ) → IsTable table → needs_left (moves_in table) t p x ≤ 2048
+pub needs_few : (table : List MoveLists) (t p x : ℕ) → IsTable table → needs_left (moves_in table) t p x ≤ ITINERARY_ROUTES * ROUTE_SECTIONS
 needs_few table t p x h = by (ltb 0 p)
   where
-    few : needs_between (moves_in table) t p ((moves_in table).moves t) x ≤ 2048
+    few : needs_between (moves_in table) t p ((moves_in table).moves t) x ≤ ITINERARY_ROUTES * ROUTE_SECTIONS
     few =
         let plan : Moves = moves_in table in
         let most : needs_between plan t p (plan.moves t) x ≤ plan.moves t * 32 =
-        sum_most (λ i. cond (leb p i) (times x (plan.need t i)) 0) (plan.moves t) 32
-        (λ i lt. one (leb p i) (times x (plan.need t i)) (omega (arith, count_by-le-length (λ y. eqb y x) (plan.need t i), h.narrow t i))) in
+        sum_most (λ i. cond (leb p i) (times x (plan.claim t i)) 0) (plan.moves t) 32
+        (λ i lt. one (leb p i) (times x (plan.claim t i)) (omega (arith, count_by-le-length (λ y. eqb y x) (plan.claim t i), h.narrow t i))) in
         omega (arith, most, h.short t)
       where
         one : (b : Bool) (n : ℕ) → n ≤ 32 → cond b n 0 ≤ 32
         one true n le = le
         one false n le = omega arith
 
-    by : (b : Bool) → cond b (needs_between (moves_in table) t p ((moves_in table).moves t) x) 0 ≤ 2048
+    by : (b : Bool) → cond b (needs_between (moves_in table) t p ((moves_in table).moves t) x) 0 ≤ ITINERARY_ROUTES * ROUTE_SECTIONS
     by true = few
     by false = omega arith
 
@@ -227,10 +227,10 @@ module _ (plan : Moves) (s : List ℕ) (t : ℕ) (inside : is_inside plan s t �
   pub next_place : place_of (after s t) t ≡ suc (place_of s t)
   next_place = get_or-set_same s t (suc (place_of s t)) 0 (inside_listed plan s t inside)
 
-  own_next : (x : ℕ) → needs_left plan t (place_of s t) x ≡ needs_left plan t (place_of (after s t) t) x + times x (plan.need t (place_of s t))
+  own_next : (x : ℕ) → needs_left plan t (place_of s t) x ≡ needs_left plan t (place_of (after s t) t) x + times x (plan.claim t (place_of s t))
   own_next x =
       let parts = inside_parts plan s t inside in
-      needs_next plan t (place_of s t) x parts.0 parts.1 ∙ ap (λ p. needs_left plan t p x + times x (plan.need t (place_of s t))) (sym next_place)
+      needs_next plan t (place_of s t) x parts.0 parts.1 ∙ ap (λ p. needs_left plan t p x + times x (plan.claim t (place_of s t))) (sym next_place)
 
   other_next : (u x : ℕ) → u ≢ t → needs_left plan u (place_of s u) x ≡ needs_left plan u (place_of (after s t) u) x
   other_next u x ne = ap (λ p. needs_left plan u p x) (sym (get_or-set_other s t u (suc (place_of s t)) 0 ne))
@@ -242,7 +242,7 @@ module _ (plan : Moves) (s : List ℕ) (t : ℕ) (inside : is_inside plan s t �
       omega (arith, sum_shift f g (length s) t (g t) (f t) (inside_listed plan s t inside) (omega arith) (λ u ne. ap present (other_next u x ne)), ap (sum_below g) (length-set s t (suc (place_of s t))))
 
   -- the needs of the move are counted
-  pub counted_own : (a : Counts) (x : ℕ) → IsCounted plan s a → x < SECTIONS → times x (plan.need t (place_of s t)) ≤ own_of a t x
+  pub counted_own : (a : Counts) (x : ℕ) → IsCounted plan s a → x < SECTIONS → times x (plan.claim t (place_of s t)) ≤ own_of a t x
   counted_own a x counted within = omega (arith, counted.own t x (inside_listed plan s t inside) within, own_next x)
 
   pub counted_trains : (a : Counts) (x : ℕ) → IsCounted plan s a → x < SECTIONS → 0 < own_of a t x → 0 < trains_of a x
@@ -252,28 +252,28 @@ module _ (plan : Moves) (s : List ℕ) (t : ℕ) (inside : is_inside plan s t �
       omega (arith, counted.trains x within, item_within f (length s) t lt, present_some (needs_left plan t (place_of s t) x) (omega (arith, some, counted.own t x lt within)))
 
   -- after the move
-  pub counted_next : (a b : Counts) → IsCounted plan s a → IsMore b a t (λ x. times x (plan.need t (place_of s t))) → IsCounted plan (after s t) b
+  pub counted_next : (a b : Counts) → IsCounted plan s a → IsMore b a t (λ x. times x (plan.claim t (place_of s t))) → IsCounted plan (after s t) b
   counted_next a b counted more = record {
     own = λ u x lt within.
         let listed : u < length s = omega (arith, length-set s t (suc (place_of s t))) in
         ⊎_elim
         (λ same. let P : ℕ → Type 0 = λ k. own_of b k x ≡ needs_left plan k (place_of (after s t) k) x in subst P (sym same) (own_is x within))
-        (λ ne. omega (arith, other_same b a t u x (λ y. times y (plan.need t (place_of s t))) more within ne, other_next u x ne, counted.own u x listed within))
+        (λ ne. omega (arith, other_same b a t u x (λ y. times y (plan.claim t (place_of s t))) more within ne, other_next u x ne, counted.own u x listed within))
         (cases_eq u t);
     trains = λ x within. omega (arith, more.trains x within, trains_next x, counted.trains x within, ap present (own_is x within), ap present (counted.own t x (inside_listed plan s t inside) within));
   }
     where
       own_is : (x : ℕ) → x < SECTIONS → own_of b t x ≡ needs_left plan t (place_of (after s t) t) x
-      own_is x within = omega (arith, own_more b a t x (λ y. times y (plan.need t (place_of s t))) more within, own_next x, counted.own t x (inside_listed plan s t inside) within)
+      own_is x within = omega (arith, own_more b a t x (λ y. times y (plan.claim t (place_of s t))) more within, own_next x, counted.own t x (inside_listed plan s t inside) within)
 
   -- and back before it
-  pub counted_before : (a b : Counts) → IsCounted plan (after s t) a → IsMore a b t (λ x. times x (plan.need t (place_of s t))) → IsCounted plan s b
+  pub counted_before : (a b : Counts) → IsCounted plan (after s t) a → IsMore a b t (λ x. times x (plan.claim t (place_of s t))) → IsCounted plan s b
   counted_before a b counted more = record {
     own = λ u x lt within.
         let listed : u < length (after s t) = omega (arith, length-set s t (suc (place_of s t))) in
         ⊎_elim
         (λ same. let P : ℕ → Type 0 = λ k. own_of b k x ≡ needs_left plan k (place_of s k) x in subst P (sym same) (own_is x within))
-        (λ ne. omega (arith, other_same a b t u x (λ y. times y (plan.need t (place_of s t))) more within ne, other_next u x ne, counted.own u x listed within))
+        (λ ne. omega (arith, other_same a b t u x (λ y. times y (plan.claim t (place_of s t))) more within ne, other_next u x ne, counted.own u x listed within))
         (cases_eq u t);
     trains = λ x within. omega (arith, more.trains x within, trains_next x, counted.trains x within, ap present (own_is x within), ap present (counted.own t x here within));
   }
@@ -282,14 +282,14 @@ module _ (plan : Moves) (s : List ℕ) (t : ℕ) (inside : is_inside plan s t �
       here = omega (arith, length-set s t (suc (place_of s t)), inside_listed plan s t inside)
 
       own_is : (x : ℕ) → x < SECTIONS → own_of b t x ≡ needs_left plan t (place_of s t) x
-      own_is x within = omega (arith, own_more a b t x (λ y. times y (plan.need t (place_of s t))) more within, own_next x, counted.own t x here within)
+      own_is x within = omega (arith, own_more a b t x (λ y. times y (plan.claim t (place_of s t))) more within, own_next x, counted.own t x here within)
 
 pub length_after : (s : List ℕ) (t : ℕ) → length (after s t) ≡ length s
 length_after s t = length-set s t (suc (place_of s t))
 
 -- the counts before a move fit their types
-pub room_before : (table : List (List (List ℕ) × List (List ℕ))) (s : List ℕ) (t : ℕ) → is_inside (moves_in table) s t ≡ true → (a : Counts) → IsTable table → length s ≤ 128 → IsCounted (moves_in table) (after s t) a
-    → IsRoomFor a t (λ x. times x ((moves_in table).need t (place_of s t)))
+pub room_before : (table : List MoveLists) (s : List ℕ) (t : ℕ) → is_inside (moves_in table) s t ≡ true → (a : Counts) → IsTable table → length s ≤ TRAINS → IsCounted (moves_in table) (after s t) a
+    → IsRoomFor a t (λ x. times x ((moves_in table).claim t (place_of s t)))
 room_before table s t inside a h few counted =
     let plan : Moves = moves_in table in
     let here : t < length (after s t) = omega (arith, length_after s t, inside_listed plan s t inside) in

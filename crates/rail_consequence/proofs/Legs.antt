@@ -7,8 +7,7 @@ use Rattle.rail_rules.specs.Numbers.{any_below, all_below, is_in, are_apart}
 use Rattle.rail_rules.specs.Moves.{Moves}
 use Rattle.rail_rules.specs.Places.{place_of, is_inside, holds, is_held, is_legal, nobody_inside}
 use Rattle.rail_rules.specs.Analysis.{Leg, is_leg, needs_later}
-use Rattle.rail_rules.proofs.Below.{all_below_at, all_below_from, any_below_at, any_below_none, any_below_from}
-use Rattle.rail_rules.proofs.Members.{list_any_at, list_any_none}
+use Rattle.rail_rules.proofs.CallerLemmas.{all_below_at, all_below_from, any_below_at, any_below_none, any_below_from, list_any_at, list_any_none}
 
 pub inside_from : (plan : Moves) (s : List ℕ) (t : ℕ) → 0 < place_of s t → place_of s t < plan.moves t → is_inside plan s t ≡ true
 inside_from plan s t low high = and_from (ltb 0 (place_of s t)) (ltb (place_of s t) (plan.moves t)) (lt-ltb 0 (place_of s t) low) (lt-ltb (place_of s t) (plan.moves t) high)
@@ -75,10 +74,10 @@ leg_from plan s leg goes =
 
 -- no other train inside needs the sections later
 abbrev pub IsClear : Moves → List ℕ → ℕ → List ℕ → Type 0
-IsClear plan s t sections = (u i : ℕ) → u ≢ t → is_inside plan s u ≡ true → place_of s u ≤ i → i < plan.moves u → are_apart (plan.need u i) sections ≡ true
+IsClear plan s t sections = (u i : ℕ) → u ≢ t → is_inside plan s u ≡ true → place_of s u ≤ i → i < plan.moves u → are_apart (plan.claim u i) sections ≡ true
 
 abbrev pub needs_test : Moves → List ℕ → List ℕ → ℕ → ℕ → Bool
-needs_test plan s sections u i = leb (place_of s u) i && not (are_apart (plan.need u i) sections)
+needs_test plan s sections u i = leb (place_of s u) i && not (are_apart (plan.claim u i) sections)
 
 pub clear_from : (plan : Moves) (s : List ℕ) (t : ℕ) (sections : List ℕ) → any_below (λ u. not (eqb u t) && needs_later plan s sections u) (length s) ≡ false → IsClear plan s t sections
 clear_from plan s t sections none = λ u i ne inside from below.
@@ -86,11 +85,11 @@ clear_from plan s t sections none = λ u i ne inside from below.
     ⊎_elim
     (λ apart. apart)
     (λ meets.
-    let needs : any_below (needs_test plan s sections u) (plan.moves u) ≡ true = any_below_from (needs_test plan s sections u) (plan.moves u) i below (and_from (leb (place_of s u) i) (not (are_apart (plan.need u i) sections)) (le-leb (place_of s u) i from) (not_from_false (are_apart (plan.need u i) sections) meets)) in
+    let needs : any_below (needs_test plan s sections u) (plan.moves u) ≡ true = any_below_from (needs_test plan s sections u) (plan.moves u) i below (and_from (leb (place_of s u) i) (not (are_apart (plan.claim u i) sections)) (le-leb (place_of s u) i from) (not_from_false (are_apart (plan.claim u i) sections) meets)) in
     let later : needs_later plan s sections u ≡ true = and_from (is_inside plan s u) (any_below (needs_test plan s sections u) (plan.moves u)) inside needs in
     let found : test u ≡ true = and_from (not (eqb u t)) (needs_later plan s sections u) (not_from_false (eqb u t) (ne_eqb u t ne)) later in
     absurd (false≢true (sym none ∙ any_below_from test (length s) u (inside_listed plan s u inside) found)))
-    (cases_Bool (are_apart (plan.need u i) sections))
+    (cases_Bool (are_apart (plan.claim u i) sections))
 
 pub clear_to : (plan : Moves) (s : List ℕ) (t : ℕ) (sections : List ℕ) → IsClear plan s t sections → any_below (λ u. not (eqb u t) && needs_later plan s sections u) (length s) ≡ false
 clear_to plan s t sections clear =
@@ -102,22 +101,22 @@ clear_to plan s t sections clear =
     absurd (false≢true (sym (any_below_none (needs_test plan s sections u) (plan.moves u) (λ i below.
     ⊎_elim
     (λ needs.
-    let both = and_parts (leb (place_of s u) i) (not (are_apart (plan.need u i) sections)) needs in
-    absurd (false≢true (sym (not-true (are_apart (plan.need u i) sections) both.1) ∙ clear u i (eqb-false u t (not-true (eqb u t) parts.0)) later.0 (leb-true (place_of s u) i both.0) below)))
+    let both = and_parts (leb (place_of s u) i) (not (are_apart (plan.claim u i) sections)) needs in
+    absurd (false≢true (sym (not-true (are_apart (plan.claim u i) sections) both.1) ∙ clear u i (eqb-false u t (not-true (eqb u t) parts.0)) later.0 (leb-true (place_of s u) i both.0) below)))
     (λ out. out)
     (cases_Bool (needs_test plan s sections u i)))) ∙ later.1)))
     (λ out. out)
     (cases_Bool (not (eqb u t) && needs_later plan s sections u)))
 
 -- a move stays legal where no needed section gets a holder
-pub legal_kept : (plan : Moves) (s r : List ℕ) (t : ℕ) → length r ≡ length s → place_of r t ≡ place_of s t → ((u x : ℕ) → is_in x (plan.need t (place_of s t)) ≡ true → holds plan s u x ≡ false → holds plan r u x ≡ false) → is_legal plan s t ≡ true → is_legal plan r t ≡ true
+pub legal_kept : (plan : Moves) (s r : List ℕ) (t : ℕ) → length r ≡ length s → place_of r t ≡ place_of s t → ((u x : ℕ) → is_in x (plan.claim t (place_of s t)) ≡ true → holds plan s u x ≡ false → holds plan r u x ≡ false) → is_legal plan s t ≡ true → is_legal plan r t ≡ true
 legal_kept plan s r t long same kept h =
-    let needed : List ℕ = plan.need t (place_of s t) in
+    let needed : List ℕ = plan.claim t (place_of s t) in
     let parts = and_parts (ltb (place_of s t) (plan.moves t)) (not (list_any (is_held plan s) needed)) h in
     let nobody = not-true (list_any (is_held plan s) needed) parts.1 in
     let free : list_any (is_held plan r) needed ≡ false = list_any_none (is_held plan r) needed (λ x is.
     any_below_none (λ u. holds plan r u x) (length r) (λ u lt.
     kept u x is (any_below_at (λ v. holds plan s v x) (length s) u (list_any_at (is_held plan s) needed x nobody is) (omega (arith, long))))) in
-    and_from (ltb (place_of r t) (plan.moves t)) (not (list_any (is_held plan r) (plan.need t (place_of r t))))
+    and_from (ltb (place_of r t) (plan.moves t)) (not (list_any (is_held plan r) (plan.claim t (place_of r t))))
     (ap (λ p. ltb p (plan.moves t)) same ∙ parts.0)
-    (not_from_false (list_any (is_held plan r) (plan.need t (place_of r t))) (ap (λ p. list_any (is_held plan r) (plan.need t p)) same ∙ free))
+    (not_from_false (list_any (is_held plan r) (plan.claim t (place_of r t))) (ap (λ p. list_any (is_held plan r) (plan.claim t p)) same ∙ free))

@@ -1,10 +1,10 @@
 -- Legs, safe legs, and what a search finds.
-pub mod Legs
-pub mod Safe
-pub mod Played
-pub mod Walks
-pub mod Counts
-pub mod Clear
-pub mod Backward
-pub mod Stopping
-pub mod Listing
+mod Legs
+mod Safe
+mod Played
+mod Walks
+mod Counts
+mod Clear
+mod Backward
+mod Stopping
+mod Listing

@@ -6,9 +6,9 @@ use Rattle.rail_base.specs.declared.limits.TheConstants.{TRAINS}
 use Rattle.rail_rules.specs.Numbers.{is_in}
 use Rattle.rail_rules.specs.Moves.{Moves}
 use Rattle.rail_rules.specs.Places.{place_of, is_inside, after}
-use Rattle.rail_place.specs.Tables.{moves_in, IsTable}
-use Rattle.rail_place.specs.Playing.{IsPlayed}
-use Rattle.rail_consequence.specs.Working.{Work, GoesOn, IsListing}
+use Rattle.rail_place.specs.Tables.{moves_in, IsTable, MoveLists}
+use Rattle.rail_place.specs.Plays.{IsPlayed}
+use Rattle.rail_consequence.specs.Workspace.{Work, GoesOn, IsListing}
 use Rattle.rail_consequence.proofs.Legs.{inside_same}
 
 -- a train that is inside after moves was inside before them
@@ -30,5 +30,5 @@ pub listed_at : (plan : Moves) (s r inside : List ℕ) → s ≡ r → IsListing
 listed_at plan s r inside same listed = let P : List ℕ → Type 0 = λ q. IsListing plan q inside in subst P same listed
 
 -- the trains that are listed are within the limits
-pub listed_few : (table : List (List (List ℕ) × List (List ℕ))) (s inside : List ℕ) → IsTable table → IsListing (moves_in table) s inside → (u : ℕ) → is_in u inside ≡ true → u < TRAINS
+pub listed_few : (table : List MoveLists) (s inside : List ℕ) → IsTable table → IsListing (moves_in table) s inside → (u : ℕ) → is_in u inside ≡ true → u < TRAINS
 listed_few table s inside moves listed u is = let lt : u < length table = listed.trains u is in omega (arith, lt, moves.few)

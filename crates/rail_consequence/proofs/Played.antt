@@ -7,13 +7,12 @@ use Rattle.rail_rules.specs.Numbers.{sum_below}
 use Rattle.rail_rules.specs.Moves.{Moves, is_valid}
 use Rattle.rail_rules.specs.Places.{place_of, is_inside, is_legal, after, is_valid_state, nobody_inside, completes}
 use Rattle.rail_rules.specs.Analysis.{moves_left}
-use Rattle.rail_rules.proofs.Below.{sum_below-lt}
-use Rattle.rail_rules.proofs.StatesKept.{state_parts, legal_move_kept}
-use Rattle.rail_place.specs.Tables.{moves_in, IsTable}
+use Rattle.rail_rules.proofs.CallerLemmas.{sum_below-lt, state_parts, legal_move_kept}
+use Rattle.rail_place.specs.Tables.{moves_in, IsTable, MoveLists}
 use Rattle.rail_place.specs.Made.{State, IsMadeFor}
-use Rattle.rail_place.specs.Playing.{IsPlayed}
-use Rattle.rail_consequence.specs.Working.{Work, IsReady, GoesOn, IsBack}
-use Rattle.rail_consequence.specs.Needing.{Counts, IsCounted, IsMore, times}
+use Rattle.rail_place.specs.Plays.{IsPlayed}
+use Rattle.rail_consequence.specs.Workspace.{Work, IsReady, GoesOn, IsBack}
+use Rattle.rail_consequence.specs.Needs.{Counts, IsCounted, IsMore, times}
 use Rattle.rail_consequence.proofs.Legs.{inside_parts, inside_listed}
 use Rattle.rail_consequence.proofs.Counts.{counted_next}
 
@@ -74,7 +73,7 @@ sum_bound f zero k h = omega arith
 sum_bound f (suc n) k h = omega (arith, sum_bound f n k h, h n)
 
 -- a list that is played is within the limits
-pub played_few : (table : List (List (List ℕ) × List (List ℕ))) (s xs r : List ℕ) → IsTable table → is_valid_state (moves_in table) s ≡ true → IsPlayed (moves_in table) s xs r → length xs ≤ LIST_TRAINS
+pub played_few : (table : List MoveLists) (s xs r : List ℕ) → IsTable table → is_valid_state (moves_in table) s ≡ true → IsPlayed (moves_in table) s xs r → length xs ≤ LIST_TRAINS
 played_few table s xs r h valid played =
     let plan : Moves = moves_in table in
     let long : length s ≡ length table = (state_parts plan s valid).long in
@@ -121,12 +120,12 @@ back_by plan a b c mark goes at list positions =
       positions = positions a.places.positions (subst P (sym rest) goes.played);
     }
 
-pub ready_state : (table : List (List (List ℕ) × List (List ℕ))) (w : Work) → IsReady table w → is_valid_state (moves_in table) w.places.positions ≡ true
+pub ready_state : (table : List MoveLists) (w : Work) → IsReady table w → is_valid_state (moves_in table) w.places.positions ≡ true
 ready_state table w ready = ready.made.valid
 
 -- one move more
-pub ready_step : (table : List (List (List ℕ) × List (List ℕ))) (w : Work) (t : ℕ) (places : State) (needs : Counts) (stops : List (Option ℕ)) (list : List ℕ) → IsReady table w → is_inside (moves_in table) w.places.positions t ≡ true → is_legal (moves_in table) w.places.positions t ≡ true → IsMadeFor table places → places.positions ≡ after w.places.positions t
-    → IsMore needs w.needs t (λ x. times x ((moves_in table).need t (place_of w.places.positions t))) → list ≡ w.list ++ t ∷ [] → IsReady table (record { places = places; needs = needs; stops = stops; list = list })
+pub ready_step : (table : List MoveLists) (w : Work) (t : ℕ) (places : State) (needs : Counts) (stops : List (Option ℕ)) (list : List ℕ) → IsReady table w → is_inside (moves_in table) w.places.positions t ≡ true → is_legal (moves_in table) w.places.positions t ≡ true → IsMadeFor table places → places.positions ≡ after w.places.positions t
+    → IsMore needs w.needs t (λ x. times x ((moves_in table).claim t (place_of w.places.positions t))) → list ≡ w.list ++ t ∷ [] → IsReady table (record { places = places; needs = needs; stops = stops; list = list })
 ready_step table w t places needs stops list ready inside legal made next more at =
     let plan : Moves = moves_in table in
     let pushed = played_push plan ready.start w.list w.places.positions t ready.played inside legal in
@@ -141,14 +140,14 @@ ready_step table w t places needs stops list ready inside legal made next more a
       counted = subst C (sym next) (counted_next plan w.places.positions t inside w.needs needs ready.counted more);
     }
 
-pub ready_few : (table : List (List (List ℕ) × List (List ℕ))) (w : Work) (t : ℕ) → IsReady table w → is_inside (moves_in table) w.places.positions t ≡ true → is_legal (moves_in table) w.places.positions t ≡ true → length w.list < LIST_TRAINS
+pub ready_few : (table : List MoveLists) (w : Work) (t : ℕ) → IsReady table w → is_inside (moves_in table) w.places.positions t ≡ true → is_legal (moves_in table) w.places.positions t ≡ true → length w.list < LIST_TRAINS
 ready_few table w t ready inside legal =
     let plan : Moves = moves_in table in
     let few = played_few table ready.start (w.list ++ t ∷ []) (after w.places.positions t) ready.made.moves ready.valid (played_push plan ready.start w.list w.places.positions t ready.played inside legal) in
     omega (arith, few, length_push w.list t)
 
 -- the moves back to a length of the list
-pub record IsSplit (table : List (List (List ℕ) × List (List ℕ))) (w : Work) (mark : ℕ) : Type 0 where
+pub record IsSplit (table : List MoveLists) (w : Work) (mark : ℕ) : Type 0 where
   pub start : List ℕ
   pub valid_start : is_valid_state (moves_in table) start ≡ true
   pub middle : List ℕ
@@ -156,7 +155,7 @@ pub record IsSplit (table : List (List (List ℕ) × List (List ℕ))) (w : Work
   pub first : IsPlayed (moves_in table) start (take mark w.list) middle
   pub later : IsPlayed (moves_in table) middle (drop mark w.list) w.places.positions
 
-pub ready_split : (table : List (List (List ℕ) × List (List ℕ))) (w : Work) (mark : ℕ) → IsReady table w → IsSplit table w mark
+pub ready_split : (table : List MoveLists) (w : Work) (mark : ℕ) → IsReady table w → IsSplit table w mark
 ready_split table w mark ready =
     let plan : Moves = moves_in table in
     let split = played_split plan ready.start mark w.list w.places.positions ready.played in
@@ -169,5 +168,5 @@ ready_split table w mark ready =
       later = split.2;
     }
 
-pub ready_as : (table : List (List (List ℕ) × List (List ℕ))) (a b : Work) → a ≡ b → IsReady table b → IsReady table a
+pub ready_as : (table : List MoveLists) (a b : Work) → a ≡ b → IsReady table b → IsReady table a
 ready_as table a b same ready = let P : Work → Type 0 = λ w. IsReady table w in subst P (sym same) ready

@@ -6,7 +6,7 @@ use Rattle.rail_rules.specs.Numbers.{any_below, is_in, are_apart}
 use Rattle.rail_rules.specs.Moves.{Moves, stand}
 use Rattle.rail_rules.specs.Places.{place_of, is_inside, holds}
 use Rattle.rail_rules.specs.Analysis.{Leg, is_leg, after_leg, needs_later, is_safe, clears, free_legs, Finds}
-use Rattle.rail_rules.proofs.Members.{apart_at, apart_from}
+use Rattle.rail_rules.proofs.CallerLemmas.{apart_at, apart_from}
 use Rattle.rail_consequence.proofs.Legs.{Goes, goes_parts, leg_from, IsClear, clear_from, clear_to, legal_kept, inside_from, inside_parts, inside_same, inside_listed, nobody_from, nobody_at}
 
 -- one state leads to the other by moves of one train up to a place, whose standing set no other train inside needs later
@@ -16,7 +16,7 @@ pub record Leads (plan : Moves) (t p : ℕ) (r q : List ℕ) : Type 0 where
   pub started : 0 < place_of r t
   pub reached : place_of q t ≡ max (place_of r t) p
   pub others : (u : ℕ) → u ≢ t → place_of q u ≡ place_of r u
-  pub clear : (u i : ℕ) → u ≢ t → is_inside plan r u ≡ true → place_of r u ≤ i → i < plan.moves u → are_apart (plan.need u i) (stand plan t p) ≡ true
+  pub clear : (u i : ℕ) → u ≢ t → is_inside plan r u ≡ true → place_of r u ≤ i → i < plan.moves u → are_apart (plan.claim u i) (stand plan t p) ≡ true
 
 -- where the train stands in the later state, it stands in the earlier, or at the place
 stands_either : (plan : Moves) (t p : ℕ) (r q : List ℕ) → Leads plan t p r q → (place_of q t ≡ place_of r t) ⊎ (place_of q t ≡ p)
@@ -55,10 +55,10 @@ goes_other plan t p r q u n leads ne goes =
           ⊎_elim
           (λ stays. keep (at_q not_u ∙ move_t ∙ stays ∙ ap (place_of r) (sym is_t) ∙ sym (at_r not_u)))
           (λ there.
-          let needed_i : is_in x (plan.need u i) ≡ true = ap (λ k. is_in x (plan.need u k)) (sym here_r) ∙ needed in
+          let needed_i : is_in x (plan.claim u i) ≡ true = ap (λ k. is_in x (plan.claim u k)) (sym here_r) ∙ needed in
           let apart = leads.clear u i ne goes.inside from_r (omega (arith, below, goes.within)) in
           ap (λ k. is_in x (stand plan v k)) (at_q not_u ∙ move_t ∙ there) ∙ ap (λ w. is_in x (stand plan w p)) is_t
-          ∙ apart_at (plan.need u i) (stand plan t p) x apart needed_i)
+          ∙ apart_at (plan.claim u i) (stand plan t p) x apart needed_i)
           (stands_either plan t p r q leads))
           (λ not_t. keep (at_q not_u ∙ leads.others v not_t ∙ sym (at_r not_u)))
           (cases_eq v t))
@@ -121,7 +121,7 @@ leads_other plan t p r q u n leads ne goes =
     }
 
 -- other trains see the train's own legs alike
-clear_after : (plan : Moves) (t p : ℕ) (r q : List ℕ) (n : ℕ) → Leads plan t p r q → (u i : ℕ) → u ≢ t → is_inside plan (set r t n) u ≡ true → place_of (set r t n) u ≤ i → i < plan.moves u → are_apart (plan.need u i) (stand plan t p) ≡ true
+clear_after : (plan : Moves) (t p : ℕ) (r q : List ℕ) (n : ℕ) → Leads plan t p r q → (u i : ℕ) → u ≢ t → is_inside plan (set r t n) u ≡ true → place_of (set r t n) u ≤ i → i < plan.moves u → are_apart (plan.claim u i) (stand plan t p) ≡ true
 clear_after plan t p r q n leads u i ne inside from below =
     let at : place_of (set r t n) u ≡ place_of r u = get_or-set_other r t u n 0 ne in
     leads.clear u i ne (inside_same plan (set r t n) r u (sym at) inside) (omega (arith, at)) below
@@ -185,7 +185,7 @@ clear_from_safe plan s leg safe =
     (λ out.
     let same : leg.place ≡ plan.moves leg.train = eqb-true leg.place (plan.moves leg.train) out in
     let none : stand plan leg.train leg.place ≡ [] = stand_out plan leg.train leg.place (omega arith) in
-    λ u i ne inside from below. ap (are_apart (plan.need u i)) none ∙ apart_none (plan.need u i))
+    λ u i ne inside from below. ap (are_apart (plan.claim u i)) none ∙ apart_none (plan.claim u i))
     (λ clear. clear_from plan s leg.train (stand plan leg.train leg.place) (not-true test clear))
     (or_cases (eqb leg.place (plan.moves leg.train)) (not test) safe)
 

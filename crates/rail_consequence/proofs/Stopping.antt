@@ -8,16 +8,12 @@ use Rattle.rail_rules.specs.Numbers.{is_in, are_apart}
 use Rattle.rail_rules.specs.Moves.{Moves, stand, is_valid}
 use Rattle.rail_rules.specs.Places.{place_of, is_legal, is_held, holds, is_valid_state}
 use Rattle.rail_rules.specs.Analysis.{Leg, is_leg, is_safe}
-use Rattle.rail_rules.proofs.Below.{any_below_at, any_below_none}
-use Rattle.rail_rules.proofs.Members.{list_any_at, list_any_none, apart_at, apart_from}
-use Rattle.rail_rules.proofs.StatesKept.{state_parts, stand_needed}
-use Rattle.rail_place.specs.Tables.{moves_in}
+use Rattle.rail_rules.proofs.CallerLemmas.{any_below_at, any_below_none, list_any_at, list_any_none, apart_at, apart_from, state_parts, stand_needed}
+use Rattle.rail_place.specs.Tables.{moves_in, MoveLists}
 use Rattle.rail_place.specs.Made.{State, IsMadeFor}
-use Rattle.rail_place.proofs.Making.{holder_listed}
-use Rattle.rail_place.proofs.Playing.{state_apart}
-use Rattle.rail_place.proofs.Tables.{move_valid}
-use Rattle.rail_consequence.specs.Needing.{Counts, IsCounted, own_of, trains_of, present, needs_left}
-use Rattle.rail_consequence.specs.Stopping.{IsHeldByOther, IsStopped}
+use Rattle.rail_place.proofs.CallerLemmas.{holder_listed, state_apart, move_valid}
+use Rattle.rail_consequence.specs.Needs.{Counts, IsCounted, own_of, trains_of, present, needs_left}
+use Rattle.rail_consequence.specs.Stops.{IsHeldByOther, IsStopped}
 use Rattle.rail_consequence.proofs.Legs.{Goes, goes_parts, leg_from, inside_parts, inside_from, inside_listed, IsClear}
 use Rattle.rail_consequence.proofs.Safe.{safe_from_clear, clear_from_safe}
 use Rattle.rail_consequence.proofs.Counts.{present_some, left_entered, times_present, needs_within}
@@ -32,8 +28,8 @@ stopped_unsafe plan s u x p stop is =
     ⊎_elim
     (λ further.
     let at : place_of r u ≡ q = get_or-set_same s u q 0 (inside_listed plan s u goes.inside) in
-    let free = not-true (list_any (is_held plan r) (plan.need u (place_of r u))) (and_parts (ltb (place_of r u) (plan.moves u)) (not (list_any (is_held plan r) (plan.need u (place_of r u)))) (goes.legal q stop.from further)).1 in
-    let here : is_held plan r x ≡ false = list_any_at (is_held plan r) (plan.need u q) x (ap (λ k. list_any (is_held plan r) (plan.need u k)) (sym at) ∙ free) stop.needed in
+    let free = not-true (list_any (is_held plan r) (plan.claim u (place_of r u))) (and_parts (ltb (place_of r u) (plan.moves u)) (not (list_any (is_held plan r) (plan.claim u (place_of r u)))) (goes.legal q stop.from further)).1 in
+    let here : is_held plan r x ≡ false = list_any_at (is_held plan r) (plan.claim u q) x (ap (λ k. list_any (is_held plan r) (plan.claim u k)) (sym at) ∙ free) stop.needed in
     let v : ℕ = stop.held.holder in
     let same : holds plan r v x ≡ true = ap (λ k. is_in x (stand plan v k)) (get_or-set_other s u v q 0 stop.held.other) ∙ stop.held.held in
     absurd (false≢true (sym (any_below_at (λ w. holds plan r w x) (length r) v here (holder_listed plan r v x same)) ∙ same)))
@@ -41,37 +37,37 @@ stopped_unsafe plan s u x p stop is =
     (cases_lt q p)
 
 -- a move is legal, with the train there and all others standing, where no other train holds a section that it needs
-pub free_legal : (plan : Moves) (s : List ℕ) (t i : ℕ) → is_valid plan ≡ true → t < plan.trains → t < length s → 0 < i → i < plan.moves t → ((x : ℕ) → is_in x (plan.need t i) ≡ true → IsHeldByOther plan s t x → ⊥) → is_legal plan (set s t i) t ≡ true
+pub free_legal : (plan : Moves) (s : List ℕ) (t i : ℕ) → is_valid plan ≡ true → t < plan.trains → t < length s → 0 < i → i < plan.moves t → ((x : ℕ) → is_in x (plan.claim t i) ≡ true → IsHeldByOther plan s t x → ⊥) → is_legal plan (set s t i) t ≡ true
 free_legal plan s t zero valid known listed low high free = absurd (omega arith)
 free_legal plan s t (suc m) valid known listed low high free =
     let i : ℕ = suc m in
     let r : List ℕ = set s t i in
     let at : place_of r t ≡ i = get_or-set_same s t i 0 listed in
-    let apart : are_apart (plan.need t i) (stand plan t i) ≡ true = (and_parts _ (are_apart (plan.need t i) (stand plan t i)) (move_valid plan t m valid known high)).1 in
-    let none : list_any (is_held plan r) (plan.need t i) ≡ false = list_any_none (is_held plan r) (plan.need t i) (λ x needed.
+    let apart : are_apart (plan.claim t i) (stand plan t i) ≡ true = (and_parts _ (are_apart (plan.claim t i) (stand plan t i)) (move_valid plan t m valid known high)).1 in
+    let none : list_any (is_held plan r) (plan.claim t i) ≡ false = list_any_none (is_held plan r) (plan.claim t i) (λ x needed.
     any_below_none (λ w. holds plan r w x) (length r) (λ w lt.
     ⊎_elim
-    (λ same. ap (λ k. holds plan r k x) same ∙ ap (λ k. is_in x (stand plan t k)) at ∙ apart_at (plan.need t i) (stand plan t i) x apart needed)
+    (λ same. ap (λ k. holds plan r k x) same ∙ ap (λ k. is_in x (stand plan t k)) at ∙ apart_at (plan.claim t i) (stand plan t i) x apart needed)
     (λ ne.
     ⊎_elim
     (λ held. absurd (free x needed (record { holder = w; other = ne; held = ap (λ k. is_in x (stand plan w k)) (sym (get_or-set_other s t w i 0 ne)) ∙ held })))
     (λ out. out)
     (cases_Bool (holds plan r w x)))
     (cases_eq w t))) in
-    and_from (ltb (place_of r t) (plan.moves t)) (not (list_any (is_held plan r) (plan.need t (place_of r t))))
+    and_from (ltb (place_of r t) (plan.moves t)) (not (list_any (is_held plan r) (plan.claim t (place_of r t))))
     (ap (λ k. ltb k (plan.moves t)) at ∙ lt-ltb i (plan.moves t) high)
-    (not_from_false (list_any (is_held plan r) (plan.need t (place_of r t))) (ap (λ k. list_any (is_held plan r) (plan.need t k)) at ∙ none))
+    (not_from_false (list_any (is_held plan r) (plan.claim t (place_of r t))) (ap (λ k. list_any (is_held plan r) (plan.claim t k)) at ∙ none))
 
 -- the owners tell of other holders
-pub held_from_owner : (table : List (List (List ℕ) × List (List ℕ))) (state : State) (t x v : ℕ) → IsMadeFor table state → v ≢ t → get_or state.owners x None ≡ Some v → IsHeldByOther (moves_in table) state.positions t x
+pub held_from_owner : (table : List MoveLists) (state : State) (t x v : ℕ) → IsMadeFor table state → v ≢ t → get_or state.owners x None ≡ Some v → IsHeldByOther (moves_in table) state.positions t x
 held_from_owner table state t x v made ne is = record { holder = v; other = ne; held = (made.told x v).0 is }
 
-pub free_from_owner : (table : List (List (List ℕ) × List (List ℕ))) (state : State) (t x : ℕ) → IsMadeFor table state → ((v : ℕ) → get_or state.owners x None ≡ Some v → v ≡ t) → IsHeldByOther (moves_in table) state.positions t x → ⊥
+pub free_from_owner : (table : List MoveLists) (state : State) (t x : ℕ) → IsMadeFor table state → ((v : ℕ) → get_or state.owners x None ≡ Some v → v ≡ t) → IsHeldByOther (moves_in table) state.positions t x → ⊥
 free_from_owner table state t x made own held = held.other (own held.holder ((made.told x held.holder).1 held.held))
 
 -- the parts of a way on which no leg is safe so far
 pub record IsTried (plan : Moves) (s : List ℕ) (t made : ℕ) : Type 0 where
-  pub free : (i : ℕ) → place_of s t ≤ i → i < made → (x : ℕ) → is_in x (plan.need t i) ≡ true → IsHeldByOther plan s t x → ⊥
+  pub free : (i : ℕ) → place_of s t ≤ i → i < made → (x : ℕ) → is_in x (plan.claim t i) ≡ true → IsHeldByOther plan s t x → ⊥
   pub unsafe : (p : ℕ) → place_of s t < p → p ≤ made → is_safe plan s (record { train = t; place = p }) ≡ false
 
 pub tried_nothing : (plan : Moves) (s : List ℕ) (t : ℕ) → IsTried plan s t (place_of s t)
@@ -80,17 +76,17 @@ tried_nothing plan s t = record {
   unsafe = λ p low high. absurd (omega arith);
 }
 
-pub tried_further : (plan : Moves) (s : List ℕ) (t made : ℕ) → IsTried plan s t made → ((x : ℕ) → is_in x (plan.need t made) ≡ true → IsHeldByOther plan s t x → ⊥) → is_safe plan s (record { train = t; place = made + 1 }) ≡ false → IsTried plan s t (made + 1)
+pub tried_further : (plan : Moves) (s : List ℕ) (t made : ℕ) → IsTried plan s t made → ((x : ℕ) → is_in x (plan.claim t made) ≡ true → IsHeldByOther plan s t x → ⊥) → is_safe plan s (record { train = t; place = made + 1 }) ≡ false → IsTried plan s t (made + 1)
 tried_further plan s t made tried free unsafe = record {
-  free = λ i from below. ⊎_elim (λ lt. tried.free i from lt) (λ ge. let last : i ≡ made = omega arith in let P : ℕ → Type 0 = λ k. (x : ℕ) → is_in x (plan.need t k) ≡ true → IsHeldByOther plan s t x → ⊥ in subst P (sym last) free) (cases_lt i made);
+  free = λ i from below. ⊎_elim (λ lt. tried.free i from lt) (λ ge. let last : i ≡ made = omega arith in let P : ℕ → Type 0 = λ k. (x : ℕ) → is_in x (plan.claim t k) ≡ true → IsHeldByOther plan s t x → ⊥ in subst P (sym last) free) (cases_lt i made);
   unsafe = λ p low high. ⊎_elim (λ lt. tried.unsafe p low (omega arith)) (λ ge. let last : p ≡ made + 1 = omega arith in let leg_at : ℕ → Leg = λ k. record { train = t; place = k } in ap (λ k. is_safe plan s (leg_at k)) last ∙ unsafe) (cases_lt p (made + 1));
 }
 
-pub tried_stops : (plan : Moves) (s : List ℕ) (t made x : ℕ) → IsTried plan s t made → 0 < place_of s t → place_of s t ≤ made → made < plan.moves t → is_in x (plan.need t made) ≡ true → IsHeldByOther plan s t x → IsStopped plan s t x
+pub tried_stops : (plan : Moves) (s : List ℕ) (t made x : ℕ) → IsTried plan s t made → 0 < place_of s t → place_of s t ≤ made → made < plan.moves t → is_in x (plan.claim t made) ≡ true → IsHeldByOther plan s t x → IsStopped plan s t x
 tried_stops plan s t made x tried low from below needed held = record { inside = inside_from plan s t low (omega (arith, from, below)); place = made; from = from; below = below; needed = needed; held = held; unsafe = tried.unsafe }
 
 -- a leg over moves that are free
-pub tried_leads : (plan : Moves) (s : List ℕ) (t made : ℕ) → is_valid plan ≡ true → t < plan.trains → t < length s → 0 < place_of s t → place_of s t ≤ made → made < plan.moves t → IsTried plan s t made → ((x : ℕ) → is_in x (plan.need t made) ≡ true → IsHeldByOther plan s t x → ⊥)
+pub tried_leads : (plan : Moves) (s : List ℕ) (t made : ℕ) → is_valid plan ≡ true → t < plan.trains → t < length s → 0 < place_of s t → place_of s t ≤ made → made < plan.moves t → IsTried plan s t made → ((x : ℕ) → is_in x (plan.claim t made) ≡ true → IsHeldByOther plan s t x → ⊥)
     → is_leg plan s (record { train = t; place = made + 1 }) ≡ true
 tried_leads plan s t made valid known listed low from below tried free =
     leg_from plan s (record { train = t; place = made + 1 }) (record {
@@ -101,7 +97,7 @@ tried_leads plan s t made valid known listed low from below tried free =
           free_legal plan s t i valid known listed (omega arith) (omega arith)
           (⊎_elim
           (λ before. tried.free i at before)
-          (λ ge. let last : i ≡ made = omega arith in let P : ℕ → Type 0 = λ k. (x : ℕ) → is_in x (plan.need t k) ≡ true → IsHeldByOther plan s t x → ⊥ in subst P (sym last) free)
+          (λ ge. let last : i ≡ made = omega arith in let P : ℕ → Type 0 = λ k. (x : ℕ) → is_in x (plan.claim t k) ≡ true → IsHeldByOther plan s t x → ⊥ in subst P (sym last) free)
           (cases_lt i made));
     })
 
@@ -111,7 +107,7 @@ out_safe plan s t p out = or_left (eqb p (plan.moves t)) _ (eq-eqb p (plan.moves
 -- a leg of another train: what is needed by a stop of u and was by the train that moved is needed by a third
 pub record IsPassed (plan : Moves) (r : List ℕ) (counts : Counts) (t u from : ℕ) : Type 0 where
   pub counted : IsCounted plan r counts
-  pub freed : (i x : ℕ) → from ≤ i → i < place_of r t → is_in x (plan.need t i) ≡ true → own_of counts t x ≡ 0 → trains_of counts x ≡ 1 → own_of counts u x ≡ 0
+  pub freed : (i x : ℕ) → from ≤ i → i < place_of r t → is_in x (plan.claim t i) ≡ true → own_of counts t x ≡ 0 → trains_of counts x ≡ 1 → own_of counts u x ≡ 0
 
 module _ (plan : Moves) (s : List ℕ) (t to u : ℕ) (valid : is_valid plan ≡ true) (state : is_valid_state plan s ≡ true) (goes : Goes plan s t to) (ne : u ≢ t) where
   abbrev next : List ℕ
@@ -126,9 +122,9 @@ module _ (plan : Moves) (s : List ℕ) (t to u : ℕ) (valid : is_valid plan ≡
   there : (v : ℕ) → v ≢ t → place_of next v ≡ place_of s v
   there v other = get_or-set_other s t v to 0 other
 
-  module _ (counts : Counts) (passed : IsPassed plan next counts t u (place_of s t)) (in_range : (v i x : ℕ) → is_in x (plan.need v i) ≡ true → x < SECTIONS) where
+  module _ (counts : Counts) (passed : IsPassed plan next counts t u (place_of s t)) (in_range : (v i x : ℕ) → is_in x (plan.claim v i) ≡ true → x < SECTIONS) where
     -- where the moves that were made needed a section of a stop, and nobody else does, the train itself does not
-    gap : (p i x : ℕ) → u < length s → place_of s u < p → p < plan.moves u → 0 < place_of s u → is_in x (stand plan u p) ≡ true → IsClear plan next u (stand plan u p) → place_of s t ≤ i → i < to → is_in x (plan.need t i) ≡ true → ⊥
+    gap : (p i x : ℕ) → u < length s → place_of s u < p → p < plan.moves u → 0 < place_of s u → is_in x (stand plan u p) ≡ true → IsClear plan next u (stand plan u p) → place_of s t ≤ i → i < to → is_in x (plan.claim t i) ≡ true → ⊥
     gap zero i x known ahead inner entered in_stand clear from below needed = omega arith
     gap (suc m) i x known ahead inner entered in_stand clear from below needed =
         let within = in_range t i x needed in
@@ -136,9 +132,9 @@ module _ (plan : Moves) (s : List ℕ) (t to u : ℕ) (valid : is_valid plan ≡
         let none = none_from_clear plan next u (stand plan u (suc m)) clear in
         let own_t : own_of counts t x ≡ 0 = passed.counted.own t x (listed_next t listed) within ∙ none x t in_stand (listed_next t listed) (λ e. ne (sym e)) in
         let alone = sum_alone (λ v. present (needs_left plan v (place_of next v) x)) (length next) u (listed_next u known) (λ v lt other. ap present (none x v in_stand lt other)) in
-        let in_need : is_in x (plan.need u m) ≡ true = stand_needed plan u m x valid (omega (arith, known, (state_parts plan s state).long)) in_stand in
+        let in_need : is_in x (plan.claim u m) ≡ true = stand_needed plan u m x valid (omega (arith, known, (state_parts plan s state).long)) in_stand in
         let at : place_of next u ≡ place_of s u = there u ne in
-        let some : 0 < needs_left plan u (place_of next u) x = omega (arith, left_entered plan u (place_of next u) x (omega (arith, at)), needs_within plan u (place_of next u) m (plan.moves u) x (omega (arith, at)) (omega arith), times_present x (plan.need u m) in_need) in
+        let some : 0 < needs_left plan u (place_of next u) x = omega (arith, left_entered plan u (place_of next u) x (omega (arith, at)), needs_within plan u (place_of next u) m (plan.moves u) x (omega (arith, at)) (omega arith), times_present x (plan.claim u m) in_need) in
         let one : trains_of counts x ≡ 1 = passed.counted.trains x within ∙ alone ∙ present_some (needs_left plan u (place_of next u) x) some in
         let own_u : own_of counts u x ≡ 0 = passed.freed i x from (omega (arith, here)) needed own_t one in
         omega (arith, own_u, passed.counted.own u x (listed_next u known) within, some)
@@ -149,10 +145,10 @@ module _ (plan : Moves) (s : List ℕ) (t to u : ℕ) (valid : is_valid plan ≡
         (λ same.
         let at_t : place_of s t ≤ i = omega (arith, ap (place_of s) same, from) in
         let below_t : i < plan.moves t = omega (arith, ap plan.moves same, below) in
-        let apart : are_apart (plan.need t i) (stand plan u p) ≡ true =
+        let apart : are_apart (plan.claim t i) (stand plan u p) ≡ true =
         ⊎_elim
         (λ made.
-        apart_from (plan.need t i) (stand plan u p) (λ x needed.
+        apart_from (plan.claim t i) (stand plan u p) (λ x needed.
         ⊎_elim
         (λ in_stand. absurd (gap p i x known ahead inner entered in_stand clear at_t made needed))
         (λ out. out)
@@ -160,7 +156,7 @@ module _ (plan : Moves) (s : List ℕ) (t to u : ℕ) (valid : is_valid plan ≡
         (λ left.
         clear t i (λ e. ne (sym e)) (inside_from plan next t (omega (arith, here, goes.ahead)) (omega (arith, here))) (omega (arith, here)) below_t)
         (cases_lt i to) in
-        ap (λ w. are_apart (plan.need w i) (stand plan u p)) same ∙ apart)
+        ap (λ w. are_apart (plan.claim w i) (stand plan u p)) same ∙ apart)
         (λ third.
         let at : place_of next v ≡ place_of s v = there v third in
         let parts = inside_parts plan s v inside in
@@ -196,10 +192,10 @@ module _ (plan : Moves) (s : List ℕ) (t to u : ℕ) (valid : is_valid plan ≡
         }
 
 -- what is noted of a train after a leg of another one
-pub settled_one : (table : List (List (List ℕ) × List (List ℕ))) (state : State) (counts : Counts) (s : List ℕ) (t to u x : ℕ) → IsMadeFor table state → IsCounted (moves_in table) state.positions counts
+pub settled_one : (table : List MoveLists) (state : State) (counts : Counts) (s : List ℕ) (t to u x : ℕ) → IsMadeFor table state → IsCounted (moves_in table) state.positions counts
     → is_valid_state (moves_in table) s ≡ true → is_leg (moves_in table) s (record { train = t; place = to }) ≡ true → set s t to ≡ state.positions → u ≢ t → u < length s → IsStopped (moves_in table) s u x
     → (get_or state.owners x None ≡ None → ⊥)
-    → ((i y : ℕ) → place_of s t ≤ i → i < to → is_in y ((moves_in table).need t i) ≡ true → own_of counts t y ≡ 0 → trains_of counts y ≡ 1 → own_of counts u y ≡ 0)
+    → ((i y : ℕ) → place_of s t ≤ i → i < to → is_in y ((moves_in table).claim t i) ≡ true → own_of counts t y ≡ 0 → trains_of counts y ≡ 1 → own_of counts u y ≡ 0)
     → IsStopped (moves_in table) state.positions u x
 settled_one table state counts s t to u x made counted valid leg same ne known stop held freed = by (get_or state.owners x None) refl
   where

@@ -6,9 +6,9 @@ use Rattle.rail_rules.specs.Numbers.{is_in}
 use Rattle.rail_rules.specs.Moves.{Moves, stand}
 use Rattle.rail_rules.specs.Places.{place_of, is_inside, is_legal, after, nobody_inside}
 use Rattle.rail_rules.specs.Analysis.{Leg, is_leg, after_leg, is_safe, clears, free_legs, Finds, moves_left}
-use Rattle.rail_rules.proofs.StatesKept.{state_parts}
-use Rattle.rail_place.specs.Tables.{moves_in}
-use Rattle.rail_consequence.specs.Working.{Work, IsReady, GoesOn, IsBack}
+use Rattle.rail_rules.proofs.CallerLemmas.{state_parts}
+use Rattle.rail_place.specs.Tables.{moves_in, MoveLists}
+use Rattle.rail_consequence.specs.Workspace.{Work, IsReady, GoesOn, IsBack}
 use Rattle.rail_consequence.proofs.Legs.{goes_parts, leg_from, IsClear, inside_from, inside_parts, inside_same, inside_listed}
 use Rattle.rail_consequence.proofs.Counts.{in_take_more}
 use Rattle.rail_consequence.proofs.Safe.{safe_leg_keeps, safe_from_clear, clear_from_safe, found_front, cost, cost-safe, cost-free, free_legs-cons}
@@ -142,7 +142,7 @@ goes_back plan a c back = record { more = []; list = back.list ∙ sym (append-n
 pub finds_back : (plan : Moves) (k : ℕ) (a c : Work) → IsBack a c → Finds plan k a.places.positions ↔ Finds plan k c.places.positions
 finds_back plan k a c back = (finds_at plan k a.places.positions c.places.positions (sym back.positions), finds_at plan k c.places.positions a.places.positions back.positions)
 
-pub within_at : (table : List (List (List ℕ) × List (List ℕ))) (w : Work) (t : ℕ) → IsReady table w → place_of w.places.positions t ≤ (moves_in table).moves t
+pub within_at : (table : List MoveLists) (w : Work) (t : ℕ) → IsReady table w → place_of w.places.positions t ≤ (moves_in table).moves t
 within_at table w t ready =
     ⊎_elim
     (λ lt. (state_parts (moves_in table) w.places.positions ready.made.valid).within t lt)

@@ -1,4 +1,4 @@
 -- What the analyst keeps between its steps.
-pub mod Working
-pub mod Needing
-pub mod Stopping
+pub mod Workspace
+pub mod Needs
+pub mod Stops

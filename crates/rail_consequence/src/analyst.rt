@@ -2,12 +2,12 @@ ghost use Rattle.std.specs.Prelude.{◌≡◌, ℕ, ◌+◌, ◌-◌, ◌<◌, �
 ghost use Rattle.rail_rules.specs.Analysis.{Finds, Leg, after_leg, is_leg, is_safe, moves_left};
 ghost use Rattle.rail_rules.specs.Places.{after, completes, is_inside, is_legal, is_valid_state, nobody_inside, place_of};
 ghost use Rattle.rail_place.specs.Made.{IsMadeFor};
-ghost use Rattle.rail_place.specs.Playing.{IsPlayed};
+ghost use Rattle.rail_place.specs.Plays.{IsPlayed};
 ghost use Rattle.rail_place.specs.Tables.{moves_in};
 ghost use Rattle.rail_rules.specs.Numbers.{is_in};
-ghost use Rattle.rail_consequence.specs.Needing.{own_of, trains_of};
-ghost use Rattle.rail_consequence.specs.Stopping.{IsHeldByOther, IsSettled, Shows, stop_at};
-ghost use Rattle.rail_consequence.specs.Working.{GoesOn, IsBack, IsListing, IsReady, Work};
+ghost use Rattle.rail_consequence.specs.Needs.{own_of, trains_of};
+ghost use Rattle.rail_consequence.specs.Stops.{IsHeldByOther, IsSettled, Shows, stop_at};
+ghost use Rattle.rail_consequence.specs.Workspace.{GoesOn, IsBack, IsListing, IsReady, Work};
 
 use crate::needs::Needs;
 use crate::stops::Stops;
@@ -40,7 +40,7 @@ pub struct Analyst {
 impl Model for Analyst {
     ghost use Rattle.std.specs.Prelude.{◌≤◌, vec_capacity};
     ghost use Rattle.rail_base.specs.declared.limits.TheConstants.{TRAINS};
-    ghost use Rattle.rail_consequence.specs.Working.{Work};
+    ghost use Rattle.rail_consequence.specs.Workspace.{Work};
 
     ghost Value = { Work };
 
@@ -62,7 +62,7 @@ struct Worksheet {
 impl Model for Worksheet {
     ghost use Rattle.std.specs.Prelude.{◌≤◌, vec_capacity};
     ghost use Rattle.rail_base.specs.declared.limits.TheConstants.{LIST_TRAINS};
-    ghost use Rattle.rail_consequence.specs.Working.{Work};
+    ghost use Rattle.rail_consequence.specs.Workspace.{Work};
 
     ghost Value = { Work };
 
@@ -377,7 +377,7 @@ impl Worksheet {
         requires ready { IsReady moves.now self.now }
         requires train { train < length moves.now }
         requires within { made < (moves_in moves.now).moves train }
-        ensures { MatchOption result ((x : ℕ) → IsTrue (is_in x ((moves_in moves.now).need train made)) → IsHeldByOther (moves_in moves.now) self.now.places.positions train x → ⊥) (λ x. IsTrue (is_in x ((moves_in moves.now).need train made)) × IsHeldByOther (moves_in moves.now) self.now.places.positions train x) }
+        ensures { MatchOption result ((x : ℕ) → IsTrue (is_in x ((moves_in moves.now).claim train made)) → IsHeldByOther (moves_in moves.now) self.now.places.positions train x → ⊥) (λ x. IsTrue (is_in x ((moves_in moves.now).claim train made)) × IsHeldByOther (moves_in moves.now) self.now.places.positions train x) }
     {
         let needed = moves.need(train, made + 1);
         for section in needed {

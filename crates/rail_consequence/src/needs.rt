@@ -5,7 +5,7 @@ ghost use Rattle.std.specs.List.{list_all};
 ghost use Rattle.rail_rules.specs.Numbers.{is_in};
 ghost use Rattle.rail_place.specs.Made.{IsMadeFor};
 ghost use Rattle.rail_place.specs.Tables.{IsTable, moves_in};
-ghost use Rattle.rail_consequence.specs.Needing.{IsCounted, IsMore, IsRoomFor, needs_left, own_of, present, times, trains_of};
+ghost use Rattle.rail_consequence.specs.Needs.{IsCounted, IsMore, IsRoomFor, needs_left, own_of, present, times, trains_of};
 
 use rail_base::limits::{SECTIONS, TRAINS};
 use rail_base::{OutOfMemory, SectionNo, TrainNo};
@@ -25,7 +25,7 @@ pub struct Needs {
 }
 
 impl Model for Needs {
-    ghost use Rattle.rail_consequence.specs.Needing.{Counts, IsWide};
+    ghost use Rattle.rail_consequence.specs.Needs.{Counts, IsWide};
 
     ghost Value = { Counts };
 

@@ -2,7 +2,7 @@
 
 ghost use Rattle.std.specs.Prelude.{◌≡◌, ◌≢◌, ℕ, ◌+◌, ◌*◌, ◌<◌, ◌&&◌, ◌==◌, cond, length, get_or, set, None, Some, IsTrue};
 ghost use Rattle.rail_rules.specs.Numbers.{is_in};
-ghost use Rattle.rail_consequence.specs.Stopping.{stop_at};
+ghost use Rattle.rail_consequence.specs.Stops.{stop_at};
 
 use rail_base::limits::TRAINS;
 use rail_base::{OutOfMemory, SectionNo, TrainNo};

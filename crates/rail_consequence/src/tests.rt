@@ -5,7 +5,7 @@ ghost use Rattle.std.specs.List.{list_all, list_any};
 ghost use Rattle.rail_rules.specs.Moves.{is_valid, is_valid_move};
 ghost use Rattle.rail_rules.specs.Numbers.{is_in};
 ghost use Rattle.rail_place.specs.Made.{IsMadeFor};
-ghost use Rattle.rail_place.specs.Tables.{moves_in};
+ghost use Rattle.rail_place.specs.Tables.{moves_in, lists_of};
 
 use crate::Analyst;
 use rail_base::limits::{ITINERARY_ROUTES, ROUTE_SECTIONS, SECTIONS, TRAINS};
@@ -33,7 +33,7 @@ fn rows(alloc: Global, lists: &[&[u16]]) -> Result<Vec<Seq<SectionNo>>, AllocErr
 
 fn move_is_valid(need: &[Seq<SectionNo>], stand: &[Seq<SectionNo>], made: usize) -> bool
     requires { made + 1 < length need.now }
-    ensures { IsTrue result → IsTrue (is_valid_move (moves_in ((need.now, stand.now) ∷ [])) 0 made) }
+    ensures { IsTrue result → IsTrue (is_valid_move (moves_in (lists_of need.now stand.now ∷ [])) 0 made) }
 {
     if made >= stand.len() {
         return false;
@@ -65,7 +65,7 @@ fn all_in(sections: &[SectionNo], needed: &[SectionNo]) -> bool
 }
 
 fn row_is_valid(need: &[Seq<SectionNo>], stand: &[Seq<SectionNo>]) -> bool
-    ensures { IsTrue result → IsTrue (is_valid (moves_in ((need.now, stand.now) ∷ []))) }
+    ensures { IsTrue result → IsTrue (is_valid (moves_in (lists_of need.now stand.now ∷ []))) }
 {
     for made in 1..need.len() {
         if !move_is_valid(need, stand, made - 1) {

@@ -1,4 +1,2 @@
--- What a run keeps, and the front that it stands for.
-pub mod Standing
-pub mod Giving
-pub mod Running
+-- The front for which an engine stands.
+pub mod Engines

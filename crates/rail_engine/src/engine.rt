@@ -1,12 +1,13 @@
 //! The engine, as the layers above use it.
 
 ghost use Rattle.std.specs.Prelude.{◌≡◌, [], ◌∷◌, true, false, IsNone, IfOk, IfSome};
-ghost use Rattle.rail_engine.specs.Running.{StandsFor};
-ghost use Rattle.rail_engine.specs.Standing.{line_in, list_of};
+ghost use Rattle.rail_engine.specs.Engines.{StandsFor};
+ghost use Rattle.rail_ledger.specs.Ledgers.{line_in, list_of};
 ghost use Rattle.rail_rules.specs.Fronts.{Front, has_ended, kept};
 
-use crate::run::{Listed, Run};
+use crate::choice::next_line;
 use rail_base::{Entry, OutOfMemory, TrainNo};
+use rail_ledger::Ledger;
 use rail_plan::Plant;
 use std::alloc::Global;
 use std::marker::Model;
@@ -15,18 +16,18 @@ use std::marker::Model;
 /// goes first. It stands for a front, which is the lines that it has given so far.
 #[derive(Drop)]
 pub struct Engine {
-    run: Run,
+    ledger: Ledger,
 }
 
 impl Model for Engine {
-    ghost use Rattle.rail_engine.specs.declared.run.Run.{Run};
-    ghost use Rattle.rail_engine.specs.Running.{IsRunning};
+    ghost use Rattle.rail_ledger.specs.declared.ledger.Ledger.{Ledger};
+    ghost use Rattle.rail_engine.specs.Engines.{IsRunning};
 
-    ghost Value = { Run };
+    ghost Value = { Ledger };
 
-    ghost view = { λ engine. engine.run };
+    ghost view = { λ engine. engine.ledger };
 
-    ghost invariant = { λ engine. IsRunning engine.run };
+    ghost invariant = { λ engine. IsRunning engine.ledger };
 }
 
 impl Engine {
@@ -35,8 +36,8 @@ impl Engine {
         ensures plant { IfOk result (λ engine. engine.plant ≡ plant) }
         ensures begun { IfOk result (StandsFor []) }
     {
-        match Run::begin(alloc, plant) {
-            Ok(run) => Ok(Engine { run }),
+        match Ledger::begin(alloc, plant) {
+            Ok(ledger) => Ok(Engine { ledger }),
             Err(error) => Err(error),
         }
     }
@@ -50,14 +51,14 @@ impl Engine {
         ensures going { IfSome result (λ entry. (front : Front) → StandsFor front self.old → has_ended front ≡ false) }
         ensures line { IfSome result (λ entry. (front : Front) → StandsFor front self.old → StandsFor (line_in self.new entry ∷ front) self.new) }
     {
-        self.run.step()
+        next_line(&mut self.ledger)
     }
 
     /// The kept list after the last line.
     pub fn kept(&self) -> &[TrainNo]
         ensures { (front : Front) → StandsFor front self.now → result.now ≡ kept self.now.plant front }
     {
-        self.run.kept.as_slice()
+        self.ledger.kept.as_slice()
     }
 
     /// The list that belongs to the last line: that of a fresh admission, or the trains that the end line
@@ -65,17 +66,13 @@ impl Engine {
     pub fn listed(&self) -> &[TrainNo]
         ensures { (front : Front) → StandsFor front self.now → result.now ≡ list_of front }
     {
-        match self.run.listed {
-            Listed::Nothing => &[],
-            Listed::Kept => self.run.kept.as_slice(),
-            Listed::Remaining => &self.run.remaining,
-        }
+        self.ledger.last_list()
     }
 
     /// The plant that is run.
     pub fn plant(&self) -> &Plant
         ensures { result.now ≡ self.now.plant }
     {
-        &self.run.plant
+        &self.ledger.plant
     }
 }

@@ -1,24 +1,13 @@
-//! A run without commands: what is kept of it, and how it goes on line by line.
+//! The engine of a run of all trains together: the ledger, and the choice of the train that goes first.
 //!
-//! This layer stands on the small parts of a run: what is kept of each train (`rail_riders`), the events
-//! that come with an admission (`rail_events`), the queue of what is pending (`rail_queue`), the holders of
-//! sections (`rail_release`), the kept list and its repair (`rail_list`, `rail_repair`), and the laws of what
-//! such parts stand for (`rail_standing`). It keeps no lines: that a run stands for a front, the lines given
-//! so far, is a relation of what it keeps with the front (`specs/Standing.antt`), and each step is proved to
-//! keep it. Of the trains that are ready and for which no held section and no missing list is known, the one
-//! that was ready first is tried first.
-//!
-//! After a line that freed the section for which a train was held that train is looked at again, after an
-//! admission each train that waits: any of its sections may be held now, and a list may be known. Between
-//! two such lines no train is.
-//!
-//! Bodies may be changed below. What may not: that only [`Engine::begin`] takes memory, that a line is given
-//! exactly where the relation says, and that a step looks again only at trains that something touched.
+//! This layer stands on the ledger of a run (`rail_ledger`), which keeps all and gives each line that follows by
+//! itself. Of the trains that could go at an instant the engine chooses the one that was ready first, and of
+//! several that with the least number. So each line that it gives continues a run history of the plant, and the
+//! contracts of `Engine` say so for every front for which it stands. Bodies may be changed freely. What may not
+//! change is that only `Engine::begin` takes memory, and what `specs/Engines.antt` says that an engine stands for.
 #![tactic(auto)]
 
+mod choice;
 mod engine;
-mod happening;
-mod moving;
-mod run;
 
 pub use engine::Engine;

@@ -15,7 +15,7 @@ use Rattle.rail_base.specs.declared.names.Names.{Names}
 use Rattle.rail_base.specs.declared.plant.TrainRow.{TrainRow}
 use Rattle.rail_rules.specs.Plant.{Plant, no_train, trains}
 use Rattle.rail_rules.specs.Texts.{Item, cause_words, items_of, item_word, line_text, note_words, train_word, what_words}
-use Rattle.rail_texts.specs.Writable.{is_known_move, is_known_train, is_writable_what}
+use Rattle.rail_rules.specs.Writable.{is_known_move, is_known_train, is_writable_what}
 use Rattle.rail_history.specs.Lines.{HasNames, bare, behind, brought, brought_by_note, brought_words, item_text, line_of, note_brought_words, train_name}
 use Rattle.rail_history.proofs.Spacing.{spaced-behind}
 

@@ -1,4 +1,9 @@
-pub mod Brought
-pub mod Items
-pub mod Pieces
-pub mod Spacing
+mod Brought
+mod Items
+mod Pieces
+mod Spacing
+-- Lemmas on words.
+mod Cut
+mod Named
+mod Reading
+mod Spelled

@@ -1,8 +1,8 @@
 -- A line that is handed on piece by piece.
 use Rattle.std.proofs.Common.{◌≡◌, ℕ, List, [], ◌++◌, refl, sym, subst, ap, ◌∙◌, append_assoc}
 use Rattle.std.specs.Prelude.{Option}
-use Rattle.rail_io.specs.Writing.{Adds, AddsPrefix}
-use Rattle.rail_io.proofs.Added.{Adds-same, Adds-append, AddsPrefix-more, AddsPrefix-append}
+use Rattle.rail_io.specs.Writes.{Adds, AddsPrefix}
+use Rattle.rail_io.proofs.CallerLemmas.{Adds-same, Adds-append, AddsPrefix-more, AddsPrefix-append}
 use Rattle.rail_history.specs.Pieces.{IsHandedOn}
 
 -- nothing was handed on

@@ -1,12 +1,18 @@
-//! The text of a history: its lines are written one by one.
+//! The text of a history: its lines are written one by one, and a line is read back.
 //!
 //! This layer stands on `rail_io` for what is written to, and on the definitions of `rail_rules`, where
 //! the text of a line is defined. It adds nothing to them: `specs/` says which names a plant has. A line
 //! is put together in a room of its own and handed on whole, as one piece, or piece by piece where it
 //! names more trains than the room takes; how it is put together may be changed freely.
+//!
+//! A line is read by a guess: of bytes that are the text of a line, `likely_what` gives what the line says, and
+//! of other bytes anything; whoever reads writes the line back and compares.
 #![tactic(auto)]
 
+mod cutting;
 mod line;
+mod read_what;
+mod read_words;
 #[cfg(test)]
 mod tests;
 mod trains;
@@ -14,4 +20,6 @@ mod words;
 mod writing;
 
 pub use line::{Line, ROOM};
+pub use read_what::likely_what;
+pub use read_words::{Reason, Verb};
 pub use writing::write_entry;

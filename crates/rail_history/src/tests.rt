@@ -3,7 +3,7 @@
 ghost use Rattle.std.specs.Prelude.{◌≡◌, ℕ, ◌<◌, ◌↔◌, ◌^◌, List, length, IsTrue, All};
 ghost use Rattle.std.specs.List.{list_all};
 ghost use Rattle.rail_rules.specs.Plant.{Plant, trains};
-ghost use Rattle.rail_texts.specs.Writable.{is_known_train, is_writable};
+ghost use Rattle.rail_rules.specs.Writable.{is_known_train, is_writable};
 ghost use Rattle.rail_history.specs.Lines.{line_of};
 
 use crate::write_entry;

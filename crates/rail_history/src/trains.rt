@@ -2,11 +2,11 @@
 
 ghost use Rattle.std.specs.Prelude.{◌≡◌, ◌+◌, ◌≤◌, ◌<◌, ◌∷◌, ◌++◌, length, map, nat_eq, All, IsTrue, OnOk, OnErr};
 ghost use Rattle.std.specs.List.{prefix_len};
-ghost use Rattle.rail_io.specs.Counting.{Rose};
-ghost use Rattle.rail_io.specs.Writing.{Adds, AddsPrefix};
+ghost use Rattle.rail_io.specs.FaultCounts.{Rose};
+ghost use Rattle.rail_io.specs.Writes.{Adds, AddsPrefix};
 ghost use Rattle.rail_rules.specs.Plant.{Plant};
 ghost use Rattle.rail_rules.specs.Texts.{items_of};
-ghost use Rattle.rail_texts.specs.Writable.{is_writable_what};
+ghost use Rattle.rail_rules.specs.Writable.{is_writable_what};
 ghost use Rattle.rail_history.specs.Lines.{HasNames, behind, brought_words, item_text, line_of, train_name};
 ghost use Rattle.rail_history.specs.Pieces.{IsHandedOn};
 ghost use Rattle.rail_history.specs.declared.line.TheConstants.{ROOM};

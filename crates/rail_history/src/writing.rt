@@ -1,9 +1,9 @@
 ghost use Rattle.std.specs.Prelude.{◌≤◌, IsTrue, OnOk, OnErr};
-ghost use Rattle.rail_io.specs.Counting.{Rose};
-ghost use Rattle.rail_io.specs.Writing.{Adds, AddsPrefix};
+ghost use Rattle.rail_io.specs.FaultCounts.{Rose};
+ghost use Rattle.rail_io.specs.Writes.{Adds, AddsPrefix};
 ghost use Rattle.rail_rules.specs.Plant.{Plant};
 ghost use Rattle.rail_rules.specs.Texts.{line_text};
-ghost use Rattle.rail_texts.specs.Writable.{is_writable};
+ghost use Rattle.rail_rules.specs.Writable.{is_writable};
 ghost use Rattle.rail_history.specs.Lines.{HasNames, line_of};
 
 use crate::line::Line;

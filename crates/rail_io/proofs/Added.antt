@@ -5,7 +5,7 @@ use Rattle.std.proofs.lemmas.List.{append-nil, take-append-le, take_min}
 use Rattle.std.proofs.lemmas.Option.{same_Some}
 use Rattle.std.specs.Prelude.{Option, Some, None}
 use Rattle.std.specs.Io.KnownBytes.{append_known}
-use Rattle.rail_io.specs.Writing.{Adds, AddsPrefix}
+use Rattle.rail_io.specs.Writes.{Adds, AddsPrefix}
 
 -- what stays adds nothing
 pub Adds-same : (old : Option (List ℕ)) → Adds old old []

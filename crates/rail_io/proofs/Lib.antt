@@ -1,5 +1,7 @@
+-- The lemmas of this crate; those for the crates above stand in CallerLemmas.
+pub mod CallerLemmas
 -- Lemmas on the definitions of this crate, for the crates above too.
-pub mod Counted
-pub mod Added
+mod Counted
+mod Added
 mod Moved
 mod Told

@@ -1,7 +1,7 @@
 -- What the contracts of this crate, and of the crates above it, speak of.
-pub mod Counting
-pub mod Writing
-pub mod Reading
+pub mod FaultCounts
+pub mod Writes
+pub mod Reads
 pub mod File
 pub mod Paper
 pub mod MemoryShelf

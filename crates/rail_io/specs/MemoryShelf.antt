@@ -3,9 +3,9 @@ use Rattle.std.specs.Prelude.{ℕ, List, Option, Contains}
 use Rattle.rail_io.specs.declared.kept.File.{File}
 use Rattle.rail_io.specs.declared.memory.MemoryShelf.{MemoryShelf}
 use Rattle.rail_io.specs.declared.reading.Reading.{Reading}
-use Rattle.rail_io.specs.Counting.{raised}
+use Rattle.rail_io.specs.FaultCounts.{raised}
 use Rattle.rail_io.specs.File.{bytes_named}
-use Rattle.rail_io.specs.Reading.{bytes_left}
+use Rattle.rail_io.specs.Reads.{bytes_left}
 
 -- the files on the shelf
 abbrev pub files_on : MemoryShelf → List File

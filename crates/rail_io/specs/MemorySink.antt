@@ -1,7 +1,7 @@
 -- A sink in memory, on which planned calls fail.
 use Rattle.std.specs.Prelude.{ℕ, List, Option, Contains}
 use Rattle.rail_io.specs.declared.memory.MemorySink.{MemorySink}
-use Rattle.rail_io.specs.Counting.{raised}
+use Rattle.rail_io.specs.FaultCounts.{raised}
 use Rattle.rail_io.specs.Paper.{told}
 
 -- the bytes written, until the first piece that the room did not hold

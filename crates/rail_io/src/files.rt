@@ -1,5 +1,5 @@
 ghost use Rattle.std.specs.Prelude.{◌≡◌, ◌+◌, ◌^◌, ◌<◌, ◌≤◌, None, IfSome, length};
-ghost use Rattle.rail_io.specs.Reading.{begun_name, failed_name};
+ghost use Rattle.rail_io.specs.Reads.{begun_name, failed_name};
 
 use crate::reading::Reading;
 use crate::shelf::{Shelf, StartFault};

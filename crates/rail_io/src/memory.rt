@@ -1,7 +1,7 @@
 ghost use Rattle.std.specs.Prelude.{◌≡◌, ◌≢◌, ◌⊎◌, ◌↔◌, ◌+◌, ◌^◌, ◌<◌, ◌≤◌, [], Some, None, Ok, Err, IsNone, IsSome, IsErr, IfOk, OnOk, OnErr, length, take, option_copied};
 ghost use Rattle.std.specs.Io.KnownBytes.{prepend_known, IsAtEnd};
-ghost use Rattle.rail_io.specs.Counting.{raised};
-ghost use Rattle.rail_io.specs.Reading.{fresh, begun_name, failed_name, after_begin, after_refusal, after_failure, after_move};
+ghost use Rattle.rail_io.specs.FaultCounts.{raised};
+ghost use Rattle.rail_io.specs.Reads.{fresh, begun_name, failed_name, after_begin, after_refusal, after_failure, after_move};
 ghost use Rattle.rail_io.specs.File.{bytes_named};
 
 use crate::kept::{File, begun_bytes, bytes_of, move_bytes};

@@ -1,5 +1,5 @@
 ghost use Rattle.std.specs.Prelude.{◌≡◌, ◌↔◌, IsTrue, Contains};
-ghost use Rattle.rail_io.specs.Counting.{raised};
+ghost use Rattle.rail_io.specs.FaultCounts.{raised};
 
 /// Which calls are to fail, by their numbers.
 #[derive(Drop)]

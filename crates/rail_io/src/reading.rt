@@ -1,5 +1,5 @@
 ghost use Rattle.std.specs.Prelude.{◌≡◌, ◌+◌, ◌^◌, ◌<◌, ◌≤◌, option_copied};
-ghost use Rattle.rail_io.specs.Reading.{fresh, after_begin, after_refusal, after_failure, after_move};
+ghost use Rattle.rail_io.specs.Reads.{fresh, after_begin, after_refusal, after_failure, after_move};
 
 use rail_base::Word;
 

@@ -1,6 +1,6 @@
 ghost use Rattle.std.specs.Prelude.{◌≡◌, ◌≢◌, ℕ, ◌+◌, ◌^◌, ◌<◌, ◌≤◌, Bool, false, List, [], length, take, Option, Some, None, Err, IsTrue, IsSome, IfOk, OnOk, OnErr};
 ghost use Rattle.std.specs.Io.KnownBytes.{prepend_known, IsAtEnd};
-ghost use Rattle.rail_io.specs.Counting.{Rose};
+ghost use Rattle.rail_io.specs.FaultCounts.{Rose};
 ghost use Rattle.rail_io.specs.declared.shelf.StartFault.TheVariants as start_fault;
 
 use crate::sink::Failed;

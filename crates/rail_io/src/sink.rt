@@ -1,6 +1,6 @@
 ghost use Rattle.std.specs.Prelude.{ℕ, ◌<◌, ◌≤◌, List, [], length, take, Option, IfOk, OnErr};
-ghost use Rattle.rail_io.specs.Counting.{Rose};
-ghost use Rattle.rail_io.specs.Writing.{Adds};
+ghost use Rattle.rail_io.specs.FaultCounts.{Rose};
+ghost use Rattle.rail_io.specs.Writes.{Adds};
 
 use thiserror::Error;
 

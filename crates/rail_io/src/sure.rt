@@ -1,5 +1,5 @@
 ghost use Rattle.std.specs.Prelude.{◌≡◌, ◌<◌, [], Some, None, Ok, IfOk, length, option_copied};
-ghost use Rattle.rail_io.specs.Reading.{fresh, begun_name, bytes_left};
+ghost use Rattle.rail_io.specs.Reads.{fresh, begun_name, bytes_left};
 
 use crate::kept::{File, begun_bytes, move_bytes};
 use crate::paper::Paper;

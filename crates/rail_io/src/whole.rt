@@ -1,6 +1,6 @@
 ghost use Rattle.std.specs.Prelude.{◌≡◌, ◌≢◌, ◌⊎◌, ◌+◌, ◌<◌, ◌≤◌, [], Some, None, Ok, Err, IsTrue, IsSome, IsOk, IfSome, IfOk, OnOk, OnErr, length, take, vec_len};
-ghost use Rattle.rail_io.specs.Counting.{Rose};
-ghost use Rattle.rail_io.specs.Writing.{Adds, AddsPrefix};
+ghost use Rattle.rail_io.specs.FaultCounts.{Rose};
+ghost use Rattle.rail_io.specs.Writes.{Adds, AddsPrefix};
 ghost use Rattle.rail_io.specs.Whole.{why_not_read};
 ghost use Rattle.rail_io.specs.declared.whole.ReadWhole.TheVariants as read_whole;
 

@@ -7,11 +7,9 @@ use Rattle.std.proofs.lemmas.List.Elements.{All-nil, All-cons}
 use Rattle.rail_rules.specs.Numbers.{any_below, sum_below, is_in, are_apart}
 use Rattle.rail_rules.specs.Moves.{Moves, stand, is_valid}
 use Rattle.rail_rules.specs.Places.{place_of, holds, is_held, is_inside, is_legal, after, nobody_inside, completes}
-use Rattle.rail_rules.proofs.Below.{any_below_at, any_below_none, sum_below-le}
-use Rattle.rail_rules.proofs.Members.{list_any_none, apart_at}
-use Rattle.rail_place.specs.Playing.{IsPlayed, plays}
-use Rattle.rail_place.proofs.Tables.{move_valid}
-use Rattle.rail_place.proofs.Playing.{inside_listed, played_left}
+use Rattle.rail_rules.proofs.CallerLemmas.{any_below_at, any_below_none, sum_below-le, list_any_none, apart_at}
+use Rattle.rail_place.specs.Plays.{IsPlayed, plays}
+use Rattle.rail_place.proofs.CallerLemmas.{move_valid, inside_listed, played_left}
 use Rattle.rail_list.proofs.Pulling.{place_kept, inside_kept, after_comm}
 
 -- a train that is not inside holds nothing
@@ -25,11 +23,11 @@ outside_holds plan u (suc m) out =
     cond-false (ltb (suc m) (plan.moves u)) (plan.standing u m) [] past
 
 -- the next move of a train that is inside needs nothing on which the train stands
-apart_own : (plan : Moves) (t p : ℕ) → is_valid plan ≡ true → t < plan.trains → 0 < p → p < plan.moves t → are_apart (plan.need t p) (stand plan t p) ≡ true
+apart_own : (plan : Moves) (t p : ℕ) → is_valid plan ≡ true → t < plan.trains → 0 < p → p < plan.moves t → are_apart (plan.claim t p) (stand plan t p) ≡ true
 apart_own plan t zero valid lt some more = absurd (omega (arith, some))
 apart_own plan t (suc m) valid lt some more =
     let standing : List ℕ = stand plan t (suc m) in
-    (and_parts (ltb 0 (length standing) && list_all (λ x. is_in x (plan.need t m)) standing) (are_apart (plan.need t (suc m)) standing) (move_valid plan t m valid lt more)).1
+    (and_parts (ltb 0 (length standing) && list_all (λ x. is_in x (plan.claim t m)) standing) (are_apart (plan.claim t (suc m)) standing) (move_valid plan t m valid lt more)).1
 
 -- no other train is inside
 abbrev IsAlone : Moves → List ℕ → ℕ → Type 0
@@ -38,7 +36,7 @@ IsAlone plan s t = (u : ℕ) → u ≢ t → is_inside plan s u ≡ false
 -- nothing is in the way of a train that is alone inside
 alone_legal : (plan : Moves) (s : List ℕ) (t : ℕ) → is_valid plan ≡ true → t < plan.trains → 0 < place_of s t → place_of s t < plan.moves t → IsAlone plan s t → is_legal plan s t ≡ true
 alone_legal plan s t valid lt some more alone =
-    let needed : List ℕ = plan.need t (place_of s t) in
+    let needed : List ℕ = plan.claim t (place_of s t) in
     let own = apart_own plan t (place_of s t) valid lt some more in
     and_from (ltb (place_of s t) (plan.moves t)) (not (list_any (is_held plan s) needed)) (lt-ltb (place_of s t) (plan.moves t) more)
     (not_from_false (list_any (is_held plan s) needed) (list_any_none (is_held plan s) needed (λ x is.

@@ -1,4 +1,10 @@
+-- The lemmas of this crate; those for the crates above stand in CallerLemmas.
+pub mod CallerLemmas
 -- Lemmas on repaired lists, and the law that a public function states.
-pub mod Pulling
-pub mod Appending
-pub mod Trying
+mod Pulling
+mod Appending
+mod Trying
+-- Lemmas on fresh lists and on taking the move back, and the law that a public function states.
+mod Remaining
+mod Finding
+mod Knowing

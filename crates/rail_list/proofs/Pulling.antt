@@ -7,10 +7,10 @@ use Rattle.rail_rules.specs.Numbers.{any_below}
 use Rattle.rail_rules.specs.Moves.{Moves}
 use Rattle.rail_rules.specs.Places.{place_of, is_inside, is_legal, after, completes}
 use Rattle.rail_rules.specs.Fronts.{without_first}
-use Rattle.rail_rules.proofs.Below.{any_below_at}
-use Rattle.rail_place.specs.Playing.{plays}
-use Rattle.rail_place.proofs.Playing.{inside_listed}
-use Rattle.rail_list.specs.Keeping.{before_first}
+use Rattle.rail_rules.proofs.CallerLemmas.{any_below_at}
+use Rattle.rail_place.specs.Plays.{plays}
+use Rattle.rail_place.proofs.CallerLemmas.{inside_listed}
+use Rattle.rail_list.specs.KeptLists.{before_first}
 
 -- another train's move leaves the train where it is
 pub place_kept : (s : List ℕ) (t u : ℕ) → t ≢ u → place_of (after s u) t ≡ place_of s t

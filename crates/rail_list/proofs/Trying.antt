@@ -4,9 +4,9 @@ use Rattle.std.proofs.lemmas.Bool.{cases_Bool, cond-true, cond-false}
 use Rattle.std.proofs.lemmas.List.{same_lists, get_or_default}
 use Rattle.rail_rules.specs.Moves.{Moves}
 use Rattle.rail_rules.specs.Places.{holds, is_inside, is_legal, after}
-use Rattle.rail_place.specs.Tables.{moves_in}
+use Rattle.rail_place.specs.Tables.{moves_in, MoveLists}
 use Rattle.rail_place.specs.Made.{State, IsMadeFor}
-use Rattle.rail_place.specs.Barring.{moves_made}
+use Rattle.rail_place.specs.Bars.{moves_made}
 
 same_option : (a b : Option ℕ) → ((u : ℕ) → (a ≡ Some u) ↔ (b ≡ Some u)) → a ≡ b
 same_option (Some u) b h = sym ((h u).0 refl)
@@ -14,7 +14,7 @@ same_option None (Some u) h = (h u).1 refl
 same_option None None h = refl
 
 -- places that were made for one table of moves, with the same positions, have the same owners
-pub owners_same : (table : List (List (List ℕ) × List (List ℕ))) (s r : State) → IsMadeFor table s → IsMadeFor table r → r.positions ≡ s.positions → r.owners ≡ s.owners
+pub owners_same : (table : List MoveLists) (s r : State) → IsMadeFor table s → IsMadeFor table r → r.positions ≡ s.positions → r.owners ≡ s.owners
 owners_same table s r made_s made_r same =
     let same_at : (x : ℕ) → get_or r.owners x None ≡ get_or s.owners x None = λ x. same_option (get_or r.owners x None) (get_or s.owners x None) (λ u. (
       λ h. (made_s.told x u).1 (sym (ap (λ p. holds (moves_in table) p u x) same) ∙ (made_r.told x u).0 h),

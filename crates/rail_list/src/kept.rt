@@ -4,9 +4,9 @@ ghost use Rattle.rail_rules.specs.Fronts.{without_first};
 ghost use Rattle.rail_rules.specs.Numbers.{sum_below};
 ghost use Rattle.rail_rules.specs.Places.{after, completes, is_inside, is_legal, place_of};
 ghost use Rattle.rail_place.specs.Made.{IsMadeFor};
-ghost use Rattle.rail_place.specs.Playing.{plays};
+ghost use Rattle.rail_place.specs.Plays.{plays};
 ghost use Rattle.rail_place.specs.Tables.{moves_in};
-ghost use Rattle.rail_list.specs.Keeping.{HasRoomFor, before_first};
+ghost use Rattle.rail_list.specs.KeptLists.{HasRoomFor, before_first};
 
 use rail_base::{OutOfMemory, TrainNo};
 use rail_place::{Moves, Places};
@@ -22,7 +22,7 @@ pub struct KeptList {
 
 impl Model for KeptList {
     ghost use Rattle.std.specs.Prelude.{vec_capacity};
-    ghost use Rattle.rail_list.specs.Keeping.{Kept};
+    ghost use Rattle.rail_list.specs.KeptLists.{Kept};
 
     ghost Value = { Kept };
 

@@ -3,7 +3,7 @@ use Rattle.std.proofs.Common.{◌≡◌, ℕ, zero, suc, ◌<◌, Bool, true, fa
 use Rattle.std.proofs.lemmas.Bool.{cases_lt, cases_Bool, cond-true, cond-false}
 use Rattle.std.proofs.lemmas.Option.{none-some}
 use Rattle.rail_rules.specs.Numbers.{first_below, or_else, any_below}
-use Rattle.rail_rules.proofs.Below.{any_below_none}
+use Rattle.rail_rules.proofs.CallerLemmas.{any_below_none}
 
 pub first_below_nothing : (f : ℕ → Bool) (n : ℕ) → ((j : ℕ) → j < n → f j ≡ false) → first_below f n ≡ None
 first_below_nothing f zero h = refl

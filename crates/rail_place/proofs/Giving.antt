@@ -3,9 +3,9 @@ use Rattle.std.proofs.Common.{◌≡◌, ℕ, zero, suc, ◌+◌, ◌<◌, ◌�
 use Rattle.std.proofs.lemmas.Bool.{or_parts, or_cases, or_right, cases_Bool, false≢true, eqb-true, eqb-false}
 use Rattle.std.proofs.lemmas.List.{get_or-set_same, get_or-set_other, length-set, drop_more, drop_all}
 use Rattle.rail_rules.specs.Numbers.{is_in, or_else}
-use Rattle.rail_rules.proofs.Members.{is_in-head}
+use Rattle.rail_rules.proofs.CallerLemmas.{is_in-head}
 use Rattle.rail_place.specs.declared.barring.Barred.TheVariants.{Held}
-use Rattle.rail_place.specs.Barring.{held_by}
+use Rattle.rail_place.specs.Bars.{held_by}
 use Rattle.rail_place.specs.Owners.{given, first_owned_in}
 
 pub length-given : (owners : List (Option ℕ)) (xs : List ℕ) (owner : Option ℕ) → length (given owners xs owner) ≡ length owners

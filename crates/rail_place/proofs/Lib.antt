@@ -1,7 +1,9 @@
+-- The lemmas of this crate; those for the crates above stand in CallerLemmas.
+pub mod CallerLemmas
 -- Lemmas on tables of moves, places and the player.
-pub mod Tables
-pub mod Giving
-pub mod Firsts
-pub mod Making
-pub mod Playing
-pub mod Taking
+mod Tables
+mod Giving
+mod Firsts
+mod Making
+mod Playing
+mod Taking

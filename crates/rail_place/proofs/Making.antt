@@ -8,15 +8,13 @@ use Rattle.rail_base.specs.declared.limits.TheConstants.{SECTIONS}
 use Rattle.rail_rules.specs.Numbers.{or_else, is_in, are_apart}
 use Rattle.rail_rules.specs.Moves.{Moves, stand, is_valid}
 use Rattle.rail_rules.specs.Places.{place_of, holds, is_held, is_legal, is_valid_state}
-use Rattle.rail_rules.proofs.Below.{any_below_at}
-use Rattle.rail_rules.proofs.Members.{list_any_at, apart_at, apart_from}
-use Rattle.rail_rules.proofs.StatesKept.{state_parts, state_from_parts, stand_needed}
+use Rattle.rail_rules.proofs.CallerLemmas.{any_below_at, list_any_at, apart_at, apart_from, state_parts, state_from_parts, stand_needed}
 use Rattle.rail_place.specs.declared.barring.Barred.{Barred}
 use Rattle.rail_place.specs.declared.barring.Barred.TheVariants.{Out, Held}
-use Rattle.rail_place.specs.Tables.{moves_in}
+use Rattle.rail_place.specs.Tables.{moves_in, MoveLists}
 use Rattle.rail_place.specs.Made.{State, IsMadeFor}
 use Rattle.rail_place.specs.Owners.{given, first_owned_in}
-use Rattle.rail_place.specs.Barring.{holder_of, held_by, first_held, bar_of}
+use Rattle.rail_place.specs.Bars.{holder_of, held_by, first_held, bar_of}
 use Rattle.rail_place.proofs.Tables.{stand_in_range}
 use Rattle.rail_place.proofs.Giving.{length-given, given-other, given-named}
 use Rattle.rail_place.proofs.Firsts.{first_below_nothing, first_below_at, first_below_any}
@@ -78,7 +76,7 @@ none_from_unheld plan s (x ∷ xs) h =
 -- a move is legal exactly where nothing bars it
 pub legal_from_none : (plan : Moves) (s : List ℕ) (t : ℕ) → bar_of plan s t ≡ None → is_legal plan s t ≡ true
 legal_from_none plan s t h =
-    let xs : List ℕ = plan.need t (place_of s t) in
+    let xs : List ℕ = plan.claim t (place_of s t) in
     let rest : Option Barred = first_held plan s xs in
     ⊎_elim
     (λ more.
@@ -89,21 +87,21 @@ legal_from_none plan s t h =
 
 pub none_from_legal : (plan : Moves) (s : List ℕ) (t : ℕ) → is_legal plan s t ≡ true → bar_of plan s t ≡ None
 none_from_legal plan s t h =
-    let xs : List ℕ = plan.need t (place_of s t) in
+    let xs : List ℕ = plan.claim t (place_of s t) in
     let parts = and_parts (ltb (place_of s t) (plan.moves t)) (not (list_any (is_held plan s) xs)) h in
     cond-true (ltb (place_of s t) (plan.moves t)) (first_held plan s xs) (Some Out) parts.0
     ∙ none_from_unheld plan s xs (not-true (list_any (is_held plan s) xs) parts.1)
 
 pub legal_ahead : (plan : Moves) (s : List ℕ) (t : ℕ) → is_legal plan s t ≡ true → place_of s t < plan.moves t
 legal_ahead plan s t h =
-    let parts = and_parts (ltb (place_of s t) (plan.moves t)) (not (list_any (is_held plan s) (plan.need t (place_of s t)))) h in
+    let parts = and_parts (ltb (place_of s t) (plan.moves t)) (not (list_any (is_held plan s) (plan.claim t (place_of s t)))) h in
     ltb-true (place_of s t) (plan.moves t) parts.0
 
 -- nobody holds a section that a legal move needs
-pub legal_free : (plan : Moves) (s : List ℕ) (t x u : ℕ) → is_legal plan s t ≡ true → is_in x (plan.need t (place_of s t)) ≡ true → holds plan s u x ≡ false
+pub legal_free : (plan : Moves) (s : List ℕ) (t x u : ℕ) → is_legal plan s t ≡ true → is_in x (plan.claim t (place_of s t)) ≡ true → holds plan s u x ≡ false
 legal_free plan s t x u h is =
-    let parts = and_parts (ltb (place_of s t) (plan.moves t)) (not (list_any (is_held plan s) (plan.need t (place_of s t)))) h in
-    let nobody = list_any_at (is_held plan s) (plan.need t (place_of s t)) x (not-true (list_any (is_held plan s) (plan.need t (place_of s t))) parts.1) is in
+    let parts = and_parts (ltb (place_of s t) (plan.moves t)) (not (list_any (is_held plan s) (plan.claim t (place_of s t)))) h in
+    let nobody = list_any_at (is_held plan s) (plan.claim t (place_of s t)) x (not-true (list_any (is_held plan s) (plan.claim t (place_of s t))) parts.1) is in
     ⊎_elim
     (λ lt. any_below_at (λ v. holds plan s v x) (length s) u nobody lt)
     (λ past. holds_past plan s u x past)
@@ -180,10 +178,10 @@ told_valid plan s owners long within told = state_from_parts plan s (record {
       (cases_Bool (holds plan s u x)));
 })
 
-pub made_long : (table : List (List (List ℕ) × List (List ℕ))) (s : State) → IsMadeFor table s → length s.positions ≡ length table
+pub made_long : (table : List MoveLists) (s : State) → IsMadeFor table s → length s.positions ≡ length table
 made_long table s made = (state_parts (moves_in table) s.positions made.valid).long
 
-pub made_within : (table : List (List (List ℕ) × List (List ℕ))) (s : State) (t : ℕ) → IsMadeFor table s → place_of s.positions t ≤ (moves_in table).moves t
+pub made_within : (table : List MoveLists) (s : State) (t : ℕ) → IsMadeFor table s → place_of s.positions t ≤ (moves_in table).moves t
 made_within table s t made =
     ⊎_elim
     (λ lt. (state_parts (moves_in table) s.positions made.valid).within t lt)
@@ -191,7 +189,7 @@ made_within table s t made =
     (cases_lt t (length s.positions))
 
 -- a train goes to a place where its standing set is apart from all others
-pub made_moved : (table : List (List (List ℕ) × List (List ℕ))) (s : State) (t p n : ℕ) → n < 2 ^ 64 → IsMadeFor table s → t < length table → p ≤ (moves_in table).moves t → ((u : ℕ) → u ≢ t → are_apart (stand (moves_in table) t p) (stand (moves_in table) u (place_of s.positions u)) ≡ true) → IsMadeFor table (record { positions = set s.positions t p; owners = owners_moved (moves_in table) s.positions s.owners t p; played = n })
+pub made_moved : (table : List MoveLists) (s : State) (t p n : ℕ) → n < 2 ^ 64 → IsMadeFor table s → t < length table → p ≤ (moves_in table).moves t → ((u : ℕ) → u ≢ t → are_apart (stand (moves_in table) t p) (stand (moves_in table) u (place_of s.positions u)) ≡ true) → IsMadeFor table (record { positions = set s.positions t p; owners = owners_moved (moves_in table) s.positions s.owners t p; played = n })
 made_moved table s t p n counted made lt high apart =
     let plan : Moves = moves_in table in
     let parts = state_parts plan s.positions made.valid in
@@ -221,11 +219,11 @@ place_read positions t k place same lt is =
     let within : k < length positions = omega arith in
     get_or_read positions k place within is 0 ∙ ap (λ i. place_of positions i) same
 
-pub made_as : (table : List (List (List ℕ) × List (List ℕ))) (s now : State) → s ≡ now → IsMadeFor table now → IsMadeFor table s
+pub made_as : (table : List MoveLists) (s now : State) → s ≡ now → IsMadeFor table now → IsMadeFor table s
 made_as table s now same made = let P : State → Type 0 = λ r. IsMadeFor table r in subst P (sym same) made
 
 -- the same move, as the code makes it
-pub made_stepped : (table : List (List (List ℕ) × List (List ℕ))) (s : State) (t p n : ℕ) (positions : List ℕ) (owners1 owners2 : List (Option ℕ)) (old new : List ℕ) → n < 2 ^ 64 → IsMadeFor table s → t < length table → p ≤ (moves_in table).moves t → ((u : ℕ) → u ≢ t → are_apart (stand (moves_in table) t p) (stand (moves_in table) u (place_of s.positions u)) ≡ true) → positions ≡ set s.positions t p → old ≡ stand (moves_in table) t (place_of s.positions t) → owners1 ≡ given s.owners old None → new ≡ stand (moves_in table) t p → owners2 ≡ given owners1 new (Some t) → IsMadeFor table (record { positions = positions; owners = owners2; played = n })
+pub made_stepped : (table : List MoveLists) (s : State) (t p n : ℕ) (positions : List ℕ) (owners1 owners2 : List (Option ℕ)) (old new : List ℕ) → n < 2 ^ 64 → IsMadeFor table s → t < length table → p ≤ (moves_in table).moves t → ((u : ℕ) → u ≢ t → are_apart (stand (moves_in table) t p) (stand (moves_in table) u (place_of s.positions u)) ≡ true) → positions ≡ set s.positions t p → old ≡ stand (moves_in table) t (place_of s.positions t) → owners1 ≡ given s.owners old None → new ≡ stand (moves_in table) t p → owners2 ≡ given owners1 new (Some t) → IsMadeFor table (record { positions = positions; owners = owners2; played = n })
 made_stepped table s t p n positions owners1 owners2 old new counted made lt high apart at was freed next held =
     let plan : Moves = moves_in table in
     let owners : owners2 ≡ owners_moved plan s.positions s.owners t p =
@@ -240,10 +238,10 @@ pub room_freed : (owners owners1 : List (Option ℕ)) (old : List ℕ) → owner
 room_freed owners owners1 old freed room = ap length freed ∙ length-given owners old None ∙ room
 
 -- what bars the next move of a train that isn't out
-pub bar_ahead : (plan : Moves) (s : List ℕ) (owners : List (Option ℕ)) (t place : ℕ) (xs : List ℕ) → Told plan s owners → place ≡ place_of s t → place < plan.moves t → xs ≡ plan.need t place → bar_of plan s t ≡ first_owned_in owners xs
+pub bar_ahead : (plan : Moves) (s : List ℕ) (owners : List (Option ℕ)) (t place : ℕ) (xs : List ℕ) → Told plan s owners → place ≡ place_of s t → place < plan.moves t → xs ≡ plan.claim t place → bar_of plan s t ≡ first_owned_in owners xs
 bar_ahead plan s owners t place xs told same more needed =
     let now : place_of s t < plan.moves t = omega arith in
-    cond-true (ltb (place_of s t) (plan.moves t)) (first_held plan s (plan.need t (place_of s t))) (Some Out) (lt-ltb (place_of s t) (plan.moves t) now)
-    ∙ ap (λ p. first_held plan s (plan.need t p)) (sym same)
+    cond-true (ltb (place_of s t) (plan.moves t)) (first_held plan s (plan.claim t (place_of s t))) (Some Out) (lt-ltb (place_of s t) (plan.moves t) now)
+    ∙ ap (λ p. first_held plan s (plan.claim t p)) (sym same)
     ∙ ap (first_held plan s) (sym needed)
     ∙ sym (first_owned-held plan s owners xs told)

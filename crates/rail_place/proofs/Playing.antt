@@ -9,17 +9,15 @@ use Rattle.rail_rules.specs.Numbers.{any_below, first_below, sum_below, are_apar
 use Rattle.rail_rules.specs.Moves.{Moves, stand, is_valid}
 use Rattle.rail_rules.specs.Places.{place_of, is_inside, is_legal, after, is_valid_state, nobody_inside, completes}
 use Rattle.rail_rules.specs.Analysis.{moves_left}
-use Rattle.rail_rules.proofs.Below.{any_below_at, sum_below-lt}
-use Rattle.rail_rules.proofs.Members.{apart_sym, apart_from}
-use Rattle.rail_rules.proofs.StatesKept.{state_parts, legal_move_kept}
-use Rattle.rail_place.specs.Tables.{moves_in}
+use Rattle.rail_rules.proofs.CallerLemmas.{any_below_at, sum_below-lt, apart_sym, apart_from, state_parts, legal_move_kept}
+use Rattle.rail_place.specs.Tables.{moves_in, MoveLists}
 use Rattle.rail_place.specs.Made.{State, IsMadeFor}
-use Rattle.rail_place.specs.Playing.{IsPlayed, plays}
+use Rattle.rail_place.specs.Plays.{IsPlayed, plays}
 use Rattle.rail_place.specs.declared.barring.Barred.{Barred}
 use Rattle.rail_place.specs.declared.barring.Barred.TheVariants.{Outside}
 use Rattle.rail_place.specs.declared.barring.Played.{Played}
 use Rattle.rail_place.specs.declared.barring.Played.TheVariants.{Completes, Illegal, Inside}
-use Rattle.rail_place.specs.Barring.{bar_of, bar_in_list, ending, unless_barred, outcome, moves_made}
+use Rattle.rail_place.specs.Bars.{bar_of, bar_in_list, ending, unless_barred, outcome, moves_made}
 use Rattle.rail_place.proofs.Firsts.{first_below_any, first_below_nothing}
 use Rattle.rail_place.proofs.Making.{legal_ahead, legal_from_none, none_from_legal}
 
@@ -127,7 +125,7 @@ way_back plan q r t valid lt next =
     }
 
 -- a list that is played on places is within the limits
-pub played_few : (table : List (List (List ℕ) × List (List ℕ))) (s : State) (xs r : List ℕ) → IsMadeFor table s → IsPlayed (moves_in table) s.positions xs r → length xs ≤ LIST_TRAINS
+pub played_few : (table : List MoveLists) (s : State) (xs r : List ℕ) → IsMadeFor table s → IsPlayed (moves_in table) s.positions xs r → length xs ≤ LIST_TRAINS
 played_few table s xs r made played =
     let long : length s.positions ≡ length table = (state_parts (moves_in table) s.positions made.valid).long in
     let left = played_left (moves_in table) s.positions xs r played in

@@ -6,18 +6,17 @@ use Rattle.std.specs.List.{list_all}
 use Rattle.rail_base.specs.declared.limits.TheConstants.{ITINERARY_ROUTES, ROUTE_SECTIONS, SECTIONS, TRAINS}
 use Rattle.rail_rules.specs.Numbers.{all_below, is_in, are_apart}
 use Rattle.rail_rules.specs.Moves.{Moves, stand, is_valid_move, is_valid}
-use Rattle.rail_rules.proofs.Below.{all_below_at, all_below_from}
-use Rattle.rail_rules.proofs.StatesKept.{stand_needed}
-use Rattle.rail_place.specs.Tables.{moves_in, IsTable}
+use Rattle.rail_rules.proofs.CallerLemmas.{all_below_at, all_below_from, stand_needed}
+use Rattle.rail_place.specs.Tables.{moves_in, IsTable, MoveLists, no_lists}
 use Rattle.rail_place.specs.declared.moves.Row.{Row}
 
 -- a row as contracts see it
-abbrev pub row_of : Row → List (List ℕ) × List (List ℕ)
-row_of row = (row.needs.items, row.stands.items)
+abbrev pub row_of : Row → MoveLists
+row_of row = record { needs = row.needs.items; stands = row.stands.items }
 
 -- what the code reads of a row
-pub row_read : (rows : List Row) (t : ℕ) (row : Row) → t < length rows → row ≡ get_or rows t row → get_or (map row_of rows) t ([], []) ≡ row_of row
-row_read rows t row lt is = get_or-map row_of rows t row ([], []) lt ∙ ap row_of (sym is)
+pub row_read : (rows : List Row) (t : ℕ) (row : Row) → t < length rows → row ≡ get_or rows t row → get_or (map row_of rows) t no_lists ≡ row_of row
+row_read rows t row lt is = get_or-map row_of rows t row no_lists lt ∙ ap row_of (sym is)
 
 pub stand-inner : (plan : Moves) (t p : ℕ) → 0 < p → p < plan.moves t → stand plan t p ≡ plan.standing t (p - 1)
 stand-inner plan t zero low high = absurd (omega arith)
@@ -42,24 +41,24 @@ move_valid plan t m valid lt more =
 pub stand_some : (plan : Moves) (t m : ℕ) → is_valid plan ≡ true → t < plan.trains → suc m < plan.moves t → 0 < length (plan.standing t m)
 stand_some plan t m valid lt more =
     let sections : List ℕ = stand plan t (suc m) in
-    let contained : Bool = list_all (λ y. is_in y (plan.need t m)) sections in
-    let front = and_parts (ltb 0 (length sections) && contained) (are_apart (plan.need t (suc m)) sections) (move_valid plan t m valid lt more) in
+    let contained : Bool = list_all (λ y. is_in y (plan.claim t m)) sections in
+    let front = and_parts (ltb 0 (length sections) && contained) (are_apart (plan.claim t (suc m)) sections) (move_valid plan t m valid lt more) in
     let parts = and_parts (ltb 0 (length sections)) contained front.0 in
     let same : sections ≡ plan.standing t m = cond-true (ltb (suc m) (plan.moves t)) (plan.standing t m) [] (lt-ltb (suc m) (plan.moves t) more) in
     let P : List ℕ → Type 0 = λ xs. 0 < length xs in
     subst P same (ltb-true 0 (length sections) parts.0)
 
 -- so its standing set is in the table
-pub stand_listed : (table : List (List (List ℕ) × List (List ℕ))) (t p : ℕ) → IsTable table → t < length table → 0 < p → p < (moves_in table).moves t → p - 1 < length (get_or table t ([], [])).1
+pub stand_listed : (table : List MoveLists) (t p : ℕ) → IsTable table → t < length table → 0 < p → p < (moves_in table).moves t → p - 1 < length (get_or table t no_lists).stands
 stand_listed table t p h lt low high =
-    let stands : List (List ℕ) = (get_or table t ([], [])).1 in
+    let stands : List (List ℕ) = (get_or table t no_lists).stands in
     let some : 0 < length (get_or stands (p - 1) []) = stand_some (moves_in table) t (p - 1) h.valid lt (omega arith) in
     ⊎_elim
     (λ within. within)
     (λ past. absurd (omega (arith, some, ap length (get_or_past stands (p - 1) [] past))))
     (cases_lt (p - 1) (length stands))
 
-pub stand_in_range : (table : List (List (List ℕ) × List (List ℕ))) (t p x : ℕ) → IsTable table → t < length table → is_in x (stand (moves_in table) t p) ≡ true → x < SECTIONS
+pub stand_in_range : (table : List MoveLists) (t p x : ℕ) → IsTable table → t < length table → is_in x (stand (moves_in table) t p) ≡ true → x < SECTIONS
 stand_in_range table t zero x h lt is = absurd (false≢true is)
 stand_in_range table t (suc m) x h lt is = h.in_range t m x (stand_needed (moves_in table) t m x h.valid lt is)
 
@@ -69,97 +68,97 @@ move_test needs stands m =
     let sections : List ℕ = cond (ltb (suc m) (length needs)) (get_or stands m []) [] in
     ltb 0 (length sections) && list_all (λ x. is_in x (get_or needs m [])) sections && are_apart (get_or needs (suc m) []) sections
 
-row_test : List (List ℕ) × List (List ℕ) → Bool
-row_test row = all_below (move_test row.0 row.1) (length row.0 - 1)
+row_test : MoveLists → Bool
+row_test row = all_below (move_test row.needs row.stands) (length row.needs - 1)
 
-valid_by_rows : (table : List (List (List ℕ) × List (List ℕ))) → is_valid (moves_in table) ≡ all_below (λ t. row_test (get_or table t ([], []))) (length table)
+valid_by_rows : (table : List MoveLists) → is_valid (moves_in table) ≡ all_below (λ t. row_test (get_or table t no_lists)) (length table)
 unfolding row_test move_test
 valid_by_rows table = refl
 
 -- a train added last
-pub table_pushed : (table : List (List (List ℕ) × List (List ℕ))) (row : List (List ℕ) × List (List ℕ)) → IsTable table → length table < TRAINS → length row.0 ≤ ITINERARY_ROUTES → ((m : ℕ) → length (get_or row.0 m []) ≤ ROUTE_SECTIONS) → ((m x : ℕ) → is_in x (get_or row.0 m []) ≡ true → x < SECTIONS) → is_valid (moves_in (row ∷ [])) ≡ true → IsTable (table ++ row ∷ [])
+pub table_pushed : (table : List MoveLists) (row : MoveLists) → IsTable table → length table < TRAINS → length row.needs ≤ ITINERARY_ROUTES → ((m : ℕ) → length (get_or row.needs m []) ≤ ROUTE_SECTIONS) → ((m x : ℕ) → is_in x (get_or row.needs m []) ≡ true → x < SECTIONS) → is_valid (moves_in (row ∷ [])) ≡ true → IsTable (table ++ row ∷ [])
 table_pushed table row h room short narrow in_range valid =
-    let whole : List (List (List ℕ) × List (List ℕ)) = table ++ row ∷ [] in
+    let whole : List MoveLists = table ++ row ∷ [] in
     let size : length whole ≡ length table + 1 = length_push table row in
-    let last : get_or whole (length table) ([], []) ≡ row = get_or_push table row ([], []) (length table) refl in
-    let old : (t : ℕ) → t < length table → get_or whole t ([], []) ≡ get_or table t ([], []) = λ t lt. get_or_append_left table (row ∷ []) ([], []) t lt in
-    let tests : all_below (λ t. row_test (get_or table t ([], []))) (length table) ≡ true = sym (valid_by_rows table) ∙ h.valid in
-    let alone : all_below (λ t. row_test (get_or (row ∷ []) t ([], []))) 1 ≡ true = sym (valid_by_rows (row ∷ [])) ∙ valid in
+    let last : get_or whole (length table) no_lists ≡ row = get_or_push table row no_lists (length table) refl in
+    let old : (t : ℕ) → t < length table → get_or whole t no_lists ≡ get_or table t no_lists = λ t lt. get_or_append_left table (row ∷ []) no_lists t lt in
+    let tests : all_below (λ t. row_test (get_or table t no_lists)) (length table) ≡ true = sym (valid_by_rows table) ∙ h.valid in
+    let alone : all_below (λ t. row_test (get_or (row ∷ []) t no_lists)) 1 ≡ true = sym (valid_by_rows (row ∷ [])) ∙ valid in
     record {
-      valid = valid_by_rows whole ∙ all_below_from (λ t. row_test (get_or whole t ([], []))) (length whole) (λ t lt.
+      valid = valid_by_rows whole ∙ all_below_from (λ t. row_test (get_or whole t no_lists)) (length whole) (λ t lt.
           ⊎_elim
-          (λ below. ap row_test (old t below) ∙ all_below_at (λ u. row_test (get_or table u ([], []))) (length table) t tests below)
+          (λ below. ap row_test (old t below) ∙ all_below_at (λ u. row_test (get_or table u no_lists)) (length table) t tests below)
           (λ above.
           let same : t ≡ length table = omega arith in
-          ap (λ k. row_test (get_or whole k ([], []))) same ∙ ap row_test last ∙ alone)
+          ap (λ k. row_test (get_or whole k no_lists)) same ∙ ap row_test last ∙ alone)
           (cases_lt t (length table)));
       few = omega arith;
       short = λ t.
           ⊎_elim
-          (λ below. omega (arith, ap (λ (r : List (List ℕ) × List (List ℕ)). length r.0) (old t below), h.short t))
+          (λ below. omega (arith, ap (λ (r : MoveLists). length r.needs) (old t below), h.short t))
           (λ above. ⊎_elim
           (λ same.
-          let at : get_or whole t ([], []) ≡ row = ap (λ k. get_or whole k ([], [])) same ∙ last in
-          omega (arith, ap (λ (r : List (List ℕ) × List (List ℕ)). length r.0) at))
+          let at : get_or whole t no_lists ≡ row = ap (λ k. get_or whole k no_lists) same ∙ last in
+          omega (arith, ap (λ (r : MoveLists). length r.needs) at))
           (λ other.
-          let none : get_or whole t ([], []) ≡ ([], []) = get_or_past whole t ([], []) (omega arith) in
-          omega (arith, ap (λ (r : List (List ℕ) × List (List ℕ)). length r.0) none))
+          let none : get_or whole t no_lists ≡ no_lists = get_or_past whole t no_lists (omega arith) in
+          omega (arith, ap (λ (r : MoveLists). length r.needs) none))
           (cases_eq t (length table)))
           (cases_lt t (length table));
       narrow = λ t m.
-          let wide : List (List ℕ) × List (List ℕ) → ℕ = λ r. length (get_or r.0 m []) in
+          let wide : MoveLists → ℕ = λ r. length (get_or r.needs m []) in
           ⊎_elim
           (λ below. omega (arith, ap wide (old t below), h.narrow t m))
           (λ above. ⊎_elim
           (λ same.
-          let at : get_or whole t ([], []) ≡ row = ap (λ k. get_or whole k ([], [])) same ∙ last in
+          let at : get_or whole t no_lists ≡ row = ap (λ k. get_or whole k no_lists) same ∙ last in
           omega (arith, ap wide at, narrow m))
           (λ other.
-          let none : get_or whole t ([], []) ≡ ([], []) = get_or_past whole t ([], []) (omega arith) in
+          let none : get_or whole t no_lists ≡ no_lists = get_or_past whole t no_lists (omega arith) in
           omega (arith, ap wide none))
           (cases_eq t (length table)))
           (cases_lt t (length table));
       in_range = λ t m x is.
-          let read : List (List ℕ) × List (List ℕ) → Bool = λ r. is_in x (get_or r.0 m []) in
+          let read : MoveLists → Bool = λ r. is_in x (get_or r.needs m []) in
           ⊎_elim
           (λ below. h.in_range t m x (ap read (sym (old t below)) ∙ is))
           (λ above. ⊎_elim
           (λ same.
-          let at : get_or whole t ([], []) ≡ row = ap (λ k. get_or whole k ([], [])) same ∙ last in
+          let at : get_or whole t no_lists ≡ row = ap (λ k. get_or whole k no_lists) same ∙ last in
           in_range m x (ap read (sym at) ∙ is))
           (λ other.
-          let none : get_or whole t ([], []) ≡ ([], []) = get_or_past whole t ([], []) (omega arith) in
+          let none : get_or whole t no_lists ≡ no_lists = get_or_past whole t no_lists (omega arith) in
           absurd (false≢true (ap read (sym none) ∙ is)))
           (cases_eq t (length table)))
           (cases_lt t (length table));
     }
 
 -- the same behind the view of the table
-pub row_at : (now : List (List (List ℕ) × List (List ℕ))) (rows : List Row) (t k : ℕ) (row : Row) → map row_of rows ≡ now → k ≡ t → t < length now → row ≡ get_or rows k row → get_or now t ([], []) ≡ row_of row
+pub row_at : (now : List MoveLists) (rows : List Row) (t k : ℕ) (row : Row) → map row_of rows ≡ now → k ≡ t → t < length now → row ≡ get_or rows k row → get_or now t no_lists ≡ row_of row
 row_at now rows t k row view same lt is =
     let within : k < length rows = omega (arith, ap length view, length-map rows row_of) in
-    ap (λ n. get_or n t ([], [])) (sym view) ∙ ap (λ i. get_or (map row_of rows) i ([], [])) (sym same) ∙ row_read rows k row within is
+    ap (λ n. get_or n t no_lists) (sym view) ∙ ap (λ i. get_or (map row_of rows) i no_lists) (sym same) ∙ row_read rows k row within is
 
-pub table_at : (now : List (List (List ℕ) × List (List ℕ))) (rows : List Row) → map row_of rows ≡ now → IsTable (map row_of rows) → IsTable now
-table_at now rows view h = let P : List (List (List ℕ) × List (List ℕ)) → Type 0 = λ n. IsTable n in subst P view h
+pub table_at : (now : List MoveLists) (rows : List Row) → map row_of rows ≡ now → IsTable (map row_of rows) → IsTable now
+table_at now rows view h = let P : List MoveLists → Type 0 = λ n. IsTable n in subst P view h
 
 -- the moves of a train, as its row tells them
-pub moves_at : (now : List (List (List ℕ) × List (List ℕ))) (t : ℕ) (row : Row) → get_or now t ([], []) ≡ row_of row → (moves_in now).moves t ≡ length row.needs.items
-moves_at now t row at = ap (λ (r : List (List ℕ) × List (List ℕ)). length r.0) at
+pub moves_at : (now : List MoveLists) (t : ℕ) (row : Row) → get_or now t no_lists ≡ row_of row → (moves_in now).moves t ≡ length row.needs.items
+moves_at now t row at = ap (λ (r : MoveLists). length r.needs) at
 
-pub need_at : (now : List (List (List ℕ) × List (List ℕ))) (t m : ℕ) (row : Row) (sections : List ℕ) → get_or now t ([], []) ≡ row_of row → m < length row.needs.items → sections ≡ get_or row.needs.items m sections → sections ≡ (moves_in now).need t m
-need_at now t m row sections at lt is = get_or_read row.needs.items m sections lt is [] ∙ ap (λ (r : List (List ℕ) × List (List ℕ)). get_or r.0 m []) (sym at)
+pub need_at : (now : List MoveLists) (t m : ℕ) (row : Row) (sections : List ℕ) → get_or now t no_lists ≡ row_of row → m < length row.needs.items → sections ≡ get_or row.needs.items m sections → sections ≡ (moves_in now).claim t m
+need_at now t m row sections at lt is = get_or_read row.needs.items m sections lt is [] ∙ ap (λ (r : MoveLists). get_or r.needs m []) (sym at)
 
-pub need_range : (now : List (List (List ℕ) × List (List ℕ))) (t m : ℕ) (row : Row) (sections : List ℕ) → IsTable now → get_or now t ([], []) ≡ row_of row → m < length row.needs.items → sections ≡ get_or row.needs.items m sections → (x : ℕ) → is_in x sections ≡ true → x < SECTIONS
+pub need_range : (now : List MoveLists) (t m : ℕ) (row : Row) (sections : List ℕ) → IsTable now → get_or now t no_lists ≡ row_of row → m < length row.needs.items → sections ≡ get_or row.needs.items m sections → (x : ℕ) → is_in x sections ≡ true → x < SECTIONS
 need_range now t m row sections h at lt is x stands = h.in_range t m x (ap (is_in x) (sym (need_at now t m row sections at lt is)) ∙ stands)
 
 -- the standing set at a place inside, as the train's row tells it
-pub stand_at : (now : List (List (List ℕ) × List (List ℕ))) (t p : ℕ) (row : Row) (sections : List ℕ) → get_or now t ([], []) ≡ row_of row → 0 < p → p < length row.needs.items → p - 1 < length row.stands.items → sections ≡ get_or row.stands.items (p - 1) sections → sections ≡ stand (moves_in now) t p
+pub stand_at : (now : List MoveLists) (t p : ℕ) (row : Row) (sections : List ℕ) → get_or now t no_lists ≡ row_of row → 0 < p → p < length row.needs.items → p - 1 < length row.stands.items → sections ≡ get_or row.stands.items (p - 1) sections → sections ≡ stand (moves_in now) t p
 stand_at now t p row sections at low high lt is =
     get_or_read row.stands.items (p - 1) sections lt is []
-    ∙ ap (λ (r : List (List ℕ) × List (List ℕ)). get_or r.1 (p - 1) []) (sym at)
+    ∙ ap (λ (r : MoveLists). get_or r.stands (p - 1) []) (sym at)
     ∙ sym (stand-inner (moves_in now) t p low (omega (arith, moves_at now t row at)))
 
-pub stand_room : (now : List (List (List ℕ) × List (List ℕ))) (t p : ℕ) (row : Row) → IsTable now → t < length now → get_or now t ([], []) ≡ row_of row → 0 < p → p < length row.needs.items → p - 1 < length row.stands.items
+pub stand_room : (now : List MoveLists) (t p : ℕ) (row : Row) → IsTable now → t < length now → get_or now t no_lists ≡ row_of row → 0 < p → p < length row.needs.items → p - 1 < length row.stands.items
 stand_room now t p row h lt at low high =
-    omega (arith, stand_listed now t p h lt low (omega (arith, moves_at now t row at)), ap (λ (r : List (List ℕ) × List (List ℕ)). length r.1) at)
+    omega (arith, stand_listed now t p h lt low (omega (arith, moves_at now t row at)), ap (λ (r : MoveLists). length r.stands) at)

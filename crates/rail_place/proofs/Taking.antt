@@ -11,10 +11,10 @@ use Rattle.rail_place.specs.declared.barring.PlacesFault.{PlacesFault}
 use Rattle.rail_place.specs.declared.barring.PlacesFault.TheVariants.{Overlap, OutOfMemory}
 use Rattle.rail_place.specs.declared.holdings.Holding.{Holding}
 use Rattle.rail_place.specs.declared.holdings.Holding.TheVariants.{Free, One, Two}
-use Rattle.rail_place.specs.Tables.{moves_in, IsTable}
+use Rattle.rail_place.specs.Tables.{moves_in, IsTable, MoveLists}
 use Rattle.rail_place.specs.Made.{IsMadeFor}
 use Rattle.rail_place.specs.Holdings.{with_train, taken_up, TellsBelow, owner_in, IsShared, IsFirstShared}
-use Rattle.rail_place.specs.Overlapping.{IsFault}
+use Rattle.rail_place.specs.Overlaps.{IsFault}
 use Rattle.rail_place.proofs.Tables.{stand_in_range}
 use Rattle.rail_place.proofs.Making.{holder_listed, told_valid, Told}
 
@@ -124,7 +124,7 @@ owner_told plan s x u (One a) told single = (
 owner_told plan s x u (Two a b) told single = absurd (single tt)
 
 -- so the owners tell the holders
-pub owners_told : (table : List (List (List ℕ) × List (List ℕ))) (s : List ℕ) (hs : List Holding) (owners : List (Option ℕ)) → IsTable table → length s ≡ length table → length hs ≡ SECTIONS → owners ≡ map owner_in hs → ((x : ℕ) → x < SECTIONS → TellsBelow (moves_in table) s x (length s) (get_or hs x Free)) → ((x : ℕ) → x < length hs → IsShared (get_or hs x Free) → ⊥) → Told (moves_in table) s owners
+pub owners_told : (table : List MoveLists) (s : List ℕ) (hs : List Holding) (owners : List (Option ℕ)) → IsTable table → length s ≡ length table → length hs ≡ SECTIONS → owners ≡ map owner_in hs → ((x : ℕ) → x < SECTIONS → TellsBelow (moves_in table) s x (length s) (get_or hs x Free)) → ((x : ℕ) → x < length hs → IsShared (get_or hs x Free) → ⊥) → Told (moves_in table) s owners
 owners_told table s hs owners h long room at told single =
     λ x u.
     ⊎_elim
@@ -139,7 +139,7 @@ owners_told table s hs owners h long room at told single =
     ))
     (cases_lt x (length hs))
 
-pub made_new : (table : List (List (List ℕ) × List (List ℕ))) (s : List ℕ) (hs : List Holding) (owners : List (Option ℕ)) → IsTable table → length s ≡ length table → ((t : ℕ) → t < length table → place_of s t ≤ (moves_in table).moves t) → length hs ≡ SECTIONS → owners ≡ map owner_in hs → ((x : ℕ) → x < SECTIONS → TellsBelow (moves_in table) s x (length s) (get_or hs x Free)) → ((x : ℕ) → x < length hs → IsShared (get_or hs x Free) → ⊥) → IsMadeFor table (record { positions = s; owners = owners; played = 0 })
+pub made_new : (table : List MoveLists) (s : List ℕ) (hs : List Holding) (owners : List (Option ℕ)) → IsTable table → length s ≡ length table → ((t : ℕ) → t < length table → place_of s t ≤ (moves_in table).moves t) → length hs ≡ SECTIONS → owners ≡ map owner_in hs → ((x : ℕ) → x < SECTIONS → TellsBelow (moves_in table) s x (length s) (get_or hs x Free)) → ((x : ℕ) → x < length hs → IsShared (get_or hs x Free) → ⊥) → IsMadeFor table (record { positions = s; owners = owners; played = 0 })
 made_new table s hs owners h long within room at told single =
     let all = owners_told table s hs owners h long room at told single in
     record {

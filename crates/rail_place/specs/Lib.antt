@@ -1,9 +1,9 @@
 -- What a table of moves spells, what places tell, and what the player answers.
 pub mod Tables
 pub mod Made
-pub mod Barring
+pub mod Bars
 pub mod Owners
-pub mod Playing
-pub mod Overlapping
+pub mod Plays
+pub mod Overlaps
 pub mod Holdings
 pub mod Room

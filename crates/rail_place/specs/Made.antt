@@ -2,7 +2,7 @@
 use Rattle.std.specs.Prelude.{◌≡◌, ℕ, ◌<◌, ◌^◌, List, Option, Some, None, length, get_or, IsTrue, ◌↔◌}
 use Rattle.rail_base.specs.declared.limits.TheConstants.{SECTIONS}
 use Rattle.rail_rules.specs.Places.{holds, is_valid_state}
-use Rattle.rail_place.specs.Tables.{moves_in, IsTable}
+use Rattle.rail_place.specs.Tables.{moves_in, IsTable, MoveLists}
 
 -- the place of each train, for each section the train that holds it, and how many moves were played
 pub record State : Type 0 where
@@ -11,7 +11,7 @@ pub record State : Type 0 where
   pub played : ℕ
 
 -- the places are a valid state of these moves, the count fits its type, and the owners are the trains that hold the sections in it
-pub record IsMadeFor (table : List (List (List ℕ) × List (List ℕ))) (state : State) : Type 0 where
+pub record IsMadeFor (table : List MoveLists) (state : State) : Type 0 where
   pub moves : IsTable table
   pub valid : IsTrue (is_valid_state (moves_in table) state.positions)
   pub room : length state.owners ≡ SECTIONS

@@ -2,7 +2,7 @@
 use Rattle.std.specs.Prelude.{ℕ, List, [], ◌∷◌, Option, None, get_or, set}
 use Rattle.rail_rules.specs.Numbers.{or_else}
 use Rattle.rail_place.specs.declared.barring.Barred.{Barred}
-use Rattle.rail_place.specs.Barring.{held_by}
+use Rattle.rail_place.specs.Bars.{held_by}
 
 -- the table after each of the sections is given to the owner
 abbrev pub given : List (Option ℕ) → List ℕ → Option ℕ → List (Option ℕ)

@@ -25,18 +25,17 @@ pub struct Moves {
 impl Model for Moves {
     ghost use Rattle.std.specs.Prelude.{ℕ, List};
     ghost use Rattle.std.specs.Prelude.{map};
+    ghost use Rattle.rail_place.specs.Tables.{IsTable, MoveLists, lists_of};
 
-    ghost Value = { List (List (List ℕ) × List (List ℕ)) };
+    ghost Value = { List MoveLists };
 
-    ghost use Rattle.rail_place.specs.Tables.{IsTable};
+    ghost view = { λ moves. map (λ row. lists_of row.needs.items row.stands.items) moves.rows.items };
 
-    ghost view = { λ moves. map (λ row. (row.needs.items, row.stands.items)) moves.rows.items };
-
-    ghost invariant = { λ moves. IsTable (map (λ row. (row.needs.items, row.stands.items)) moves.rows.items) };
+    ghost invariant = { λ moves. IsTable (map (λ row. lists_of row.needs.items row.stands.items) moves.rows.items) };
 }
 
 impl Moves {
-    ghost use Rattle.rail_place.specs.Tables.{IsTable, moves_in};
+    ghost use Rattle.rail_place.specs.Tables.{IsTable, lists_of, moves_in};
 
     /// No trains. It takes no memory.
     pub fn new(alloc: Global) -> Moves
@@ -60,8 +59,8 @@ impl Moves {
         requires short { length need.items ≤ ITINERARY_ROUTES }
         requires narrow { (m : ℕ) → length (get_or need.items m []) ≤ ROUTE_SECTIONS }
         requires in_range { (m x : ℕ) → IsTrue (is_in x (get_or need.items m [])) → x < SECTIONS }
-        requires valid { IsTrue (is_valid (moves_in ((need.items, stand.items) ∷ []))) }
-        ensures ok { OnOk result (self.new ≡ self.old ++ (need.items, stand.items) ∷ []) }
+        requires valid { IsTrue (is_valid (moves_in (lists_of need.items stand.items ∷ []))) }
+        ensures ok { OnOk result (self.new ≡ self.old ++ lists_of need.items stand.items ∷ []) }
         ensures err { OnErr result (self.new ≡ self.old) }
     {
         let Ok(()) = self.rows.push(Row {
@@ -95,7 +94,7 @@ impl Moves {
         requires train { train < length self.now }
         requires first { 1 ≤ place }
         requires last { place ≤ (moves_in self.now).moves train }
-        ensures sections { result.now ≡ (moves_in self.now).need train (place - 1) }
+        ensures sections { result.now ≡ (moves_in self.now).claim train (place - 1) }
         ensures in_range { (x : ℕ) → IsTrue (is_in x result.now) → x < SECTIONS }
     {
         self.rows[usize::from(train.0)].needs[usize::from(place) - 1].as_slice()

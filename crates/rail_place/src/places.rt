@@ -2,10 +2,10 @@ ghost use Rattle.std.specs.Prelude.{◌≡◌, ℕ, ◌+◌, ◌-◌, ◌<◌, �
 ghost use Rattle.rail_rules.specs.Numbers.{are_apart};
 ghost use Rattle.rail_rules.specs.Moves.{stand};
 ghost use Rattle.rail_rules.specs.Places.{after, is_legal, place_of};
-ghost use Rattle.rail_place.specs.Tables.{moves_in};
+ghost use Rattle.rail_place.specs.Tables.{moves_in, MoveLists};
 ghost use Rattle.rail_place.specs.Made.{IsMadeFor};
-ghost use Rattle.rail_place.specs.Barring.{bar_of};
-ghost use Rattle.rail_place.specs.Overlapping.{IsFault};
+ghost use Rattle.rail_place.specs.Bars.{bar_of};
+ghost use Rattle.rail_place.specs.Overlaps.{IsFault};
 
 use crate::barring::{Barred, PlacesFault};
 use crate::holdings::{holdings_of, owners_of};
@@ -142,7 +142,7 @@ impl Places {
     /// those were. What was played here stays. It takes no memory, since places have room for any
     /// number of trains within the limits.
     pub fn copy_from(&mut self, other: &Places)
-        ensures made { (table : List (List (List ℕ) × List (List ℕ))) → IsMadeFor table other.now → IsMadeFor table self.new }
+        ensures made { (table : List MoveLists) → IsMadeFor table other.now → IsMadeFor table self.new }
         ensures positions { self.new.positions ≡ other.now.positions }
         ensures owners { self.new.owners ≡ other.now.owners }
         ensures played { self.new.played ≡ self.old.played }

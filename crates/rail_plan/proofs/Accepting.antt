@@ -10,16 +10,16 @@ use Rattle.rail_base.specs.declared.plant.TrainRow.{TrainRow}
 use Rattle.rail_rules.specs.Numbers.{all_below}
 use Rattle.rail_rules.specs.Moves.{is_valid}
 use Rattle.rail_rules.specs.Plant.{Plant, moves, moves_of}
-use Rattle.rail_rules.specs.Accepted.{are_distinct_names, is_fine_section, is_fine_train, does_fit, are_fine_calls, is_accepted}
-use Rattle.rail_rules.proofs.Below.{all_below_from}
-use Rattle.rail_plan.specs.Planning.{IsPlannable, bare, fault_of}
-use Rattle.rail_plan.specs.Calling.{AreCallsFor, with_calls}
+use Rattle.rail_rules.specs.Accepted.{are_distinct_names, is_section_in_range, is_train_in_range, does_fit, are_calls_in_range, is_accepted}
+use Rattle.rail_rules.proofs.CallerLemmas.{all_below_from}
+use Rattle.rail_plan.specs.PlanFaults.{IsPlannable, bare, fault_of}
+use Rattle.rail_plan.specs.CallTables.{AreCallsFor, with_calls}
 use Rattle.rail_plan.proofs.Valid.{each_fits, valid}
 
 -- what is asked beside the tables and their ranges
 pub record IsFaultless (plant : Plant) : Type 0 where
   pub fits : all_below (does_fit plant) (length plant.tables.trains) ≡ true
-  pub calls : all_below (are_fine_calls plant) (length plant.tables.trains) ≡ true
+  pub calls : all_below (are_calls_in_range plant) (length plant.tables.trains) ≡ true
   pub valid : is_valid (moves_of plant) ≡ true
 
 pub accepted_from : (tables : Tables) (calls : List (List (Option Call))) → IsPlannable tables → IsFaultless (with_calls tables calls) → is_accepted (with_calls tables calls) ≡ true
@@ -30,12 +30,12 @@ accepted_from tables calls h f =
     let b2 : Bool = leb n TRAINS in
     let b3 : Bool = leb tables.release RELEASE in
     let b4 : Bool = leb tables.depth DEPTH in
-    let b5 : Bool = list_all is_fine_section tables.sections in
+    let b5 : Bool = list_all is_section_in_range tables.sections in
     let b6 : Bool = are_distinct_names (map (λ (row : SectionRow). row.name) tables.sections) in
     let b7 : Bool = are_distinct_names (map (λ (row : TrainRow). row.name) tables.trains) in
-    let b8 : Bool = all_below (is_fine_train plant) n in
+    let b8 : Bool = all_below (is_train_in_range plant) n in
     let b9 : Bool = all_below (does_fit plant) n in
-    let b10 : Bool = all_below (are_fine_calls plant) n in
+    let b10 : Bool = all_below (are_calls_in_range plant) n in
     let p2 = and_from b1 b2 (le-leb (length tables.sections) SECTIONS h.few_sections) (le-leb n TRAINS h.few_trains) in
     let p3 = and_from (b1 && b2) b3 p2 (le-leb tables.release RELEASE h.release) in
     let p4 = and_from (b1 && b2 && b3) b4 p3 (le-leb tables.depth DEPTH h.depth) in
@@ -55,12 +55,12 @@ accepted_parts tables calls accepted =
     let b2 : Bool = leb n TRAINS in
     let b3 : Bool = leb tables.release RELEASE in
     let b4 : Bool = leb tables.depth DEPTH in
-    let b5 : Bool = list_all is_fine_section tables.sections in
+    let b5 : Bool = list_all is_section_in_range tables.sections in
     let b6 : Bool = are_distinct_names (map (λ (row : SectionRow). row.name) tables.sections) in
     let b7 : Bool = are_distinct_names (map (λ (row : TrainRow). row.name) tables.trains) in
-    let b8 : Bool = all_below (is_fine_train plant) n in
+    let b8 : Bool = all_below (is_train_in_range plant) n in
     let b9 : Bool = all_below (does_fit plant) n in
-    let b10 : Bool = all_below (are_fine_calls plant) n in
+    let b10 : Bool = all_below (are_calls_in_range plant) n in
     let p10 = and_parts (b1 && b2 && b3 && b4 && b5 && b6 && b7 && b8 && b9 && b10) (is_valid (moves_of plant)) accepted in
     let p9 = and_parts (b1 && b2 && b3 && b4 && b5 && b6 && b7 && b8 && b9) b10 p10.0 in
     let p8 = and_parts (b1 && b2 && b3 && b4 && b5 && b6 && b7 && b8) b9 p9.0 in
@@ -91,13 +91,13 @@ plannable tables calls accepted = (accepted_parts tables calls accepted).0
 pub recalled : (tables : Tables) (old new : List (List (Option Call))) → is_accepted (with_calls tables old) ≡ true → AreCallsFor tables new → is_accepted (with_calls tables new) ≡ true
 recalled tables old new accepted made =
     let parts = accepted_parts tables old accepted in
-    accepted_from tables new parts.0 (record { fits = parts.1.fits; calls = all_below_from (are_fine_calls (with_calls tables new)) (length tables.trains) made.fine; valid = parts.1.valid })
+    accepted_from tables new parts.0 (record { fits = parts.1.fits; calls = all_below_from (are_calls_in_range (with_calls tables new)) (length tables.trains) made.fine; valid = parts.1.valid })
 
 -- tables without a fault are a plant without calls
 pub bare_accepted : (tables : Tables) → IsPlannable tables → fault_of tables ≡ None → is_accepted (with_calls tables []) ≡ true
 bare_accepted tables h none =
     accepted_from tables [] h (record {
       fits = each_fits tables none;
-      calls = all_below_from (are_fine_calls (with_calls tables [])) (length tables.trains) (λ t lt. all_below_from _ (moves (bare tables) t) (λ m lm. refl));
+      calls = all_below_from (are_calls_in_range (with_calls tables [])) (length tables.trains) (λ t lt. all_below_from _ (moves (bare tables) t) (λ m lm. refl));
       valid = valid tables h none;
     })

@@ -10,11 +10,11 @@ use Rattle.rail_base.specs.declared.plant.Tables.{Tables}
 use Rattle.rail_base.specs.declared.plant.TrainRow.{TrainRow}
 use Rattle.rail_rules.specs.Numbers.{or_else}
 use Rattle.rail_rules.specs.Plant.{Plant, no_train, train, moves, move_row, call_after}
-use Rattle.rail_rules.specs.Running.{call_departure, call_arrival, first_departure, due}
-use Rattle.rail_rules.specs.Accepted.{is_fine_call}
-use Rattle.rail_rules.proofs.Below.{all_below_from, all_below_at}
-use Rattle.rail_plan.specs.Planning.{bare}
-use Rattle.rail_plan.specs.Calling.{AreCallsFor, with_calls, no_calls, call_at, departure_within, with_call}
+use Rattle.rail_rules.specs.RunHistories.{call_departure, call_arrival, first_departure, due}
+use Rattle.rail_rules.specs.Accepted.{is_call_in_range}
+use Rattle.rail_rules.proofs.CallerLemmas.{all_below_from, all_below_at}
+use Rattle.rail_plan.specs.PlanFaults.{bare}
+use Rattle.rail_plan.specs.CallTables.{AreCallsFor, with_calls, no_calls, call_at, departure_within, with_call}
 use Rattle.rail_plan.proofs.Spelled.{get_or-map_all}
 
 -- the calls of a row as contracts see them
@@ -32,12 +32,12 @@ set_view rows k t row q place call same lt is at =
     ∙ ap (λ i. set (map calls_in rows) t (set (get_or (map calls_in rows) t []) (i - 1) (Some call))) at
 
 -- calls made for tables stay so where one more may stand at its place
-pub set_made : (tables : Tables) (calls : List (List (Option Call))) (t place : ℕ) (call : Call) → AreCallsFor tables calls → t < length calls → 1 ≤ place → place ≤ length (get_or calls t []) → is_fine_call (eqb place (moves (bare tables) t)) (is_some (move_row (bare tables) t (place - 1)).turn) (Some call) ≡ true → AreCallsFor tables (with_call calls t place call)
+pub set_made : (tables : Tables) (calls : List (List (Option Call))) (t place : ℕ) (call : Call) → AreCallsFor tables calls → t < length calls → 1 ≤ place → place ≤ length (get_or calls t []) → is_call_in_range (eqb place (moves (bare tables) t)) (is_some (move_row (bare tables) t (place - 1)).turn) (Some call) ≡ true → AreCallsFor tables (with_call calls t place call)
 set_made tables calls t place call h lt first last fine =
     let row : List (Option Call) = set (get_or calls t []) (place - 1) (Some call) in
     let after : List (List (Option Call)) = with_call calls t place call in
     let here : get_or after t [] ≡ row = get_or-set_same calls t row [] lt in
-    let test : Option Call → ℕ → ℕ → Bool = λ o u m. is_fine_call (eqb (suc m) (moves (bare tables) u)) (is_some (move_row (bare tables) u m).turn) o in
+    let test : Option Call → ℕ → ℕ → Bool = λ o u m. is_call_in_range (eqb (suc m) (moves (bare tables) u)) (is_some (move_row (bare tables) u m).turn) o in
     record {
       trains = length-set calls t row ∙ h.trains;
       places = λ u. ⊎_elim
@@ -58,8 +58,8 @@ set_made tables calls t place call h lt first last fine =
           let found : get_or (get_or after u []) m None ≡ Some call = ap (λ r. get_or r m None) at ∙ ap (λ k. get_or row k None) placed ∙ get_or-set_same (get_or calls t []) (place - 1) (Some call) None within in
           ap (λ o. test o u m) found
           ∙ ap (λ k. test (Some call) k m) same
-          ∙ ap (λ k. is_fine_call (eqb k (moves (bare tables) t)) (is_some (move_row (bare tables) t m).turn) (Some call)) number
-          ∙ ap (λ k. is_fine_call (eqb place (moves (bare tables) t)) (is_some (move_row (bare tables) t k).turn) (Some call)) placed
+          ∙ ap (λ k. is_call_in_range (eqb k (moves (bare tables) t)) (is_some (move_row (bare tables) t m).turn) (Some call)) number
+          ∙ ap (λ k. is_call_in_range (eqb place (moves (bare tables) t)) (is_some (move_row (bare tables) t k).turn) (Some call)) placed
           ∙ fine)
           (λ elsewhere.
           let found : get_or (get_or after u []) m None ≡ get_or (get_or calls u []) m None =
@@ -95,9 +95,9 @@ none_made tables =
     record {
       trains = length-map tables.trains room_for;
       places = λ t. ap length (room_is tables t) ∙ length-replicate (length (train plant t).moves) None;
-      fine = λ t lt. all_below_from (λ m. is_fine_call (eqb (suc m) (moves plant t)) (is_some (move_row plant t m).turn) (call_after (with_calls tables (no_calls tables)) t m)) (moves plant t) (λ m lm.
+      fine = λ t lt. all_below_from (λ m. is_call_in_range (eqb (suc m) (moves plant t)) (is_some (move_row plant t m).turn) (call_after (with_calls tables (no_calls tables)) t m)) (moves plant t) (λ m lm.
           let none : call_after (with_calls tables (no_calls tables)) t m ≡ None = ap (λ r. get_or r m None) (room_is tables t) ∙ no_call_at (length (train plant t).moves) m in
-          ap (λ o. is_fine_call (eqb (suc m) (moves plant t)) (is_some (move_row plant t m).turn) o) none);
+          ap (λ o. is_call_in_range (eqb (suc m) (moves plant t)) (is_some (move_row plant t m).turn) o) none);
     }
 
 -- one place of the search for a departure

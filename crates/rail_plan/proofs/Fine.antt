@@ -5,7 +5,7 @@ use Rattle.std.proofs.lemmas.Bool.{and_parts, cases_Bool, false≢true, ltb-true
 use Rattle.std.proofs.lemmas.List.{drop_more, get_or_read}
 use Rattle.std.proofs.lemmas.List.Folds.{list_all_at}
 use Rattle.std.proofs.lemmas.List.Sums.{sum_by-cons}
-use Rattle.rail_base.specs.Naming.{is_name}
+use Rattle.rail_base.specs.NameForms.{is_name}
 use Rattle.rail_base.specs.declared.limits.TheConstants.{ROUTE_SECTIONS, ITINERARY_ROUTES, INPUT_TIME, SECTION_LENGTH, SPEED, SETTING, WATCHING, APPROACH, TRAIN_LENGTH, TURN_TIME, START, STOP}
 use Rattle.rail_base.specs.declared.plant.Tables.{Tables}
 use Rattle.rail_base.specs.declared.plant.SectionRow.{SectionRow}
@@ -14,9 +14,9 @@ use Rattle.rail_base.specs.declared.plant.MoveRow.{MoveRow}
 use Rattle.rail_base.specs.declared.plant.TurnRow.{TurnRow}
 use Rattle.rail_rules.specs.Numbers.{sum_below}
 use Rattle.rail_rules.specs.Plant.{Plant, no_section, no_move, section, train, moves, move_row}
-use Rattle.rail_rules.specs.Accepted.{is_from_one, are_distinct, is_fine_section, is_fine_kind, is_fine_turn, is_fine_move, is_fine_train}
-use Rattle.rail_rules.proofs.Below.{all_below_at}
-use Rattle.rail_plan.specs.Planning.{IsPlannable, bare, metres_of}
+use Rattle.rail_rules.specs.Accepted.{is_from_one, are_distinct, is_section_in_range, is_kind_in_range, is_turn_in_range, is_move_in_range, is_train_in_range}
+use Rattle.rail_rules.proofs.CallerLemmas.{all_below_at}
+use Rattle.rail_plan.specs.PlanFaults.{IsPlannable, bare, metres_of}
 
 pub all_at : {X : Type 0} (p : X → Bool) (xs : List X) (i : ℕ) (d : X) → list_all p xs ≡ true → i < length xs → p (get_or xs i d) ≡ true
 all_at p xs i d all lt = ⊎_elim (λ yes. yes) (λ no. absurd (false≢true (sym (list_all_at p xs i d lt no) ∙ all))) (cases_Bool (p (get_or xs i d)))
@@ -28,7 +28,7 @@ from_one limit n h = let both = and_parts (ltb 0 n) (leb n limit) h in (ltb-true
 pub section_short : (tables : Tables) → IsPlannable tables → (x : ℕ) → x < length tables.sections → (section (bare tables) x).length ≤ SECTION_LENGTH
 section_short tables h x lt =
     let row : SectionRow = section (bare tables) x in
-    let two = and_parts (is_name row.name && is_from_one SECTION_LENGTH row.length) (is_from_one SPEED row.speed) (all_at is_fine_section tables.sections x no_section h.sections lt) in
+    let two = and_parts (is_name row.name && is_from_one SECTION_LENGTH row.length) (is_from_one SPEED row.speed) (all_at is_section_in_range tables.sections x no_section h.sections lt) in
     let one = and_parts (is_name row.name) (is_from_one SECTION_LENGTH row.length) two.0 in
     (from_one SECTION_LENGTH row.length one.1).1
 
@@ -49,22 +49,22 @@ metres_more plant xs i x lt is =
     ap (metres_of plant) step ∙ metres-cons plant x (drop (i + 1) xs)
 
 -- what a fine move says
-pub record IsFineMove (sections : ℕ) (row : MoveRow) : Type 0 where
+pub record IsMoveInRange (sections : ℕ) (row : MoveRow) : Type 0 where
   pub some_step : 0 < length row.sections
   pub few_steps : length row.sections ≤ ROUTE_SECTIONS
   pub known : list_all (λ x. ltb x sections) row.sections ≡ true
   pub distinct : are_distinct row.sections ≡ true
-  pub turn : is_fine_turn (length row.sections) row.turn ≡ true
+  pub turn : is_turn_in_range (length row.sections) row.turn ≡ true
 
-pub fine_move : (sections : ℕ) (row : MoveRow) → is_fine_move sections row ≡ true → IsFineMove sections row
-fine_move sections row h =
+pub move_in_range : (sections : ℕ) (row : MoveRow) → is_move_in_range sections row ≡ true → IsMoveInRange sections row
+move_in_range sections row h =
     let c1 : Bool = is_from_one ROUTE_SECTIONS (length row.sections) in
     let c2 : Bool = list_all (λ x. ltb x sections) row.sections in
     let c3 : Bool = are_distinct row.sections in
     let c4 : Bool = is_from_one SETTING row.setting in
     let c5 : Bool = leb row.watching WATCHING in
     let c6 : Bool = leb row.approach APPROACH in
-    let c7 : Bool = is_fine_turn (length row.sections) row.turn in
+    let c7 : Bool = is_turn_in_range (length row.sections) row.turn in
     let p6 = and_parts (c1 && c2 && c3 && c4 && c5 && c6) c7 h in
     let p5 = and_parts (c1 && c2 && c3 && c4 && c5) c6 p6.0 in
     let p4 = and_parts (c1 && c2 && c3 && c4) c5 p5.0 in
@@ -75,28 +75,28 @@ fine_move sections row h =
     record { some_step = steps_are.0; few_steps = steps_are.1; known = p1.1; distinct = p2.1; turn = p6.1 }
 
 -- a turn is at a step of its move
-pub fine_turn : (steps : ℕ) (turn : TurnRow) → is_fine_turn steps (Some turn) ≡ true → (0 < turn.step) × (turn.step ≤ steps)
-fine_turn steps turn h = from_one steps turn.step (and_parts (is_from_one steps turn.step) (leb turn.time TURN_TIME) h).0
+pub turn_in_range : (steps : ℕ) (turn : TurnRow) → is_turn_in_range steps (Some turn) ≡ true → (0 < turn.step) × (turn.step ≤ steps)
+turn_in_range steps turn h = from_one steps turn.step (and_parts (is_from_one steps turn.step) (leb turn.time TURN_TIME) h).0
 
 -- what a fine train says
-pub record IsFineRow (tables : Tables) (t : ℕ) : Type 0 where
+pub record IsRowInRange (tables : Tables) (t : ℕ) : Type 0 where
   pub some_length : 0 < (train (bare tables) t).kind.length
   pub some_move : 0 < moves (bare tables) t
   pub few_moves : moves (bare tables) t ≤ ITINERARY_ROUTES
-  pub each_move : (m : ℕ) → m < moves (bare tables) t → is_fine_move (length tables.sections) (move_row (bare tables) t m) ≡ true
+  pub each_move : (m : ℕ) → m < moves (bare tables) t → is_move_in_range (length tables.sections) (move_row (bare tables) t m) ≡ true
 
-pub fine_row : (tables : Tables) → IsPlannable tables → (t : ℕ) → t < length tables.trains → IsFineRow tables t
-fine_row tables h t lt =
+pub row_in_range : (tables : Tables) → IsPlannable tables → (t : ℕ) → t < length tables.trains → IsRowInRange tables t
+row_in_range tables h t lt =
     let plant : Plant = bare tables in
     let kind : TrainKind = (train plant t).kind in
     let b1 : Bool = is_name (train plant t).name in
-    let b2 : Bool = is_fine_kind kind in
+    let b2 : Bool = is_kind_in_range kind in
     let b3 : Bool = leb (train plant t).entry INPUT_TIME in
     let b4 : Bool = leb (train plant t).priority 255 in
     let b5 : Bool = is_from_one ITINERARY_ROUTES (moves plant t) in
-    let b6 : Bool = list_all (is_fine_move (length tables.sections)) (train plant t).moves in
+    let b6 : Bool = list_all (is_move_in_range (length tables.sections)) (train plant t).moves in
     let b7 : Bool = not (is_some (move_row plant t (moves plant t - 1)).turn) in
-    let p6 = and_parts (b1 && b2 && b3 && b4 && b5 && b6) b7 (all_below_at (is_fine_train plant) (length tables.trains) t h.trains lt) in
+    let p6 = and_parts (b1 && b2 && b3 && b4 && b5 && b6) b7 (all_below_at (is_train_in_range plant) (length tables.trains) t h.trains lt) in
     let p5 = and_parts (b1 && b2 && b3 && b4 && b5) b6 p6.0 in
     let p4 = and_parts (b1 && b2 && b3 && b4) b5 p5.0 in
     let p3 = and_parts (b1 && b2 && b3) b4 p4.0 in
@@ -110,7 +110,7 @@ fine_row tables h t lt =
       some_length = (from_one TRAIN_LENGTH kind.length k1.0).0;
       some_move = count.0;
       few_moves = count.1;
-      each_move = λ m lm. all_at (is_fine_move (length tables.sections)) (train plant t).moves m no_move p5.1 lm;
+      each_move = λ m lm. all_at (is_move_in_range (length tables.sections)) (train plant t).moves m no_move p5.1 lm;
     }
 
 -- what the code reads of a list at an index
@@ -130,9 +130,9 @@ pub record IsAtSection (tables : Tables) (row : MoveRow) (i x : ℕ) : Type 0 wh
   pub within : i < length row.sections
   pub is : x ≡ get_or row.sections i x
 
-pub at_section : (tables : Tables) → IsPlannable tables → (row : MoveRow) → is_fine_move (length tables.sections) row ≡ true → (xs : List ℕ) (i x : ℕ) → xs ≡ row.sections → i < length xs → x ≡ get_or xs i x → IsAtSection tables row i x
+pub at_section : (tables : Tables) → IsPlannable tables → (row : MoveRow) → is_move_in_range (length tables.sections) row ≡ true → (xs : List ℕ) (i x : ℕ) → xs ≡ row.sections → i < length xs → x ≡ get_or xs i x → IsAtSection tables row i x
 at_section tables h row fine xs i x same lt is =
-    let facts = fine_move (length tables.sections) row fine in
+    let facts = move_in_range (length tables.sections) row fine in
     let here : i < length row.sections = omega (arith, ap length same) in
     let item : x ≡ get_or row.sections i x = is ∙ ap (λ ys. get_or ys i x) same in
     record {

@@ -2,7 +2,7 @@
 use Rattle.std.proofs.Common.{◌≡◌, ℕ, zero, suc, ◌<◌, true, is_some, Option, Some, None, refl, sym, ap, ◌∙◌, ⊎_elim, arith}
 use Rattle.std.proofs.lemmas.Bool.{cases_lt, false≢true}
 use Rattle.rail_rules.specs.Numbers.{or_else}
-use Rattle.rail_plan.specs.Planning.{first_answer}
+use Rattle.rail_plan.specs.PlanFaults.{first_answer}
 
 or_else-some : {X : Type 0} (o other : Option X) → is_some o ≡ true → or_else o other ≡ o
 or_else-some None other some = absurd (false≢true some)

@@ -1,9 +1,11 @@
+-- The lemmas of this crate; those for the crates above stand in CallerLemmas.
+pub mod CallerLemmas
 -- Lemmas on the faults of tables, on what they spell, and on calls.
-pub mod Fine
-pub mod Standings
-pub mod Firsts
-pub mod Valid
-pub mod Spelled
-pub mod Naming
-pub mod CallRows
-pub mod Accepting
+mod Fine
+mod Standings
+mod Firsts
+mod Valid
+mod Spelled
+mod Naming
+mod CallRows
+mod Accepting

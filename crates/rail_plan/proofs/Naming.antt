@@ -5,7 +5,7 @@ use Rattle.std.specs.Cmp.Lexicographic.{bytes_decides}
 use Rattle.std.proofs.lemmas.Bool.{and_parts, not-true, or_parts, or_from, cases_Bool, false≢true, cond-false}
 use Rattle.std.proofs.lemmas.List.{map_more, get_or-map, length-map, take-map}
 use Rattle.indexmap.specs.IndexSet.{insert_key}
-use Rattle.rail_base.specs.Naming.{same_name}
+use Rattle.rail_base.specs.NameForms.{same_name}
 use Rattle.rail_rules.specs.Numbers.{same_numbers}
 use Rattle.rail_rules.specs.Accepted.{are_distinct_names}
 

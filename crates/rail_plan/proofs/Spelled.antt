@@ -10,11 +10,10 @@ use Rattle.rail_base.specs.declared.plant.MoveRow.{MoveRow}
 use Rattle.rail_rules.specs.Numbers.{is_in, are_apart}
 use Rattle.rail_rules.specs.Moves.{Moves, is_valid_move, is_valid}
 use Rattle.rail_rules.specs.Plant.{Plant, no_train, no_move, train, moves, move_row, moves_of, needed, standing_after}
-use Rattle.rail_rules.proofs.Below.{all_below_from}
-use Rattle.rail_rules.proofs.Members.{list_all_at}
-use Rattle.rail_place.specs.Tables.{moves_in}
-use Rattle.rail_plan.specs.Planning.{IsPlannable, bare, standing_of, fault_of}
-use Rattle.rail_plan.proofs.Fine.{fine_move, fine_row}
+use Rattle.rail_rules.proofs.CallerLemmas.{all_below_from, list_all_at}
+use Rattle.rail_place.specs.Tables.{moves_in, MoveLists, no_lists, lists_of}
+use Rattle.rail_plan.specs.PlanFaults.{IsPlannable, bare, standing_of, fault_of}
+use Rattle.rail_plan.proofs.Fine.{move_in_range, row_in_range}
 use Rattle.rail_plan.proofs.Valid.{valid_move}
 
 pub get_or-map_all : {X Y : Type 0} (f : X → Y) (xs : List X) (i : ℕ) (d : X) → get_or (map f xs) i (f d) ≡ f (get_or xs i d)
@@ -27,10 +26,10 @@ abbrev pub needs : MoveRow → List ℕ
 needs row = row.sections
 
 -- a train as the table of moves has it
-abbrev pub spelled : Plant → TrainRow → List (List ℕ) × List (List ℕ)
-spelled plant row = (map needs row.moves, map (standing_of plant row.kind.length) row.moves)
+abbrev pub spelled : Plant → TrainRow → MoveLists
+spelled plant row = lists_of (map needs row.moves) (map (standing_of plant row.kind.length) row.moves)
 
-row_is : (plant : Plant) (t : ℕ) → get_or (map (spelled plant) plant.tables.trains) t ([], []) ≡ spelled plant (train plant t)
+row_is : (plant : Plant) (t : ℕ) → get_or (map (spelled plant) plant.tables.trains) t no_lists ≡ spelled plant (train plant t)
 row_is plant t = get_or-map_all (spelled plant) plant.tables.trains t no_train
 
 need_is : (row : TrainRow) (m : ℕ) → get_or (map needs row.moves) m [] ≡ (get_or row.moves m no_move).sections
@@ -42,16 +41,16 @@ stand_is plant row m = get_or-map_all (standing_of plant row.kind.length) row.mo
 -- the table spells the moves of the plant
 pub moves_spelled : (plant : Plant) → moves_in (map (spelled plant) plant.tables.trains) ≡ moves_of plant
 moves_spelled plant =
-    let counts : (t : ℕ) → length (get_or (map (spelled plant) plant.tables.trains) t ([], [])).0 ≡ moves plant t =
-    λ t. ap (λ (r : List (List ℕ) × List (List ℕ)). length r.0) (row_is plant t) ∙ length-map (train plant t).moves needs in
-    let needed_are : (t m : ℕ) → get_or (get_or (map (spelled plant) plant.tables.trains) t ([], [])).0 m [] ≡ needed plant t m =
-    λ t m. ap (λ (r : List (List ℕ) × List (List ℕ)). get_or r.0 m []) (row_is plant t) ∙ need_is (train plant t) m in
-    let stands_are : (t m : ℕ) → get_or (get_or (map (spelled plant) plant.tables.trains) t ([], [])).1 m [] ≡ standing_after plant t m =
-    λ t m. ap (λ (r : List (List ℕ) × List (List ℕ)). get_or r.1 m []) (row_is plant t) ∙ stand_is plant (train plant t) m in
+    let counts : (t : ℕ) → length (get_or (map (spelled plant) plant.tables.trains) t no_lists).needs ≡ moves plant t =
+    λ t. ap (λ (r : MoveLists). length r.needs) (row_is plant t) ∙ length-map (train plant t).moves needs in
+    let needed_are : (t m : ℕ) → get_or (get_or (map (spelled plant) plant.tables.trains) t no_lists).needs m [] ≡ needed plant t m =
+    λ t m. ap (λ (r : MoveLists). get_or r.needs m []) (row_is plant t) ∙ need_is (train plant t) m in
+    let stands_are : (t m : ℕ) → get_or (get_or (map (spelled plant) plant.tables.trains) t no_lists).stands m [] ≡ standing_after plant t m =
+    λ t m. ap (λ (r : MoveLists). get_or r.stands m []) (row_is plant t) ∙ stand_is plant (train plant t) m in
     λ i. record {
       trains = length-map plant.tables.trains (spelled plant) i;
       moves = λ t. counts t i;
-      need = λ t m. needed_are t m i;
+      claim = λ t m. needed_are t m i;
       standing = λ t m. stands_are t m i;
     }
 
@@ -60,7 +59,7 @@ pub record IsSpelledRow (need stand : List (List ℕ)) : Type 0 where
   pub short : length need ≤ ITINERARY_ROUTES
   pub narrow : (m : ℕ) → length (get_or need m []) ≤ ROUTE_SECTIONS
   pub in_range : (m x : ℕ) → is_in x (get_or need m []) ≡ true → x < SECTIONS
-  pub valid : is_valid (moves_in ((need, stand) ∷ [])) ≡ true
+  pub valid : is_valid (moves_in (lists_of need stand ∷ [])) ≡ true
 
 -- the test of a move, by what is needed and where the train stands
 move_test : ℕ → (ℕ → List ℕ) → (ℕ → List ℕ) → ℕ → Bool
@@ -68,19 +67,19 @@ move_test count need standing m =
     let sections : List ℕ = cond (ltb (suc m) count) (standing m) [] in
     ltb 0 (length sections) && list_all (λ x. is_in x (need m)) sections && are_apart (need (suc m)) sections
 
-test_is : (plan : Moves) (t m : ℕ) → is_valid_move plan t m ≡ move_test (plan.moves t) (plan.need t) (plan.standing t) m
+test_is : (plan : Moves) (t m : ℕ) → is_valid_move plan t m ≡ move_test (plan.moves t) (plan.claim t) (plan.standing t) m
 unfolding move_test
 test_is plan t m = refl
 
-pub spelled_row : (tables : Tables) → IsPlannable tables → fault_of tables ≡ None → (t : ℕ) → t < length tables.trains → IsSpelledRow (spelled (bare tables) (train (bare tables) t)).0 (spelled (bare tables) (train (bare tables) t)).1
+pub spelled_row : (tables : Tables) → IsPlannable tables → fault_of tables ≡ None → (t : ℕ) → t < length tables.trains → IsSpelledRow (spelled (bare tables) (train (bare tables) t)).needs (spelled (bare tables) (train (bare tables) t)).stands
 spelled_row tables h none t lt =
     let plant : Plant = bare tables in
     let row : TrainRow = train plant t in
-    let facts = fine_row tables h t lt in
+    let facts = row_in_range tables h t lt in
     let need : List (List ℕ) = map needs row.moves in
-    let alone : List (List (List ℕ) × List (List ℕ)) = spelled plant row ∷ [] in
+    let alone : List MoveLists = spelled plant row ∷ [] in
     let count : length need ≡ moves plant t = length-map row.moves needs in
-    let fine = λ (m : ℕ) (lm : m < moves plant t). fine_move (length tables.sections) (move_row plant t m) (facts.each_move m lm) in
+    let fine = λ (m : ℕ) (lm : m < moves plant t). move_in_range (length tables.sections) (move_row plant t m) (facts.each_move m lm) in
     let past : (m : ℕ) → moves plant t ≤ m → get_or need m [] ≡ [] = λ m none_there. get_or_past need m [] (omega (arith, count)) in
     let same : (m : ℕ) → is_valid_move (moves_in alone) 0 m ≡ is_valid_move (moves_of plant) t m = λ m.
     test_is (moves_in alone) 0 m

@@ -3,7 +3,7 @@ use Rattle.std.proofs.Common.{◌≡◌, ℕ, ◌+◌, ◌<◌, ◌≤◌, min, 
 use Rattle.std.proofs.lemmas.Bool.{cases_lt, cond-true, cond-false, le-leb, lt-leb, lt-ltb, le-ltb}
 use Rattle.std.proofs.lemmas.List.{drop_more, length-drop}
 use Rattle.rail_rules.specs.Plant.{Plant, shortest_end, longer}
-use Rattle.rail_plan.specs.Planning.{metres_of}
+use Rattle.rail_plan.specs.PlanFaults.{metres_of}
 
 -- where the rest is too short the end begins here
 pub end-here : (plant : Plant) (metres : ℕ) (xs : List ℕ) (i x : ℕ) → i < length xs → x ≡ get_or xs i x → metres_of plant (drop (i + 1) xs) < metres → shortest_end plant metres (drop i xs) ≡ drop i xs

@@ -1,5 +1,5 @@
 -- Which tables are planned and why not, and which calls belong to them.
-pub mod Planning
-pub mod Calling
+pub mod PlanFaults
+pub mod CallTables
 pub mod PlantFields
-pub mod Bounding
+pub mod MoveLineCounts

@@ -1,10 +1,10 @@
 //! How many lines a history has at most.
 
 ghost use Rattle.std.specs.Prelude.{◌≡◌, ◌<◌, ◌≤◌, length};
-ghost use Rattle.rail_base.specs.declared.limits.TheConstants.{COMMANDS};
+ghost use Rattle.rail_base.specs.declared.limits.TheConstants.{COMMANDS, TRAIN_LINES};
 ghost use Rattle.rail_rules.specs.Plant.{bound, train};
-ghost use Rattle.rail_plan.specs.Planning.{IsPlannable, bare};
-ghost use Rattle.rail_plan.specs.Bounding.{TRAIN_LINES, lines_of};
+ghost use Rattle.rail_plan.specs.PlanFaults.{IsPlannable, bare};
+ghost use Rattle.rail_plan.specs.MoveLineCounts.{lines_of};
 
 use crate::rows::train_row;
 use rail_base::{Tables, TrainNo};

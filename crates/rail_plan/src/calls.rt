@@ -4,10 +4,10 @@ ghost use Rattle.rail_base.specs.declared.plant.Call.{Call};
 ghost use Rattle.rail_base.specs.declared.plant.Tables.{Tables};
 ghost use Rattle.rail_base.specs.declared.plant.TrainRow.{TrainRow};
 ghost use Rattle.rail_rules.specs.Plant.{move_row, moves};
-ghost use Rattle.rail_rules.specs.Accepted.{is_fine_call};
-ghost use Rattle.rail_rules.specs.Running.{call_arrival, call_departure};
-ghost use Rattle.rail_plan.specs.Planning.{bare};
-ghost use Rattle.rail_plan.specs.Calling.{AreCallsFor, call_at, departure_within, no_calls, with_call};
+ghost use Rattle.rail_rules.specs.Accepted.{is_call_in_range};
+ghost use Rattle.rail_rules.specs.RunHistories.{call_arrival, call_departure};
+ghost use Rattle.rail_plan.specs.PlanFaults.{bare};
+ghost use Rattle.rail_plan.specs.CallTables.{AreCallsFor, call_at, departure_within, no_calls, with_call};
 
 use crate::plant::Plant;
 use rail_base::{Call, OutOfMemory, Time, TrainNo, TrainRow};
@@ -63,7 +63,7 @@ impl Calls {
         requires free { call_at self.old train place ≡ None }
         ensures set { self.new ≡ with_call self.old train place call }
         ensures made { (tables : Tables) → AreCallsFor tables self.old
-            → IsTrue (is_fine_call (place == moves (bare tables) train) (is_some (move_row (bare tables) train (place - 1)).turn) (Some call))
+            → IsTrue (is_call_in_range (place == moves (bare tables) train) (is_some (move_row (bare tables) train (place - 1)).turn) (Some call))
             → AreCallsFor tables self.new }
     {
         let row = &mut self.rows[usize::from(train.0)];

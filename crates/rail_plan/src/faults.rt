@@ -2,7 +2,7 @@
 
 ghost use Rattle.std.specs.Prelude.{◌≡◌, ◌+◌, ◌-◌, ◌<◌, ◌≤◌, length};
 ghost use Rattle.rail_rules.specs.Plant.{moves};
-ghost use Rattle.rail_plan.specs.Planning.{IsPlannable, bare, fault_at, fault_of, fault_of_train};
+ghost use Rattle.rail_plan.specs.PlanFaults.{IsPlannable, bare, fault_at, fault_of, fault_of_train};
 
 use crate::rows::{move_row, train_row};
 use crate::standing::{first_common, route_length, standing};

@@ -7,7 +7,7 @@ ghost use Rattle.rail_base.specs.declared.plant.TrainRow.{TrainRow};
 ghost use Rattle.rail_rules.specs.Plant.{moves_of, train};
 ghost use Rattle.rail_rules.specs.Accepted.{are_distinct_names};
 ghost use Rattle.rail_place.specs.Tables.{moves_in};
-ghost use Rattle.rail_plan.specs.Planning.{IsPlannable, bare, fault_of, standing_of};
+ghost use Rattle.rail_plan.specs.PlanFaults.{IsPlannable, bare, fault_of, standing_of};
 
 use crate::rows::train_row;
 use crate::standing::standing;

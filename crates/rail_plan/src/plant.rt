@@ -3,11 +3,11 @@ ghost use Rattle.rail_base.specs.declared.limits.TheConstants.{COMMANDS, ITINERA
 ghost use Rattle.rail_base.specs.declared.plant.SectionRow.{SectionRow};
 ghost use Rattle.rail_base.specs.declared.plant.TrainRow.{TrainRow};
 ghost use Rattle.rail_rules.specs.Plant.{bound, call_after, move_row, moves, moves_of, section, train, trains};
-ghost use Rattle.rail_rules.specs.Accepted.{is_accepted, is_fine_move};
-ghost use Rattle.rail_rules.specs.Running.{due};
+ghost use Rattle.rail_rules.specs.Accepted.{is_accepted, is_move_in_range};
+ghost use Rattle.rail_rules.specs.RunHistories.{due};
 ghost use Rattle.rail_place.specs.Tables.{moves_in};
-ghost use Rattle.rail_plan.specs.Planning.{IsAnswer, IsPlannable, bare, fault_of};
-ghost use Rattle.rail_plan.specs.Calling.{AreCallsFor, with_calls};
+ghost use Rattle.rail_plan.specs.PlanFaults.{IsAnswer, IsPlannable, bare, fault_of};
+ghost use Rattle.rail_plan.specs.CallTables.{AreCallsFor, with_calls};
 
 use crate::bounds::event_bound;
 use crate::calls::Calls;
@@ -138,7 +138,7 @@ impl Plant {
         requires first { 1 ≤ place }
         requires last { place ≤ moves self.now train }
         ensures row { result.now ≡ move_row self.now train (place - 1) }
-        ensures fine { IsTrue (is_fine_move (length self.now.tables.sections) result.now) }
+        ensures fine { IsTrue (is_move_in_range (length self.now.tables.sections) result.now) }
     {
         move_row(&self.tables, train, place)
     }

@@ -1,9 +1,9 @@
 //! The rows of tables by their numbers.
 
 ghost use Rattle.std.specs.Prelude.{◌≡◌, ◌-◌, ◌<◌, ◌≤◌, length, IsTrue};
-ghost use Rattle.rail_rules.specs.Accepted.{is_fine_move};
+ghost use Rattle.rail_rules.specs.Accepted.{is_move_in_range};
 ghost use Rattle.rail_rules.specs.Plant.{move_row, moves, section, train};
-ghost use Rattle.rail_plan.specs.Planning.{IsPlannable, bare};
+ghost use Rattle.rail_plan.specs.PlanFaults.{IsPlannable, bare};
 
 use rail_base::limits::ITINERARY_ROUTES;
 use rail_base::{MoveRow, SectionNo, SectionRow, Tables, TrainNo, TrainRow};
@@ -33,7 +33,7 @@ pub fn move_row(tables: &Tables, number: TrainNo, place: u16) -> &MoveRow
     requires first { 1 ≤ place }
     requires last { place ≤ moves (bare tables.now) number }
     ensures row { result.now ≡ move_row (bare tables.now) number (place - 1) }
-    ensures fine { IsTrue (is_fine_move (length tables.now.sections) result.now) }
+    ensures fine { IsTrue (is_move_in_range (length tables.now.sections) result.now) }
 {
     &train_row(tables, number).moves.as_slice()[usize::from(place) - 1]
 }

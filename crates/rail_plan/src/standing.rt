@@ -4,8 +4,8 @@ ghost use Rattle.std.specs.Prelude.{◌≡◌, ◌≤◌, IsTrue, length, drop};
 ghost use Rattle.std.specs.List.{find};
 ghost use Rattle.rail_rules.specs.Numbers.{is_in};
 ghost use Rattle.rail_rules.specs.Plant.{shortest_end};
-ghost use Rattle.rail_rules.specs.Accepted.{is_fine_move};
-ghost use Rattle.rail_plan.specs.Planning.{IsPlannable, bare, metres_of, standing_of};
+ghost use Rattle.rail_rules.specs.Accepted.{is_move_in_range};
+ghost use Rattle.rail_plan.specs.PlanFaults.{IsPlannable, bare, metres_of, standing_of};
 
 use crate::rows::section_row;
 use rail_base::{MoveRow, SectionNo, Tables};
@@ -14,7 +14,7 @@ use rail_base::{MoveRow, SectionNo, Tables};
 /// that is as long as the train and, where there is a turn, begins at the turn step or before.
 pub fn standing<'a>(tables: &Tables, metres: u32, row: &'a MoveRow) -> &'a [SectionNo]
     requires tables { IsPlannable tables.now }
-    requires fine { IsTrue (is_fine_move (length tables.now.sections) row.now) }
+    requires fine { IsTrue (is_move_in_range (length tables.now.sections) row.now) }
     ensures { result.now ≡ standing_of (bare tables.now) metres row.now }
 {
     let last = shortest_end(tables, metres, row);
@@ -28,7 +28,7 @@ pub fn standing<'a>(tables: &Tables, metres: u32, row: &'a MoveRow) -> &'a [Sect
 /// Where the shortest end of the move's route that is as long as the train begins, counted from 0.
 fn shortest_end(tables: &Tables, metres: u32, row: &MoveRow) -> usize
     requires tables { IsPlannable tables.now }
-    requires fine { IsTrue (is_fine_move (length tables.now.sections) row.now) }
+    requires fine { IsTrue (is_move_in_range (length tables.now.sections) row.now) }
     ensures within { result ≤ length row.now.sections }
     ensures sections { drop result row.now.sections ≡ shortest_end (bare tables.now) metres row.now.sections }
 {
@@ -47,7 +47,7 @@ fn shortest_end(tables: &Tables, metres: u32, row: &MoveRow) -> usize
 /// The metres of the sections of the move's route together.
 pub fn route_length(tables: &Tables, row: &MoveRow) -> u32
     requires tables { IsPlannable tables.now }
-    requires fine { IsTrue (is_fine_move (length tables.now.sections) row.now) }
+    requires fine { IsTrue (is_move_in_range (length tables.now.sections) row.now) }
     ensures { result ≡ metres_of (bare tables.now) row.now.sections }
 {
     let mut metres = 0;

@@ -1,4 +1,7 @@
+-- The lemmas of this crate; those for the crates above stand in CallerLemmas.
+pub mod CallerLemmas
 -- The order of events, what a push makes of a queue, and which events it keeps in their order.
-pub mod Ordered
-pub mod Pushed
-pub mod Kept
+mod Ordered
+mod Pushed
+mod Kept
+mod Filtered

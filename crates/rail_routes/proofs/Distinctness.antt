@@ -5,23 +5,21 @@ use Rattle.std.specs.Option.{option_map_or}
 use Rattle.std.proofs.lemmas.List.{length_push}
 use Rattle.std.proofs.lemmas.List.Sums.{sum_by-append}
 use Rattle.std.proofs.lemmas.Bool.Decides.{nat_tests}
-use Rattle.rail_base.specs.Naming.{same_name}
+use Rattle.rail_base.specs.NameForms.{same_name}
 use Rattle.rail_base.specs.declared.limits.TheConstants.{POSTS, TURNS}
 use Rattle.rail_track.specs.declared.section.Section.{Section}
 use Rattle.rail_track.specs.Lists.{without}
 use Rattle.rail_track.specs.Sound.{IsSoundTrack}
-use Rattle.rail_track.proofs.Refusals.{all_passed}
-use Rattle.rail_track.proofs.Tallies.{same_from_name}
-use Rattle.rail_track.proofs.Withouts.{count_by_none, count_by-without-le, length-without-le}
+use Rattle.rail_track.proofs.CallerLemmas.{all_passed, same_from_name, count_by_none, count_by-without-le, length-without-le}
 use Rattle.rail_routes.specs.declared.items.Post.{Post}
 use Rattle.rail_routes.specs.declared.items.Turn.{Turn}
 use Rattle.rail_routes.specs.declared.items.Route.{Route}
 use Rattle.rail_routes.specs.declared.items.Role.TheVariants.{Portal, Signal, Board}
 use Rattle.rail_routes.specs.Net.{Net, posts, is_post, is_turn, is_route, stands_at, guards, guards_at}
-use Rattle.rail_routes.specs.Posting.{post_tests, post_refusal, is_taken_as, stands_well}
-use Rattle.rail_routes.specs.Turning.{turn_tests, turn_refusal}
-use Rattle.rail_routes.specs.Routing.{route_tests, route_refusal}
-use Rattle.rail_routes.specs.Changing.{without_post}
+use Rattle.rail_routes.specs.PostRules.{post_tests, post_refusal, is_taken_as, stands_well}
+use Rattle.rail_routes.specs.TurnRules.{turn_tests, turn_refusal}
+use Rattle.rail_routes.specs.RouteRules.{route_tests, route_refusal}
+use Rattle.rail_routes.specs.PostChanges.{without_post}
 use Rattle.rail_routes.specs.Distinct.{IsDistinctNetwork}
 use Rattle.rail_routes.proofs.Places.{one_if, count_by-push}
 use Rattle.rail_routes.proofs.Tables.{route_fits}

@@ -3,13 +3,13 @@ use Rattle.std.proofs.Common.{◌≡◌, ℕ, Bool, true, false, ◌||◌, List,
 use Rattle.std.specs.List.{list_any}
 use Rattle.rail_base.specs.declared.refusals.Reason.TheVariants.{JointCrowded}
 use Rattle.rail_track.specs.declared.section.Section.{Section}
-use Rattle.rail_track.specs.Joining.{is_full}
-use Rattle.rail_track.specs.Accepting.{section_tests, section_refusal, stands_twice}
-use Rattle.rail_track.specs.Refusing.{first_failing}
-use Rattle.rail_track.proofs.Refusals.{all_passed, none_failing, passes_too}
+use Rattle.rail_track.specs.Joints.{is_full}
+use Rattle.rail_track.specs.SectionRules.{section_tests, section_refusal, stands_twice}
+use Rattle.rail_track.specs.FirstRefusals.{first_failing}
+use Rattle.rail_track.proofs.CallerLemmas.{all_passed, none_failing, passes_too}
 use Rattle.rail_routes.specs.declared.items.Post.{Post}
 use Rattle.rail_routes.specs.Net.{stands_at}
-use Rattle.rail_routes.specs.Extending.{is_closed_by}
+use Rattle.rail_routes.specs.SectionRules.{is_closed_by}
 
 either_less : (a b c : Bool) → (a || (b || c)) ≡ false → (a || b) ≡ false
 either_less true b c h = cc

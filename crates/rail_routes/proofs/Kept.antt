@@ -2,16 +2,16 @@
 use Rattle.std.proofs.Common.{◌≡◌, ℕ, Bool, true, false, not, ◌&&◌, ◌||◌, ◌==◌, List, [], ◌∷◌, Option, Some, None, refl, sym, ap, ◌∙◌}
 use Rattle.std.specs.List.{list_any}
 use Rattle.std.specs.Option.{option_map_or}
-use Rattle.rail_base.specs.Naming.{same_name}
+use Rattle.rail_base.specs.NameForms.{same_name}
 use Rattle.rail_track.specs.declared.section.Section.{Section}
-use Rattle.rail_track.specs.Joining.{section_named, section_has, sections_at, has_joint}
-use Rattle.rail_track.specs.Passing.{has_passage, passages, leads}
+use Rattle.rail_track.specs.Joints.{section_named, section_has, sections_at, has_joint}
+use Rattle.rail_track.specs.Passages.{has_passage, passages, leads}
 use Rattle.rail_routes.specs.declared.items.Post.{Post}
 use Rattle.rail_routes.specs.declared.items.Role.{Role}
 use Rattle.rail_routes.specs.declared.items.Role.TheVariants.{Portal, Signal, Board}
 use Rattle.rail_routes.specs.declared.items.Step.{Step}
-use Rattle.rail_routes.specs.Posting.{stands_as, has_joint_ahead}
-use Rattle.rail_routes.specs.Routing.{is_ahead_of, begins, goes_on, ends, leads_on}
+use Rattle.rail_routes.specs.PostRules.{stands_as, has_joint_ahead}
+use Rattle.rail_routes.specs.RouteRules.{is_ahead_of, begins, goes_on, ends, leads_on}
 use Rattle.rail_routes.specs.Sound.{lead_to, lead_between}
 use Rattle.rail_routes.proofs.Lists.{both_true, both_false, last_kept}
 

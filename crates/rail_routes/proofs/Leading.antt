@@ -4,20 +4,20 @@ use Rattle.std.specs.List.{list_any}
 use Rattle.std.specs.Option.{option_or}
 use Rattle.std.proofs.lemmas.List.{at_drop_more, length-drop}
 use Rattle.std.proofs.lemmas.Bool.Decides.{nat_tests}
-use Rattle.rail_base.specs.Naming.{same_name}
+use Rattle.rail_base.specs.NameForms.{same_name}
 use Rattle.rail_base.specs.declared.refusals.Reason.TheVariants.{RouteBroken, Unknown}
 use Rattle.rail_track.specs.declared.section.NetFault.{NetFault}
 use Rattle.rail_track.specs.declared.section.NetFault.TheVariants.{Refused}
 use Rattle.rail_track.specs.declared.section.Section.{Section}
-use Rattle.rail_track.specs.Joining.{is_named}
-use Rattle.rail_track.specs.Passing.{has_passage}
-use Rattle.rail_track.specs.Refusing.{first_failing}
-use Rattle.rail_track.proofs.Refusals.{first_failing-append}
+use Rattle.rail_track.specs.Joints.{is_named}
+use Rattle.rail_track.specs.Passages.{has_passage}
+use Rattle.rail_track.specs.FirstRefusals.{first_failing}
+use Rattle.rail_track.proofs.CallerLemmas.{first_failing-append}
 use Rattle.rail_routes.specs.declared.items.Post.{Post}
 use Rattle.rail_routes.specs.declared.items.Step.{Step}
 use Rattle.rail_routes.specs.declared.items.Route.{Route}
 use Rattle.rail_routes.specs.Net.{Net, posts, is_post, post_named}
-use Rattle.rail_routes.specs.Routing.{step_tests, goes_on, ends, rule_tests, repeat_tests, way_tests, way_from}
+use Rattle.rail_routes.specs.RouteRules.{step_tests, goes_on, ends, rule_tests, repeat_tests, way_tests, way_from}
 use Rattle.rail_routes.proofs.Uses.{list_any-find}
 
 goes_on_test : (steps : List Step) → goes_on steps ≡ nat_lt 0 (length steps)

@@ -1,12 +1,12 @@
-pub mod Places
-pub mod Uses
-pub mod Removals
-pub mod Tables
-pub mod Extensions
-pub mod Leading
-pub mod Distinctness
-pub mod Lists
-pub mod Kept
-pub mod SectionChanges
-pub mod PostChanges
-pub mod WayChanges
+mod Places
+mod Uses
+mod Removals
+mod Tables
+mod Extensions
+mod Leading
+mod Distinctness
+mod Lists
+mod Kept
+mod SectionChanges
+mod PostChanges
+mod WayChanges

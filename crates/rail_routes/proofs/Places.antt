@@ -2,12 +2,11 @@
 use Rattle.std.proofs.Common.{◌≡◌, ℕ, ◌+◌, Bool, true, false, cond, ◌&&◌, List, [], ◌∷◌, ◌++◌, count_by, Some, None, refl, ap, ◌∙◌, arith}
 use Rattle.std.specs.Option.{option_map_or}
 use Rattle.std.proofs.lemmas.List.Sums.{sum_by_push}
-use Rattle.rail_base.specs.Naming.{same_name}
-use Rattle.rail_track.proofs.Tallies.{same_name-self}
+use Rattle.rail_base.specs.NameForms.{same_name}
+use Rattle.rail_track.proofs.CallerLemmas.{same_name-self, count_by-without}
 use Rattle.rail_routes.specs.declared.items.Post.{Post}
 use Rattle.rail_routes.specs.Net.{guards_at, is_post}
 use Rattle.rail_routes.specs.PostFields.{same_pair}
-use Rattle.rail_track.proofs.Withouts.{count_by-without}
 use Rattle.std.specs.List.{find}
 use Rattle.rail_track.specs.Lists.{without}
 

@@ -3,14 +3,12 @@ use Rattle.std.proofs.Common.{◌≡◌, ℕ, Bool, true, false, not, ◌&&◌, 
 use Rattle.std.specs.List.{list_any, list_all, find}
 use Rattle.std.specs.Option.{option_or}
 use Rattle.std.proofs.lemmas.List.Folds.{find-append, list_any-append}
-use Rattle.rail_base.specs.Naming.{same_name}
+use Rattle.rail_base.specs.NameForms.{same_name}
 use Rattle.rail_base.specs.declared.limits.TheConstants.{SETTING, WATCHING, APPROACH, TURN_TIME, ROUTE_SECTIONS}
 use Rattle.rail_track.specs.declared.section.Section.{Section}
-use Rattle.rail_track.specs.Accepting.{is_within}
+use Rattle.rail_track.specs.SectionRules.{is_within}
 use Rattle.rail_track.specs.Lists.{without, are_apart}
-use Rattle.rail_track.proofs.Refusals.{all_passed}
-use Rattle.rail_track.proofs.Tallies.{same_name-comm, same_from_name}
-use Rattle.rail_track.proofs.Withouts.{list_all-without}
+use Rattle.rail_track.proofs.CallerLemmas.{all_passed, same_name-comm, same_from_name, list_all-without}
 use Rattle.rail_routes.specs.declared.items.Post.{Post}
 use Rattle.rail_routes.specs.declared.items.Role.{Role}
 use Rattle.rail_routes.specs.declared.items.Role.TheVariants.{Portal, Signal, Board}
@@ -18,10 +16,10 @@ use Rattle.rail_routes.specs.declared.items.Step.{Step}
 use Rattle.rail_routes.specs.declared.items.Turn.{Turn}
 use Rattle.rail_routes.specs.declared.items.Route.{Route}
 use Rattle.rail_routes.specs.Net.{Net, posts, is_post, post_named}
-use Rattle.rail_routes.specs.Posting.{post_tests, post_refusal, is_formed, is_taken, has_times, stands_well}
-use Rattle.rail_routes.specs.Turning.{turns_well}
-use Rattle.rail_routes.specs.Changing.{without_post}
-use Rattle.rail_routes.specs.Using.{turns_at, goes_to, is_post_used}
+use Rattle.rail_routes.specs.PostRules.{post_tests, post_refusal, is_formed, is_taken, has_times, stands_well}
+use Rattle.rail_routes.specs.TurnRules.{turns_well}
+use Rattle.rail_routes.specs.PostChanges.{without_post}
+use Rattle.rail_routes.specs.Uses.{turns_at, goes_to, is_post_used}
 use Rattle.rail_routes.specs.Sound.{IsSoundNetwork, same_role, is_timed, is_sound_post, is_sound_turn, is_sound_route, have_one_section, lead_between}
 use Rattle.rail_routes.proofs.Uses.{list_any-find}
 use Rattle.rail_routes.proofs.Lists.{both_true, both_false, not_false, find-push_other, find-without_other, all_kept, all_more, all_push}

@@ -9,9 +9,9 @@ use Rattle.rail_base.specs.declared.refusals.Reason.TheVariants.{Unknown, InUse}
 use Rattle.rail_track.specs.declared.section.NetFault.{NetFault}
 use Rattle.rail_track.specs.declared.section.NetFault.TheVariants.{Refused}
 use Rattle.rail_track.specs.declared.section.Section.{Section}
-use Rattle.rail_track.specs.Joining.{is_named, section_named}
+use Rattle.rail_track.specs.Joints.{is_named, section_named}
 use Rattle.rail_routes.specs.Net.{Net, posts, is_post, post_named}
-use Rattle.rail_routes.specs.Using.{section_removal, post_removal, is_section_used, is_post_used}
+use Rattle.rail_routes.specs.Uses.{section_removal, post_removal, is_section_used, is_post_used}
 use Rattle.rail_routes.proofs.Uses.{list_any-find}
 
 abbrev removal : Bool → Bool → Option NetFault

@@ -5,24 +5,21 @@ use Rattle.std.specs.Option.{option_map_or}
 use Rattle.std.specs.Result.{OnOk, OnErr, IfOk}
 use Rattle.std.proofs.lemmas.Bool.Decides.{nat_tests}
 use Rattle.std.proofs.lemmas.List.Folds.{list_any-append}
-use Rattle.rail_base.specs.Naming.{same_name}
+use Rattle.rail_base.specs.NameForms.{same_name}
 use Rattle.rail_track.specs.declared.section.Section.{Section}
 use Rattle.rail_track.specs.Lists.{without}
-use Rattle.rail_track.specs.Joining.{is_named, is_full, section_named, section_has, sections_at, has_joint}
+use Rattle.rail_track.specs.Joints.{is_named, is_full, section_named, section_has, sections_at, has_joint}
 use Rattle.rail_track.specs.Sound.{IsSoundTrack}
-use Rattle.rail_track.proofs.Soundness.{IsAccepted, accepted, fails_at, one_more, sections_at-push}
-use Rattle.rail_track.proofs.Tallies.{same_name-comm, same_from_name}
-use Rattle.rail_track.proofs.Withouts.{count_by-without}
-use Rattle.rail_track.proofs.Rolls.{list_any-map}
+use Rattle.rail_track.proofs.CallerLemmas.{IsAccepted, accepted, fails_at, one_more, sections_at-push, same_name-comm, same_from_name, count_by-without, list_any-map}
 use Rattle.rail_routes.specs.declared.items.Post.{Post}
 use Rattle.rail_routes.specs.declared.items.Role.{Role}
 use Rattle.rail_routes.specs.declared.items.Role.TheVariants.{Portal, Signal, Board}
 use Rattle.rail_routes.specs.declared.items.Step.{Step}
 use Rattle.rail_routes.specs.declared.items.Route.{Route}
 use Rattle.rail_routes.specs.Net.{Net, posts, post_named, stands_at}
-use Rattle.rail_routes.specs.Posting.{stands_as, stands_well, is_formed, has_joint_ahead}
-use Rattle.rail_routes.specs.Extending.{is_closed_by, net_section_refusal}
-use Rattle.rail_routes.specs.Using.{is_section_used, runs_over, section_removal}
+use Rattle.rail_routes.specs.PostRules.{stands_as, stands_well, is_formed, has_joint_ahead}
+use Rattle.rail_routes.specs.SectionRules.{is_closed_by, net_section_refusal}
+use Rattle.rail_routes.specs.Uses.{is_section_used, runs_over, section_removal}
 use Rattle.rail_routes.specs.Sound.{IsSoundNetwork, same_role, is_timed, is_sound_post, is_sound_route, lead_between}
 use Rattle.rail_routes.proofs.Uses.{any_swap, any_agree, any_or, any_false}
 use Rattle.rail_routes.proofs.Lists.{both_true, both_false, last_kept, find-more, find-without_other, find_true, all_kept, all_more}

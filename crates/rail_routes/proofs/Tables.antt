@@ -4,16 +4,16 @@ use Rattle.std.specs.List.{list_all}
 use Rattle.std.proofs.lemmas.List.{length-map}
 use Rattle.std.proofs.lemmas.List.Sums.{count_by-le-length}
 use Rattle.std.proofs.lemmas.Bool.Decides.{nat_tests}
-use Rattle.rail_base.specs.Naming.{same_name}
+use Rattle.rail_base.specs.NameForms.{same_name}
 use Rattle.rail_base.specs.declared.limits.TheConstants.{ROUTES, ROUTE_SECTIONS}
 use Rattle.rail_routes.specs.declared.items.Step.{Step}
 use Rattle.rail_routes.specs.declared.items.Turn.{Turn}
 use Rattle.rail_routes.specs.declared.items.Route.{Route}
-use Rattle.rail_track.specs.Accepting.{is_within}
-use Rattle.rail_track.proofs.Refusals.{all_passed}
+use Rattle.rail_track.specs.SectionRules.{is_within}
+use Rattle.rail_track.proofs.CallerLemmas.{all_passed}
 use Rattle.rail_routes.specs.Net.{Net}
-use Rattle.rail_routes.specs.Routing.{route_tests, route_refusal}
-use Rattle.rail_routes.specs.Using.{sections_of}
+use Rattle.rail_routes.specs.RouteRules.{route_tests, route_refusal}
+use Rattle.rail_routes.specs.Uses.{sections_of}
 use Rattle.rail_routes.specs.NetworkFields.{runs_of, turn_uses, route_uses}
 use Rattle.rail_routes.proofs.Uses.{sum_by-le-few, all_pass}
 

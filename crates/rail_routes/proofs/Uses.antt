@@ -4,7 +4,7 @@ use Rattle.std.specs.List.{find, list_any, list_all, sum_by}
 use Rattle.std.proofs.lemmas.List.Sums.{sum_by-cons}
 use Rattle.std.proofs.lemmas.Bool.Decides.{nat_tests}
 use Rattle.rail_track.specs.Lists.{without}
-use Rattle.rail_track.proofs.Withouts.{list_any-count_by}
+use Rattle.rail_track.proofs.CallerLemmas.{list_any-count_by}
 
 -- a test finds an item where one passes
 pub list_any-find : {X : Type 0} (p : X → Bool) (xs : List X) → list_any p xs ≡ is_some (find p xs)

@@ -4,26 +4,24 @@ use Rattle.std.specs.List.{list_any, list_all}
 use Rattle.std.proofs.lemmas.List.{length_push}
 use Rattle.std.proofs.lemmas.List.Folds.{list_all-append}
 use Rattle.std.proofs.Math.Seq.{take-length}
-use Rattle.rail_base.specs.Naming.{same_name}
+use Rattle.rail_base.specs.NameForms.{same_name}
 use Rattle.rail_base.specs.declared.limits.TheConstants.{TURN_TIME, ROUTE_SECTIONS}
 use Rattle.rail_base.specs.declared.refusals.Reason.TheVariants.{RouteRepeat}
 use Rattle.rail_track.specs.declared.section.NetFault.{NetFault}
 use Rattle.rail_track.specs.declared.section.Section.{Section}
-use Rattle.rail_track.specs.Accepting.{is_within}
+use Rattle.rail_track.specs.SectionRules.{is_within}
 use Rattle.rail_track.specs.Lists.{without, are_apart}
-use Rattle.rail_track.specs.Refusing.{Test, tests_over, refused_where}
+use Rattle.rail_track.specs.FirstRefusals.{Test, tests_over, refused_where}
 use Rattle.rail_track.specs.Sound.{IsSoundTrack}
-use Rattle.rail_track.proofs.Refusals.{AllPassed, all_passed}
-use Rattle.rail_track.proofs.Tallies.{same_name-comm}
-use Rattle.rail_track.proofs.Withouts.{list_all-without, are_apart-push}
+use Rattle.rail_track.proofs.CallerLemmas.{AllPassed, all_passed, same_name-comm, list_all-without, are_apart-push}
 use Rattle.rail_routes.specs.declared.items.Post.{Post}
 use Rattle.rail_routes.specs.declared.items.Role.TheVariants.{Portal, Signal, Board}
 use Rattle.rail_routes.specs.declared.items.Step.{Step}
 use Rattle.rail_routes.specs.declared.items.Turn.{Turn}
 use Rattle.rail_routes.specs.declared.items.Route.{Route}
 use Rattle.rail_routes.specs.Net.{Net, posts, is_post, post_named}
-use Rattle.rail_routes.specs.Turning.{turn_tests, turn_refusal, turns_well}
-use Rattle.rail_routes.specs.Routing.{occurred, repeat_tests, begins, step_tests, leads_on, way_tests, route_tests, route_refusal}
+use Rattle.rail_routes.specs.TurnRules.{turn_tests, turn_refusal, turns_well}
+use Rattle.rail_routes.specs.RouteRules.{occurred, repeat_tests, begins, step_tests, leads_on, way_tests, route_tests, route_refusal}
 use Rattle.rail_routes.specs.Sound.{IsSoundNetwork, is_sound_post, is_sound_turn, is_sound_route, have_one_section, lead_to, lead_between}
 use Rattle.rail_routes.proofs.Uses.{list_any-find}
 use Rattle.rail_routes.proofs.Lists.{both_true, not_false, all_more, all_push}

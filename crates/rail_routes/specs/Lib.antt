@@ -1,12 +1,12 @@
 -- What the contracts of this crate, and the definitions above it, speak of.
 pub mod Net
-pub mod Posting
-pub mod Turning
-pub mod Routing
-pub mod Using
+pub mod PostRules
+pub mod TurnRules
+pub mod RouteRules
+pub mod Uses
 pub mod PostFields
-pub mod Extending
+pub mod SectionRules
 pub mod NetworkFields
-pub mod Changing
+pub mod PostChanges
 pub mod Distinct
 pub mod Sound

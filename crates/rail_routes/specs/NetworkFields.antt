@@ -2,14 +2,14 @@
 -- names a post.
 use Rattle.std.specs.Prelude.{◌≡◌, ℕ, List, [], ◌∷◌, count_by}
 use Rattle.std.specs.List.{sum_by}
-use Rattle.rail_base.specs.Naming.{same_name}
-use Rattle.rail_track.specs.Counting.{times}
+use Rattle.rail_base.specs.NameForms.{same_name}
+use Rattle.rail_track.specs.KeyCounts.{times}
 use Rattle.rail_routes.specs.declared.items.Turn.{Turn}
 use Rattle.rail_routes.specs.declared.items.Route.{Route}
 use Rattle.rail_routes.specs.declared.network.Network.TheInside.{Inside}
 use Rattle.rail_routes.specs.Net.{Net}
 use Rattle.rail_routes.specs.Sound.{IsSoundNetwork}
-use Rattle.rail_routes.specs.Using.{sections_of}
+use Rattle.rail_routes.specs.Uses.{sections_of}
 
 -- the six lists of the network
 abbrev pub lists_of : Inside → Net

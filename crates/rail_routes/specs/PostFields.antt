@@ -1,7 +1,7 @@
 -- How the posts of one role are stored: the posts, and the number of them at each joint.
 use Rattle.std.specs.Prelude.{◌≡◌, ℕ, Bool, ◌&&◌, List, count_by}
-use Rattle.rail_base.specs.Naming.{same_name}
-use Rattle.rail_track.specs.Counting.{times}
+use Rattle.rail_base.specs.NameForms.{same_name}
+use Rattle.rail_track.specs.KeyCounts.{times}
 use Rattle.rail_routes.specs.declared.post_list.PostList.TheInside.{Inside}
 use Rattle.rail_routes.specs.Net.{stands_at, guards_at}
 

@@ -1,10 +1,10 @@
 -- Sound networks: each post, turn and route keeps its rule.
 use Rattle.std.specs.Prelude.{ℕ, Bool, true, false, not, ◌&&◌, ◌||◌, List, [], ◌∷◌, Option, Some, None, length, nat_le, IsTrue}
 use Rattle.std.specs.List.{list_any, list_all}
-use Rattle.rail_base.specs.Naming.{same_name}
+use Rattle.rail_base.specs.NameForms.{same_name}
 use Rattle.rail_base.specs.declared.limits.TheConstants.{SETTING, WATCHING, APPROACH, TURN_TIME, ROUTE_SECTIONS}
 use Rattle.rail_track.specs.declared.section.Section.{Section}
-use Rattle.rail_track.specs.Accepting.{is_within}
+use Rattle.rail_track.specs.SectionRules.{is_within}
 use Rattle.rail_track.specs.Lists.{are_apart}
 use Rattle.rail_routes.specs.declared.items.Post.{Post}
 use Rattle.rail_routes.specs.declared.items.Role.{Role}
@@ -13,9 +13,9 @@ use Rattle.rail_routes.specs.declared.items.Step.{Step}
 use Rattle.rail_routes.specs.declared.items.Turn.{Turn}
 use Rattle.rail_routes.specs.declared.items.Route.{Route}
 use Rattle.rail_routes.specs.Net.{Net, posts, is_post, post_named}
-use Rattle.rail_routes.specs.Posting.{is_formed, has_times, stands_well}
-use Rattle.rail_routes.specs.Turning.{turns_well}
-use Rattle.rail_routes.specs.Routing.{begins, leads_on}
+use Rattle.rail_routes.specs.PostRules.{is_formed, has_times, stands_well}
+use Rattle.rail_routes.specs.TurnRules.{turns_well}
+use Rattle.rail_routes.specs.RouteRules.{begins, leads_on}
 use Rattle.rail_routes.specs.Distinct.{IsDistinctNetwork}
 
 -- the roles are the same

@@ -67,17 +67,17 @@ impl Model for Network {
 impl Network {
     ghost use Rattle.rail_base.specs.declared.refusals.Reason.TheVariants.{Unknown};
     ghost use Rattle.rail_track.specs.declared.section.NetFault.TheVariants.{Refused};
-    ghost use Rattle.rail_track.specs.Joining.{is_named, section_named};
+    ghost use Rattle.rail_track.specs.Joints.{is_named, section_named};
     ghost use Rattle.rail_track.specs.Lists.{without};
-    ghost use Rattle.rail_track.specs.Refusing.{Answers};
+    ghost use Rattle.rail_track.specs.FirstRefusals.{Answers};
     ghost use Rattle.rail_routes.specs.Net.{posts, is_post, is_turn, is_route, post_named, stands_at};
-    ghost use Rattle.rail_routes.specs.Extending.{net_section_refusal};
-    ghost use Rattle.rail_routes.specs.Posting.{post_refusal, is_formed};
-    ghost use Rattle.rail_routes.specs.Turning.{turn_refusal};
-    ghost use Rattle.rail_routes.specs.Routing.{route_refusal};
-    ghost use Rattle.rail_routes.specs.Using.{section_removal, post_removal};
+    ghost use Rattle.rail_routes.specs.SectionRules.{net_section_refusal};
+    ghost use Rattle.rail_routes.specs.PostRules.{post_refusal, is_formed};
+    ghost use Rattle.rail_routes.specs.TurnRules.{turn_refusal};
+    ghost use Rattle.rail_routes.specs.RouteRules.{route_refusal};
+    ghost use Rattle.rail_routes.specs.Uses.{section_removal, post_removal};
     ghost use Rattle.rail_routes.specs.Sound.{IsSoundNetwork};
-    ghost use Rattle.rail_routes.specs.Changing.{with_post, without_post};
+    ghost use Rattle.rail_routes.specs.PostChanges.{with_post, without_post};
 
     /// A network without items. It takes no memory.
     pub fn new(alloc: Global) -> Network
@@ -375,7 +375,7 @@ struct ClosedInNetwork<'a> {
 }
 
 impl ClosedJoints for ClosedInNetwork<'_> {
-    ghost use Rattle.rail_routes.specs.Extending.{is_closed_by};
+    ghost use Rattle.rail_routes.specs.SectionRules.{is_closed_by};
 
     ghost is_closed = { λ rule. is_closed_by rule.track.now rule.portals.now };
 

@@ -2,40 +2,131 @@
 //! some refusals. Each name is one letter: sections in capitals, joints in small letters, posts and
 //! routes in digits.
 ghost use Rattle.std.specs.Prelude.{IsTrue, IfSome};
-ghost use Rattle.rail_routes.specs.Posting.{is_formed};
+ghost use Rattle.rail_routes.specs.PostRules.{is_formed};
 
 use super::*;
 use rail_base::{Name, Seq};
 use rail_track::{NetFault, Section, SectionKind};
 use std::alloc::Global;
 
-/// A change of a network, whose letters are told at each.
-#[derive(Clone, Copy)]
-enum Change {
-    /// Its name and its joints.
-    AddSection,
-    /// Its name and its joint.
-    AddPortal,
-    /// Its name, its joint, and the section ahead.
-    AddSignal,
-    /// Its name and its joint.
-    AddBoard,
-    /// The arriving and the leaving post.
-    AddTurn,
-    /// Its name, its first and its last post, and then joints and sections in turn.
-    AddRoute,
-    RemoveSection,
-    RemovePost,
-    RemoveTurn,
-    RemoveRoute,
+/// A loop of two tracks, L and M, between points P and Q and the single tracks W and E, with portals 1
+/// and 2, signals 3 and 4 at the ends of L, a turn between them, and a route 5 from 1 to 3.
+const STANDS: &str = "\
++section Wab: yes
++section Pbcd: yes
++section Lce: yes
++section Mdf: yes
++section Qgef: yes
++section Egh: yes
++portal 1a: yes
++portal 2h: yes
++signal 3eQ: yes
++signal 4cP: yes
++turn 34: yes
++route 513 aWb bPc cLe: yes
+";
+
+/// What is refused on the plant: a joint in two sections, a joint with a portal, a name that a signal
+/// has, an unknown section ahead, a place that is taken, a turn that stands already, one from a portal,
+/// a section twice, an end in the section ahead of it; the points under the route, and signal 4 as long
+/// as the turn names it. What is not in use is taken out, and a board may then stand where no section
+/// ends but one.
+const CHANGES: &str = "\
++section Zbq: JointCrowded 1
++section Zqa: JointCrowded 2
++portal 3q: Repeated 1
++signal 6eX: Unknown 3
++signal 6eQ: PostPlace 0
++turn 34: Repeated 1
++turn 14: PostPlace 0
++route 613 aWb bWa: RouteRepeat 2
++route 614 aWb bPc: RouteBroken 2
+-section P: InUse 0
+-section M: yes
++board 7f: yes
+-post 4: InUse 0
+-turn 34: yes
+-post 4: yes
+-route 5: yes
+-route 5: Unknown 0
+";
+
+#[test]
+fn adds_and_takes_out_by_the_rules(rt: HostRuntime) {
+    let mut network = Network::new(rt.alloc());
+    let other = first_other(rt.alloc(), &mut network, STANDS);
+    assert!(rt; other.is_none(), "{other:?}");
+    assert!(rt; has(&network, [6, 2, 2, 0, 1, 1]));
+    assert!(rt; finds(&network) == Some(true));
+    let other = first_other(rt.alloc(), &mut network, CHANGES);
+    assert!(rt; other.is_none(), "{other:?}");
+    assert!(rt; has(&network, [5, 2, 1, 1, 0, 0]));
 }
 
-/// What a call answered: the number of the reason and the step of a refusal, or zeros.
-fn told<T: Drop>(answer: Result<T, NetFault>) -> (u8, u32) {
+/// The first line of the script that is answered otherwise than it says.
+fn first_other<'a>(alloc: Global, network: &mut Network, script: &'a str) -> Option<&'a str> {
+    for line in script.lines() {
+        if !holds(alloc, network, line) {
+            return Some(line);
+        }
+    }
+    None
+}
+
+/// Whether the line is answered as it says.
+fn holds(alloc: Global, network: &mut Network, line: &str) -> bool {
+    match line.split_once(": ") {
+        Some((words, want)) => is_told(alloc, answer(alloc, network, words), want),
+        None => false,
+    }
+}
+
+/// Whether a call answered so: yes, or the reason and the step of a refusal.
+fn is_told(alloc: Global, answer: Option<Result<(), NetFault>>, want: &str) -> bool {
     match answer {
-        Ok(_) => (0, 0),
-        Err(NetFault::Refused { reason, step }) => (reason.number(), step),
-        Err(NetFault::OutOfMemory) => (0, 1),
+        Some(Ok(())) => want == "yes",
+        Some(Err(NetFault::Refused { reason, step })) => {
+            match format!(in alloc; "{reason:?} {step}") {
+                Ok(told) => told.as_str() == want,
+                Err(_) => false,
+            }
+        }
+        _ => false,
+    }
+}
+
+/// What is answered to the words, if they spell a change.
+fn answer(alloc: Global, network: &mut Network, words: &str) -> Option<Result<(), NetFault>> {
+    let (verb, rest) = words.split_once(" ")?;
+    match verb {
+        "+section" => Some(network.add_section(alloc, section(alloc, rest.as_bytes())?)),
+        "+turn" => Some(network.add_turn(alloc, turn(rest.as_bytes())?)),
+        "+route" => Some(network.add_route(alloc, route(alloc, rest)?)),
+        _ => match post(verb, rest.as_bytes()) {
+            Some(post) => Some(network.add_post(alloc, post)),
+            None => without(network, verb, rest.as_bytes()),
+        },
+    }
+}
+
+/// What comes of taking an item out.
+fn without(network: &mut Network, verb: &str, letters: &[u8]) -> Option<Result<(), NetFault>> {
+    let first = name(*letters.first()?)?;
+    let last = name(*letters.last()?)?;
+    match verb {
+        "-section" => Some(done(network.remove_section(first))),
+        "-post" => Some(done(network.remove_post(first))),
+        "-turn" => Some(done(network.remove_turn(first, last))),
+        "-route" => Some(done(network.remove_route(first))),
+        _ => None,
+    }
+}
+
+/// That an item was taken out.
+fn done<T: Drop>(answer: Result<T, NetFault>) -> Result<(), NetFault> {
+    match answer {
+        Ok(_) => Ok(()),
+        Err(fault) => Err(fault),
     }
 }
 
@@ -46,32 +137,35 @@ fn name(letter: u8) -> Option<Name> {
 /// A section of 50 m at 90 km/h: points where there are three joints, and else plain.
 fn section(alloc: Global, letters: &[u8]) -> Option<Section> {
     let (letter, rest) = letters.split_first()?;
-    let mut joints = Vec::new(alloc);
-    for joint in rest {
-        joints.push(name(*joint)?).ok()?;
-    }
-    let kind = if rest.len() == 3 {
-        SectionKind::Points
-    } else {
-        SectionKind::Plain
-    };
     Some(Section {
         name: name(*letter)?,
-        kind,
+        kind: if rest.len() == 3 {
+            SectionKind::Points
+        } else {
+            SectionKind::Plain
+        },
         length: 50,
         speed: 90,
-        joints: Seq::from_vec(joints),
+        joints: joints(alloc, rest)?,
     })
 }
 
-/// A portal, a signal or a board, whichever the letters spell.
-fn post(role: Role, letters: &[u8]) -> Option<Post>
+fn joints(alloc: Global, letters: &[u8]) -> Option<Seq<Name>> {
+    let mut joints = Vec::new(alloc);
+    for letter in letters {
+        joints.push(name(*letter)?).ok()?;
+    }
+    Some(Seq::from_vec(joints))
+}
+
+/// A portal, a signal or a board: its name, its joint, and the section ahead of a signal.
+fn post(verb: &str, letters: &[u8]) -> Option<Post>
     ensures { IfSome result (λ post. IsTrue (is_formed post)) }
 {
-    let (ahead, time) = match (role, letters) {
-        (Role::Portal, [_, _]) => (None, 10),
-        (Role::Signal, [_, _, ahead]) => (Some(name(*ahead)?), 10),
-        (Role::Board, [_, _]) => (None, 0),
+    let (role, ahead, time) = match (verb, letters) {
+        ("+portal", [_, _]) => (Role::Portal, None, 10),
+        ("+signal", [_, _, ahead]) => (Role::Signal, Some(name(*ahead)?), 10),
+        ("+board", [_, _]) => (Role::Board, None, 0),
         _ => return None,
     };
     Some(Post {
@@ -96,172 +190,63 @@ fn turn(letters: &[u8]) -> Option<Turn> {
     })
 }
 
-/// The steps of a path of joints and sections in turn.
-fn steps(alloc: Global, path: &[u8]) -> Option<Seq<Step>> {
-    let mut steps = Vec::new(alloc);
-    for (index, step) in path.windows(3).enumerate() {
-        if index % 2 == 0
-            && let [from, section, to] = step
-        {
-            let step = Step {
-                section: name(*section)?,
-                from: name(*from)?,
-                to: name(*to)?,
-            };
-            steps.push(step).ok()?;
-        }
-    }
-    Some(Seq::from_vec(steps))
-}
-
-fn route(alloc: Global, letters: &[u8]) -> Option<Route> {
-    let [letter, from, to, ..] = letters else {
+/// A route: its name and its posts, and then each of its steps.
+fn route(alloc: Global, words: &str) -> Option<Route> {
+    let (head, path) = words.split_once(" ")?;
+    let [letter, from, to] = head.as_bytes() else {
         return None;
     };
     Some(Route {
         name: name(*letter)?,
         from: name(*from)?,
         to: name(*to)?,
-        steps: steps(alloc, &letters[3..])?,
+        steps: steps(alloc, path)?,
     })
 }
 
-/// What comes of adding an item; 255 where the letters spell none.
-fn add(network: &mut Network, alloc: Global, change: Change, letters: &[u8]) -> (u8, u32) {
-    match change {
-        Change::AddSection => match section(alloc, letters) {
-            Some(section) => told(network.add_section(alloc, section)),
-            None => (255, 0),
-        },
-        Change::AddPortal => add_post(network, alloc, post(Role::Portal, letters)),
-        Change::AddSignal => add_post(network, alloc, post(Role::Signal, letters)),
-        Change::AddBoard => add_post(network, alloc, post(Role::Board, letters)),
-        Change::AddTurn => match turn(letters) {
-            Some(turn) => told(network.add_turn(alloc, turn)),
-            None => (255, 0),
-        },
-        Change::AddRoute => match route(alloc, letters) {
-            Some(route) => told(network.add_route(alloc, route)),
-            None => (255, 0),
-        },
-        _ => remove(network, change, letters),
+fn steps(alloc: Global, path: &str) -> Option<Seq<Step>> {
+    let mut steps = Vec::new(alloc);
+    for word in path.split(" ") {
+        steps.push(step(word.as_bytes())?).ok()?;
     }
+    Some(Seq::from_vec(steps))
 }
 
-fn add_post(network: &mut Network, alloc: Global, post: Option<Post>) -> (u8, u32)
-    requires { IfSome post (λ post. IsTrue (is_formed post)) }
-{
-    match post {
-        Some(post) => told(network.add_post(alloc, post)),
-        None => (255, 0),
-    }
-}
-
-/// What comes of taking an item out; 255 where the letters name none.
-fn remove(network: &mut Network, change: Change, letters: &[u8]) -> (u8, u32) {
-    match (change, names(letters)) {
-        (Change::RemoveSection, Some((name, _))) => told(network.remove_section(name)),
-        (Change::RemovePost, Some((name, _))) => told(network.remove_post(name)),
-        (Change::RemoveTurn, Some((arriving, leaving))) => {
-            told(network.remove_turn(arriving, leaving))
-        }
-        (Change::RemoveRoute, Some((name, _))) => told(network.remove_route(name)),
-        _ => (255, 0),
-    }
-}
-
-/// The first and the last name.
-fn names(letters: &[u8]) -> Option<(Name, Name)> {
-    Some((name(*letters.first()?)?, name(*letters.last()?)?))
-}
-
-/// A loop of two tracks, L and M, between points P and Q and the single tracks W and E, with portals 1
-/// and 2, signals 3 and 4 at the ends of L, a turn between them, and a route 5 from 1 to 3.
-const STANDS: [(Change, &[u8], (u8, u32)); 12] = [
-    (Change::AddSection, b"Wab", (0, 0)),
-    (Change::AddSection, b"Pbcd", (0, 0)),
-    (Change::AddSection, b"Lce", (0, 0)),
-    (Change::AddSection, b"Mdf", (0, 0)),
-    (Change::AddSection, b"Qgef", (0, 0)),
-    (Change::AddSection, b"Egh", (0, 0)),
-    (Change::AddPortal, b"1a", (0, 0)),
-    (Change::AddPortal, b"2h", (0, 0)),
-    (Change::AddSignal, b"3eQ", (0, 0)),
-    (Change::AddSignal, b"4cP", (0, 0)),
-    (Change::AddTurn, b"34", (0, 0)),
-    (Change::AddRoute, b"513aWbPcLe", (0, 0)),
-];
-
-/// What is refused on the plant: a joint in two sections, a joint with a portal, a name that a signal
-/// has, an unknown section ahead, a place that is taken, a turn that stands already, one from a portal,
-/// a section twice, an end in the section ahead of it; the points under the route, and signal 4 as long
-/// as the turn names it. What is not in use is taken out, and a board may then stand where no section
-/// ends but one.
-const CHANGES: [(Change, &[u8], (u8, u32)); 17] = [
-    (Change::AddSection, b"Zbq", (9, 1)),
-    (Change::AddSection, b"Zqa", (9, 2)),
-    (Change::AddPortal, b"3q", (6, 1)),
-    (Change::AddSignal, b"6eX", (7, 3)),
-    (Change::AddSignal, b"6eQ", (10, 0)),
-    (Change::AddTurn, b"34", (6, 1)),
-    (Change::AddTurn, b"14", (10, 0)),
-    (Change::AddRoute, b"613aWbWa", (12, 2)),
-    (Change::AddRoute, b"614aWbPc", (11, 2)),
-    (Change::RemoveSection, b"P", (20, 0)),
-    (Change::RemoveSection, b"M", (0, 0)),
-    (Change::AddBoard, b"7f", (0, 0)),
-    (Change::RemovePost, b"4", (20, 0)),
-    (Change::RemoveTurn, b"34", (0, 0)),
-    (Change::RemovePost, b"4", (0, 0)),
-    (Change::RemoveRoute, b"5", (0, 0)),
-    (Change::RemoveRoute, b"5", (7, 0)),
-];
-
-/// The index of the first change that is answered otherwise than it says.
-fn first_other(
-    network: &mut Network,
-    alloc: Global,
-    changes: &[(Change, &[u8], (u8, u32))],
-) -> Option<usize> {
-    for (index, (change, letters, want)) in changes.iter().enumerate() {
-        if add(network, alloc, *change, letters) != *want {
-            return Some(index);
-        }
-    }
-    None
-}
-
-/// Each item of the plant is found by its name, and nothing else.
-fn finds(network: &Network) -> bool {
-    let (Some((section, post)), Some((route, other))) = (names(b"P3"), names(b"54")) else {
-        return false;
+/// A step: the joint that it comes from, its section, and the joint that it goes to.
+fn step(letters: &[u8]) -> Option<Step> {
+    let [from, section, to] = letters else {
+        return None;
     };
-    network.section_index(section) == Some(1)
-        && network.section_index(post) == None
-        && network.post(post).is_some()
-        && network.turn(post, other).is_some()
-        && network.turn(other, post).is_none()
-        && network.route(route).is_some()
+    Some(Step {
+        section: name(*section)?,
+        from: name(*from)?,
+        to: name(*to)?,
+    })
 }
 
-/// How many sections, portals, signals, boards, turns and routes there are.
-fn counts(network: &Network) -> [usize; 6] {
-    [
-        network.sections().len(),
-        network.portals().len(),
-        network.signals().len(),
-        network.boards().len(),
-        network.turns().len(),
-        network.routes().len(),
-    ]
+/// Whether there are so many sections, portals, signals, boards, turns and routes.
+fn has(network: &Network, counts: [usize; 6]) -> bool {
+    counts
+        == [
+            network.sections().len(),
+            network.portals().len(),
+            network.signals().len(),
+            network.boards().len(),
+            network.turns().len(),
+            network.routes().len(),
+        ]
 }
 
-#[test]
-fn adds_and_takes_out_by_the_rules(rt: HostRuntime) {
-    let mut network = Network::new(rt.alloc());
-    assert_eq!(rt; first_other(&mut network, rt.alloc(), &STANDS), None);
-    assert_eq!(rt; counts(&network), [6, 2, 2, 0, 1, 1]);
-    assert!(rt; finds(&network));
-    assert_eq!(rt; first_other(&mut network, rt.alloc(), &CHANGES), None);
-    assert_eq!(rt; counts(&network), [5, 2, 1, 1, 0, 0]);
+/// Whether each item of the plant is found by its name, and nothing else.
+fn finds(network: &Network) -> Option<bool> {
+    let (section, route) = (name(b'P')?, name(b'5')?);
+    let (post, other) = (name(b'3')?, name(b'4')?);
+    Some(
+        network.section_index(section) == Some(1)
+            && network.section_index(post) == None
+            && network.post(post).is_some()
+            && network.turn(post, other).is_some()
+            && network.turn(other, post).is_none()
+            && network.route(route).is_some(),
+    )
 }

@@ -1,8 +1,10 @@
+-- The lemmas of this crate; those for the crates above stand in CallerLemmas.
+pub mod CallerLemmas
 -- Lemmas on the words of the definitions, and the laws that the public functions state.
-pub mod Below
-pub mod Members
-pub mod StatesKept
-pub mod Counted
-pub mod Parts
-pub mod Found
-pub mod Unchanged
+mod Below
+mod Members
+mod StatesKept
+mod Counted
+mod Parts
+mod Found
+mod Unchanged

@@ -40,7 +40,7 @@ state_from_parts plan s h =
     (all_below_from apart_test (length s) (λ t lt. all_below_from (pair_test t) t (λ u under. h.apart t u lt under)))
 
 -- a train stands on sections that its move needed
-pub stand_needed : (plan : Moves) (t p x : ℕ) → is_valid plan ≡ true → t < plan.trains → is_in x (stand plan t (suc p)) ≡ true → is_in x (plan.need t p) ≡ true
+pub stand_needed : (plan : Moves) (t p x : ℕ) → is_valid plan ≡ true → t < plan.trains → is_in x (stand plan t (suc p)) ≡ true → is_in x (plan.claim t p) ≡ true
 stand_needed plan t p x valid lt is =
     ⊎_elim
     (λ inside.
@@ -49,10 +49,10 @@ stand_needed plan t p x valid lt is =
     let row = all_below_at row_test plan.trains t valid lt in
     let move = all_below_at (is_valid_move plan t) (plan.moves t - 1) p row (omega arith) in
     let sections : List ℕ = stand plan t (suc p) in
-    let contained : Bool = list_all (λ y. is_in y (plan.need t p)) sections in
-    let front = and_parts (ltb 0 (length sections) && contained) (are_apart (plan.need t (suc p)) sections) move in
+    let contained : Bool = list_all (λ y. is_in y (plan.claim t p)) sections in
+    let front = and_parts (ltb 0 (length sections) && contained) (are_apart (plan.claim t (suc p)) sections) move in
     let parts = and_parts (ltb 0 (length sections)) contained front.0 in
-    list_all_at (λ y. is_in y (plan.need t p)) sections x parts.1 is)
+    list_all_at (λ y. is_in y (plan.claim t p)) sections x parts.1 is)
     (λ last.
     let P : Bool → Type 0 = λ b. is_in x (cond b (plan.standing t p) []) ≡ true in
     absurd (false≢true (subst P last is)))
@@ -61,7 +61,7 @@ stand_needed plan t p x valid lt is =
 -- after a legal move the train holds nothing that another train holds
 moved_apart : (plan : Moves) (s : List ℕ) (t u : ℕ) → is_valid plan ≡ true → IsState plan s → is_legal plan s t ≡ true → t < length s → u < length s → are_apart (stand plan t (suc (place_of s t))) (stand plan u (place_of s u)) ≡ true
 moved_apart plan s t u valid h legal lt lu =
-    let sections : List ℕ = plan.need t (place_of s t) in
+    let sections : List ℕ = plan.claim t (place_of s t) in
     let parts = and_parts (ltb (place_of s t) (plan.moves t)) (not (list_any (is_held plan s) sections)) legal in
     let nobody = not-true (list_any (is_held plan s) sections) parts.1 in
     apart_from (stand plan t (suc (place_of s t))) (stand plan u (place_of s u)) (λ x is.
@@ -74,7 +74,7 @@ moved_state plan s t valid h legal lt =
     let size : length (set s t next) ≡ length s = length-set s t next in
     let here : place_of (set s t next) t ≡ next = get_or-set_same s t next 0 lt in
     let there : (u : ℕ) → (u ≡ t → ⊥) → place_of (set s t next) u ≡ place_of s u = λ u ne. get_or-set_other s t u next 0 ne in
-    let parts = and_parts (ltb (place_of s t) (plan.moves t)) (not (list_any (is_held plan s) (plan.need t (place_of s t)))) legal in
+    let parts = and_parts (ltb (place_of s t) (plan.moves t)) (not (list_any (is_held plan s) (plan.claim t (place_of s t)))) legal in
     let more : place_of s t < plan.moves t = ltb-true (place_of s t) (plan.moves t) parts.0 in
     record {
       long = size ∙ h.long;

@@ -1,7 +1,7 @@
 -- Plants and inputs that may be run.
 use Rattle.std.specs.Prelude.{ℕ, suc, ◌-◌, ◌==◌, Bool, true, not, ◌&&◌, ◌||◌, nat_lt, nat_le, is_some, List, [], ◌∷◌, length, map, sum_by, Option, Some, None}
 use Rattle.std.specs.List.{list_any, list_all}
-use Rattle.rail_base.specs.Naming.{is_name}
+use Rattle.rail_base.specs.NameForms.{is_name}
 use Rattle.rail_base.specs.declared.limits.TheConstants.{SECTIONS, TRAINS, ROUTE_SECTIONS, ITINERARY_ROUTES, COMMANDS, POLICIES, DEPTH, INPUT_TIME, SECTION_LENGTH, TRAIN_LENGTH, SPEED, SETTING, WATCHING, APPROACH, TURN_TIME, RELEASE, START, STOP}
 use Rattle.rail_base.specs.declared.plant.SectionRow.{SectionRow}
 use Rattle.rail_base.specs.declared.plant.TrainRow.{TrainRow}
@@ -32,30 +32,30 @@ are_distinct_names [] = true
 are_distinct_names (name ∷ names) = not (list_any (same_numbers name) names) && are_distinct_names names
 
 -- a section within the ranges
-abbrev pub is_fine_section : SectionRow → Bool
-is_fine_section row = is_name row.name && is_from_one SECTION_LENGTH row.length && is_from_one SPEED row.speed
+abbrev pub is_section_in_range : SectionRow → Bool
+is_section_in_range row = is_name row.name && is_from_one SECTION_LENGTH row.length && is_from_one SPEED row.speed
 
 -- a train kind within the ranges
-abbrev pub is_fine_kind : TrainKind → Bool
-is_fine_kind kind = is_from_one TRAIN_LENGTH kind.length && is_from_one SPEED kind.speed && nat_le kind.start START && nat_le kind.stop STOP
+abbrev pub is_kind_in_range : TrainKind → Bool
+is_kind_in_range kind = is_from_one TRAIN_LENGTH kind.length && is_from_one SPEED kind.speed && nat_le kind.start START && nat_le kind.stop STOP
 
 -- a turn at a step of the move, within the ranges
-abbrev pub is_fine_turn : ℕ → Option TurnRow → Bool
-is_fine_turn steps None = true
-is_fine_turn steps (Some turn) = is_from_one steps turn.step && nat_le turn.time TURN_TIME
+abbrev pub is_turn_in_range : ℕ → Option TurnRow → Bool
+is_turn_in_range steps None = true
+is_turn_in_range steps (Some turn) = is_from_one steps turn.step && nat_le turn.time TURN_TIME
 
 -- a move over known sections, none of them twice, within the ranges
-abbrev pub is_fine_move : ℕ → MoveRow → Bool
-is_fine_move sections row = is_from_one ROUTE_SECTIONS (length row.sections)
+abbrev pub is_move_in_range : ℕ → MoveRow → Bool
+is_move_in_range sections row = is_from_one ROUTE_SECTIONS (length row.sections)
     && list_all (λ x. nat_lt x sections) row.sections && are_distinct row.sections
     && is_from_one SETTING row.setting && nat_le row.watching WATCHING && nat_le row.approach APPROACH
-    && is_fine_turn (length row.sections) row.turn
+    && is_turn_in_range (length row.sections) row.turn
 
 -- a train within the ranges, without a turn after its last move
-abbrev pub is_fine_train : Plant → ℕ → Bool
-is_fine_train plant t = is_name (train plant t).name && is_fine_kind (train plant t).kind && nat_le (train plant t).entry INPUT_TIME
+abbrev pub is_train_in_range : Plant → ℕ → Bool
+is_train_in_range plant t = is_name (train plant t).name && is_kind_in_range (train plant t).kind && nat_le (train plant t).entry INPUT_TIME
     && nat_le (train plant t).priority 255 && is_from_one ITINERARY_ROUTES (moves plant t)
-    && list_all (is_fine_move (length plant.tables.sections)) (train plant t).moves
+    && list_all (is_move_in_range (length plant.tables.sections)) (train plant t).moves
     && not (is_some (move_row plant t (moves plant t - 1)).turn)
 
 -- the train is no longer than the sections of each of its routes before the last one
@@ -63,50 +63,50 @@ abbrev pub does_fit : Plant → ℕ → Bool
 does_fit plant t = all_below (λ m. nat_le (train plant t).kind.length (sum_by (λ x. (section plant x).length) (move_row plant t m).sections)) (moves plant t - 1)
 
 -- a time of an input, where there is one, within the limit
-abbrev pub is_fine_time : Option ℕ → Bool
-is_fine_time None = true
-is_fine_time (Some time) = nat_le time INPUT_TIME
+abbrev pub is_time_in_range : Option ℕ → Bool
+is_time_in_range None = true
+is_time_in_range (Some time) = nat_le time INPUT_TIME
 
 -- a call at the end of a move: within the ranges; a call that is no stop has no dwell; at the last place it is no stop and has no departure; at a place with a turn it is a stop
-abbrev pub is_fine_call : Bool → Bool → Option Call → Bool
-is_fine_call last turns None = true
-is_fine_call last turns (Some call) = is_fine_time call.arrival && is_fine_time call.departure && nat_le call.dwell INPUT_TIME
+abbrev pub is_call_in_range : Bool → Bool → Option Call → Bool
+is_call_in_range last turns None = true
+is_call_in_range last turns (Some call) = is_time_in_range call.arrival && is_time_in_range call.departure && nat_le call.dwell INPUT_TIME
     && (call.stops || (call.dwell == 0)) && not (last && (call.stops || is_some call.departure)) && not (turns && not call.stops)
 
 -- the calls of a train
-abbrev pub are_fine_calls : Plant → ℕ → Bool
-are_fine_calls plant t = all_below (λ m. is_fine_call (suc m == moves plant t) (is_some (move_row plant t m).turn) (call_after plant t m)) (moves plant t)
+abbrev pub are_calls_in_range : Plant → ℕ → Bool
+are_calls_in_range plant t = all_below (λ m. is_call_in_range (suc m == moves plant t) (is_some (move_row plant t m).turn) (call_after plant t m)) (moves plant t)
 
 -- a plant that may be run: within the limits and ranges, with distinct names; each train fits its routes, and no train would stand on a section that its next move needs
 abbrev pub is_accepted : Plant → Bool
 is_accepted plant = nat_le (length plant.tables.sections) SECTIONS && nat_le (trains plant) TRAINS
     && nat_le plant.tables.release RELEASE && nat_le plant.tables.depth DEPTH
-    && list_all is_fine_section plant.tables.sections
+    && list_all is_section_in_range plant.tables.sections
     && are_distinct_names (map (λ (row : SectionRow). row.name) plant.tables.sections)
     && are_distinct_names (map (λ (row : TrainRow). row.name) plant.tables.trains)
-    && all_below (is_fine_train plant) (trains plant)
+    && all_below (is_train_in_range plant) (trains plant)
     && all_below (does_fit plant) (trains plant)
-    && all_below (are_fine_calls plant) (trains plant)
+    && all_below (are_calls_in_range plant) (trains plant)
     && is_valid (moves_of plant)
 
 -- an order that names trains and sections of the plant
-abbrev pub is_fine_order : Plant → Order → Bool
-is_fine_order plant (Policy name) = is_name name
-is_fine_order plant (Retire name) = is_name name
-is_fine_order plant (Close x) = nat_lt x (length plant.tables.sections)
-is_fine_order plant (Reopen x) = nat_lt x (length plant.tables.sections)
-is_fine_order plant (Stop t) = nat_lt t (trains plant)
-is_fine_order plant (Go t) = nat_lt t (trains plant)
-is_fine_order plant (Cancel t) = nat_lt t (trains plant)
-is_fine_order plant (Priority t n) = nat_lt t (trains plant) && nat_le n 255
+abbrev pub is_order_in_range : Plant → Order → Bool
+is_order_in_range plant (Policy name) = is_name name
+is_order_in_range plant (Retire name) = is_name name
+is_order_in_range plant (Close x) = nat_lt x (length plant.tables.sections)
+is_order_in_range plant (Reopen x) = nat_lt x (length plant.tables.sections)
+is_order_in_range plant (Stop t) = nat_lt t (trains plant)
+is_order_in_range plant (Go t) = nat_lt t (trains plant)
+is_order_in_range plant (Cancel t) = nat_lt t (trains plant)
+is_order_in_range plant (Priority t n) = nat_lt t (trains plant) && nat_le n 255
 
 -- commands for the plant in order of time, none of them before the given time
-abbrev pub are_fine_commands : Plant → ℕ → List Command → Bool
-are_fine_commands plant earliest [] = true
-are_fine_commands plant earliest (command ∷ commands) = nat_le earliest command.at && nat_le command.at INPUT_TIME && is_fine_order plant command.what
-    && are_fine_commands plant command.at commands
+abbrev pub are_commands_in_range : Plant → ℕ → List Command → Bool
+are_commands_in_range plant earliest [] = true
+are_commands_in_range plant earliest (command ∷ commands) = nat_le earliest command.at && nat_le command.at INPUT_TIME && is_order_in_range plant command.what
+    && are_commands_in_range plant command.at commands
 
 -- an input that may be run: an accepted plant, commands for it, and a deck of policies with distinct names, one of which is in force first
 abbrev pub is_accepted_input : Input → Bool
-is_accepted_input input = is_accepted input.plant && nat_le (length input.commands) COMMANDS && are_fine_commands input.plant 0 input.commands
+is_accepted_input input = is_accepted input.plant && nat_le (length input.commands) COMMANDS && are_commands_in_range input.plant 0 input.commands
     && is_from_one POLICIES (length input.deck) && are_distinct_names input.deck && nat_lt input.force (length input.deck)

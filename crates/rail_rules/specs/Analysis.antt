@@ -23,7 +23,7 @@ after_leg s leg = set s leg.train leg.place
 -- a train inside needs one of the sections for a move that it has left
 abbrev pub needs_later : Moves → List ℕ → List ℕ → ℕ → Bool
 needs_later plan s sections u = is_inside plan s u
-    && any_below (λ i. nat_le (place_of s u) i && not (are_apart (plan.need u i) sections)) (plan.moves u)
+    && any_below (λ i. nat_le (place_of s u) i && not (are_apart (plan.claim u i) sections)) (plan.moves u)
 
 -- a leg is safe where it ends out, or where no other train inside needs its last standing set later; every other leg is free
 abbrev pub is_safe : Moves → List ℕ → Leg → Bool

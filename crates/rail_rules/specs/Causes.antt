@@ -7,7 +7,7 @@ use Rattle.rail_base.specs.declared.orders.Order.{Order}
 use Rattle.rail_rules.specs.Numbers.{all_below, or_else, first_below}
 use Rattle.rail_rules.specs.Places.{after, completes}
 use Rattle.rail_rules.specs.Analysis.{finds}
-use Rattle.rail_rules.specs.Plant.{trains, moves, needed, moves_of}
+use Rattle.rail_rules.specs.Plant.{trains, moves, claimed, moves_of}
 use Rattle.rail_rules.specs.Fronts.{Front, instant, has_ended, admissions, places, kept, without_first, with_rest_of, same_cause, hold_of, stands}
 use Rattle.rail_rules.specs.Orders.{Input, told, is_closed, is_stopped, is_cancelled}
 use Rattle.rail_rules.specs.Intervals.{blocks}
@@ -53,7 +53,7 @@ blocked_cause input front (x ∷ sections) = or_else (option_map (Blocked x) (bl
 abbrev pub bar : Input → Front → ℕ → Option Cause
 bar input front t =
     let orders : List Order = told input.commands front in
-    let sections : List ℕ = needed input.plant t (place front t) in
+    let sections : List ℕ = claimed input.plant t (place front t) in
     or_else (stop_cause t orders) (or_else (closed_cause sections orders) (blocked_cause input front sections))
 
 -- the kept list as an admission of the train would repair it: pulled for a train inside, appended for an entering one

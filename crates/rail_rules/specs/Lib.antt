@@ -11,6 +11,10 @@ pub mod Intervals
 pub mod Events
 pub mod Causes
 pub mod Lawful
-pub mod Running
+pub mod RunHistories
 pub mod Texts
 pub mod Accepted
+pub mod LineCounts
+pub mod Writable
+pub mod Overlaps
+pub mod FcfsAlone

@@ -9,7 +9,7 @@ pub record Moves : Type 0 where
   -- how many moves a train has
   pub moves : ℕ → ℕ
   -- the needed sections of a move, in route order
-  pub need : ℕ → ℕ → List ℕ
+  pub claim : ℕ → ℕ → List ℕ
   -- the sections on which the train stands after a move that isn't its last
   pub standing : ℕ → ℕ → List ℕ
 
@@ -21,8 +21,8 @@ stand plan t (suc m) = cond (nat_lt (suc m) (plan.moves t)) (plan.standing t m) 
 -- after this move, which isn't the last, the train stands on sections of the move, and its next move needs none of them
 abbrev pub is_valid_move : Moves → ℕ → ℕ → Bool
 is_valid_move plan t m = nat_lt 0 (length (stand plan t (suc m)))
-    && list_all (λ x. is_in x (plan.need t m)) (stand plan t (suc m))
-    && are_apart (plan.need t (suc m)) (stand plan t (suc m))
+    && list_all (λ x. is_in x (plan.claim t m)) (stand plan t (suc m))
+    && are_apart (plan.claim t (suc m)) (stand plan t (suc m))
 
 -- a valid plant: so is each move of each train that isn't the train's last
 abbrev pub is_valid : Moves → Bool

@@ -17,6 +17,16 @@ pub record Input : Type 0 where
   pub deck : List (List ℕ)
   pub force : ℕ
 
+-- what a run is of beside the plant: its commands, the names of the deck, and the place of the policy that is in force first
+pub record Dispatch : Type 0 where
+  pub commands : List Command
+  pub deck : List (List ℕ)
+  pub force : ℕ
+
+-- what a run is of
+abbrev pub input_of : Dispatch → Plant → Input
+input_of dispatch plant = record { plant = plant; commands = dispatch.commands; deck = dispatch.deck; force = dispatch.force }
+
 -- the order of a command, which is counted from 1
 abbrev pub orders_at : Option Command → List Order
 orders_at None = []

@@ -22,7 +22,7 @@ is_held plan s x = any_below (λ u. holds plan s u x) (length s)
 
 -- the next move of a train is legal: the train isn't out, and nobody holds a needed section
 abbrev pub is_legal : Moves → List ℕ → ℕ → Bool
-is_legal plan s t = nat_lt (place_of s t) (plan.moves t) && not (list_any (is_held plan s) (plan.need t (place_of s t)))
+is_legal plan s t = nat_lt (place_of s t) (plan.moves t) && not (list_any (is_held plan s) (plan.claim t (place_of s t)))
 
 -- the state after a move of the train
 abbrev pub after : List ℕ → ℕ → List ℕ

@@ -56,6 +56,10 @@ move_row plant t m = get_or (train plant t).moves m no_move
 abbrev pub needed : Plant → ℕ → ℕ → List ℕ
 needed plant t m = (move_row plant t m).sections
 
+-- the sections that the move takes as a whole: those that it needs
+abbrev pub claimed : Plant → ℕ → ℕ → List ℕ
+claimed plant t m = needed plant t m
+
 -- how many steps the move has
 abbrev pub steps : Plant → ℕ → ℕ → ℕ
 steps plant t m = length (needed plant t m)
@@ -85,7 +89,7 @@ standing_after plant t m = longer (shortest_end plant (train plant t).kind.lengt
 
 -- what the analysis knows of the plant
 abbrev pub moves_of : Plant → Moves
-moves_of plant = record { trains = trains plant; moves = moves plant; need = needed plant; standing = standing_after plant }
+moves_of plant = record { trains = trains plant; moves = moves plant; claim = claimed plant; standing = standing_after plant }
 
 -- the call at the end of the move, where there is one
 abbrev pub call_after : Plant → ℕ → ℕ → Option Call
@@ -119,6 +123,10 @@ clear_time kind row = quotient_up (36 * kind.length) (min kind.speed row.speed)
 abbrev pub run_over : Plant → ℕ → ℕ → ℕ → ℕ
 run_over plant t m steps = sum_below (λ j. run_time (train plant t).kind (section plant (step_section plant t m j))) steps
 
--- how many lines a history has at most, hold lines aside
+-- how many lines a move has at most, hold lines aside: its head enters and its tail frees each section, and it is ready, admitted and arrives
+abbrev pub move_lines : Plant → ℕ → ℕ → ℕ
+move_lines plant t m = 2 * steps plant t m + 3
+
+-- how many lines a history has at most, hold lines aside: those of all moves, that a train is out, those of the commands, and the end line
 abbrev pub bound : Plant → ℕ → ℕ
-bound plant commands = sum_below (λ t. sum_below (λ m. 2 * steps plant t m + 3) (moves plant t)) (trains plant) + trains plant + commands + 1
+bound plant commands = sum_below (λ t. sum_below (move_lines plant t) (moves plant t)) (trains plant) + trains plant + commands + 1

@@ -6,17 +6,17 @@ use Rattle.std.proofs.lemmas.Bool.{and_parts, and_from, or_parts, or_from, eqb-t
 use Rattle.std.proofs.lemmas.List.{length-map}
 use Rattle.std.proofs.lemmas.List.Folds.{list_all-append}
 use Rattle.std.proofs.lemmas.List.Quantifiers.{position-Some}
-use Rattle.rail_base.specs.Naming.{same_name}
+use Rattle.rail_base.specs.NameForms.{same_name}
 use Rattle.rail_base.specs.declared.limits.TheConstants.{ROUTE_SECTIONS, SETTING, WATCHING, APPROACH, TURN_TIME}
 use Rattle.rail_base.specs.declared.plant.MoveRow.{MoveRow}
 use Rattle.rail_base.specs.declared.plant.TurnRow.{TurnRow}
 use Rattle.rail_rules.specs.Numbers.{is_in}
-use Rattle.rail_rules.specs.Accepted.{is_from_one, are_distinct, is_fine_turn, is_fine_move}
+use Rattle.rail_rules.specs.Accepted.{is_from_one, are_distinct, is_turn_in_range, is_move_in_range}
 use Rattle.rail_rules.specs.Plant.{no_move}
 use Rattle.rail_track.specs.declared.section.Section.{Section}
 use Rattle.rail_track.specs.declared.section.SectionKind.TheVariants.{Plain}
-use Rattle.rail_track.specs.Accepting.{is_within}
-use Rattle.rail_track.specs.Joining.{is_named}
+use Rattle.rail_track.specs.SectionRules.{is_within}
+use Rattle.rail_track.specs.Joints.{is_named}
 use Rattle.rail_track.specs.Lists.{are_apart}
 use Rattle.rail_routes.specs.declared.items.Post.{Post}
 use Rattle.rail_routes.specs.declared.items.Role.{Role}
@@ -25,8 +25,8 @@ use Rattle.rail_routes.specs.declared.items.Turn.{Turn}
 use Rattle.rail_routes.specs.declared.items.Step.{Step}
 use Rattle.rail_routes.specs.declared.items.Route.{Route}
 use Rattle.rail_routes.specs.Net.{Net, posts, is_post, is_turn, post_named}
-use Rattle.rail_routes.specs.Posting.{is_formed, has_times, stands_well}
-use Rattle.rail_routes.specs.Turning.{turns_well}
+use Rattle.rail_routes.specs.PostRules.{is_formed, has_times, stands_well}
+use Rattle.rail_routes.specs.TurnRules.{turns_well}
 use Rattle.rail_routes.specs.Sound.{same_role, have_one_section, is_timed, is_sound_post, is_sound_turn, is_sound_route, IsSoundNetwork}
 use Rattle.rail_scene.specs.Itineraries.{no_post, may_leave, turn_to, turn_row, turn_between, turn_before, number_of, move_over, moves_over}
 use Rattle.rail_scene.proofs.CompileFinds.{found_passes, position_some, some_unwrapped}
@@ -118,8 +118,8 @@ pub record HasTimes (post : Post) : Type 0 where
   pub watching : leb post.watching WATCHING ≡ true
   pub approach : leb post.approach APPROACH ≡ true
 
-has_fine_times : (post : Post) → has_times post.role ≡ true → is_timed post ≡ true → HasTimes post
-has_fine_times post has timed =
+has_times_in_range : (post : Post) → has_times post.role ≡ true → is_timed post ≡ true → HasTimes post
+has_times_in_range post has timed =
     let within : Bool = is_within SETTING post.setting && leb post.watching WATCHING && leb post.approach APPROACH in
     let all : within ≡ true = ap (λ b. not b || within) (sym has) ∙ timed in
     let two = and_parts (is_within SETTING post.setting && leb post.watching WATCHING) (leb post.approach APPROACH) all in
@@ -127,7 +127,7 @@ has_fine_times post has timed =
     record { setting = one.0; watching = one.1; approach = two.1 }
 
 -- a turn at a step of the route is fine
-with_step : (turn : Turn) (steps : List Step) (o : Option ℕ) → leb turn.time TURN_TIME ≡ true → ((j : ℕ) → o ≡ Some j → j < length steps) → is_fine_turn (length steps) (turn_row (Some turn) o) ≡ true
+with_step : (turn : Turn) (steps : List Step) (o : Option ℕ) → leb turn.time TURN_TIME ≡ true → ((j : ℕ) → o ≡ Some j → j < length steps) → is_turn_in_range (length steps) (turn_row (Some turn) o) ≡ true
 with_step turn steps None short within = refl
 with_step turn steps (Some j) short within =
     let lt : j < length steps = within j refl in
@@ -138,7 +138,7 @@ with_step turn steps (Some j) short within =
 no_step : Step
 no_step = record { section = []; from = []; to = [] }
 
-turned : (steps : List Step) (turn : Option Turn) (begin : Option Post) → ((t : Turn) → turn ≡ Some t → leb t.time TURN_TIME ≡ true) → is_fine_turn (length steps) (turn_row turn (option_and_then (λ leaving. position (may_leave leaving) steps) begin)) ≡ true
+turned : (steps : List Step) (turn : Option Turn) (begin : Option Post) → ((t : Turn) → turn ≡ Some t → leb t.time TURN_TIME ≡ true) → is_turn_in_range (length steps) (turn_row turn (option_and_then (λ leaving. position (may_leave leaving) steps) begin)) ≡ true
 turned steps None begin short = refl
 turned steps (Some turn) None short = refl
 turned steps (Some turn) (Some leaving) short =
@@ -151,12 +151,12 @@ turn_short net h arriving leaving turn found =
     let sound = found_passes (is_turn arriving leaving) (is_sound_turn net) net.turns turn found h.turns in
     (and_parts short known (and_parts (short && known) (turns_well net turn) sound).0).0
 
-turn_fine : (net : Net) → IsSoundNetwork net → (route : Route) (rest : List Route) → is_fine_turn (length route.steps) (turn_before net route rest) ≡ true
+turn_fine : (net : Net) → IsSoundNetwork net → (route : Route) (rest : List Route) → is_turn_in_range (length route.steps) (turn_before net route rest) ≡ true
 turn_fine net h route [] = refl
 turn_fine net h route (next ∷ rest) = turned route.steps (turn_to net route next) (post_named next.from net) (turn_short net h route.to next.from)
 
 -- a move over a sound route is fine
-pub move_fine : (net : Net) → IsSoundNetwork net → (route : Route) (turn : Option TurnRow) → is_sound_route net route ≡ true → is_fine_turn (length route.steps) turn ≡ true → is_fine_move (length net.sections) (move_over net route turn) ≡ true
+pub move_fine : (net : Net) → IsSoundNetwork net → (route : Route) (turn : Option TurnRow) → is_sound_route net route ≡ true → is_turn_in_range (length route.steps) turn ≡ true → is_move_in_range (length net.sections) (move_over net route turn) ≡ true
 move_fine net h route turn sound fine =
     let facts = sound_route net route sound in
     let way = leads_from net route sound in
@@ -164,27 +164,27 @@ move_fine net h route turn sound fine =
     let numbers : List ℕ = map (step_number net) route.steps in
     let count : length numbers ≡ length route.steps = length-map route.steps (step_number net) in
     let found : post_named route.from net ≡ Some post = some_unwrapped (post_named route.from net) no_post way.there in
-    let times = has_fine_times post way.no_board (found_passes (is_post route.from) is_timed (posts net) post found (posts_timed net h)) in
+    let times = has_times_in_range post way.no_board (found_passes (is_post route.from) is_timed (posts net) post found (posts_timed net h)) in
     let c1 : Bool = is_from_one ROUTE_SECTIONS (length numbers) in
     let c2 : Bool = list_all (λ x. ltb x (length net.sections)) numbers in
     let c3 : Bool = are_distinct numbers in
     let c4 : Bool = is_from_one SETTING post.setting in
     let c5 : Bool = leb post.watching WATCHING in
     let c6 : Bool = leb post.approach APPROACH in
-    let c7 : Bool = is_fine_turn (length numbers) turn in
+    let c7 : Bool = is_turn_in_range (length numbers) turn in
     let p1 : c1 ≡ true = and_from (ltb 0 (length numbers)) (leb (length numbers) ROUTE_SECTIONS) (lt-ltb 0 (length numbers) (omega (arith, count, facts.some_step))) (le-leb (length numbers) ROUTE_SECTIONS (omega (arith, count, facts.few_steps))) in
     let p2 = and_from c1 c2 p1 (numbers_known net route.steps way.known) in
     let p3 = and_from (c1 && c2) c3 p2 (numbers_distinct net route.steps way.known facts.apart) in
     let p4 = and_from (c1 && c2 && c3) c4 p3 (from_within SETTING post.setting times.setting) in
     let p5 = and_from (c1 && c2 && c3 && c4) c5 p4 times.watching in
     let p6 = and_from (c1 && c2 && c3 && c4 && c5) c6 p5 times.approach in
-    and_from (c1 && c2 && c3 && c4 && c5 && c6) c7 p6 (ap (λ k. is_fine_turn k turn) count ∙ fine)
+    and_from (c1 && c2 && c3 && c4 && c5 && c6) c7 p6 (ap (λ k. is_turn_in_range k turn) count ∙ fine)
 
-pub moves_fine : (net : Net) → IsSoundNetwork net → (routes : List Route) → list_all (is_sound_route net) routes ≡ true → list_all (is_fine_move (length net.sections)) (moves_over net routes) ≡ true
+pub moves_fine : (net : Net) → IsSoundNetwork net → (routes : List Route) → list_all (is_sound_route net) routes ≡ true → list_all (is_move_in_range (length net.sections)) (moves_over net routes) ≡ true
 moves_fine net h [] sound = refl
 moves_fine net h (route ∷ rest) sound =
     let parts = and_parts (is_sound_route net route) (list_all (is_sound_route net) rest) sound in
-    and_from (is_fine_move (length net.sections) (move_over net route (turn_before net route rest))) (list_all (is_fine_move (length net.sections)) (moves_over net rest))
+    and_from (is_move_in_range (length net.sections) (move_over net route (turn_before net route rest))) (list_all (is_move_in_range (length net.sections)) (moves_over net rest))
     (move_fine net h route (turn_before net route rest) parts.0 (turn_fine net h route rest))
     (moves_fine net h rest parts.1)
 

@@ -2,11 +2,11 @@
 use Rattle.std.proofs.Common.{◌≡◌, ℕ, true, not, List, [], ◌∷◌, map, refl, ap, ◌∙◌}
 use Rattle.std.specs.List.{list_any}
 use Rattle.std.proofs.lemmas.Bool.{and_parts, and_from}
-use Rattle.rail_base.specs.Naming.{same_name}
+use Rattle.rail_base.specs.NameForms.{same_name}
 use Rattle.rail_rules.specs.Numbers.{same_numbers}
 use Rattle.rail_rules.specs.Accepted.{are_distinct_names}
 use Rattle.rail_track.specs.Lists.{are_apart}
-use Rattle.rail_track.proofs.Rolls.{list_any-map}
+use Rattle.rail_track.proofs.CallerLemmas.{list_any-map}
 
 -- items of different names have distinct names
 pub distinct_from_apart : {X : Type 0} (f : X → List ℕ) (xs : List X) → are_apart (λ x y. same_name (f x) (f y)) xs ≡ true → are_distinct_names (map f xs) ≡ true

@@ -5,12 +5,12 @@ use Rattle.std.proofs.lemmas.Bool.{cases_lt, false≢true}
 use Rattle.std.proofs.lemmas.List.{drop_more, drop_all}
 use Rattle.rail_base.specs.declared.refusals.Refusal.{Refusal}
 use Rattle.rail_base.specs.declared.refusals.Reason.TheVariants as reason
-use Rattle.rail_track.specs.Refusing.{first_failing}
-use Rattle.rail_track.proofs.Refusals.{first_failing-append}
+use Rattle.rail_track.specs.FirstRefusals.{first_failing}
+use Rattle.rail_track.proofs.CallerLemmas.{first_failing-append}
 use Rattle.rail_routes.specs.declared.items.Route.{Route}
 use Rattle.rail_routes.specs.Net.{Net}
 use Rattle.rail_scene.specs.Itineraries.{no_route, is_portal, goes_on_to}
-use Rattle.rail_scene.specs.Compiling.{of_train, train_refused, begins_at_portal, ends_at_portal, place_tests, route_tests}
+use Rattle.rail_scene.specs.CompileRefusals.{of_train, train_refused, begins_at_portal, ends_at_portal, place_tests, route_tests}
 
 -- two routes that follow one another, in front of the rest
 two_ahead : (routes : List Route) (place : ℕ) → 1 ≤ place → place < length routes → drop (place - 1) routes ≡ get_or routes (place - 1) no_route ∷ get_or routes place no_route ∷ drop (place + 1) routes

@@ -3,12 +3,12 @@ use Rattle.std.proofs.Common.{◌≡◌, ℕ, ◌≤◌, Bool, true, false, ◌&
 use Rattle.std.specs.List.{list_any, list_all}
 use Rattle.std.specs.Option.{option_map_or}
 use Rattle.std.proofs.lemmas.Bool.{and_parts, and_from, leb-true, false≢true}
-use Rattle.rail_base.specs.Naming.{same_name}
+use Rattle.rail_base.specs.NameForms.{same_name}
 use Rattle.rail_base.specs.declared.limits.TheConstants.{ROUTE_SECTIONS}
 use Rattle.rail_track.specs.declared.section.Section.{Section}
-use Rattle.rail_track.specs.Joining.{is_named, section_named}
-use Rattle.rail_track.specs.Passing.{passages, leads, has_passage}
-use Rattle.rail_track.specs.Accepting.{is_within}
+use Rattle.rail_track.specs.Joints.{is_named, section_named}
+use Rattle.rail_track.specs.Passages.{passages, leads, has_passage}
+use Rattle.rail_track.specs.SectionRules.{is_within}
 use Rattle.rail_track.specs.Lists.{are_apart}
 use Rattle.rail_routes.specs.declared.items.Post.{Post}
 use Rattle.rail_routes.specs.declared.items.Role.{Role}
@@ -16,8 +16,8 @@ use Rattle.rail_routes.specs.declared.items.Role.TheVariants.{Portal, Signal, Bo
 use Rattle.rail_routes.specs.declared.items.Step.{Step}
 use Rattle.rail_routes.specs.declared.items.Route.{Route}
 use Rattle.rail_routes.specs.Net.{Net, post_named}
-use Rattle.rail_routes.specs.Posting.{has_times}
-use Rattle.rail_routes.specs.Routing.{is_ahead_of, begins, ends, goes_on, leads_on}
+use Rattle.rail_routes.specs.PostRules.{has_times}
+use Rattle.rail_routes.specs.RouteRules.{is_ahead_of, begins, ends, goes_on, leads_on}
 use Rattle.rail_routes.specs.Sound.{have_one_section, lead_to, lead_between, is_sound_route}
 use Rattle.rail_scene.specs.Itineraries.{no_post}
 use Rattle.rail_scene.proofs.CompileFinds.{is_some-find}

@@ -4,27 +4,27 @@ use Rattle.std.specs.Prelude.{◌==◌}
 use Rattle.std.specs.List.{find, list_any, list_all}
 use Rattle.std.proofs.lemmas.Bool.{and_parts, and_from}
 use Rattle.std.proofs.lemmas.List.{length-map, get_or-map, get_or_default}
-use Rattle.rail_base.specs.Naming.{is_name, same_name}
+use Rattle.rail_base.specs.NameForms.{is_name, same_name}
 use Rattle.rail_base.specs.declared.limits.TheConstants.{SECTION_LENGTH, SPEED, TRAIN_LENGTH, START, STOP, INPUT_TIME, ITINERARY_ROUTES}
 use Rattle.rail_base.specs.declared.plant.SectionRow.{SectionRow}
 use Rattle.rail_base.specs.declared.plant.TrainRow.{TrainRow}
 use Rattle.rail_base.specs.declared.plant.TrainKind.{TrainKind}
 use Rattle.rail_rules.specs.Plant.{no_kind, no_train, no_move, train}
-use Rattle.rail_rules.specs.Accepted.{is_from_one, are_distinct_names, is_fine_section, is_fine_kind, is_fine_move, is_fine_train}
-use Rattle.rail_rules.proofs.Below.{all_below_from}
+use Rattle.rail_rules.specs.Accepted.{is_from_one, are_distinct_names, is_section_in_range, is_kind_in_range, is_move_in_range, is_train_in_range}
+use Rattle.rail_rules.proofs.CallerLemmas.{all_below_from}
 use Rattle.rail_track.specs.declared.section.Section.{Section}
-use Rattle.rail_track.specs.Accepting.{is_within, joint_count, stands_twice}
+use Rattle.rail_track.specs.SectionRules.{is_within, joint_count, stands_twice}
 use Rattle.rail_track.specs.Sound.{is_fit}
-use Rattle.rail_track.specs.Refusing.{first_failing}
+use Rattle.rail_track.specs.FirstRefusals.{first_failing}
 use Rattle.rail_routes.specs.declared.items.Route.{Route}
 use Rattle.rail_routes.specs.Net.{Net, is_route}
 use Rattle.rail_routes.specs.Sound.{is_sound_route, IsSoundNetwork}
-use Rattle.rail_plan.specs.Planning.{IsPlannable, bare}
+use Rattle.rail_plan.specs.PlanFaults.{IsPlannable, bare}
 use Rattle.rail_scene.specs.declared.scene.Scene.{Scene}
 use Rattle.rail_scene.specs.declared.scene.SceneTrain.{SceneTrain}
 use Rattle.rail_scene.specs.Scenes.{is_fit_kind, is_fit_train, IsScene}
 use Rattle.rail_scene.specs.Itineraries.{no_route, route_of, routes_of, kind_of, section_row, train_row, tables_of}
-use Rattle.rail_scene.specs.Compiling.{is_known, are_known, trains_tests}
+use Rattle.rail_scene.specs.CompileRefusals.{is_known, are_known, trains_tests}
 use Rattle.rail_scene.specs.Typed.{is_named_row, is_typed_row}
 use Rattle.rail_scene.proofs.CompileFinds.{is_some-find, found_passes, all_at, some_unwrapped}
 use Rattle.rail_scene.proofs.CompileNames.{distinct_from_apart}
@@ -37,7 +37,7 @@ names_of_rows f name [] = refl
 names_of_rows f name (x ∷ xs) = ap (λ rest. name (f x) ∷ rest) (names_of_rows f name xs)
 
 -- the section of a sound track is fine
-sections_fine : (sections : List Section) → list_all is_fit sections ≡ true → list_all is_named_row (map section_row sections) ≡ true → list_all is_fine_section (map section_row sections) ≡ true
+sections_fine : (sections : List Section) → list_all is_fit sections ≡ true → list_all is_named_row (map section_row sections) ≡ true → list_all is_section_in_range (map section_row sections) ≡ true
 sections_fine [] fit named = refl
 sections_fine (section ∷ rest) fit named =
     let fits = and_parts (is_fit section) (list_all is_fit rest) fit in
@@ -49,7 +49,7 @@ sections_fine (section ∷ rest) fit named =
     let three = and_parts (long && fast && joined) once fits.0 in
     let two = and_parts (long && fast) joined three.0 in
     let one = and_parts long fast two.0 in
-    and_from (is_fine_section (section_row section)) (list_all is_fine_section (map section_row rest))
+    and_from (is_section_in_range (section_row section)) (list_all is_section_in_range (map section_row rest))
     (and_from (is_name section.name && is_from_one SECTION_LENGTH section.length) (is_from_one SPEED section.speed)
     (and_from (is_name section.name) (is_from_one SECTION_LENGTH section.length) names.0 (from_within SECTION_LENGTH section.length one.0))
     (from_within SPEED section.speed one.1))
@@ -66,7 +66,7 @@ routes_sound net h (name ∷ rest) known =
     (routes_sound net h rest parts.1)
 
 -- a kind that a scene has is fine
-kind_fine : (kinds : List TrainKind) (name : List ℕ) → list_all is_fit_kind kinds ≡ true → list_any (λ (k : TrainKind). same_name name k.name) kinds ≡ true → is_fine_kind (kind_of kinds name) ≡ true
+kind_fine : (kinds : List TrainKind) (name : List ℕ) → list_all is_fit_kind kinds ≡ true → list_any (λ (k : TrainKind). same_name name k.name) kinds ≡ true → is_kind_in_range (kind_of kinds name) ≡ true
 kind_fine kinds name fit known =
     let kind : TrainKind = kind_of kinds name in
     let test : TrainKind → Bool = λ k. same_name name k.name in
@@ -86,7 +86,7 @@ kind_fine kinds name fit known =
 
 -- a train that is not refused is fine
 module _ (scene : Scene) (h : IsScene scene) (sound : IsSoundNetwork scene.network) where
-  row_fine : (t : ℕ) (given : SceneTrain) → train (bare (tables_of scene)) t ≡ train_row scene given → IsUnrefused scene given → is_fit_train given ≡ true → is_typed_row (train_row scene given) ≡ true → is_fine_train (bare (tables_of scene)) t ≡ true
+  row_fine : (t : ℕ) (given : SceneTrain) → train (bare (tables_of scene)) t ≡ train_row scene given → IsUnrefused scene given → is_fit_train given ≡ true → is_typed_row (train_row scene given) ≡ true → is_train_in_range (bare (tables_of scene)) t ≡ true
   row_fine t given at unrefused fit typed =
       let net : Net = scene.network in
       let row : TrainRow = train_row scene given in
@@ -95,15 +95,15 @@ module _ (scene : Scene) (h : IsScene scene) (sound : IsSoundNetwork scene.netwo
       let fits = and_parts (leb given.entry INPUT_TIME) (is_within ITINERARY_ROUTES (length given.routes)) fit in
       let types = and_parts (is_name row.name) (leb row.priority 255) typed in
       let count : length row.moves ≡ length given.routes = length-moves_over net routes ∙ length-map given.routes (route_of net) in
-      let moves_are : list_all (is_fine_move n) row.moves ≡ true =
-      ap (λ k. list_all (is_fine_move k) row.moves) (length-map net.sections section_row) ∙ moves_fine net sound routes (routes_sound net sound given.routes unrefused.routes) in
-      let P : TrainRow → Type 0 = λ r. (is_name r.name && is_fine_kind r.kind && leb r.entry INPUT_TIME && leb r.priority 255 && is_from_one ITINERARY_ROUTES (length r.moves) && list_all (is_fine_move n) r.moves && not (is_some (get_or r.moves (length r.moves - 1) no_move).turn)) ≡ true in
+      let moves_are : list_all (is_move_in_range n) row.moves ≡ true =
+      ap (λ k. list_all (is_move_in_range k) row.moves) (length-map net.sections section_row) ∙ moves_fine net sound routes (routes_sound net sound given.routes unrefused.routes) in
+      let P : TrainRow → Type 0 = λ r. (is_name r.name && is_kind_in_range r.kind && leb r.entry INPUT_TIME && leb r.priority 255 && is_from_one ITINERARY_ROUTES (length r.moves) && list_all (is_move_in_range n) r.moves && not (is_some (get_or r.moves (length r.moves - 1) no_move).turn)) ≡ true in
       let b1 : Bool = is_name row.name in
-      let b2 : Bool = is_fine_kind row.kind in
+      let b2 : Bool = is_kind_in_range row.kind in
       let b3 : Bool = leb row.entry INPUT_TIME in
       let b4 : Bool = leb row.priority 255 in
       let b5 : Bool = is_from_one ITINERARY_ROUTES (length row.moves) in
-      let b6 : Bool = list_all (is_fine_move n) row.moves in
+      let b6 : Bool = list_all (is_move_in_range n) row.moves in
       let b7 : Bool = not (is_some (get_or row.moves (length row.moves - 1) no_move).turn) in
       let p2 = and_from b1 b2 types.0 (kind_fine scene.kinds given.kind h.kinds unrefused.kind) in
       let p3 = and_from (b1 && b2) b3 p2 fits.0 in
@@ -124,7 +124,7 @@ module _ (scene : Scene) (h : IsScene scene) (sound : IsSoundNetwork scene.netwo
         sections = sections_fine sections sound.distinct.track.fit named;
         section_names = ap are_distinct_names (names_of_rows section_row (λ (row : SectionRow). row.name) sections) ∙ distinct_from_apart (λ (section : Section). section.name) sections sound.distinct.track.distinct;
         train_names = ap are_distinct_names (names_of_rows (train_row scene) (λ (row : TrainRow). row.name) scene.trains) ∙ distinct_from_apart (λ (given : SceneTrain). given.name) scene.trains h.trains_apart;
-        trains = all_below_from (is_fine_train (bare (tables_of scene))) (length (map (train_row scene) scene.trains)) (λ t lt.
+        trains = all_below_from (is_train_in_range (bare (tables_of scene))) (length (map (train_row scene) scene.trains)) (λ t lt.
             let within : t < length scene.trains = omega (arith, count) in
             let given : SceneTrain = get_or scene.trains t no_scene_train in
             let same : given ≡ get_or scene.trains t given = get_or_default scene.trains t no_scene_train given within in

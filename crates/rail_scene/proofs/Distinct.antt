@@ -8,8 +8,7 @@ use Rattle.rail_scene.specs.Scenes.{is_fit_kind, is_fit_train, is_one_kind, is_o
 use Rattle.rail_scene.specs.Rosters.{AreKinds, AreTrains}
 use Rattle.std.proofs.lemmas.List.{length_push}
 use Rattle.std.proofs.lemmas.List.Folds.{list_all-append}
-use Rattle.rail_track.proofs.Tallies.{same_name-comm}
-use Rattle.rail_track.proofs.Withouts.{are_apart-push}
+use Rattle.rail_track.proofs.CallerLemmas.{same_name-comm, are_apart-push}
 
 pub AreKinds-push : (kinds : List TrainKind) (kind : TrainKind) → AreKinds kinds → length kinds < KINDS → is_fit_kind kind ≡ true → list_any (is_one_kind kind) kinds ≡ false → AreKinds (kinds ++ kind ∷ [])
 AreKinds-push kinds kind are few fit fresh = record {

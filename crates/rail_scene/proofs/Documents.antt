@@ -5,7 +5,7 @@ use Rattle.std.proofs.lemmas.Str.{IsUtf8-from_is_utf8, is_utf8-from_IsUtf8}
 use Rattle.std.specs.Str.{is_utf8, IsUtf8}
 use Rattle.toml.specs.Data.{table, Members, no_members}
 use Rattle.toml.specs.Parse.{parse_document}
-use Rattle.rail_scene.specs.Spelling.{document, root_of}
+use Rattle.rail_scene.specs.SpelledScenes.{document, root_of}
 
 pub document_some : (bytes : List ℕ) (found : Members) → IsUtf8 bytes → parse_document bytes ≡ Some found → document bytes ≡ Some found
 unfolding document

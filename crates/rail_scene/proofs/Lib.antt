@@ -1,19 +1,19 @@
 -- Lemmas on what a scene spells and why it is refused.
-pub mod Segments
-pub mod Locating
-pub mod Times
-pub mod Views
-pub mod FormSteps
-pub mod Steps
-pub mod Drafting
-pub mod Distinct
-pub mod Documents
-pub mod Whole
-pub mod Spelled
-pub mod CompileFinds
-pub mod CompilePlaces
-pub mod CompileRoutes
-pub mod CompileNames
-pub mod CompileTrains
-pub mod CompileMoves
-pub mod CompileTables
+mod Segments
+mod Locating
+mod Times
+mod Views
+mod FormSteps
+mod Steps
+mod Drafting
+mod Distinct
+mod Documents
+mod Whole
+mod Spelled
+mod CompileFinds
+mod CompilePlaces
+mod CompileRoutes
+mod CompileNames
+mod CompileTrains
+mod CompileMoves
+mod CompileTables

@@ -4,7 +4,7 @@ use Rattle.rail_base.specs.declared.refusals.Part.{Part}
 use Rattle.rail_base.specs.declared.refusals.Reason.{Reason}
 use Rattle.rail_track.specs.declared.section.NetFault.{NetFault}
 use Rattle.rail_track.specs.declared.section.NetFault.TheVariants.{Refused, OutOfMemory}
-use Rattle.rail_track.specs.Refusing.{Test, first_failing, Answers}
+use Rattle.rail_track.specs.FirstRefusals.{Test, first_failing, Answers}
 use Rattle.rail_scene.specs.Order.{located, located_as, item_number, fault_at, AnswersScene}
 
 none_as : (part : Part) (n : ℕ) (fails : Bool) (answer : NetFault) (ts : List (Test NetFault)) → (first_failing ts ≡ None → first_failing (located part n ts) ≡ None)

@@ -5,7 +5,7 @@ use Rattle.rail_scene.specs.declared.draft.Draft.{Draft}
 use Rattle.rail_scene.specs.declared.keys.TheConstants.{RELEASE, DEPTH, POLICY}
 use Rattle.rail_scene.specs.Fields.{policy_at}
 use Rattle.rail_scene.specs.Entries.{spelled_number}
-use Rattle.rail_scene.specs.Spelling.{scene_of}
+use Rattle.rail_scene.specs.SpelledScenes.{scene_of}
 use Rattle.rail_scene.specs.Order.{lists_draft}
 
 pub scene_is : (root : Data) (draft : Draft) (release depth : ℕ) (policy : List ℕ) → draft ≡ lists_draft root → release ≡ spelled_number RELEASE root → depth ≡ spelled_number DEPTH root → policy ≡ unwrap_or (policy_at POLICY root) []

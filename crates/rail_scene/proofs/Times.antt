@@ -2,7 +2,7 @@
 use Rattle.std.proofs.Common.{◌≡◌, ℕ, zero, suc, ◌<◌, ◌≤◌, Bool, true, false, cond, ◌||◌, List, ◌++◌, codes, ◌⊎◌, inl, inr, Option, Some, None, option_and_then, refl, sym, ap, ◌∙◌, subst, arith}
 use Rattle.std.proofs.lemmas.Bool.{cases_Bool}
 use Rattle.std.specs.Cmp.Lexicographic.{bytes_decides}
-use Rattle.rail_base.specs.Naming.{same_name}
+use Rattle.rail_base.specs.NameForms.{same_name}
 use Rattle.rail_base.specs.Clock.{IsLenientTime, time_text}
 use Rattle.rail_scene.specs.Fields.{spells_time, time_up_to}
 

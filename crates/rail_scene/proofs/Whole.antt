@@ -6,10 +6,10 @@ use Rattle.rail_base.specs.declared.refusals.Fault.{Fault}
 use Rattle.rail_base.specs.declared.refusals.Part.TheVariants.{Root}
 use Rattle.rail_base.specs.declared.refusals.Refusal.{Refusal}
 use Rattle.rail_track.specs.declared.section.NetFault.{NetFault}
-use Rattle.rail_track.specs.Refusing.{Test, first_failing, Answers}
+use Rattle.rail_track.specs.FirstRefusals.{Test, first_failing, Answers}
 use Rattle.rail_scene.specs.declared.keys.TheConstants.{ROOT_KEYS}
 use Rattle.rail_scene.specs.Values.{value_tests}
-use Rattle.rail_scene.specs.Spelling.{root_of}
+use Rattle.rail_scene.specs.SpelledScenes.{root_of}
 use Rattle.rail_scene.specs.Order.{located, fault_at, lists_values, scene_values, scene_forms, toml_test, scene_refusal, AnswersScene}
 use Rattle.rail_scene.proofs.Segments.{both_passed, scene_before, scene_after}
 use Rattle.rail_scene.proofs.Locating.{located_none, answers_located}

@@ -4,13 +4,13 @@ use Rattle.toml.specs.Data.{Data}
 use Rattle.rail_base.specs.declared.limits.TheConstants.{SECTIONS, POSTS, TURNS, ROUTES, KINDS, TRAINS}
 use Rattle.rail_base.specs.declared.refusals.Reason.TheVariants.{TooMany}
 use Rattle.rail_track.specs.declared.section.NetFault.{NetFault}
-use Rattle.rail_track.specs.Accepting.{section_tests}
-use Rattle.rail_track.specs.Refusing.{Test, refused_where}
+use Rattle.rail_track.specs.SectionRules.{section_tests}
+use Rattle.rail_track.specs.FirstRefusals.{Test, refused_where}
 use Rattle.rail_routes.specs.Net.{Net}
-use Rattle.rail_routes.specs.Extending.{is_closed_by}
-use Rattle.rail_routes.specs.Posting.{post_tests}
-use Rattle.rail_routes.specs.Turning.{turn_tests}
-use Rattle.rail_routes.specs.Routing.{route_tests}
+use Rattle.rail_routes.specs.SectionRules.{is_closed_by}
+use Rattle.rail_routes.specs.PostRules.{post_tests}
+use Rattle.rail_routes.specs.TurnRules.{turn_tests}
+use Rattle.rail_routes.specs.RouteRules.{route_tests}
 use Rattle.rail_scene.specs.declared.draft.Draft.{Draft}
 use Rattle.rail_scene.specs.declared.keys.ListPart.{ListPart}
 use Rattle.rail_scene.specs.declared.keys.ListPart.TheVariants.{Section, Portal, Signal, Board, Turn, Route, Kind, Train}

@@ -3,10 +3,10 @@ use Rattle.std.specs.Prelude.{ℕ, zero, suc, ℤ, pos, negsuc, ◌==◌, ◌&&�
 use Rattle.std.specs.List.{list_all}
 use Rattle.std.specs.Option.{option_map_or}
 use Rattle.toml.specs.Data.{Data, Items, no_items, item, get, as_str, as_integer, as_array}
-use Rattle.rail_base.specs.Naming.{is_name, same_name}
+use Rattle.rail_base.specs.NameForms.{is_name, same_name}
 use Rattle.rail_base.specs.Clock.{time_text}
 use Rattle.rail_base.specs.declared.limits.TheConstants.{INPUT_TIME, ROUTE_SECTIONS}
-use Rattle.rail_track.specs.Accepting.{joint_count, is_within}
+use Rattle.rail_track.specs.SectionRules.{joint_count, is_within}
 use Rattle.rail_track.specs.declared.section.SectionKind.{SectionKind}
 use Rattle.rail_track.specs.declared.section.SectionKind.TheVariants.{Plain, Points, Crossing, Slip}
 use Rattle.rail_scene.specs.declared.keys.Bounds.{Bounds}

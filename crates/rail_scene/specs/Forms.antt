@@ -3,10 +3,10 @@ use Rattle.std.specs.Prelude.{ℕ, ◌+◌, Bool, true, false, not, ◌&&◌, Li
 use Rattle.std.specs.List.{list_all, list_any}
 use Rattle.std.specs.Option.{option_map_or}
 use Rattle.toml.specs.Data.{Data, Members, no_members, member, as_str, as_integer, as_array, as_table}
-use Rattle.rail_base.specs.Naming.{same_name}
+use Rattle.rail_base.specs.NameForms.{same_name}
 use Rattle.rail_base.specs.declared.refusals.Reason.TheVariants.{KeyMissing, WrongKind, KeyUnknown}
 use Rattle.rail_track.specs.declared.section.NetFault.{NetFault}
-use Rattle.rail_track.specs.Refusing.{Test, refused_where}
+use Rattle.rail_track.specs.FirstRefusals.{Test, refused_where}
 use Rattle.rail_scene.specs.declared.keys.Form.{Form}
 use Rattle.rail_scene.specs.declared.keys.Form.TheVariants.{Name, Policy, Choice, Time, Whole, Joints, Path, Itinerary, Tables}
 use Rattle.rail_scene.specs.declared.keys.Key.{Key}

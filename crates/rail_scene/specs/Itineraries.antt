@@ -2,7 +2,7 @@
 use Rattle.std.specs.Prelude.{ℕ, ◌+◌, Bool, true, false, not, ◌&&◌, ◌||◌, List, [], ◌∷◌, map, Option, Some, None, is_some, unwrap_or, option_and_then, position}
 use Rattle.std.specs.List.{find}
 use Rattle.std.specs.Option.{option_map_or}
-use Rattle.rail_base.specs.Naming.{same_name}
+use Rattle.rail_base.specs.NameForms.{same_name}
 use Rattle.rail_base.specs.declared.plant.Tables.{Tables}
 use Rattle.rail_base.specs.declared.plant.SectionRow.{SectionRow}
 use Rattle.rail_base.specs.declared.plant.TrainRow.{TrainRow}
@@ -11,7 +11,7 @@ use Rattle.rail_base.specs.declared.plant.MoveRow.{MoveRow}
 use Rattle.rail_base.specs.declared.plant.TurnRow.{TurnRow}
 use Rattle.rail_rules.specs.Plant.{Plant, no_kind}
 use Rattle.rail_track.specs.declared.section.Section.{Section}
-use Rattle.rail_track.specs.Joining.{is_named}
+use Rattle.rail_track.specs.Joints.{is_named}
 use Rattle.rail_routes.specs.declared.items.Post.{Post}
 use Rattle.rail_routes.specs.declared.items.Role.{Role}
 use Rattle.rail_routes.specs.declared.items.Role.TheVariants.{Portal, Signal, Board}
@@ -19,7 +19,7 @@ use Rattle.rail_routes.specs.declared.items.Turn.{Turn}
 use Rattle.rail_routes.specs.declared.items.Step.{Step}
 use Rattle.rail_routes.specs.declared.items.Route.{Route}
 use Rattle.rail_routes.specs.Net.{Net, is_turn, is_route, post_named, guards}
-use Rattle.rail_plan.specs.Planning.{bare}
+use Rattle.rail_plan.specs.PlanFaults.{bare}
 use Rattle.rail_scene.specs.declared.scene.Scene.{Scene}
 use Rattle.rail_scene.specs.declared.scene.SceneTrain.{SceneTrain}
 

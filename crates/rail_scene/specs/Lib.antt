@@ -7,8 +7,8 @@ pub mod Forms
 pub mod Values
 pub mod Rosters
 pub mod Drafts
-pub mod Spelling
+pub mod SpelledScenes
 pub mod Order
 pub mod Itineraries
-pub mod Compiling
+pub mod CompileRefusals
 pub mod Typed

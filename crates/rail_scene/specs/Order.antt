@@ -9,7 +9,7 @@ use Rattle.rail_base.specs.declared.refusals.Reason.TheVariants.{NotToml}
 use Rattle.rail_base.specs.declared.refusals.Refusal.{Refusal}
 use Rattle.rail_track.specs.declared.section.NetFault.{NetFault}
 use Rattle.rail_track.specs.declared.section.NetFault.TheVariants.{Refused, OutOfMemory}
-use Rattle.rail_track.specs.Refusing.{Test, first_failing}
+use Rattle.rail_track.specs.FirstRefusals.{Test, first_failing}
 use Rattle.rail_scene.specs.declared.draft.Draft.{Draft}
 use Rattle.rail_scene.specs.declared.keys.ListPart.{ListPart}
 use Rattle.rail_scene.specs.declared.keys.TheConstants.{ROOT_KEYS, LIST_PARTS}
@@ -18,7 +18,7 @@ use Rattle.rail_scene.specs.Fields.{elements_at}
 use Rattle.rail_scene.specs.Forms.{form_tests}
 use Rattle.rail_scene.specs.Values.{value_tests}
 use Rattle.rail_scene.specs.Drafts.{empty_draft, item_tests, with_items}
-use Rattle.rail_scene.specs.Spelling.{document, root_of}
+use Rattle.rail_scene.specs.SpelledScenes.{document, root_of}
 
 -- a refusal tells the number of an item up to the greatest that it has room for
 abbrev pub item_number : ℕ → ℕ

@@ -1,10 +1,10 @@
 -- Scenes: their limits, and names that are found once.
 use Rattle.std.specs.Prelude.{◌≤◌, ◌&&◌, Bool, length, IsTrue, nat_le}
 use Rattle.std.specs.List.{list_all}
-use Rattle.rail_base.specs.Naming.{same_name}
+use Rattle.rail_base.specs.NameForms.{same_name}
 use Rattle.rail_base.specs.declared.limits.TheConstants.{RELEASE, DEPTH, KINDS, TRAINS, TRAIN_LENGTH, SPEED, START, STOP, INPUT_TIME, ITINERARY_ROUTES}
 use Rattle.rail_base.specs.declared.plant.TrainKind.{TrainKind}
-use Rattle.rail_track.specs.Accepting.{is_within}
+use Rattle.rail_track.specs.SectionRules.{is_within}
 use Rattle.rail_track.specs.Lists.{are_apart}
 use Rattle.rail_scene.specs.declared.scene.Scene.{Scene}
 use Rattle.rail_scene.specs.declared.scene.SceneTrain.{SceneTrain}

@@ -1,6 +1,6 @@
 -- What rows have by the types of their fields.
 use Rattle.std.specs.Prelude.{Bool, ◌&&◌, nat_le}
-use Rattle.rail_base.specs.Naming.{is_name}
+use Rattle.rail_base.specs.NameForms.{is_name}
 use Rattle.rail_base.specs.declared.plant.SectionRow.{SectionRow}
 use Rattle.rail_base.specs.declared.plant.TrainRow.{TrainRow}
 

@@ -3,9 +3,9 @@ use Rattle.std.specs.Prelude.{ℕ, ◌+◌, Bool, not, List, [], ◌∷◌, ◌+
 use Rattle.toml.specs.Data.{Data}
 use Rattle.rail_base.specs.declared.limits.TheConstants.{ITINERARY_ROUTES}
 use Rattle.rail_base.specs.declared.refusals.Reason.TheVariants.{BadName, Range}
-use Rattle.rail_track.specs.Accepting.{is_within}
+use Rattle.rail_track.specs.SectionRules.{is_within}
 use Rattle.rail_track.specs.declared.section.NetFault.{NetFault}
-use Rattle.rail_track.specs.Refusing.{Test, refused_where}
+use Rattle.rail_track.specs.FirstRefusals.{Test, refused_where}
 use Rattle.rail_scene.specs.declared.keys.Form.{Form}
 use Rattle.rail_scene.specs.declared.keys.Form.TheVariants.{Name, Policy, Choice, Time, Whole, Joints, Path, Itinerary, Tables}
 use Rattle.rail_scene.specs.declared.keys.Key.{Key}

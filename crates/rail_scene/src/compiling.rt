@@ -5,7 +5,7 @@ ghost use Rattle.rail_rules.specs.Accepted.{is_accepted};
 ghost use Rattle.rail_base.specs.declared.refusals.Fault.TheVariants.{Refused};
 ghost use Rattle.rail_scene.specs.Scenes.{IsScene};
 ghost use Rattle.rail_scene.specs.Itineraries.{plant_of_scene};
-ghost use Rattle.rail_scene.specs.Compiling.{IsAnswer, compile_refusal, fault_for, of_train};
+ghost use Rattle.rail_scene.specs.CompileRefusals.{IsAnswer, compile_refusal, fault_for, of_train};
 
 use crate::compiling::itineraries::of_train;
 use crate::compiling::kinds::kind_names;

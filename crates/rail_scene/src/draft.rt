@@ -1,12 +1,12 @@
 //! A scene that is being read, to which the items of its file are added one by one.
 ghost use Rattle.std.specs.Prelude.{◌≡◌, ◌<◌, ◌++◌, length, false, [], ◌∷◌, Some, None, List, map, OnOk, IfErr};
 ghost use Rattle.toml.specs.View.{view};
-ghost use Rattle.rail_track.specs.Refusing.{Answers, first_failing};
-ghost use Rattle.rail_track.specs.Accepting.{section_tests};
-ghost use Rattle.rail_routes.specs.Extending.{is_closed_by};
-ghost use Rattle.rail_routes.specs.Posting.{post_tests};
-ghost use Rattle.rail_routes.specs.Turning.{turn_tests};
-ghost use Rattle.rail_routes.specs.Routing.{route_tests};
+ghost use Rattle.rail_track.specs.FirstRefusals.{Answers, first_failing};
+ghost use Rattle.rail_track.specs.SectionRules.{section_tests};
+ghost use Rattle.rail_routes.specs.SectionRules.{is_closed_by};
+ghost use Rattle.rail_routes.specs.PostRules.{post_tests};
+ghost use Rattle.rail_routes.specs.TurnRules.{turn_tests};
+ghost use Rattle.rail_routes.specs.RouteRules.{route_tests};
 ghost use Rattle.rail_scene.specs.declared.keys.TheConstants.{SECTION_KEYS, PORTAL_KEYS, SIGNAL_KEYS, BOARD_KEYS, TURN_KEYS, ROUTE_KEYS, KIND_KEYS, TRAIN_KEYS};
 ghost use Rattle.rail_scene.specs.Entries.{section_of, portal_of, signal_of, board_of, turn_of, route_of, kind_of, train_of};
 ghost use Rattle.rail_scene.specs.Rosters.{kind_tests, train_tests};

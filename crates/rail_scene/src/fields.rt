@@ -4,9 +4,9 @@ ghost use Rattle.std.specs.Option.{option_copied, option_map_or};
 ghost use Rattle.toml.specs.Data.{Data, as_str, as_integer};
 ghost use Rattle.toml.specs.View.{view};
 ghost use Rattle.rail_base.specs.declared.refusals.Reason.TheVariants.{BadName, Range};
-ghost use Rattle.rail_track.specs.Accepting.{joint_count, is_within};
+ghost use Rattle.rail_track.specs.SectionRules.{joint_count, is_within};
 ghost use Rattle.rail_track.specs.declared.section.NetFault.TheVariants.{Refused};
-ghost use Rattle.rail_track.specs.Refusing.{Answers};
+ghost use Rattle.rail_track.specs.FirstRefusals.{Answers};
 ghost use Rattle.rail_scene.specs.Fields.{value_at, text_at, name_in, name_at, policy_at, counted, bounded, number_by, number_at, kind_named, kind_at, time_up_to, time_at, elements_of, elements_at, are_names, names_in, is_path_count};
 
 use crate::keys::{Bounds, Form, Key};

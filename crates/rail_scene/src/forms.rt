@@ -6,7 +6,7 @@ ghost use Rattle.std.specs.Option.{option_map_or};
 ghost use Rattle.toml.specs.View.{view, table_view};
 ghost use Rattle.rail_base.specs.declared.refusals.Part.TheVariants.{Root};
 ghost use Rattle.rail_base.specs.declared.refusals.Reason.TheVariants.{KeyMissing, WrongKind};
-ghost use Rattle.rail_track.specs.Refusing.{Answers, first_failing};
+ghost use Rattle.rail_track.specs.FirstRefusals.{Answers, first_failing};
 ghost use Rattle.rail_scene.specs.Fields.{value_at};
 ghost use Rattle.rail_scene.specs.Forms.{is_list_of, is_string, is_table, is_of, is_known, has_unknown, member_keys, form_tests, key_tests, key_test};
 ghost use Rattle.rail_scene.specs.Order.{located, list_forms, forms_of, scene_forms, AnswersScene};

@@ -2,14 +2,14 @@
 ghost use Rattle.std.specs.Prelude.{◌≡◌, ◌∷◌, [], ◌≤◌, None, unwrap_or, OnOk, IfOk, IfErr};
 ghost use Rattle.toml.specs.View.{view};
 ghost use Rattle.rail_base.specs.declared.limits.TheConstants as limit;
-ghost use Rattle.rail_track.specs.Refusing.{first_failing, Answers};
+ghost use Rattle.rail_track.specs.FirstRefusals.{first_failing, Answers};
 ghost use Rattle.rail_scene.specs.declared.keys.TheConstants.{ROOT_KEYS};
 ghost use Rattle.rail_scene.specs.Scenes.{IsScene};
 ghost use Rattle.rail_scene.specs.Fields.{policy_at};
 ghost use Rattle.rail_scene.specs.Entries.{spelled_number};
 ghost use Rattle.rail_scene.specs.Values.{value_tests};
 ghost use Rattle.rail_scene.specs.Order.{scene_refusal, scene_values, lists_values, lists_draft, AnswersScene, toml_test};
-ghost use Rattle.rail_scene.specs.Spelling.{spelled_scene, scene_of, root_of};
+ghost use Rattle.rail_scene.specs.SpelledScenes.{spelled_scene, scene_of, root_of};
 
 use crate::draft::Draft;
 use crate::entries::read_number;

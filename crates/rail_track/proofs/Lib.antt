@@ -1,5 +1,7 @@
-pub mod Rolls
-pub mod Tallies
-pub mod Refusals
-pub mod Withouts
-pub mod Soundness
+-- The lemmas of this crate; those for the crates above stand in CallerLemmas.
+pub mod CallerLemmas
+mod Rolls
+mod Tallies
+mod Refusals
+mod Withouts
+mod Soundness

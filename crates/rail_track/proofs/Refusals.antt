@@ -6,7 +6,7 @@ use Rattle.std.proofs.lemmas.List.{at_drop_more}
 use Rattle.rail_base.specs.declared.refusals.Reason.{Reason}
 use Rattle.rail_track.specs.declared.section.NetFault.{NetFault}
 use Rattle.rail_track.specs.declared.section.NetFault.TheVariants.{Refused, OutOfMemory}
-use Rattle.rail_track.specs.Refusing.{Test, first_failing, tests_over, refused_where, Answers}
+use Rattle.rail_track.specs.FirstRefusals.{Test, first_failing, tests_over, refused_where, Answers}
 
 -- a loop over the tests of the items: n is the number of the item at i
 module _ {X : Type 0} (reason : Reason) (fails : ℕ → X → Bool) (xs : List X) (n i : ℕ) (x : X) (within : i < length xs) (is : x ≡ get_or xs i x) where

@@ -5,12 +5,12 @@ use Rattle.std.proofs.lemmas.Bool.Decides.{nat_tests}
 use Rattle.std.proofs.lemmas.List.{length_push}
 use Rattle.std.proofs.lemmas.List.Folds.{list_all-append}
 use Rattle.std.proofs.lemmas.List.Sums.{sum_by_push}
-use Rattle.rail_base.specs.Naming.{same_name}
+use Rattle.rail_base.specs.NameForms.{same_name}
 use Rattle.rail_track.specs.declared.section.Section.{Section}
 use Rattle.rail_track.specs.Lists.{without}
-use Rattle.rail_track.specs.Joining.{is_named, has_joint, sections_at, is_full}
-use Rattle.rail_track.specs.Accepting.{stands_twice, is_within, joint_count, section_tests}
-use Rattle.rail_track.specs.Refusing.{first_failing}
+use Rattle.rail_track.specs.Joints.{is_named, has_joint, sections_at, is_full}
+use Rattle.rail_track.specs.SectionRules.{stands_twice, is_within, joint_count, section_tests}
+use Rattle.rail_track.specs.FirstRefusals.{first_failing}
 use Rattle.rail_base.specs.declared.limits.TheConstants.{SECTIONS, SECTION_LENGTH, SPEED}
 use Rattle.rail_base.specs.declared.refusals.Reason.TheVariants.{JointCrowded}
 use Rattle.rail_track.specs.Sound.{is_fit, have_one_name, IsSoundTrack}

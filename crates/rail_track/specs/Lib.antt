@@ -1,9 +1,9 @@
 -- What the contracts of this crate, and the definitions above it, speak of.
 pub mod Lists
-pub mod Counting
-pub mod Refusing
-pub mod Passing
-pub mod Joining
-pub mod Accepting
+pub mod KeyCounts
+pub mod FirstRefusals
+pub mod Passages
+pub mod Joints
+pub mod SectionRules
 pub mod Sound
 pub mod TrackFields

@@ -4,9 +4,9 @@ use Rattle.std.specs.List.{list_any, list_all}
 use Rattle.rail_base.specs.declared.limits.TheConstants.{SECTIONS, SECTION_LENGTH, SPEED}
 use Rattle.rail_track.specs.declared.section.Section.{Section}
 use Rattle.rail_track.specs.Lists.{are_apart}
-use Rattle.rail_track.specs.Joining.{sections_at}
-use Rattle.rail_base.specs.Naming.{same_name}
-use Rattle.rail_track.specs.Accepting.{joint_count, is_within, stands_twice}
+use Rattle.rail_track.specs.Joints.{sections_at}
+use Rattle.rail_base.specs.NameForms.{same_name}
+use Rattle.rail_track.specs.SectionRules.{joint_count, is_within, stands_twice}
 
 -- the numbers of the section are in range, and its joints are as many as its kind has, each another
 abbrev pub is_fit : Section → Bool

@@ -1,9 +1,9 @@
 -- How a track is stored: its sections, and the number of sections at each joint.
 use Rattle.std.specs.Prelude.{◌≡◌, ℕ, List}
 use Rattle.rail_track.specs.declared.track.Track.TheInside.{Inside}
-use Rattle.rail_base.specs.Naming.{same_name}
-use Rattle.rail_track.specs.Counting.{times}
-use Rattle.rail_track.specs.Joining.{sections_at}
+use Rattle.rail_base.specs.NameForms.{same_name}
+use Rattle.rail_track.specs.KeyCounts.{times}
+use Rattle.rail_track.specs.Joints.{sections_at}
 use Rattle.rail_track.specs.Sound.{IsSoundTrack}
 
 -- the track is sound, and each joint is counted once for each section that it is in

@@ -2,7 +2,7 @@
 //!
 //! It stands on the ground layer. The layers above use three more of its things: rolls of items
 //! that are found by a key, tallies of names, and the definition of a first refusal. The list of
-//! tests in `specs/Accepting.antt` decides which section is accepted, and with which answer one is
+//! tests in `specs/SectionRules.antt` decides which section is accepted, and with which answer one is
 //! refused: change the rules there. How a roll or a track finds a name may be changed freely.
 #![tactic(auto)]
 

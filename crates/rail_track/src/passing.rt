@@ -1,7 +1,7 @@
 ghost use Rattle.std.specs.Prelude.{◌≡◌};
 ghost use Rattle.std.specs.List.{list_any};
-ghost use Rattle.rail_track.specs.Joining.{has_joint};
-ghost use Rattle.rail_track.specs.Passing.{leads, passages};
+ghost use Rattle.rail_track.specs.Joints.{has_joint};
+ghost use Rattle.rail_track.specs.Passages.{leads, passages};
 
 use crate::section::{Section, SectionKind};
 

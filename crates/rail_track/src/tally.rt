@@ -1,6 +1,6 @@
 ghost use Rattle.std.specs.Prelude.{◌≡◌, ◌+◌, ◌<◌, ◌≤◌, ◌^◌, [], ◌∷◌, length, map, count_by};
 ghost use Rattle.indexmap.specs.IndexMap.{spare};
-ghost use Rattle.rail_track.specs.Counting.{times};
+ghost use Rattle.rail_track.specs.KeyCounts.{times};
 
 use crate::roll::Keyed;
 use indexmap::IndexMap;

@@ -47,7 +47,7 @@ impl Model for Track {
 
 /// A joint that is in two sections is closed.
 impl ClosedJoints for Track {
-    ghost use Rattle.rail_track.specs.Joining.{is_full};
+    ghost use Rattle.rail_track.specs.Joints.{is_full};
 
     ghost is_closed = { is_full };
 
@@ -57,11 +57,11 @@ impl ClosedJoints for Track {
 }
 
 impl Track {
-    ghost use Rattle.rail_track.specs.Accepting.{section_tests, section_refusal};
-    ghost use Rattle.rail_track.specs.Joining.{is_named, section_named, sections_at, section_has};
+    ghost use Rattle.rail_track.specs.SectionRules.{section_tests, section_refusal};
+    ghost use Rattle.rail_track.specs.Joints.{is_named, section_named, sections_at, section_has};
     ghost use Rattle.rail_track.specs.Lists.{without};
-    ghost use Rattle.rail_track.specs.Passing.{has_passage};
-    ghost use Rattle.rail_track.specs.Refusing.{Answers, first_failing};
+    ghost use Rattle.rail_track.specs.Passages.{has_passage};
+    ghost use Rattle.rail_track.specs.FirstRefusals.{Answers, first_failing};
     ghost use Rattle.rail_track.specs.Sound.{IsSoundTrack};
     ghost use Rattle.rail_base.specs.declared.refusals.Reason.TheVariants.{Unknown};
     ghost use Rattle.rail_track.specs.declared.section.NetFault.TheVariants.{Refused};

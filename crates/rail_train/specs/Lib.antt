@@ -1,2 +1,2 @@
 -- What the contracts of this crate, and the definitions above it, speak of.
-pub mod Running
+pub mod RunningTimes

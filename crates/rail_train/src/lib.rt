@@ -1,12 +1,12 @@
 //! Running times: how long a train takes over a section, and how long it takes to clear it.
 //!
 //! It stands on the ground layer, and on the definitions of `rail_rules`. The two formulas are the whole of it: a change of
-//! `specs/Running.antt` changes every time of a run, while a body may be changed freely.
+//! `specs/RunningTimes.antt` changes every time of a run, while a body may be changed freely.
 #![tactic(auto)]
 
 ghost use Rattle.std.specs.Prelude.{◌≡◌, min, IsTrue};
 ghost use Rattle.rail_rules.specs.Accepted.{is_from_one};
-ghost use Rattle.rail_train.specs.Running.{time_over};
+ghost use Rattle.rail_train.specs.RunningTimes.{time_over};
 
 pub use rail_base::TrainKind;
 use rail_base::ceil_div;

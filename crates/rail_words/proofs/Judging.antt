@@ -5,18 +5,19 @@ use Rattle.std.specs.Option.{option_or}
 use Rattle.std.specs.Prelude.{unwrap_or}
 use Rattle.std.proofs.lemmas.Bool.{and_parts, false≢true}
 use Rattle.std.proofs.lemmas.List.Elements.{All-append, All-nil, All-cons}
-use Rattle.rail_base.specs.Naming.{same_name}
+use Rattle.rail_base.specs.NameForms.{same_name}
 use Rattle.rail_base.specs.declared.refusals.Refusal.{Refusal}
 use Rattle.rail_rules.specs.Moves.{Moves}
-use Rattle.rail_track.specs.Refusing.{first_failing}
-use Rattle.rail_track.proofs.Refusals.{first_failing-append}
+use Rattle.rail_track.specs.FirstRefusals.{first_failing}
+use Rattle.rail_track.proofs.CallerLemmas.{first_failing-append}
 use Rattle.rail_words.specs.Lists.{Listed, knows, number_of_train, train_of, with_moves, is_comment, sets, moves_trains, asked_tests, line_tests, lines_tests, after_line, words}
 use Rattle.rail_base.specs.declared.refusals.Fault.{Fault}
 use Rattle.rail_base.specs.declared.refusals.Fault.TheVariants.{Refused, OutOfMemory}
-use Rattle.rail_words.specs.Listing.{Answers, IsListFor}
+use Rattle.rail_words.specs.ListAnswers.{Answers, IsListFor}
 use Rattle.rail_words.specs.Verbs.{verb_of}
 use Rattle.rail_words.specs.declared.checking.Verb.TheVariants.{Comment, At, Move, Other}
 use Rattle.rail_words.proofs.Parts.{found_at}
+use Rattle.rail_place.specs.Tables.{MoveLists}
 
 -- a known train has a number below the count of the trains
 number_below : (names : List (List ℕ)) (word : List ℕ) (o : Option ℕ) → train_of names word ≡ o → is_some o ≡ true → unwrap_or o 0 < length names
@@ -31,7 +32,7 @@ numbers_below names (word ∷ args) h =
     (number_below names word (train_of names word) refl both.0) (numbers_below names args both.1)
 
 -- a line that moves known trains keeps a list
-pub moves_kept : (names : List (List ℕ)) (table : List (List (List ℕ) × List (List ℕ))) (listed : Listed) (args : List (List ℕ)) → length names ≡ length table → IsListFor table listed → list_all (knows names) args ≡ true → IsListFor table (with_moves names listed args)
+pub moves_kept : (names : List (List ℕ)) (table : List MoveLists) (listed : Listed) (args : List (List ℕ)) → length names ≡ length table → IsListFor table listed → list_all (knows names) args ≡ true → IsListFor table (with_moves names listed args)
 moves_kept names table listed args same fit known = record {
   long = fit.long;
   within = fit.within;

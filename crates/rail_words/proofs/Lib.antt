@@ -1,3 +1,3 @@
-pub mod Reading
-pub mod Parts
-pub mod Judging
+mod Reading
+mod Parts
+mod Judging

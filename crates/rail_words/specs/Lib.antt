@@ -1,5 +1,5 @@
 -- What the contracts of this crate, and of the crates above it, speak of.
 pub mod Forms
 pub mod Lists
-pub mod Listing
+pub mod ListAnswers
 pub mod Verbs

@@ -2,7 +2,7 @@
 use Rattle.std.specs.Prelude.{ℕ, ◌+◌, ◌-◌, ◌*◌, ◌==◌, Bool, true, false, not, ◌&&◌, ◌||◌, cond, nat_lt, nat_le, is_some, List, [], ◌∷◌, ◌++◌, length, take, get_or, set, map, filter, replicate, codes, Option, position, unwrap_or}
 use Rattle.std.specs.List.{list_all, slice_split}
 use Rattle.std.specs.Str.Lines.{lines}
-use Rattle.rail_base.specs.Naming.{is_name, same_name}
+use Rattle.rail_base.specs.NameForms.{is_name, same_name}
 use Rattle.rail_base.specs.declared.refusals.Refusal.{Refusal}
 use Rattle.rail_base.specs.declared.refusals.Reason.{Reason}
 use Rattle.rail_base.specs.declared.refusals.Reason.TheVariants.{ListForm, ListName, ListPlaces}
@@ -10,7 +10,7 @@ use Rattle.rail_base.specs.declared.refusals.Part.TheVariants.{Line}
 use Rattle.rail_rules.specs.Numbers.{same_numbers}
 use Rattle.rail_rules.specs.Moves.{Moves}
 use Rattle.rail_rules.specs.Places.{is_valid_state}
-use Rattle.rail_track.specs.Refusing.{Test, first_failing}
+use Rattle.rail_track.specs.FirstRefusals.{Test, first_failing}
 
 -- the words of a line, which stand between spaces
 abbrev pub words : List ℕ → List (List ℕ)

@@ -2,7 +2,7 @@
 
 ghost use Rattle.std.specs.Prelude.{◌≡◌, ◌≤◌, ◌^◌, ◌-◌, ◌==◌, ◌&&◌, not, is_some, length, min, true, false, [], ◌∷◌, List, ℕ, MatchOption};
 ghost use Rattle.std.specs.List.{list_all};
-ghost use Rattle.rail_base.specs.Naming.{is_name};
+ghost use Rattle.rail_base.specs.NameForms.{is_name};
 ghost use Rattle.rail_words.specs.Verbs.{verb_of};
 ghost use Rattle.rail_words.specs.Lists.{is_decimal, is_digit, is_position, knows, train_of, value_of, words};
 

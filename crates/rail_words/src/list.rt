@@ -1,11 +1,11 @@
 ghost use Rattle.std.specs.Prelude.{◌≡◌, ◌≢◌, ℕ, ◌+◌, ◌-◌, ◌<◌, ◌≤◌, ◌^◌, ◌∷◌, [], ◌++◌, ◌⊎◌, List, length, map, set, true, false, Some, None, OnOk, OnErr, IfOk, IfErr};
 ghost use Rattle.std.specs.List.{list_all};
-ghost use Rattle.rail_base.specs.Naming.{is_name};
+ghost use Rattle.rail_base.specs.NameForms.{is_name};
 ghost use Rattle.rail_place.specs.Tables.{moves_in};
-ghost use Rattle.rail_track.specs.Refusing.{first_failing};
+ghost use Rattle.rail_track.specs.FirstRefusals.{first_failing};
 ghost use Rattle.rail_rules.specs.Moves.{Moves as plan_of_moves};
 ghost use Rattle.rail_words.specs.Lists.{after_line, asked_tests, is_comment, knows, line_tests, list_line_refusal, listed_in, moves_trains, nothing_listed, number_of_train, sets, train_of, with_moves, with_position, words};
-ghost use Rattle.rail_words.specs.Listing.{Answers, IsListFor, IsPosition, refusal_at};
+ghost use Rattle.rail_words.specs.ListAnswers.{Answers, IsListFor, IsPosition, refusal_at};
 ghost use Rattle.rail_base.specs.declared.refusals.Reason.TheVariants.{ListForm, ListName};
 
 use crate::checking::{Verb, are_known, are_names, read_position, train_of, verb_of};

@@ -2,8 +2,8 @@
 
 /// Cases, each begun by a line `== WORDS / SCENE / LIST / CALL / STATUS`, behind which stands the output.
 ///
-/// SCENE names the two pieces of which the file `scene` is made; LIST has the lines of the file `list`,
-/// with `, ` between them; CALL is the call of the shelf or of the sink that fails. The calls of the shelf
+/// SCENE names the pieces of which the file `scene` is made; LIST has the lines of the file `list`, with
+/// `, ` between them; CALL is the call of the shelf or of the sink that fails. The calls of the shelf
 /// are the beginning of the file, a read of it, and a read at its end; those of the sink are its lines.
 pub const CASES: &str = "\
 == run scene / three at-2 /  / sure 0 / \n\
@@ -258,6 +258,12 @@ completes\n\
 == play scene list / loop apart / # none, at A 1, move A, at B 1 / sure 0 / refused 34 ListForm line 4 0\n\
 == play scene list / loop apart / at A 01 / sure 0 / refused 34 ListForm line 1 0\n\
 == play scene list / loop apart / move A, move Z / sure 0 / refused 35 ListName line 2 0\n\
+== infra scene / ~1048577 /  / sure 0 / refused 17 TooMany file 1 0\n\
+== infra scene / ~1048576 /  / sure 0 / refused 2 KeyMissing root 0 1\n\
+== infra scene / +513 /  / sure 0 / refused 17 TooMany section 513 0\n\
+== play scene list / loop apart / ~1048577 / sure 0 / refused 17 TooMany file 2 0\n\
+== play scene list / loop apart / ~1048576 / sure 0 / \n\
+completes\n\
 ";
 
 /// The same, but the lines behind the first one are some of the output, in this order.

@@ -2,7 +2,7 @@
 ghost use Rattle.std.specs.Prelude.{◌≡◌, ◌+◌, ◌<◌, ◌^◌, ◌&&◌, not, length, Some, None, if◌then◌else◌};
 ghost use Rattle.std.specs.List.{list_any};
 ghost use Rattle.rail_track.specs.declared.section.NetFault.TheVariants.{Refused};
-ghost use Rattle.rail_routes.specs.Posting.{time_key, has_times};
+ghost use Rattle.rail_routes.specs.PostRules.{time_key, has_times};
 
 use super::Network;
 use super::leading::{repeat_refusal, way_refusal};
@@ -21,17 +21,17 @@ fn refused(reason: Reason, step: u32) -> Option<NetFault>
 }
 
 impl Network {
-    ghost use Rattle.rail_track.specs.Joining.{has_joint};
+    ghost use Rattle.rail_track.specs.Joints.{has_joint};
     ghost use Rattle.rail_routes.specs.Net.{posts, is_post, stands_at};
-    ghost use Rattle.rail_routes.specs.Posting.{post_refusal, stands_well, has_joint_ahead, is_taken, is_guarded, is_astray};
-    ghost use Rattle.rail_routes.specs.Routing.{route_refusal, rule_tests};
-    ghost use Rattle.rail_track.specs.Refusing.{first_failing};
-    ghost use Rattle.rail_track.specs.Joining.{is_named};
+    ghost use Rattle.rail_routes.specs.PostRules.{post_refusal, stands_well, has_joint_ahead, is_taken, is_guarded, is_astray};
+    ghost use Rattle.rail_routes.specs.RouteRules.{route_refusal, rule_tests};
+    ghost use Rattle.rail_track.specs.FirstRefusals.{first_failing};
+    ghost use Rattle.rail_track.specs.Joints.{is_named};
     ghost use Rattle.rail_routes.specs.declared.items.Step.{Step};
-    ghost use Rattle.rail_routes.specs.Turning.{turn_refusal, turns_well};
-    ghost use Rattle.rail_routes.specs.Using.{section_removal, post_removal, is_section_used, is_post_used, turns_at, goes_to, runs_over};
+    ghost use Rattle.rail_routes.specs.TurnRules.{turn_refusal, turns_well};
+    ghost use Rattle.rail_routes.specs.Uses.{section_removal, post_removal, is_section_used, is_post_used, turns_at, goes_to, runs_over};
     ghost use Rattle.rail_routes.specs.declared.items.Post.{Post};
-    ghost use Rattle.rail_base.specs.Naming.{same_name};
+    ghost use Rattle.rail_base.specs.NameForms.{same_name};
     ghost use Rattle.rail_base.specs.declared.refusals.Reason.TheVariants.{InUse};
 
     /// Whether a post of any role has the name.

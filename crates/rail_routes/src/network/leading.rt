@@ -1,12 +1,12 @@
 //! Which step of a route is refused.
 ghost use Rattle.std.specs.Prelude.{◌≡◌, ◌+◌, ◌<◌, ◌≤◌, ◌^◌, ◌&&◌, ◌||◌, not, length, take, Bool, List};
 ghost use Rattle.std.specs.List.{list_any};
-ghost use Rattle.rail_track.specs.Passing.{has_passage};
-ghost use Rattle.rail_track.specs.Refusing.{first_failing};
-ghost use Rattle.rail_base.specs.Naming.{same_name};
+ghost use Rattle.rail_track.specs.Passages.{has_passage};
+ghost use Rattle.rail_track.specs.FirstRefusals.{first_failing};
+ghost use Rattle.rail_base.specs.NameForms.{same_name};
 ghost use Rattle.rail_routes.specs.declared.items.Step.{Step};
 ghost use Rattle.rail_routes.specs.Net.{guards};
-ghost use Rattle.rail_routes.specs.Routing.{repeat_tests, way_from, step_tests, begins, ends};
+ghost use Rattle.rail_routes.specs.RouteRules.{repeat_tests, way_from, step_tests, begins, ends};
 
 use crate::items::{Post, Role, Step};
 use rail_base::{Name, Reason};

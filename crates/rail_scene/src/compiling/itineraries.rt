@@ -2,11 +2,11 @@
 
 ghost use Rattle.std.specs.Prelude.{◌≡◌, ◌<◌, ◌≤◌, length, map, get_or, position, IsTrue};
 ghost use Rattle.rail_base.specs.declared.limits.TheConstants.{ITINERARY_ROUTES, ROUTE_SECTIONS};
-ghost use Rattle.rail_track.specs.Refusing.{first_failing};
+ghost use Rattle.rail_track.specs.FirstRefusals.{first_failing};
 ghost use Rattle.rail_routes.specs.Net.{guards};
 ghost use Rattle.rail_routes.specs.Sound.{is_sound_route};
 ghost use Rattle.rail_scene.specs.Itineraries.{goes_on_to, is_portal, is_signal, may_leave, no_route, routes_of, runs_on, turn_between, turn_step};
-ghost use Rattle.rail_scene.specs.Compiling.{are_known, of_train, place_tests, route_tests};
+ghost use Rattle.rail_scene.specs.CompileRefusals.{are_known, of_train, place_tests, route_tests};
 
 use rail_base::limits::SECTIONS;
 use rail_base::{Name, Part, Reason, Refusal, TurnRow};

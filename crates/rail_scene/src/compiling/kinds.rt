@@ -2,7 +2,7 @@
 
 ghost use Rattle.std.specs.Prelude.{◌≡◌, map, IsTrue, IfOk};
 ghost use Rattle.std.specs.List.{list_any};
-ghost use Rattle.rail_base.specs.Naming.{same_name};
+ghost use Rattle.rail_base.specs.NameForms.{same_name};
 ghost use Rattle.rail_base.specs.declared.plant.TrainKind.{TrainKind};
 ghost use Rattle.rail_track.specs.Lists.{are_apart};
 ghost use Rattle.rail_scene.specs.Scenes.{is_one_kind};

@@ -2,17 +2,17 @@
 
 ghost use Rattle.std.specs.Prelude.{◌≡◌, ◌+◌, ◌<◌, ◌≤◌, ◌&&◌, nat_le, map, drop, get_or, length, None, IsTrue, IfOk};
 ghost use Rattle.std.specs.List.{list_all, list_any};
-ghost use Rattle.rail_base.specs.Naming.{is_name, same_name};
+ghost use Rattle.rail_base.specs.NameForms.{is_name, same_name};
 ghost use Rattle.rail_base.specs.declared.plant.SectionRow.{SectionRow};
 ghost use Rattle.rail_base.specs.declared.plant.TrainKind.{TrainKind};
 ghost use Rattle.rail_base.specs.declared.plant.TrainRow.{TrainRow};
-ghost use Rattle.rail_track.specs.Refusing.{first_failing};
+ghost use Rattle.rail_track.specs.FirstRefusals.{first_failing};
 ghost use Rattle.rail_routes.specs.declared.items.Step.{Step};
 ghost use Rattle.rail_routes.specs.Sound.{is_sound_route};
-ghost use Rattle.rail_plan.specs.Planning.{IsPlannable};
+ghost use Rattle.rail_plan.specs.PlanFaults.{IsPlannable};
 ghost use Rattle.rail_scene.specs.Scenes.{IsScene};
 ghost use Rattle.rail_scene.specs.Itineraries.{move_over, moves_over, no_route, number_of, routes_of, section_row, tables_of, train_row, turn_before};
-ghost use Rattle.rail_scene.specs.Compiling.{are_known, trains_tests};
+ghost use Rattle.rail_scene.specs.CompileRefusals.{are_known, trains_tests};
 ghost use Rattle.rail_scene.specs.Typed.{is_named_row, is_typed_row};
 
 use crate::compiling::itineraries::{known_route, turn_between};

@@ -2,9 +2,9 @@
 
 ghost use Rattle.std.specs.Prelude.{◌≡◌, map, IsTrue};
 ghost use Rattle.rail_base.specs.declared.plant.TrainKind.{TrainKind};
-ghost use Rattle.rail_track.specs.Refusing.{first_failing};
+ghost use Rattle.rail_track.specs.FirstRefusals.{first_failing};
 ghost use Rattle.rail_scene.specs.Scenes.{IsScene, is_fit_train};
-ghost use Rattle.rail_scene.specs.Compiling.{are_known, is_known, train_tests, trains_tests};
+ghost use Rattle.rail_scene.specs.CompileRefusals.{are_known, is_known, train_tests, trains_tests};
 
 use crate::compiling::itineraries::{of_train, route_refusal};
 use crate::scene::{Scene, SceneTrain};

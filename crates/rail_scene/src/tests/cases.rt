@@ -1,7 +1,8 @@
 //! Texts of scene files, each with the answer that the rules give it by hand.
 
-/// The cases: what stands before the text, the answer, and the text. Behind the track an item has the
-/// number after those of the track.
+/// The cases: what stands around the text, the answer, and the text. Behind the track an item has the
+/// number after those of the track. The station lacks its first route; a seventh section is at a joint
+/// that is in two already.
 pub(super) const CASES: &str = "\
 == file: KeyMissing Root 0 1
 == file: KeyMissing Root 0 2
@@ -683,6 +684,42 @@ length = 90
 speed = 90
 start = 100
 stop = 50
+== station: read
+[[route]]
+name = 'we1'
+from = 'West'
+to = 'E1'
+path = ['a', 'W', 'b', 'PW', 'c', 'L1', 'e']
+== station: RouteRepeat Route 1 2
+[[route]]
+name = 'we1'
+from = 'West'
+to = 'E1'
+path = ['a', 'W', 'b', 'W', 'a']
+== station: JointCrowded Section 7 1
+[[section]]
+name = 'X'
+kind = 'plain'
+length = 1000
+speed = 90
+joints = ['b', 'q']
+[[route]]
+name = 'we1'
+from = 'West'
+to = 'E1'
+path = ['a', 'W', 'b', 'PW', 'c', 'L1', 'e']
+== station: JointCrowded Section 7 1
+[[section]]
+name = 'X'
+kind = 'plain'
+length = 1000
+speed = 90
+joints = ['b', 'q']
+[[route]]
+name = 'we1'
+from = 'West'
+to = 'E1'
+path = ['a', 'W', 'b', 'W', 'a']
 == file: NotToml Bytes 0 0
 a = [[[[[[[[[[[[[[[[[[[[[[[[[[[[[[[[[[[[[[[[[[[[[[[[[[[[[[[[[[[[[[[[[[[[[[[[[[[[[[[[[[[[[[[[[[[[[[[[[[[[
 ";

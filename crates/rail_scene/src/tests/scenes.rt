@@ -79,7 +79,7 @@ entry = '00:02:00'
 routes = ['r']
 ";
 
-/// The sections of a station with two tracks.
+/// The sections of a station with two tracks, its posts, and its turn.
 pub(super) const STATION: &str = "\
 version = 1
 release = 20
@@ -119,20 +119,6 @@ kind = 'plain'
 length = 1000
 speed = 90
 joints = ['g', 'h']
-";
-
-/// A seventh section, at a joint that is in two already.
-pub(super) const SEVENTH: &str = "\
-[[section]]
-name = 'X'
-kind = 'plain'
-length = 1000
-speed = 90
-joints = ['b', 'q']
-";
-
-/// The posts of the station, and its turn.
-pub(super) const POSTS: &str = "\
 [[portal]]
 name = 'West'
 joint = 'a'
@@ -193,25 +179,7 @@ leaving = 'W1'
 time = 0
 ";
 
-/// Its first route.
-pub(super) const FIRST: &str = "\
-[[route]]
-name = 'we1'
-from = 'West'
-to = 'E1'
-path = ['a', 'W', 'b', 'PW', 'c', 'L1', 'e']
-";
-
-/// The same route, over one section twice.
-pub(super) const TWICE: &str = "\
-[[route]]
-name = 'we1'
-from = 'West'
-to = 'E1'
-path = ['a', 'W', 'b', 'W', 'a']
-";
-
-/// Its other routes.
+/// The routes of the station but the first.
 pub(super) const OTHERS: &str = "\
 [[route]]
 name = 'we2'

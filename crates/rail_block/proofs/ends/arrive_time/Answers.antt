@@ -3,7 +3,7 @@ use Rattle.std.specs.Option.{option_copied}
 use Rattle.rail_rules.specs.Plant.{moves}
 use Rattle.rail_rules.specs.Times.{passes}
 use Rattle.rail_block.specs.declared.times.MoveTimes.{MoveTimes}
-use Rattle.rail_block.specs.Carried.{times_at}
+use Rattle.rail_block.specs.CarriedTimes.{times_at}
 use Rattle.rail_block.proofs.Placing.{before, made_at}
 use Rattle.rail_block.proofs.Ending.{next-some, next-none, unadmitted, arrive-end, arrive-passing, arrive-stopping}
 use Rattle.rail_block.proofs.ends.arrive_time.Goals as goal

@@ -1,7 +1,7 @@
 use Rattle.std.proofs.Common.{◌≡◌, suc, ◌+◌, ◌-◌, true, false, sym, ap, ◌∙◌, arith}
 use Rattle.std.specs.Option.{option_copied}
 use Rattle.rail_rules.specs.Times.{is_admitted}
-use Rattle.rail_block.specs.Carried.{times_at}
+use Rattle.rail_block.specs.CarriedTimes.{times_at}
 use Rattle.rail_block.proofs.Placing.{before}
 use Rattle.rail_block.proofs.Ending.{next-some, next-none, openness, open-end, closed-end, left-closed}
 use Rattle.rail_block.proofs.ends.end_of.Goals as goal

@@ -2,7 +2,7 @@ use Rattle.std.proofs.Common.{◌≡◌, suc, ◌+◌, ◌-◌, ap, ◌∙◌, a
 use Rattle.rail_rules.specs.Plant.{step_section}
 use Rattle.rail_rules.specs.Times.{clearing, start_loss}
 use Rattle.rail_block.specs.declared.times.MoveTimes.{MoveTimes}
-use Rattle.rail_block.specs.Carried.{times_at}
+use Rattle.rail_block.specs.CarriedTimes.{times_at}
 use Rattle.rail_block.proofs.Ending.{clears-stood}
 use Rattle.rail_block.proofs.ends.end_when_stood.Goals as goal
 

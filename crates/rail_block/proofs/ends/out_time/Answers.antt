@@ -2,7 +2,7 @@ use Rattle.std.proofs.Common.{◌≡◌, ℕ, suc, ◌+◌, ◌-◌, ap, ◌∙�
 use Rattle.rail_rules.specs.Plant.{moves, steps, step_section}
 use Rattle.rail_rules.specs.Times.{clearing, arrive}
 use Rattle.rail_block.specs.declared.times.MoveTimes.{MoveTimes}
-use Rattle.rail_block.specs.Carried.{times_at}
+use Rattle.rail_block.specs.CarriedTimes.{times_at}
 use Rattle.rail_block.proofs.Ending.{arrive-end}
 use Rattle.rail_block.proofs.ends.out_time.Goals as goal
 

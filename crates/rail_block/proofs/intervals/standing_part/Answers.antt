@@ -3,7 +3,7 @@ use Rattle.std.specs.Option.{option_copied}
 use Rattle.rail_rules.specs.Intervals.{is_open, standing_part}
 use Rattle.rail_rules.specs.Times.{is_admitted, start_loss}
 use Rattle.rail_block.specs.declared.times.MoveTimes.{MoveTimes}
-use Rattle.rail_block.specs.Carried.{times_at}
+use Rattle.rail_block.specs.CarriedTimes.{times_at}
 use Rattle.rail_block.proofs.Placing.{before}
 use Rattle.rail_block.proofs.Ending.{next-some, next-none, openness, clears-stood}
 use Rattle.rail_block.proofs.Parting.{undecided-part, decided-part, standing-stood}

@@ -1,18 +1,18 @@
 use Rattle.std.proofs.Common.{ap, arith}
 use Rattle.rail_base.specs.declared.plant.TrainRow.{TrainRow}
-use Rattle.rail_block.proofs.Limits.{fine_train}
+use Rattle.rail_block.proofs.Limits.{train_in_range}
 use Rattle.rail_block.proofs.times.entry_times.Goals as goal
 
 pub ready_time-requires-clause-last : goal.ready_time-requires-clause-last
-ready_time-requires-clause-last c = omega (arith, (fine_train c.args.plant.now c.may_be_run.ensures c.args.train c.requires).some_move)
+ready_time-requires-clause-last c = omega (arith, (train_in_range c.args.plant.now c.may_be_run.ensures c.args.train c.requires).some_move)
 
 pub ready_time-requires-clause-time : goal.ready_time-requires-clause-time
-ready_time-requires-clause-time c = omega (arith, ap (λ (row : TrainRow). row.entry) c.train.ensures.row, (fine_train c.args.plant.now c.may_be_run.ensures c.args.train c.requires).early)
+ready_time-requires-clause-time c = omega (arith, ap (λ (row : TrainRow). row.entry) c.train.ensures.row, (train_in_range c.args.plant.now c.may_be_run.ensures c.args.train c.requires).early)
 
 pub returns-clause-early : goal.returns-clause-early
 returns-clause-early c = record {
   admitted = omega arith;
   go = omega arith;
-  free_run = omega (arith, ap (λ (row : TrainRow). row.entry) c.train.ensures.row, (fine_train c.args.plant.now c.may_be_run.ensures c.args.train c.requires).early);
-  next_ready = omega (arith, c.ready_time.ensures.soon, ap (λ (row : TrainRow). row.entry) c.train.ensures.row, (fine_train c.args.plant.now c.may_be_run.ensures c.args.train c.requires).early);
+  free_run = omega (arith, ap (λ (row : TrainRow). row.entry) c.train.ensures.row, (train_in_range c.args.plant.now c.may_be_run.ensures c.args.train c.requires).early);
+  next_ready = omega (arith, c.ready_time.ensures.soon, ap (λ (row : TrainRow). row.entry) c.train.ensures.row, (train_in_range c.args.plant.now c.may_be_run.ensures c.args.train c.requires).early);
 }

@@ -7,7 +7,7 @@ use Rattle.rail_base.specs.declared.names.Names.{Names}
 use Rattle.rail_base.specs.declared.plant.SectionRow.{SectionRow}
 use Rattle.rail_base.specs.declared.plant.TrainRow.{TrainRow}
 use Rattle.rail_rules.specs.Plant.{Plant, no_section, no_train, trains}
-use Rattle.rail_texts.specs.Writable.{is_known_train}
+use Rattle.rail_rules.specs.Writable.{is_known_train}
 use Rattle.rail_history.specs.Lines.{HasNames}
 use Rattle.rail_history.proofs.tests.write.Goals as goal
 

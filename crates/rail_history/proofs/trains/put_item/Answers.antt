@@ -1,5 +1,5 @@
 use Rattle.std.proofs.Common.{◌∷◌, arith}
-use Rattle.rail_io.proofs.Added.{AddsPrefix-more}
+use Rattle.rail_io.proofs.CallerLemmas.{AddsPrefix-more}
 use Rattle.rail_history.specs.Lines.{item_text}
 use Rattle.rail_history.proofs.trains.put_item.Goals as goal
 

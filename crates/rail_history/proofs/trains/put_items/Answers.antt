@@ -1,7 +1,7 @@
 use Rattle.std.proofs.Common.{◌≡◌, ℕ, ◌+◌, ◌∷◌, ◌++◌, ◌<◌, List, map, drop, length, arith, refl}
 use Rattle.std.proofs.lemmas.List.{take_rest}
 use Rattle.std.proofs.lemmas.List.Elements.{All-rest, All-drop}
-use Rattle.rail_io.specs.Writing.{AddsPrefix}
+use Rattle.rail_io.specs.Writes.{AddsPrefix}
 use Rattle.rail_rules.specs.Texts.{items_of}
 use Rattle.rail_history.specs.Lines.{behind, item_text}
 use Rattle.rail_history.proofs.Pieces.{none_handed_on, handed_on_then, one_more_said, failed_before}

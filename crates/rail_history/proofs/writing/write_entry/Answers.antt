@@ -1,7 +1,7 @@
 use Rattle.std.proofs.Common.{[], ◌∷◌, subst, ◌∙◌, arith}
 use Rattle.std.proofs.lemmas.Result.{on_ok_weaker, on_err_weaker}
-use Rattle.rail_io.specs.Writing.{Adds, AddsPrefix}
-use Rattle.rail_io.proofs.Added.{AddsPrefix-more}
+use Rattle.rail_io.specs.Writes.{Adds, AddsPrefix}
+use Rattle.rail_io.proofs.CallerLemmas.{AddsPrefix-more}
 use Rattle.rail_rules.specs.Texts.{line_text}
 use Rattle.rail_history.specs.Lines.{line_of}
 use Rattle.rail_history.proofs.Brought.{text_together}

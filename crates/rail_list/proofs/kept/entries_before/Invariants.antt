@@ -1,5 +1,5 @@
 use Rattle.std.proofs.Common.{◌≡◌, ◌+◌, length, drop}
-use Rattle.rail_list.specs.Keeping.{before_first}
+use Rattle.rail_list.specs.KeptLists.{before_first}
 use Rattle.rail_list.proofs.kept.entries_before.Given as goal
 
 abbrev pub invariant-loop-place : goal.invariant-loop-place

@@ -3,8 +3,8 @@ use Rattle.std.proofs.lemmas.List.{take_more, length-take-le}
 use Rattle.rail_rules.specs.Moves.{Moves}
 use Rattle.rail_rules.specs.Places.{is_inside, is_legal, after}
 use Rattle.rail_place.specs.Tables.{moves_in}
-use Rattle.rail_place.specs.Barring.{bar_in_list, moves_made, outcome}
-use Rattle.rail_place.specs.Playing.{IsPlayed}
+use Rattle.rail_place.specs.Bars.{bar_in_list, moves_made, outcome}
+use Rattle.rail_place.specs.Plays.{IsPlayed}
 use Rattle.rail_place.proofs.Playing.{played_push, played_few, made_one, made_none, outcome_one, bar_from_move, barred_stops}
 use Rattle.rail_place.proofs.player.play_on.Goals as goal
 

@@ -1,5 +1,5 @@
 use Rattle.std.proofs.Common.{◌≡◌, ◌<◌, length, true, is_some, sym, ap, ◌∙◌, arith}
-use Rattle.rail_plan.specs.Planning.{bare, fault_of_train}
+use Rattle.rail_plan.specs.PlanFaults.{bare, fault_of_train}
 use Rattle.rail_plan.proofs.Firsts.{first_found}
 use Rattle.rail_plan.proofs.faults.first_fault.Goals as goal
 

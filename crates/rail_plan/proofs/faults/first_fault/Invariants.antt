@@ -1,5 +1,5 @@
 use Rattle.std.proofs.Common.{◌≡◌, None}
-use Rattle.rail_plan.specs.Planning.{bare, first_answer, fault_of_train}
+use Rattle.rail_plan.specs.PlanFaults.{bare, first_answer, fault_of_train}
 use Rattle.rail_plan.proofs.faults.first_fault.Given as goal
 
 abbrev pub invariant-loop-index : goal.invariant-loop-index

@@ -1,7 +1,7 @@
 use Rattle.std.proofs.Common.{◌≡◌, ◌<◌, ◌-◌, true, length, is_some, sym, ap, ◌∙◌, arith}
 use Rattle.rail_base.specs.declared.plant.TrainRow.{TrainRow}
 use Rattle.rail_rules.specs.Plant.{moves}
-use Rattle.rail_plan.specs.Planning.{bare, fault_at}
+use Rattle.rail_plan.specs.PlanFaults.{bare, fault_at}
 use Rattle.rail_plan.proofs.Firsts.{first_found}
 use Rattle.rail_plan.proofs.faults.train_fault.Goals as goal
 

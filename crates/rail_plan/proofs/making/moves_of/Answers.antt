@@ -5,8 +5,8 @@ use Rattle.rail_base.specs.declared.plant.TrainRow.{TrainRow}
 use Rattle.rail_rules.specs.Numbers.{is_in}
 use Rattle.rail_rules.specs.Moves.{is_valid}
 use Rattle.rail_rules.specs.Plant.{train}
-use Rattle.rail_place.specs.Tables.{moves_in}
-use Rattle.rail_plan.specs.Planning.{bare, standing_of}
+use Rattle.rail_place.specs.Tables.{moves_in, lists_of}
+use Rattle.rail_plan.specs.PlanFaults.{bare, standing_of}
 use Rattle.rail_plan.proofs.Spelled.{needs, spelled, spelled_row, moves_spelled}
 use Rattle.rail_plan.proofs.making.moves_of.Goals as goal
 
@@ -36,8 +36,8 @@ push_train-requires-clause-valid c =
     let row : TrainRow = train (bare tables) t in
     let need : c.in_ok-need.need.items ≡ map needs row.moves = c.in_ok-need.ensures ∙ ap (λ (r : TrainRow). map needs r.moves) c.train_row.ensures.row in
     let stand : c.in_ok-stand.stand.items ≡ map (standing_of (bare tables) row.kind.length) row.moves = c.in_ok-stand.ensures in
-    let P : List (List ℕ) → Type 0 = λ n. is_valid (moves_in ((n, c.in_ok-stand.stand.items) ∷ [])) ≡ true in
-    let Q : List (List ℕ) → Type 0 = λ n. is_valid (moves_in ((map needs row.moves, n) ∷ [])) ≡ true in
+    let P : List (List ℕ) → Type 0 = λ n. is_valid (moves_in (lists_of n c.in_ok-stand.stand.items ∷ [])) ≡ true in
+    let Q : List (List ℕ) → Type 0 = λ n. is_valid (moves_in (lists_of (map needs row.moves) n ∷ [])) ≡ true in
     subst P (sym need) (subst Q (sym stand) (spelled_row tables c.requires.tables c.requires.faultless t within).valid)
 
 pub returns : goal.returns

@@ -1,5 +1,5 @@
 use Rattle.std.proofs.Common.{◌≡◌, map, take}
-use Rattle.rail_plan.specs.Planning.{bare}
+use Rattle.rail_plan.specs.PlanFaults.{bare}
 use Rattle.rail_plan.proofs.Spelled.{spelled}
 use Rattle.rail_plan.proofs.making.moves_of.Given as goal
 

@@ -1,10 +1,10 @@
 use Rattle.std.proofs.Common.{◌≡◌, ◌<◌, length, arith, ap, ◌∙◌, Bool}
 use Rattle.rail_base.specs.declared.plant.MoveRow.{MoveRow}
 use Rattle.rail_base.specs.declared.plant.TrainRow.{TrainRow}
-use Rattle.rail_rules.specs.Accepted.{is_fine_move}
+use Rattle.rail_rules.specs.Accepted.{is_move_in_range}
 use Rattle.rail_rules.specs.Plant.{no_move, move_row, moves, train}
-use Rattle.rail_plan.specs.Planning.{bare}
-use Rattle.rail_plan.proofs.Fine.{fine_row, item_read}
+use Rattle.rail_plan.specs.PlanFaults.{bare}
+use Rattle.rail_plan.proofs.Fine.{row_in_range, item_read}
 use Rattle.rail_plan.proofs.making.stands_of.Goals as goal
 
 pub standing-stand-requires-clause-fine : goal.standing-stand-requires-clause-fine
@@ -14,5 +14,5 @@ standing-stand-requires-clause-fine c =
     let items : c.as_slice-row-items.result.now ≡ (train (bare tables) c.args.number).moves = c.as_slice-row-items.ensures ∙ ap (λ (r : TrainRow). r.moves) c.train_row-train.ensures.row in
     let within : i < moves (bare tables) c.args.number = omega (arith, ap length items, c.loop-row-test.true) in
     let row : c.row-item.result ≡ move_row (bare tables) c.args.number i = item_read c.as_slice-row-items.result.now (train (bare tables) c.args.number).moves i i c.row-item.result no_move items (omega arith) within c.row-item.is in
-    let test : MoveRow → Bool = is_fine_move (length tables.sections) in
-    ap test row ∙ (fine_row tables c.requires.tables c.args.number c.requires.train).each_move i within
+    let test : MoveRow → Bool = is_move_in_range (length tables.sections) in
+    ap test row ∙ (row_in_range tables c.requires.tables c.args.number c.requires.train).each_move i within

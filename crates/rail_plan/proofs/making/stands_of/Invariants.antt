@@ -1,5 +1,5 @@
 use Rattle.std.proofs.Common.{◌≡◌, map, take}
-use Rattle.rail_plan.specs.Planning.{bare, standing_of}
+use Rattle.rail_plan.specs.PlanFaults.{bare, standing_of}
 use Rattle.rail_plan.proofs.making.stands_of.Given as goal
 
 abbrev pub invariant-loop-row : goal.invariant-loop-row

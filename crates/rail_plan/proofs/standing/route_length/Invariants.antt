@@ -1,5 +1,5 @@
 use Rattle.std.proofs.Common.{◌≡◌, ◌+◌, drop}
-use Rattle.rail_plan.specs.Planning.{bare, metres_of}
+use Rattle.rail_plan.specs.PlanFaults.{bare, metres_of}
 use Rattle.rail_plan.proofs.standing.route_length.Given as goal
 
 abbrev pub invariant-loop-section : goal.invariant-loop-section

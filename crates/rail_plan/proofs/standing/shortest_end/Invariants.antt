@@ -1,6 +1,6 @@
 use Rattle.std.proofs.Common.{◌≡◌, drop}
 use Rattle.rail_rules.specs.Plant.{shortest_end}
-use Rattle.rail_plan.specs.Planning.{bare, metres_of}
+use Rattle.rail_plan.specs.PlanFaults.{bare, metres_of}
 use Rattle.rail_plan.proofs.standing.shortest_end.Given as goal
 
 abbrev pub invariant-loop-start : goal.invariant-loop-start

@@ -2,9 +2,9 @@ use Rattle.std.proofs.Common.{◌≡◌, None, subst}
 use Rattle.std.specs.Result.{OnOk, IfErr}
 use Rattle.toml.specs.View.{view}
 use Rattle.rail_track.specs.declared.section.Section.{Section}
-use Rattle.rail_track.specs.Accepting.{section_tests}
-use Rattle.rail_routes.specs.Extending.{is_closed_by}
-use Rattle.rail_track.specs.Refusing.{first_failing, Answers}
+use Rattle.rail_track.specs.SectionRules.{section_tests}
+use Rattle.rail_routes.specs.SectionRules.{is_closed_by}
+use Rattle.rail_track.specs.FirstRefusals.{first_failing, Answers}
 use Rattle.rail_scene.specs.declared.keys.TheConstants.{SECTION_KEYS}
 use Rattle.rail_scene.specs.Entries.{section_of}
 use Rattle.rail_scene.specs.Values.{value_tests}

@@ -2,8 +2,8 @@ use Rattle.std.proofs.Common.{◌≡◌, None, subst}
 use Rattle.std.specs.Result.{OnOk, IfErr}
 use Rattle.toml.specs.View.{view}
 use Rattle.rail_routes.specs.declared.items.Turn.{Turn}
-use Rattle.rail_routes.specs.Turning.{turn_tests}
-use Rattle.rail_track.specs.Refusing.{first_failing, Answers}
+use Rattle.rail_routes.specs.TurnRules.{turn_tests}
+use Rattle.rail_track.specs.FirstRefusals.{first_failing, Answers}
 use Rattle.rail_scene.specs.declared.keys.TheConstants.{TURN_KEYS}
 use Rattle.rail_scene.specs.Entries.{turn_of}
 use Rattle.rail_scene.specs.Values.{value_tests}

@@ -1,7 +1,7 @@
 use Rattle.std.proofs.Common.{◌≡◌, ℕ, true, ◌&&◌, List, length, nat_le, le-leb, ap, ◌∙◌}
 use Rattle.toml.specs.View.{view}
 use Rattle.rail_base.specs.declared.limits.TheConstants.{INPUT_TIME, ITINERARY_ROUTES}
-use Rattle.rail_track.specs.Accepting.{is_within}
+use Rattle.rail_track.specs.SectionRules.{is_within}
 use Rattle.rail_scene.specs.declared.keys.TheConstants.{ENTRY}
 use Rattle.rail_scene.specs.Fields.{text_at}
 use Rattle.rail_scene.proofs.Times.{time_within}

@@ -1,8 +1,8 @@
 use Rattle.std.proofs.Common.{sym}
 use Rattle.toml.specs.View.{view}
 use Rattle.rail_base.specs.declared.refusals.Part.TheVariants.{Root}
-use Rattle.rail_track.specs.Refusing.{first_failing}
-use Rattle.rail_track.proofs.Refusals.{answers_first}
+use Rattle.rail_track.specs.FirstRefusals.{first_failing}
+use Rattle.rail_track.proofs.CallerLemmas.{answers_first}
 use Rattle.rail_scene.specs.declared.keys.TheConstants.{ROOT_KEYS, LIST_PARTS}
 use Rattle.rail_scene.specs.Forms.{form_tests}
 use Rattle.rail_scene.specs.Order.{located, forms_of, scene_forms}

@@ -1,9 +1,9 @@
 use Rattle.std.proofs.Common.{◌≡◌, None, subst}
 use Rattle.std.specs.Result.{OnOk, IfOk, IfErr}
 use Rattle.toml.specs.Data.{Data}
-use Rattle.rail_track.specs.Refusing.{first_failing}
+use Rattle.rail_track.specs.FirstRefusals.{first_failing}
 use Rattle.rail_scene.specs.declared.scene.Scene.{Scene}
-use Rattle.rail_scene.specs.Spelling.{spelled_scene, scene_of}
+use Rattle.rail_scene.specs.SpelledScenes.{spelled_scene, scene_of}
 use Rattle.rail_scene.specs.Order.{scene_forms, scene_values, AnswersScene}
 use Rattle.rail_scene.proofs.Whole.{at_toml, at_forms, read_result}
 use Rattle.rail_scene.proofs.reading.read_scene.Goals as goal

@@ -1,6 +1,6 @@
 use Rattle.std.proofs.Common.{ℕ, List, Bool, ◌||◌, ◌+◌, sym, ◌∙◌}
 use Rattle.rail_base.specs.declared.refusals.Reason.TheVariants.{JointCrowded}
-use Rattle.rail_track.specs.Accepting.{stands_twice}
+use Rattle.rail_track.specs.SectionRules.{stands_twice}
 use Rattle.rail_track.proofs.Refusals.{refused_at, passed_at}
 use Rattle.rail_track.proofs.accepting.joint_refusal.Goals as goal
 

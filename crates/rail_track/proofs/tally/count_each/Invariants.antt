@@ -1,6 +1,6 @@
 use Rattle.std.proofs.Common.{◌≡◌, ◌+◌, ◌≤◌, take, map, count_by}
 use Rattle.indexmap.specs.IndexMap.{spare}
-use Rattle.rail_track.specs.Counting.{times}
+use Rattle.rail_track.specs.KeyCounts.{times}
 use Rattle.rail_track.proofs.tally.count_each.Given as goal
 
 abbrev pub invariant-loop-item : goal.invariant-loop-item

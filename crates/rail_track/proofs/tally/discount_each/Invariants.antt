@@ -1,5 +1,5 @@
 use Rattle.std.proofs.Common.{◌≡◌, ◌+◌, take, map, count_by}
-use Rattle.rail_track.specs.Counting.{times}
+use Rattle.rail_track.specs.KeyCounts.{times}
 use Rattle.rail_track.proofs.tally.discount_each.Given as goal
 
 abbrev pub invariant-loop-item : goal.invariant-loop-item

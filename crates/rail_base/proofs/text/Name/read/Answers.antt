@@ -1,6 +1,6 @@
 use Rattle.std.proofs.Common.{◌≡◌, ◌∙◌, Some, sym, ap, true}
 use Rattle.rail_base.proofs.Storing.{stored_name, taken_name}
-use Rattle.rail_base.specs.Naming.{is_name}
+use Rattle.rail_base.specs.NameForms.{is_name}
 use Rattle.rail_base.proofs.text.Name.read.Goals as goal
 
 -- what is stored is a name, since the test of the bytes passed

@@ -3,7 +3,7 @@ use Rattle.std.proofs.lemmas.Bool.{true≢false}
 use Rattle.rail_rules.specs.Moves.{Moves}
 use Rattle.rail_rules.specs.Places.{completes}
 use Rattle.rail_place.specs.Tables.{moves_in}
-use Rattle.rail_consequence.specs.Working.{IsListing}
+use Rattle.rail_consequence.specs.Workspace.{IsListing}
 use Rattle.rail_consequence.proofs.Listing.{listed_at}
 use Rattle.rail_consequence.proofs.Played.{played_completes}
 use Rattle.rail_consequence.proofs.Walks.{finds_at}

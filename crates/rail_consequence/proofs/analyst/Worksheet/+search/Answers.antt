@@ -5,10 +5,10 @@ use Rattle.rail_rules.specs.Places.{place_of, is_inside, is_legal, nobody_inside
 use Rattle.rail_rules.specs.Analysis.{Finds, is_leg, moves_left}
 use Rattle.rail_place.specs.Tables.{moves_in}
 use Rattle.rail_rules.specs.Places.{is_valid_state}
-use Rattle.rail_rules.proofs.StatesKept.{state_parts}
+use Rattle.rail_rules.proofs.CallerLemmas.{state_parts}
 use Rattle.rail_base.specs.declared.limits.TheConstants.{TRAINS}
-use Rattle.rail_consequence.specs.Stopping.{IsSettled, stop_at}
-use Rattle.rail_consequence.specs.Working.{Work}
+use Rattle.rail_consequence.specs.Stops.{IsSettled, stop_at}
+use Rattle.rail_consequence.specs.Workspace.{Work}
 use Rattle.rail_consequence.proofs.Counts.{in_at, in_take_all}
 use Rattle.rail_consequence.proofs.Legs.{goes_parts, inside_listed}
 use Rattle.rail_consequence.proofs.Listing.{listed_at, listed_on}

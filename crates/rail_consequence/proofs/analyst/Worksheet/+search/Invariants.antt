@@ -4,8 +4,8 @@ use Rattle.rail_rules.specs.Places.{place_of}
 use Rattle.rail_rules.specs.Analysis.{Finds, is_leg, moves_left}
 use Rattle.rail_place.specs.Tables.{moves_in}
 use Rattle.rail_base.specs.declared.limits.TheConstants.{TRAINS}
-use Rattle.rail_consequence.specs.Stopping.{stop_at}
-use Rattle.rail_consequence.specs.Working.{IsBack, IsReady}
+use Rattle.rail_consequence.specs.Stops.{stop_at}
+use Rattle.rail_consequence.specs.Workspace.{IsBack, IsReady}
 use Rattle.rail_consequence.proofs.Walks.{IsWalk}
 use Rattle.rail_consequence.proofs.analyst.Worksheet.+search.Given as goal
 

@@ -2,8 +2,8 @@ use Rattle.std.proofs.Common.{◌≡◌, ◌≢◌, ◌↔◌, ◌<◌, ℕ}
 use Rattle.rail_rules.specs.Analysis.{Finds, moves_left}
 use Rattle.rail_place.specs.Tables.{moves_in}
 use Rattle.rail_base.specs.declared.limits.TheConstants.{TRAINS}
-use Rattle.rail_consequence.specs.Stopping.{IsSettled, stop_at}
-use Rattle.rail_consequence.specs.Working.{GoesOn, IsReady}
+use Rattle.rail_consequence.specs.Stops.{IsSettled, stop_at}
+use Rattle.rail_consequence.specs.Workspace.{GoesOn, IsReady}
 use Rattle.rail_consequence.proofs.analyst.Worksheet.close.Given as goal
 
 abbrev pub invariant-loop : goal.invariant-loop

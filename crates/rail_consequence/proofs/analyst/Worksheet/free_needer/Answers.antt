@@ -1,8 +1,8 @@
 use Rattle.std.proofs.Common.{sym, ap, ◌∙◌, ⊎_elim}
 use Rattle.std.proofs.lemmas.Bool.{cases_eq}
-use Rattle.rail_consequence.specs.Needing.{own_of}
-use Rattle.rail_consequence.specs.Stopping.{stop_at}
-use Rattle.rail_consequence.specs.Working.{Work}
+use Rattle.rail_consequence.specs.Needs.{own_of}
+use Rattle.rail_consequence.specs.Stops.{stop_at}
+use Rattle.rail_consequence.specs.Workspace.{Work}
 use Rattle.rail_consequence.proofs.Counts.{in_at, in_take_earlier, in_take_all}
 use Rattle.rail_consequence.proofs.analyst.Worksheet.free_needer.Goals as goal
 

@@ -1,8 +1,8 @@
 use Rattle.std.proofs.Common.{◌≡◌, ◌≢◌, ℕ, ◌<◌, true, take, Some}
 use Rattle.rail_base.specs.declared.limits.TheConstants.{TRAINS}
 use Rattle.rail_rules.specs.Numbers.{is_in}
-use Rattle.rail_consequence.specs.Needing.{own_of}
-use Rattle.rail_consequence.specs.Stopping.{stop_at}
+use Rattle.rail_consequence.specs.Needs.{own_of}
+use Rattle.rail_consequence.specs.Stops.{stop_at}
 use Rattle.rail_consequence.proofs.analyst.Worksheet.free_needer.Given as goal
 
 abbrev pub invariant-loop-other : goal.invariant-loop-other

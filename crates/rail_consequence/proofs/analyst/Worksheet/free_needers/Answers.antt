@@ -1,6 +1,6 @@
 use Rattle.std.proofs.Common.{sym, ap, ◌∙◌, ⊎_elim}
-use Rattle.rail_consequence.specs.Needing.{own_of, trains_of}
-use Rattle.rail_consequence.specs.Working.{Work}
+use Rattle.rail_consequence.specs.Needs.{own_of, trains_of}
+use Rattle.rail_consequence.specs.Workspace.{Work}
 use Rattle.rail_consequence.proofs.Counts.{in_at, in_take_more, in_take_all}
 use Rattle.rail_consequence.proofs.analyst.Worksheet.free_needers.Goals as goal
 

@@ -1,7 +1,7 @@
 use Rattle.std.proofs.Common.{◌≡◌, ℕ, ◌≤◌, List, length, take, drop}
 use Rattle.rail_place.specs.Tables.{moves_in}
-use Rattle.rail_place.specs.Playing.{IsPlayed}
-use Rattle.rail_consequence.specs.Working.{IsReady}
+use Rattle.rail_place.specs.Plays.{IsPlayed}
+use Rattle.rail_consequence.specs.Workspace.{IsReady}
 use Rattle.rail_consequence.proofs.analyst.Worksheet.go_back.Given as goal
 
 abbrev pub invariant-loop-self : goal.invariant-loop-self

@@ -4,7 +4,7 @@ use Rattle.rail_rules.specs.Moves.{Moves}
 use Rattle.rail_rules.specs.Places.{place_of, is_inside, is_legal}
 use Rattle.rail_rules.specs.Analysis.{is_leg}
 use Rattle.rail_place.specs.Tables.{moves_in}
-use Rattle.rail_consequence.specs.Working.{Work}
+use Rattle.rail_consequence.specs.Workspace.{Work}
 use Rattle.rail_consequence.proofs.Legs.{goes_parts, inside_from, inside_parts}
 use Rattle.rail_consequence.proofs.Walks.{IsWalk, walk_next}
 use Rattle.rail_consequence.proofs.analyst.Worksheet.go_to.Goals as goal

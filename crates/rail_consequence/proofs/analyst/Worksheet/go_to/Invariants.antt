@@ -1,7 +1,7 @@
 use Rattle.std.proofs.Common.{◌≡◌, ◌-◌, ◌≤◌}
 use Rattle.rail_rules.specs.Places.{place_of}
 use Rattle.rail_place.specs.Tables.{moves_in}
-use Rattle.rail_consequence.specs.Working.{IsReady}
+use Rattle.rail_consequence.specs.Workspace.{IsReady}
 use Rattle.rail_consequence.proofs.Walks.{IsWalk}
 use Rattle.rail_consequence.proofs.analyst.Worksheet.go_to.Given as goal
 

@@ -3,7 +3,7 @@ use Rattle.std.proofs.lemmas.Bool.{cases_Bool, false≢true}
 use Rattle.rail_rules.specs.Moves.{Moves}
 use Rattle.rail_rules.specs.Places.{is_inside}
 use Rattle.rail_place.specs.Tables.{moves_in}
-use Rattle.rail_consequence.specs.Working.{Work}
+use Rattle.rail_consequence.specs.Workspace.{Work}
 use Rattle.rail_consequence.proofs.Counts.{in_at, in_take_more, in_take_all}
 use Rattle.rail_consequence.proofs.Legs.{nobody_at, nobody_from}
 use Rattle.rail_consequence.proofs.analyst.Worksheet.is_done.Goals as goal

@@ -1,9 +1,9 @@
 use Rattle.std.proofs.Common.{◌<◌, length, ap, ◌∙◌, arith}
 use Rattle.rail_rules.specs.Moves.{Moves}
 use Rattle.rail_rules.specs.Analysis.{is_safe}
-use Rattle.rail_rules.proofs.StatesKept.{state_parts}
+use Rattle.rail_rules.proofs.CallerLemmas.{state_parts}
 use Rattle.rail_place.specs.Tables.{moves_in}
-use Rattle.rail_consequence.specs.Working.{Work}
+use Rattle.rail_consequence.specs.Workspace.{Work}
 use Rattle.rail_consequence.proofs.Played.{ready_as}
 use Rattle.rail_consequence.proofs.Clear.{own_clear, safe_at}
 use Rattle.rail_consequence.proofs.analyst.Worksheet.is_safe_at.Goals as goal

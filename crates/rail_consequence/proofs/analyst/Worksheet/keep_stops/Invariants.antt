@@ -1,7 +1,7 @@
 use Rattle.std.proofs.Common.{◌≡◌, ◌≢◌, ℕ, ◌<◌, true, take, Some, None, get_or}
 use Rattle.rail_base.specs.declared.limits.TheConstants.{TRAINS}
 use Rattle.rail_rules.specs.Numbers.{is_in}
-use Rattle.rail_consequence.specs.Stopping.{stop_at}
+use Rattle.rail_consequence.specs.Stops.{stop_at}
 use Rattle.rail_consequence.proofs.analyst.Worksheet.keep_stops.Given as goal
 
 abbrev pub invariant-loop-other : goal.invariant-loop-other

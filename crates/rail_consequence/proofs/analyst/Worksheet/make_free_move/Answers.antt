@@ -4,7 +4,7 @@ use Rattle.rail_rules.specs.Moves.{Moves}
 use Rattle.rail_rules.specs.Places.{place_of, is_valid_state}
 use Rattle.rail_rules.specs.Analysis.{is_leg}
 use Rattle.rail_place.specs.Tables.{moves_in}
-use Rattle.rail_consequence.specs.Stopping.{IsSettled, stop_at}
+use Rattle.rail_consequence.specs.Stops.{IsSettled, stop_at}
 use Rattle.rail_consequence.proofs.Legs.{inside_listed}
 use Rattle.rail_consequence.proofs.Played.{goes_step}
 use Rattle.rail_consequence.proofs.Listing.{listed_on}

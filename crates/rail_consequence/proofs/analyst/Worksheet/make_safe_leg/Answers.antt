@@ -5,10 +5,10 @@ use Rattle.std.proofs.lemmas.Option.{same_Some}
 use Rattle.rail_rules.specs.Moves.{Moves}
 use Rattle.rail_rules.specs.Places.{place_of, is_inside, is_valid_state}
 use Rattle.rail_rules.specs.Analysis.{Leg, is_leg, moves_left}
-use Rattle.rail_rules.proofs.StatesKept.{state_parts}
+use Rattle.rail_rules.proofs.CallerLemmas.{state_parts}
 use Rattle.rail_place.specs.Tables.{moves_in}
-use Rattle.rail_consequence.specs.Stopping.{IsSettled, IsStopped, stop_at}
-use Rattle.rail_consequence.specs.Working.{Work}
+use Rattle.rail_consequence.specs.Stops.{IsSettled, IsStopped, stop_at}
+use Rattle.rail_consequence.specs.Workspace.{Work}
 use Rattle.rail_consequence.proofs.Legs.{goes_parts, inside_listed}
 use Rattle.rail_consequence.proofs.Listing.{listed_on}
 use Rattle.rail_consequence.proofs.Played.{fewer_at}

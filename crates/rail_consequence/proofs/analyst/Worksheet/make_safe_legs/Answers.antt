@@ -4,7 +4,7 @@ use Rattle.rail_rules.specs.Moves.{Moves}
 use Rattle.rail_rules.specs.Numbers.{is_in}
 use Rattle.rail_rules.specs.Analysis.{Leg, is_leg, is_safe}
 use Rattle.rail_place.specs.Tables.{moves_in}
-use Rattle.rail_consequence.specs.Working.{Work, IsBack}
+use Rattle.rail_consequence.specs.Workspace.{Work, IsBack}
 use Rattle.rail_consequence.proofs.Counts.{in_at, in_take_more, in_take_all}
 use Rattle.rail_consequence.proofs.Legs.{goes_parts}
 use Rattle.rail_consequence.proofs.Listing.{listed_on}

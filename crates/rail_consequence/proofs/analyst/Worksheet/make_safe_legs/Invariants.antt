@@ -3,8 +3,8 @@ use Rattle.rail_rules.specs.Numbers.{is_in}
 use Rattle.rail_rules.specs.Analysis.{Finds, is_leg, is_safe, moves_left}
 use Rattle.rail_place.specs.Tables.{moves_in}
 use Rattle.rail_base.specs.declared.limits.TheConstants.{TRAINS}
-use Rattle.rail_consequence.specs.Stopping.{IsSettled, stop_at}
-use Rattle.rail_consequence.specs.Working.{GoesOn, IsReady}
+use Rattle.rail_consequence.specs.Stops.{IsSettled, stop_at}
+use Rattle.rail_consequence.specs.Workspace.{GoesOn, IsReady}
 use Rattle.rail_consequence.proofs.analyst.Worksheet.make_safe_legs.Given as goal
 
 abbrev pub invariant-loop-train : goal.invariant-loop-train

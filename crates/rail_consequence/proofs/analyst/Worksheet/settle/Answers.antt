@@ -4,11 +4,11 @@ use Rattle.std.proofs.lemmas.List.{get_or-set_same, get_or-set_other, set-set, s
 use Rattle.rail_rules.specs.Moves.{Moves}
 use Rattle.rail_rules.specs.Numbers.{is_in}
 use Rattle.rail_rules.specs.Places.{place_of, is_inside}
-use Rattle.rail_rules.proofs.StatesKept.{state_parts}
+use Rattle.rail_rules.proofs.CallerLemmas.{state_parts}
 use Rattle.rail_place.specs.Tables.{moves_in}
-use Rattle.rail_consequence.specs.Needing.{own_of, trains_of}
-use Rattle.rail_consequence.specs.Stopping.{stop_at, IsStopped}
-use Rattle.rail_consequence.specs.Working.{Work}
+use Rattle.rail_consequence.specs.Needs.{own_of, trains_of}
+use Rattle.rail_consequence.specs.Stops.{stop_at, IsStopped}
+use Rattle.rail_consequence.specs.Workspace.{Work}
 use Rattle.rail_consequence.proofs.Legs.{inside_same, inside_listed}
 use Rattle.rail_consequence.proofs.Listing.{listed_few}
 use Rattle.rail_consequence.proofs.Stopping.{settled_one}
@@ -38,7 +38,7 @@ loop-made-preserved c =
           (λ earlier. inv.freed i x u y from earlier needed own one lt (c.free_needers.ensures.fewer u y (few u lt) stop))
           (λ ge.
           let last : i ≡ m = omega arith in
-          let in_need : is_in x c.need.result.now ≡ true = ap (is_in x) (c.need.ensures.sections ∙ ap (plan.need t) (back ∙ sym last)) ∙ needed in
+          let in_need : is_in x c.need.result.now ≡ true = ap (is_in x) (c.need.ensures.sections ∙ ap (plan.claim t) (back ∙ sym last)) ∙ needed in
           let own_now = ap (λ (w : Work). own_of w.needs t x) inv.rest ∙ own in
           let one_now = ap (λ (w : Work). trains_of w.needs x) inv.rest ∙ one in
           sym (ap (λ (w : Work). own_of w.needs u x) inv.rest) ∙ c.free_needers.ensures.freed x u y in_need own_now one_now lt stop)

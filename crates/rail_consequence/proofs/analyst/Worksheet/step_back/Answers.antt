@@ -1,8 +1,8 @@
 use Rattle.std.proofs.Common.{length, drop, refl, sym, ap, subst, arith}
-use Rattle.rail_rules.proofs.StatesKept.{state_parts}
+use Rattle.rail_rules.proofs.CallerLemmas.{state_parts}
 use Rattle.rail_place.specs.Tables.{moves_in}
-use Rattle.rail_place.specs.Playing.{IsPlayed}
-use Rattle.rail_consequence.specs.Working.{Work}
+use Rattle.rail_place.specs.Plays.{IsPlayed}
+use Rattle.rail_consequence.specs.Workspace.{Work}
 use Rattle.rail_consequence.proofs.Played.{ready_as}
 use Rattle.rail_consequence.proofs.Walks.{within_at}
 use Rattle.rail_consequence.proofs.Backward.{last_move, needed_back, room_back, ready_back, positions_back}

@@ -1,5 +1,5 @@
 use Rattle.std.proofs.Common.{ℕ, take, arith}
-use Rattle.rail_consequence.specs.Needing.{times}
+use Rattle.rail_consequence.specs.Needs.{times}
 use Rattle.rail_consequence.proofs.Counts.{in_at, own_more, times_within, trains_more}
 use Rattle.rail_consequence.proofs.needs.Needs.add.Goals as goal
 

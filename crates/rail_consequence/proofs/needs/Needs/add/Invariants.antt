@@ -1,5 +1,5 @@
 use Rattle.std.proofs.Common.{take}
-use Rattle.rail_consequence.specs.Needing.{IsMore, times}
+use Rattle.rail_consequence.specs.Needs.{IsMore, times}
 use Rattle.rail_consequence.proofs.needs.Needs.add.Given as goal
 
 abbrev pub invariant-loop-section : goal.invariant-loop-section

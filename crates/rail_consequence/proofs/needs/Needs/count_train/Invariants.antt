@@ -1,5 +1,5 @@
 use Rattle.rail_place.specs.Tables.{moves_in}
-use Rattle.rail_consequence.specs.Needing.{IsMore, needs_between}
+use Rattle.rail_consequence.specs.Needs.{IsMore, needs_between}
 use Rattle.rail_consequence.proofs.needs.Needs.count_train.Given as goal
 
 abbrev pub invariant-loop-made : goal.invariant-loop-made

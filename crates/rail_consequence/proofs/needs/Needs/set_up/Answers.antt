@@ -2,9 +2,9 @@ use Rattle.std.proofs.Common.{ltb, arith}
 use Rattle.std.proofs.lemmas.Bool.{cond-false, le-ltb}
 use Rattle.rail_rules.specs.Moves.{Moves}
 use Rattle.rail_rules.specs.Places.{place_of}
-use Rattle.rail_rules.proofs.StatesKept.{state_parts}
+use Rattle.rail_rules.proofs.CallerLemmas.{state_parts}
 use Rattle.rail_place.specs.Tables.{moves_in}
-use Rattle.rail_consequence.specs.Needing.{needs_left}
+use Rattle.rail_consequence.specs.Needs.{needs_left}
 use Rattle.rail_consequence.proofs.Counts.{needs_few, trains_few}
 use Rattle.rail_consequence.proofs.needs.Needs.set_up.Goals as goal
 

@@ -3,7 +3,7 @@ use Rattle.rail_base.specs.declared.limits.TheConstants.{SECTIONS}
 use Rattle.rail_rules.specs.Numbers.{sum_below}
 use Rattle.rail_rules.specs.Places.{place_of}
 use Rattle.rail_place.specs.Tables.{moves_in}
-use Rattle.rail_consequence.specs.Needing.{own_of, trains_of, present, needs_left}
+use Rattle.rail_consequence.specs.Needs.{own_of, trains_of, present, needs_left}
 use Rattle.rail_consequence.proofs.needs.Needs.set_up.Given as goal
 
 abbrev pub invariant-loop-number : goal.invariant-loop-number

@@ -1,6 +1,6 @@
 use Rattle.std.proofs.Common.{ap, ◌∙◌, ⊎_elim}
 use Rattle.std.proofs.lemmas.Bool.{cases_eq}
-use Rattle.rail_consequence.specs.Stopping.{stop_at}
+use Rattle.rail_consequence.specs.Stops.{stop_at}
 use Rattle.rail_consequence.proofs.Counts.{in_at, in_take_earlier, in_take_all}
 use Rattle.rail_consequence.proofs.stops.Stops.clear.Goals as goal
 

@@ -4,16 +4,16 @@ use Rattle.std.proofs.lemmas.List.Elements.{All-same}
 use Rattle.rail_rules.specs.Moves.{Moves}
 use Rattle.rail_rules.specs.Numbers.{sum_below}
 use Rattle.rail_rules.specs.Places.{place_of, is_legal, after, completes}
-use Rattle.rail_place.specs.Playing.{plays}
-use Rattle.rail_place.specs.Tables.{moves_in}
+use Rattle.rail_place.specs.Plays.{plays}
+use Rattle.rail_place.specs.Tables.{moves_in, MoveLists}
 use Rattle.rail_place.specs.Made.{State, IsMadeFor}
-use Rattle.rail_place.proofs.Making.{legal_ahead, made_long}
-use Rattle.rail_list.specs.Keeping.{Kept}
+use Rattle.rail_place.proofs.CallerLemmas.{legal_ahead, made_long}
+use Rattle.rail_list.specs.KeptLists.{Kept}
 use Rattle.rail_list.proofs.Appending.{appended_completes, completing_fits, completing_listed}
 use Rattle.rail_list.proofs.kept.KeptList.append.Goals as goal
 
 -- the old list plays after the train's first move exactly where the appended list completes
-exact : (table : List (List (List ℕ) × List (List ℕ))) (now : State) (list read : List ℕ) (t : ℕ) → IsMadeFor table now → t < length table → is_legal (moves_in table) now.positions t ≡ true → place_of now.positions t ≡ 0 → completes (moves_in table) now.positions list ≡ true → read ≡ list → plays (moves_in table) (after now.positions t) read ≡ completes (moves_in table) (after now.positions t) (list ++ replicate ((moves_in table).moves t - 1) t)
+exact : (table : List MoveLists) (now : State) (list read : List ℕ) (t : ℕ) → IsMadeFor table now → t < length table → is_legal (moves_in table) now.positions t ≡ true → place_of now.positions t ≡ 0 → completes (moves_in table) now.positions list ≡ true → read ≡ list → plays (moves_in table) (after now.positions t) read ≡ completes (moves_in table) (after now.positions t) (list ++ replicate ((moves_in table).moves t - 1) t)
 exact table now list read t made lt legal out done is =
     let plan : Moves = moves_in table in
     let s = now.positions in

@@ -6,10 +6,10 @@ use Rattle.std.proofs.lemmas.List.Elements.{All-take, All-same}
 use Rattle.rail_rules.specs.Fronts.{without_first}
 use Rattle.rail_rules.specs.Moves.{Moves}
 use Rattle.rail_rules.specs.Places.{after}
-use Rattle.rail_place.specs.Playing.{plays}
+use Rattle.rail_place.specs.Plays.{plays}
 use Rattle.rail_place.specs.Tables.{moves_in}
-use Rattle.rail_place.proofs.Making.{made_long}
-use Rattle.rail_list.specs.Keeping.{Kept, before_first}
+use Rattle.rail_place.proofs.CallerLemmas.{made_long}
+use Rattle.rail_list.specs.KeptLists.{Kept, before_first}
 use Rattle.rail_list.proofs.Pulling.{first_there, front_is, pulled_completes, removed_is}
 use Rattle.rail_list.proofs.Appending.{completing_listed}
 use Rattle.rail_list.proofs.kept.KeptList.pull.Goals as goal

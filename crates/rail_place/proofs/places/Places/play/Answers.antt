@@ -2,7 +2,7 @@ use Rattle.std.proofs.Common.{◌≡◌, sym, ◌∙◌, arith}
 use Rattle.std.proofs.lemmas.Grind.{common_steps}
 use Rattle.rail_rules.specs.Moves.{Moves}
 use Rattle.rail_place.specs.Tables.{moves_in}
-use Rattle.rail_place.specs.Barring.{outcome}
+use Rattle.rail_place.specs.Bars.{outcome}
 use Rattle.rail_place.proofs.Playing.{completes_from, completes_to}
 use Rattle.rail_place.proofs.places.Places.play.Goals as goal
 use Rattle.rail_place.proofs.places.Places.play.Goals.{in-Some, in-None}

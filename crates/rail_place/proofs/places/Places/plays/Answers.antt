@@ -6,8 +6,8 @@ use Rattle.rail_rules.specs.Places.{is_inside}
 use Rattle.rail_place.specs.Tables.{moves_in}
 use Rattle.rail_place.specs.declared.barring.Barred.{Barred}
 use Rattle.rail_place.specs.declared.barring.Played.TheVariants.{Illegal}
-use Rattle.rail_place.specs.Barring.{ending, outcome}
-use Rattle.rail_place.specs.Playing.{plays}
+use Rattle.rail_place.specs.Bars.{ending, outcome}
+use Rattle.rail_place.specs.Plays.{plays}
 use Rattle.rail_place.proofs.Playing.{plays_to_end, plays_to_bar}
 use Rattle.rail_place.proofs.places.Places.plays.Goals as goal
 

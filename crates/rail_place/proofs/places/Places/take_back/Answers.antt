@@ -2,7 +2,7 @@ use Rattle.std.proofs.Common.{◌≡◌, ℕ, ◌<◌, ◌∷◌, [], ◌++◌, 
 use Rattle.std.proofs.lemmas.List.Elements.{All-pop}
 use Rattle.rail_rules.specs.Moves.{Moves}
 use Rattle.rail_place.specs.Tables.{moves_in}
-use Rattle.rail_place.specs.Playing.{IsPlayed}
+use Rattle.rail_place.specs.Plays.{IsPlayed}
 use Rattle.rail_place.proofs.Playing.{way_last, step_back}
 use Rattle.rail_place.proofs.places.Places.take_back.Goals as goal
 

@@ -1,5 +1,5 @@
 use Rattle.std.proofs.Common.{◌≡◌, ◌-◌}
-use Rattle.rail_plan.specs.Calling.{departure_within}
+use Rattle.rail_plan.specs.CallTables.{departure_within}
 use Rattle.rail_plan.proofs.calls.Calls.first_departure.Given as goal
 
 abbrev pub invariant-loop-place : goal.invariant-loop-place

@@ -1,6 +1,6 @@
 use Rattle.std.proofs.Common.{List, Option, sym, ap, ◌∙◌, subst, map}
 use Rattle.rail_base.specs.declared.plant.Call.{Call}
-use Rattle.rail_plan.specs.Calling.{AreCallsFor, call_at}
+use Rattle.rail_plan.specs.CallTables.{AreCallsFor, call_at}
 use Rattle.rail_plan.proofs.CallRows.{none_called, room_for, none_made}
 use Rattle.rail_plan.proofs.calls.Calls.new.Goals as goal
 

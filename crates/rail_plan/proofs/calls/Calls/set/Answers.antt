@@ -1,7 +1,7 @@
 use Rattle.std.proofs.Common.{◌≡◌, ◌<◌, List, Option, length, sym, ap, ◌∙◌, subst, arith}
 use Rattle.std.proofs.lemmas.List.{length-map}
 use Rattle.rail_base.specs.declared.plant.Call.{Call}
-use Rattle.rail_plan.specs.Calling.{AreCallsFor, with_call}
+use Rattle.rail_plan.specs.CallTables.{AreCallsFor, with_call}
 use Rattle.rail_plan.proofs.CallRows.{calls_in, set_view, set_made}
 use Rattle.rail_plan.proofs.calls.Calls.set.Goals as goal
 

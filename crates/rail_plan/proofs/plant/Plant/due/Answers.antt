@@ -2,9 +2,9 @@ use Rattle.std.proofs.Common.{◌≡◌, ◌≤◌, ◌-◌, length, ap, ◌∙�
 use Rattle.std.specs.Option.{unwrap_or, option_or}
 use Rattle.rail_base.specs.declared.plant.TrainRow.{TrainRow}
 use Rattle.rail_rules.specs.Plant.{Plant, moves}
-use Rattle.rail_rules.specs.Running.{due}
-use Rattle.rail_plan.specs.Planning.{bare}
-use Rattle.rail_plan.specs.Calling.{departure_within}
+use Rattle.rail_rules.specs.RunHistories.{due}
+use Rattle.rail_plan.specs.PlanFaults.{bare}
+use Rattle.rail_plan.specs.CallTables.{departure_within}
 use Rattle.rail_plan.proofs.CallRows.{due_later}
 use Rattle.rail_plan.proofs.plant.Plant.due.Goals as goal
 

@@ -1,7 +1,7 @@
 use Rattle.std.proofs.Common.{◌≡◌, None, sym, ap, ◌∙◌}
 use Rattle.rail_rules.specs.Accepted.{is_accepted}
-use Rattle.rail_plan.specs.Planning.{fault_of}
-use Rattle.rail_plan.specs.Calling.{with_calls}
+use Rattle.rail_plan.specs.PlanFaults.{fault_of}
+use Rattle.rail_plan.specs.CallTables.{with_calls}
 use Rattle.rail_plan.proofs.Accepting.{bare_accepted}
 use Rattle.rail_plan.proofs.plant.Plant.new.Goals as goal
 

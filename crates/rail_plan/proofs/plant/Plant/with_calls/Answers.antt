@@ -1,7 +1,7 @@
 use Rattle.std.proofs.Common.{◌≡◌, sym, ap, subst}
 use Rattle.rail_base.specs.declared.plant.Tables.{Tables}
 use Rattle.rail_rules.specs.Plant.{Plant}
-use Rattle.rail_plan.specs.Calling.{AreCallsFor}
+use Rattle.rail_plan.specs.CallTables.{AreCallsFor}
 use Rattle.rail_plan.proofs.Accepting.{recalled}
 use Rattle.rail_plan.proofs.plant.Plant.with_calls.Goals as goal
 

@@ -1,6 +1,6 @@
 use Rattle.std.proofs.Common.{ap, sym, ◌∙◌}
 use Rattle.rail_routes.specs.Net.{Net}
-use Rattle.rail_routes.specs.Posting.{post_refusal}
+use Rattle.rail_routes.specs.PostRules.{post_refusal}
 use Rattle.rail_routes.specs.NetworkFields.{lists_of}
 use Rattle.rail_routes.proofs.PostChanges.{sound_with_portal, sound_with_signal, sound_with_board}
 use Rattle.rail_routes.proofs.network.Network.add_post.Goals as goal

@@ -2,13 +2,13 @@ use Rattle.std.proofs.Common.{◌≡◌, [], ◌∷◌, length, get_or, unwrap_o
 use Rattle.std.specs.Map.{lookup}
 use Rattle.std.proofs.lemmas.List.{get_or_push, length-map}
 use Rattle.std.proofs.lemmas.List.Sums.{count_by-le-length, sum_by_push}
-use Rattle.rail_base.specs.Naming.{same_name}
-use Rattle.rail_track.specs.Counting.{times}
+use Rattle.rail_base.specs.NameForms.{same_name}
+use Rattle.rail_track.specs.KeyCounts.{times}
 use Rattle.rail_routes.specs.declared.items.Step.{Step}
 use Rattle.rail_routes.specs.declared.items.Route.{Route}
 use Rattle.rail_routes.specs.Net.{Net}
-use Rattle.rail_routes.specs.Routing.{route_refusal}
-use Rattle.rail_routes.specs.Using.{sections_of}
+use Rattle.rail_routes.specs.RouteRules.{route_refusal}
+use Rattle.rail_routes.specs.Uses.{sections_of}
 use Rattle.rail_routes.proofs.Tables.{route_uses-le, runs_of-le, route_fits, short_length}
 use Rattle.rail_routes.specs.NetworkFields.{lists_of}
 use Rattle.rail_routes.proofs.WayChanges.{sound_with_route, sound_short}

@@ -1,11 +1,11 @@
 use Rattle.std.proofs.Common.{ap, ◌∙◌, sym, subst}
 use Rattle.std.specs.Result.{IfErr}
-use Rattle.rail_track.specs.Refusing.{Answers}
+use Rattle.rail_track.specs.FirstRefusals.{Answers}
 use Rattle.rail_track.specs.declared.section.NetFault.{NetFault}
 use Rattle.std.proofs.Common.{Option}
-use Rattle.rail_track.proofs.Refusals.{answers_first}
+use Rattle.rail_track.proofs.CallerLemmas.{answers_first}
 use Rattle.rail_routes.specs.Net.{Net}
-use Rattle.rail_routes.specs.Extending.{net_section_refusal}
+use Rattle.rail_routes.specs.SectionRules.{net_section_refusal}
 use Rattle.rail_routes.proofs.Extensions.{track_accepts}
 use Rattle.rail_routes.specs.NetworkFields.{lists_of}
 use Rattle.rail_routes.proofs.SectionChanges.{sound_after_adding}

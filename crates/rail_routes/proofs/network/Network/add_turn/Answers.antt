@@ -1,12 +1,12 @@
 use Rattle.std.proofs.Common.{◌≡◌, [], ◌∷◌, unwrap_or, count_by, ap, sym, ◌∙◌, arith}
 use Rattle.std.specs.Map.{lookup}
 use Rattle.std.proofs.lemmas.List.Sums.{count_by-le-length, sum_by_push}
-use Rattle.rail_base.specs.Naming.{same_name}
-use Rattle.rail_track.specs.Counting.{times}
+use Rattle.rail_base.specs.NameForms.{same_name}
+use Rattle.rail_track.specs.KeyCounts.{times}
 use Rattle.rail_routes.proofs.Tables.{turn_uses-le}
 use Rattle.rail_routes.specs.declared.items.Turn.{Turn}
 use Rattle.rail_routes.specs.Net.{Net}
-use Rattle.rail_routes.specs.Turning.{turn_refusal}
+use Rattle.rail_routes.specs.TurnRules.{turn_refusal}
 use Rattle.rail_routes.specs.NetworkFields.{lists_of}
 use Rattle.rail_routes.proofs.WayChanges.{sound_with_turn}
 use Rattle.rail_routes.proofs.network.Network.add_turn.Goals as goal

@@ -1,7 +1,7 @@
 use Rattle.std.proofs.Common.{ap, ◌∙◌}
 use Rattle.std.specs.List.{list_any}
-use Rattle.rail_base.specs.Naming.{same_name}
-use Rattle.rail_track.proofs.Tallies.{same_name-comm}
+use Rattle.rail_base.specs.NameForms.{same_name}
+use Rattle.rail_track.proofs.CallerLemmas.{same_name-comm}
 use Rattle.rail_routes.specs.declared.items.Post.{Post}
 use Rattle.rail_routes.specs.Net.{posts}
 use Rattle.rail_routes.proofs.Uses.{any_swap, any_agree}

@@ -1,9 +1,9 @@
 use Rattle.std.proofs.Common.{[], ◌∷◌, nat_lt, ap, ◌∙◌, sym}
 use Rattle.std.specs.List.{list_any}
-use Rattle.rail_base.specs.Naming.{same_name}
+use Rattle.rail_base.specs.NameForms.{same_name}
 use Rattle.rail_routes.specs.declared.items.Route.{Route}
 use Rattle.rail_routes.specs.Net.{Net}
-use Rattle.rail_routes.specs.Using.{goes_to}
+use Rattle.rail_routes.specs.Uses.{goes_to}
 use Rattle.rail_routes.proofs.Uses.{list_any-sum_by}
 use Rattle.rail_routes.proofs.network.Network.goes_to.Goals as goal
 

@@ -1,6 +1,6 @@
 use Rattle.std.proofs.Common.{unwrap_or, ap, ◌∙◌, sym}
 use Rattle.std.specs.Map.{lookup}
-use Rattle.rail_base.specs.Naming.{same_name}
+use Rattle.rail_base.specs.NameForms.{same_name}
 use Rattle.rail_routes.specs.NetworkFields.{runs_of, turn_uses, route_uses}
 use Rattle.rail_routes.proofs.WayChanges.{sound_empty}
 use Rattle.rail_routes.proofs.network.Network.new.Goals as goal

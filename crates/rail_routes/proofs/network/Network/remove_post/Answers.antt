@@ -1,7 +1,7 @@
 use Rattle.std.proofs.Common.{ap, ◌∙◌, sym}
 use Rattle.std.specs.Option.{option_or}
 use Rattle.rail_routes.specs.Net.{Net, post_named}
-use Rattle.rail_routes.specs.Using.{post_removal}
+use Rattle.rail_routes.specs.Uses.{post_removal}
 use Rattle.rail_routes.proofs.Removals.{post_known, post_of_lists, unused}
 use Rattle.rail_routes.specs.NetworkFields.{lists_of}
 use Rattle.rail_routes.proofs.PostChanges.{sound_without_post}

@@ -1,9 +1,9 @@
 use Rattle.std.proofs.Common.{[], ◌∷◌, count_by, ◌∙◌, sym, arith}
-use Rattle.rail_base.specs.Naming.{same_name}
-use Rattle.rail_track.proofs.Withouts.{without-absent}
+use Rattle.rail_base.specs.NameForms.{same_name}
+use Rattle.rail_track.proofs.CallerLemmas.{without-absent}
 use Rattle.rail_routes.specs.declared.items.Route.{Route}
 use Rattle.rail_routes.specs.Net.{is_route}
-use Rattle.rail_routes.specs.Using.{sections_of}
+use Rattle.rail_routes.specs.Uses.{sections_of}
 use Rattle.rail_routes.proofs.Uses.{sum_by-without}
 use Rattle.rail_routes.specs.NetworkFields.{lists_of}
 use Rattle.rail_routes.proofs.WayChanges.{sound_without_route}

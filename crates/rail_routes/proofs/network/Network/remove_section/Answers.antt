@@ -1,9 +1,9 @@
 use Rattle.std.proofs.Common.{ap, ◌∙◌, sym}
 use Rattle.rail_routes.specs.Net.{Net}
-use Rattle.rail_track.specs.Joining.{section_named}
+use Rattle.rail_track.specs.Joints.{section_named}
 use Rattle.rail_routes.proofs.Removals.{never_refused, section_known}
 use Rattle.rail_routes.specs.NetworkFields.{lists_of}
-use Rattle.rail_routes.specs.Using.{section_removal}
+use Rattle.rail_routes.specs.Uses.{section_removal}
 use Rattle.rail_routes.proofs.SectionChanges.{sound_after_removal}
 use Rattle.rail_routes.proofs.network.Network.remove_section.Goals as goal
 

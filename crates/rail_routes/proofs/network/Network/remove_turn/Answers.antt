@@ -1,6 +1,6 @@
 use Rattle.std.proofs.Common.{[], ◌∷◌, count_by, ◌∙◌, sym, arith}
-use Rattle.rail_base.specs.Naming.{same_name}
-use Rattle.rail_track.proofs.Withouts.{without-absent}
+use Rattle.rail_base.specs.NameForms.{same_name}
+use Rattle.rail_track.proofs.CallerLemmas.{without-absent}
 use Rattle.rail_routes.specs.declared.items.Turn.{Turn}
 use Rattle.rail_routes.specs.Net.{is_turn}
 use Rattle.rail_routes.proofs.Uses.{sum_by-without}

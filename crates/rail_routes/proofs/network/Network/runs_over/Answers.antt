@@ -1,8 +1,8 @@
 use Rattle.std.proofs.Common.{nat_lt, ap, ◌∙◌, sym}
 use Rattle.std.specs.List.{list_any}
-use Rattle.rail_base.specs.Naming.{same_name}
+use Rattle.rail_base.specs.NameForms.{same_name}
 use Rattle.rail_routes.specs.Net.{Net}
-use Rattle.rail_routes.specs.Using.{sections_of, runs_over}
+use Rattle.rail_routes.specs.Uses.{sections_of, runs_over}
 use Rattle.rail_routes.proofs.Uses.{list_any-sum_by}
 use Rattle.rail_routes.proofs.network.Network.runs_over.Goals as goal
 

@@ -1,6 +1,6 @@
 use Rattle.std.proofs.Common.{ap, ◌∙◌, sym}
 use Rattle.rail_routes.specs.Net.{Net}
-use Rattle.rail_track.specs.Joining.{section_named}
+use Rattle.rail_track.specs.Joints.{section_named}
 use Rattle.rail_routes.proofs.Removals.{section_removal_used, section_removal_unknown}
 use Rattle.rail_routes.proofs.network.Network.section_removal.Goals as goal
 

@@ -1,10 +1,10 @@
 use Rattle.std.proofs.Common.{◌≡◌, ℕ, ◌+◌, ◌-◌, true, false, take, ap, sym, ◌∙◌, arith}
 use Rattle.std.specs.List.{list_any}
-use Rattle.rail_base.specs.Naming.{same_name}
+use Rattle.rail_base.specs.NameForms.{same_name}
 use Rattle.rail_base.specs.declared.refusals.Reason.TheVariants.{RouteRepeat}
-use Rattle.rail_track.proofs.Refusals.{refused_at, passed_at}
+use Rattle.rail_track.proofs.CallerLemmas.{refused_at, passed_at}
 use Rattle.rail_routes.specs.declared.items.Step.{Step}
-use Rattle.rail_routes.specs.Routing.{occurred}
+use Rattle.rail_routes.specs.RouteRules.{occurred}
 use Rattle.rail_routes.proofs.network.leading.repeat_refusal.Goals as goal
 
 -- the steps before the one at i are those before number i + 1

@@ -1,7 +1,7 @@
 use Rattle.std.proofs.Common.{◌≡◌, ◌+◌, drop}
 use Rattle.rail_base.specs.declared.refusals.Reason.TheVariants.{RouteRepeat}
-use Rattle.rail_track.specs.Refusing.{first_failing, tests_over, refused_where}
-use Rattle.rail_routes.specs.Routing.{repeat_tests, occurred}
+use Rattle.rail_track.specs.FirstRefusals.{first_failing, tests_over, refused_where}
+use Rattle.rail_routes.specs.RouteRules.{repeat_tests, occurred}
 use Rattle.rail_routes.proofs.network.leading.repeat_refusal.Given as goal
 
 abbrev pub invariant-loop-index : goal.invariant-loop-index

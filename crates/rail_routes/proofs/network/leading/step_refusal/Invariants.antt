@@ -1,6 +1,6 @@
 use Rattle.std.proofs.Common.{◌≡◌, ◌+◌, drop}
-use Rattle.rail_track.specs.Refusing.{first_failing}
-use Rattle.rail_routes.specs.Routing.{step_tests}
+use Rattle.rail_track.specs.FirstRefusals.{first_failing}
+use Rattle.rail_routes.specs.RouteRules.{step_tests}
 use Rattle.rail_routes.proofs.network.leading.step_refusal.Given as goal
 
 abbrev pub invariant-loop-index : goal.invariant-loop-index

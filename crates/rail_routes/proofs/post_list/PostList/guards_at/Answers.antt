@@ -1,6 +1,6 @@
 use Rattle.std.proofs.Common.{nat_lt, ap, sym, ◌∙◌}
 use Rattle.std.specs.List.{list_any}
-use Rattle.rail_track.proofs.Withouts.{list_any-count_by}
+use Rattle.rail_track.proofs.CallerLemmas.{list_any-count_by}
 use Rattle.rail_routes.specs.Net.{guards_at}
 use Rattle.rail_routes.proofs.post_list.PostList.guards_at.Goals as goal
 

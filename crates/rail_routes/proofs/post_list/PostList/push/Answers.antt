@@ -1,8 +1,8 @@
 use Rattle.std.proofs.Common.{◌≡◌, length, unwrap_or, ap, arith}
 use Rattle.std.specs.Map.{lookup}
 use Rattle.std.proofs.lemmas.List.Sums.{count_by-le-length}
-use Rattle.rail_base.specs.Naming.{same_name}
-use Rattle.rail_track.specs.Counting.{times}
+use Rattle.rail_base.specs.NameForms.{same_name}
+use Rattle.rail_track.specs.KeyCounts.{times}
 use Rattle.rail_routes.specs.Net.{stands_at, guards_at}
 use Rattle.rail_routes.specs.PostFields.{same_pair}
 use Rattle.rail_routes.proofs.Places.{count_by-push, guards-push}

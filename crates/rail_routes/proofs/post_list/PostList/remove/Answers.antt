@@ -1,7 +1,6 @@
 use Rattle.std.proofs.Common.{◌≡◌, ℕ, cond, arith, ap, sym, ◌∙◌}
-use Rattle.rail_base.specs.Naming.{same_name}
-use Rattle.rail_track.proofs.Tallies.{same_name-self}
-use Rattle.rail_track.proofs.Withouts.{without-absent, count_by-without}
+use Rattle.rail_base.specs.NameForms.{same_name}
+use Rattle.rail_track.proofs.CallerLemmas.{same_name-self, without-absent, count_by-without}
 use Rattle.rail_routes.specs.Net.{is_post, stands_at}
 use Rattle.rail_routes.proofs.Places.{guards-without, guards-without_none, own_pair}
 use Rattle.rail_routes.proofs.post_list.PostList.remove.Goals as goal

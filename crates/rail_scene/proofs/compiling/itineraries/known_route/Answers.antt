@@ -3,7 +3,7 @@ use Rattle.std.specs.List.{find, list_any}
 use Rattle.std.specs.Option.{option_copied}
 use Rattle.rail_routes.specs.Net.{is_route}
 use Rattle.rail_routes.specs.Sound.{is_sound_route}
-use Rattle.rail_scene.specs.Compiling.{is_known}
+use Rattle.rail_scene.specs.CompileRefusals.{is_known}
 use Rattle.rail_scene.proofs.CompileFinds.{copied_some, is_some-find, found_passes, all_read}
 use Rattle.rail_scene.proofs.CompileRoutes.{few_steps}
 use Rattle.rail_scene.proofs.compiling.itineraries.known_route.Goals as goal

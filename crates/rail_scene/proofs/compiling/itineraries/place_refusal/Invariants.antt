@@ -1,7 +1,7 @@
 use Rattle.std.proofs.Common.{◌≡◌, ◌-◌, drop}
-use Rattle.rail_track.specs.Refusing.{first_failing}
+use Rattle.rail_track.specs.FirstRefusals.{first_failing}
 use Rattle.rail_scene.specs.Itineraries.{routes_of}
-use Rattle.rail_scene.specs.Compiling.{place_tests}
+use Rattle.rail_scene.specs.CompileRefusals.{place_tests}
 use Rattle.rail_scene.proofs.compiling.itineraries.place_refusal.Given as goal
 
 abbrev pub invariant-loop-place : goal.invariant-loop-place

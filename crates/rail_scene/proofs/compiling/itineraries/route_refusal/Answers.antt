@@ -3,7 +3,7 @@ use Rattle.std.proofs.lemmas.List.{length-map}
 use Rattle.rail_routes.specs.declared.items.Route.{Route}
 use Rattle.rail_base.specs.declared.refusals.Reason.TheVariants as reason
 use Rattle.rail_scene.specs.Itineraries.{no_route, is_portal, routes_of, route_of}
-use Rattle.rail_scene.specs.Compiling.{of_train}
+use Rattle.rail_scene.specs.CompileRefusals.{of_train}
 use Rattle.rail_scene.proofs.CompilePlaces.{refused_inside, ending_is}
 use Rattle.rail_scene.proofs.compiling.itineraries.route_refusal.Goals as goal
 

@@ -1,5 +1,5 @@
 use Rattle.rail_base.specs.declared.plant.TrainKind.{TrainKind}
-use Rattle.rail_plan.proofs.Naming.{inserted}
+use Rattle.rail_plan.proofs.CallerLemmas.{inserted}
 use Rattle.rail_scene.proofs.CompileNames.{distinct_from_apart}
 use Rattle.rail_scene.proofs.compiling.kinds.kind_names.Goals as goal
 

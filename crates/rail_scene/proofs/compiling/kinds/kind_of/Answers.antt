@@ -1,9 +1,9 @@
 use Rattle.std.proofs.Common.{◌≡◌, true, is_some, sym, ap, ◌∙◌}
 use Rattle.std.specs.List.{find, list_any}
-use Rattle.rail_base.specs.Naming.{same_name}
+use Rattle.rail_base.specs.NameForms.{same_name}
 use Rattle.rail_base.specs.declared.plant.TrainKind.{TrainKind}
 use Rattle.rail_rules.specs.Plant.{no_kind}
-use Rattle.rail_track.proofs.Rolls.{found_item, list_any-map}
+use Rattle.rail_track.proofs.CallerLemmas.{found_item, list_any-map}
 use Rattle.rail_scene.proofs.CompileFinds.{position_some, unwrapped}
 use Rattle.rail_scene.proofs.compiling.kinds.kind_of.Goals as goal
 

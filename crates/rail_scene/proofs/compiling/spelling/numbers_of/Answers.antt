@@ -1,6 +1,6 @@
 use Rattle.std.proofs.Common.{◌≡◌, true, is_some, length, get_or, ap, ◌∙◌, arith}
 use Rattle.std.specs.List.{list_any}
-use Rattle.rail_track.specs.Joining.{is_named}
+use Rattle.rail_track.specs.Joints.{is_named}
 use Rattle.rail_scene.proofs.CompileFinds.{position_some, all_read}
 use Rattle.rail_scene.proofs.CompileRoutes.{is_known_step, leads_from}
 use Rattle.rail_scene.proofs.compiling.spelling.numbers_of.Goals as goal

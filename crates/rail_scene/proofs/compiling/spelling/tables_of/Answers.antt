@@ -1,7 +1,7 @@
 use Rattle.std.proofs.Common.{◌≡◌, map, sym, ap, ◌∙◌, subst}
 use Rattle.std.specs.List.{list_all}
 use Rattle.rail_base.specs.declared.plant.Tables.{Tables}
-use Rattle.rail_plan.specs.Planning.{IsPlannable}
+use Rattle.rail_plan.specs.PlanFaults.{IsPlannable}
 use Rattle.rail_scene.specs.Itineraries.{section_row, train_row, tables_of}
 use Rattle.rail_scene.specs.Typed.{is_named_row, is_typed_row}
 use Rattle.rail_scene.proofs.CompileTables.{plannable}

@@ -1,11 +1,11 @@
 use Rattle.std.proofs.Common.{◌≡◌, true, false, Some, sym, ap, ◌∙◌}
 use Rattle.std.specs.List.{list_any}
-use Rattle.rail_base.specs.Naming.{same_name}
+use Rattle.rail_base.specs.NameForms.{same_name}
 use Rattle.rail_base.specs.declared.plant.TrainKind.{TrainKind}
-use Rattle.rail_track.specs.Refusing.{first_failing}
-use Rattle.rail_track.proofs.Rolls.{list_any-map}
+use Rattle.rail_track.specs.FirstRefusals.{first_failing}
+use Rattle.rail_track.proofs.CallerLemmas.{list_any-map}
 use Rattle.rail_scene.specs.Itineraries.{routes_of}
-use Rattle.rail_scene.specs.Compiling.{are_known, route_tests}
+use Rattle.rail_scene.specs.CompileRefusals.{are_known, route_tests}
 use Rattle.rail_scene.proofs.CompileTrains.{train_is}
 use Rattle.rail_scene.proofs.compiling.trains.train_refusal.Goals as goal
 

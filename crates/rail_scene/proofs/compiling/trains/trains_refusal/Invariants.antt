@@ -1,6 +1,6 @@
 use Rattle.std.proofs.Common.{◌≡◌, ◌+◌, drop}
-use Rattle.rail_track.specs.Refusing.{first_failing}
-use Rattle.rail_scene.specs.Compiling.{trains_tests}
+use Rattle.rail_track.specs.FirstRefusals.{first_failing}
+use Rattle.rail_scene.specs.CompileRefusals.{trains_tests}
 use Rattle.rail_scene.proofs.compiling.trains.trains_refusal.Given as goal
 
 abbrev pub invariant-loop-index : goal.invariant-loop-index

@@ -1,6 +1,6 @@
 use Rattle.std.proofs.Common.{◌+◌, drop, sym, ap, subst, ◌∙◌}
 use Rattle.toml.specs.View.{view}
-use Rattle.rail_track.specs.Refusing.{first_failing}
+use Rattle.rail_track.specs.FirstRefusals.{first_failing}
 use Rattle.rail_scene.specs.declared.draft.Draft.{Draft}
 use Rattle.rail_scene.specs.Order.{values_of, with_lists, AnswersScene}
 use Rattle.rail_scene.proofs.Drafting.{values_stop, values_pass, lists_pass}

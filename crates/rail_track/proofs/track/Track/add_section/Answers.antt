@@ -1,11 +1,11 @@
 use Rattle.std.proofs.Common.{◌≡◌, ap, ◌∙◌, sym, refl, arith, [], ◌∷◌, ◌++◌, length, get_or, unwrap_or, count_by}
 use Rattle.std.specs.Map.{lookup}
 use Rattle.std.proofs.lemmas.List.{get_or_push, map-id}
-use Rattle.rail_base.specs.Naming.{same_name}
+use Rattle.rail_base.specs.NameForms.{same_name}
 use Rattle.rail_track.specs.declared.section.Section.{Section}
-use Rattle.rail_track.specs.Counting.{times}
-use Rattle.rail_track.specs.Joining.{is_full}
-use Rattle.rail_track.specs.Accepting.{section_refusal}
+use Rattle.rail_track.specs.KeyCounts.{times}
+use Rattle.rail_track.specs.Joints.{is_full}
+use Rattle.rail_track.specs.SectionRules.{section_refusal}
 use Rattle.rail_track.proofs.Soundness.{accepted, IsSoundTrack-push, put_in, one_more, few_uses}
 use Rattle.rail_track.proofs.track.Track.add_section.Goals as goal
 

@@ -2,7 +2,7 @@ use Rattle.std.proofs.Common.{ap, ◌∙◌, false}
 use Rattle.std.specs.List.{list_any}
 use Rattle.std.specs.Option.{option_map_or}
 use Rattle.rail_track.specs.declared.section.Section.{Section}
-use Rattle.rail_track.specs.Passing.{leads, passages}
+use Rattle.rail_track.specs.Passages.{leads, passages}
 use Rattle.rail_track.proofs.track.Track.passage.Goals as goal
 
 pub returns-in-Some : goal.returns-in-Some

@@ -1,7 +1,7 @@
 use Rattle.std.proofs.Common.{ap, ◌∙◌, sym, arith, count_by}
 use Rattle.std.proofs.lemmas.List.{map-id}
-use Rattle.rail_base.specs.Naming.{same_name}
-use Rattle.rail_track.specs.Joining.{is_named}
+use Rattle.rail_base.specs.NameForms.{same_name}
+use Rattle.rail_track.specs.Joints.{is_named}
 use Rattle.rail_track.proofs.Withouts.{without-absent}
 use Rattle.rail_track.proofs.Soundness.{IsSoundTrack-without, taken_out}
 use Rattle.rail_track.proofs.track.Track.remove_section.Goals as goal

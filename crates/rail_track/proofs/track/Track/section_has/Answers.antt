@@ -1,6 +1,6 @@
 use Rattle.std.proofs.Common.{ap, ◌∙◌, false}
 use Rattle.std.specs.Option.{option_map_or}
-use Rattle.rail_track.specs.Joining.{has_joint}
+use Rattle.rail_track.specs.Joints.{has_joint}
 use Rattle.rail_track.proofs.track.Track.section_has.Goals as goal
 
 pub returns-in-Some : goal.returns-in-Some

@@ -1,5 +1,0 @@
-use Rattle.rail_account.proofs.Changing.{admission_change}
-use Rattle.rail_account.proofs.laws.an_admission_adds_the_lines_of_its_move.Goals as goal
-
-pub returns : goal.returns
-returns c = admission_change

@@ -1,5 +1,0 @@
-use Rattle.rail_account.proofs.Changing.{train_event_change}
-use Rattle.rail_account.proofs.laws.an_event_line_is_no_longer_to_come.Goals as goal
-
-pub returns : goal.returns
-returns c = train_event_change

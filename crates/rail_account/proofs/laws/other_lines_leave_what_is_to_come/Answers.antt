@@ -1,5 +1,0 @@
-use Rattle.rail_account.proofs.Changing.{other_change}
-use Rattle.rail_account.proofs.laws.other_lines_leave_what_is_to_come.Goals as goal
-
-pub returns : goal.returns
-returns c = other_change

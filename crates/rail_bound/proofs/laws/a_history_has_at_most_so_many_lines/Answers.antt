@@ -1,5 +1,0 @@
-use Rattle.rail_bound.proofs.Bounded.{bounded}
-use Rattle.rail_bound.proofs.laws.a_history_has_at_most_so_many_lines.Goals as goal
-
-pub returns : goal.returns
-returns c = bounded

@@ -1,5 +1,0 @@
-use Rattle.rail_completion.proofs.Telling.{cancelled_never_goes}
-use Rattle.rail_completion.proofs.laws.a_cancelled_train_is_never_admitted.Goals as goal
-
-pub returns : goal.returns
-returns c = cancelled_never_goes

@@ -1,0 +1,39 @@
+-- Trains that have no safe leg, and what stops them.
+use Rattle.std.specs.Prelude.{◌≡◌, ◌≢◌, ℕ, ◌+◌, ◌*◌, ◌<◌, ◌≤◌, false, List, Option, Some, None, get_or, IsTrue}
+use Rattle.rail_base.specs.declared.limits.TheConstants.{TRAINS}
+use Rattle.rail_rules.specs.Numbers.{is_in}
+use Rattle.rail_rules.specs.Moves.{Moves}
+use Rattle.rail_rules.specs.Places.{place_of, is_inside, holds}
+use Rattle.rail_rules.specs.Analysis.{is_leg, is_safe}
+use Rattle.rail_consequence.specs.declared.analyst.Look.{Look}
+use Rattle.rail_consequence.specs.declared.analyst.Look.TheVariants.{Idle, Leads, Stopped}
+
+-- what is noted for the train where so many free legs may be left
+abbrev pub stop_at : List (Option ℕ) → ℕ → ℕ → Option ℕ
+stop_at stops level u = get_or stops (level * TRAINS + u) None
+
+-- another train holds the section
+pub record IsHeldByOther (plan : Moves) (s : List ℕ) (t x : ℕ) : Type 0 where
+  pub holder : ℕ
+  pub other : holder ≢ t
+  pub held : IsTrue (holds plan s holder x)
+
+-- the section stops the train, which is inside: another train holds it, the train needs it for a move that it has left, and no leg up to that move is safe
+pub record IsStopped (plan : Moves) (s : List ℕ) (u x : ℕ) : Type 0 where
+  pub inside : IsTrue (is_inside plan s u)
+  pub place : ℕ
+  pub from : place_of s u ≤ place
+  pub below : place < plan.moves u
+  pub needed : IsTrue (is_in x (plan.claim u place))
+  pub held : IsHeldByOther plan s u x
+  pub unsafe : (p : ℕ) → place_of s u < p → p ≤ place → is_safe plan s (record { train = u; place = p }) ≡ false
+
+-- what is noted of the trains inside is so
+abbrev pub IsSettled : Moves → List ℕ → List (Option ℕ) → ℕ → Type 0
+IsSettled plan s stops level = (u x : ℕ) → IsTrue (is_inside plan s u) → stop_at stops level u ≡ Some x → IsStopped plan s u x
+
+-- what looking at a train shows: it is not inside, a leg to the place is safe, or the section stops it
+abbrev pub Shows : Moves → List ℕ → ℕ → Look → Type 0
+Shows plan s t Idle = is_inside plan s t ≡ false
+Shows plan s t (Leads p) = IsTrue (is_leg plan s (record { train = t; place = p })) × IsTrue (is_safe plan s (record { train = t; place = p }))
+Shows plan s t (Stopped x) = IsStopped plan s t x

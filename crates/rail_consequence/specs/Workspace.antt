@@ -1,0 +1,40 @@
+-- What the analyst works on: places of its own, and the moves that it has made on them.
+use Rattle.std.specs.Prelude.{◌≡◌, ℕ, ◌<◌, List, ◌++◌, IsTrue, Option}
+use Rattle.rail_rules.specs.Moves.{Moves}
+use Rattle.rail_rules.specs.Numbers.{is_in}
+use Rattle.rail_rules.specs.Places.{is_inside, is_valid_state}
+use Rattle.rail_place.specs.Tables.{moves_in, MoveLists}
+use Rattle.rail_place.specs.Made.{State, IsMadeFor}
+use Rattle.rail_place.specs.Plays.{IsPlayed}
+use Rattle.rail_consequence.specs.Needs.{Counts, IsCounted}
+
+-- places, the counts of the moves that are left, what stops the trains, and the moves that were made
+pub record Work : Type 0 where
+  pub places : State
+  pub needs : Counts
+  pub stops : List (Option ℕ)
+  pub list : List ℕ
+
+-- the list leads from some valid state to the places, which were made for the moves, and for these the moves that are left are counted
+pub record IsReady (table : List MoveLists) (work : Work) : Type 0 where
+  pub start : List ℕ
+  pub valid : IsTrue (is_valid_state (moves_in table) start)
+  pub played : IsPlayed (moves_in table) start work.list work.places.positions
+  pub made : IsMadeFor table work.places
+  pub counted : IsCounted (moves_in table) work.places.positions work.needs
+
+-- more moves were made, and added to the list
+pub record GoesOn (plan : Moves) (old new : Work) : Type 0 where
+  pub more : List ℕ
+  pub list : new.list ≡ old.list ++ more
+  pub played : IsPlayed plan old.places.positions more new.places.positions
+
+-- the places and the list are as before
+pub record IsBack (old new : Work) : Type 0 where
+  pub list : new.list ≡ old.list
+  pub positions : new.places.positions ≡ old.places.positions
+
+-- the list names each train that is inside, and nothing but trains
+pub record IsListing (plan : Moves) (s inside : List ℕ) : Type 0 where
+  pub trains : (t : ℕ) → IsTrue (is_in t inside) → t < plan.trains
+  pub all : (t : ℕ) → IsTrue (is_inside plan s t) → IsTrue (is_in t inside)

@@ -1,5 +1,0 @@
-use Rattle.rail_continuation.proofs.Progress.{has_next}
-use Rattle.rail_continuation.proofs.laws.a_front_that_has_not_ended_has_a_next_line.Goals as goal
-
-pub returns : goal.returns
-returns c = has_next

@@ -1,5 +1,0 @@
-use Rattle.rail_engine.proofs.Going.{ended_at}
-use Rattle.rail_engine.proofs.run.Run.end.Goals as goal
-
-pub returns-clause-line : goal.returns-clause-line
-returns-clause-line c = λ front at. ended_at front c.args.self.now at c.requires.going c.requires.settled c.requires.empty c.list_remaining.new.into c.list_remaining.ensures

@@ -1,6 +1,0 @@
-use Rattle.std.proofs.Common.{true, arith}
-use Rattle.rail_engine.proofs.Room.{count-all}
-use Rattle.rail_engine.proofs.run.push_held.Goals as goal
-
-pub returns-in-Some-clause-room : goal.returns-in-Some-clause-room
-returns-in-Some-clause-room c = omega (arith, count-all c.push.new.self.events, count-all c.args.queue.now.events, c.push.ensures.counted (λ e. true), c.push.ensures.spare)

@@ -1,8 +1,0 @@
-use Rattle.std.proofs.Common.{true, arith}
-use Rattle.rail_queue.specs.declared.event.Event.{Event}
-use Rattle.rail_events.proofs.Counting.{count_all}
-use Rattle.rail_events.proofs.pushing.push.Goals as goal
-
-pub returns-clause-room : goal.returns-clause-room
-returns-clause-room c =
-    omega (arith, c.push.ensures.spare, c.push.ensures.counted (λ (_ : Event). true), count_all c.push.new.self.events, count_all c.args.queue.now.events)

@@ -1,2 +1,0 @@
--- The events that lines are, and those that come with an admission.
-pub mod Events

@@ -1,2 +1,0 @@
--- The holders of sections.
-pub mod Holding

@@ -1,6 +1,0 @@
-use Rattle.rail_invariant.proofs.Due.{free_due}
-use Rattle.rail_invariant.proofs.Timely.{timely}
-use Rattle.rail_invariant.proofs.laws.a_section_is_freed_after_its_interval.Goals as goal
-
-pub returns : goal.returns
-returns c = λ input fine front t m j lawful. free_due input front t m j (timely input fine front lawful)

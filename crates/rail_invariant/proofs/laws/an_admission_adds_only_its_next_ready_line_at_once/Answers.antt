@@ -1,5 +1,0 @@
-use Rattle.rail_invariant.proofs.Due.{admission_adds}
-use Rattle.rail_invariant.proofs.laws.an_admission_adds_only_its_next_ready_line_at_once.Goals as goal
-
-pub returns : goal.returns
-returns c = admission_adds

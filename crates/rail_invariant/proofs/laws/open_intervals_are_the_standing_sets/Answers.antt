@@ -1,5 +1,0 @@
-use Rattle.rail_invariant.proofs.Due.{are_standing}
-use Rattle.rail_invariant.proofs.laws.open_intervals_are_the_standing_sets.Goals as goal
-
-pub returns : goal.returns
-returns c = are_standing

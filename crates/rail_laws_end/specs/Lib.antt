@@ -1,0 +1,3 @@
+pub mod Remaining
+-- When two run histories are one.
+pub mod Forks

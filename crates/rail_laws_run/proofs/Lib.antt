@@ -1,0 +1,27 @@
+-- The lemmas of this crate; those for the crates above stand in CallerLemmas.
+pub mod CallerLemmas
+mod Staying
+mod Commands
+mod Split
+mod Sorts
+mod Happening
+mod Telling
+mod DueAndToCome
+mod Admitting
+mod Bounding
+-- Lemmas on the holders of sections, which the laws cite.
+mod Amounts
+mod Frees
+mod HoldersKept
+mod Blocking
+-- Lemmas on lines to come and on the heads of trains, which the laws above cite.
+mod Coming
+mod Heads
+-- Lemmas on which trains are ready, what hold lines say and which line may follow, which the laws above cite.
+mod ReadyLines
+mod Readiness
+mod Holding
+mod Following
+mod RunFronts
+mod Remaining
+mod Bounded

@@ -1,0 +1,29 @@
+-- An answer in other words, and a ledger whose last list is another.
+use Rattle.std.proofs.Common.{◌≡◌, ℕ, true, false, refl, Option, Some, None}
+use Rattle.std.specs.Prelude.{IfSome}
+use Rattle.std.proofs.lemmas.Bool.{false≢true}
+use Rattle.rail_base.specs.declared.history.What.{What}
+use Rattle.rail_base.specs.declared.history.What.TheVariants.{Free, Arrive, Enter, Out, Ready, Told, Untold, Admit, Hold, End}
+use Rattle.rail_rules.specs.Fronts.{Front, is_admission, is_hold}
+use Rattle.rail_ledger.specs.declared.ledger.Ledger.{Ledger}
+use Rattle.rail_ledger.specs.declared.ledger.Listed.{Listed}
+use Rattle.rail_ledger.specs.Ledgers.{IsAt}
+
+pub mapped : {P Q : ℕ → Type 0} → (o : Option ℕ) → IfSome o P → ((n : ℕ) → P n → Q n) → IfSome o Q
+mapped None h f = tt
+mapped (Some n) h f = f n h
+
+pub listed_as : (front : Front) (ledger : Ledger) (l : Listed) → IsAt front ledger → IsAt front (record ledger { listed = l })
+listed_as front ledger l at = record { rep = at.rep; placed = at.placed; keeps = at.keeps; queue_room = at.queue_room; list_room = at.list_room; list_empty = at.list_empty }
+
+pub hold_none : (w : What) → is_hold w ≡ true → is_admission w ≡ false
+hold_none (Hold t m c) h = refl
+hold_none (Admit t m n) h = absurd (false≢true h)
+hold_none (Free x t) h = refl
+hold_none (Arrive t m) h = refl
+hold_none (Enter t m x) h = refl
+hold_none (Out t) h = refl
+hold_none (Ready t m) h = refl
+hold_none (Told k) h = refl
+hold_none (Untold k) h = refl
+hold_none End h = refl

@@ -1,0 +1,13 @@
+-- The lemmas of this crate; those for the crates above stand in CallerLemmas.
+pub mod CallerLemmas
+mod Starting
+mod Going
+mod Room
+mod Holding
+mod Finding
+mod Looking
+mod Making
+mod Deciding
+mod Alone
+mod Judged
+mod Admissions

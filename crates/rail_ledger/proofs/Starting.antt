@@ -1,0 +1,61 @@
+-- A ledger before its first line.
+use Rattle.std.proofs.Common.{◌≡◌, ℕ, zero, suc, ◌+◌, ◌≤◌, Bool, true, false, List, [], ◌∷◌, ◌++◌, length, get_or, replicate, Some, None, refl, ap, ◌∙◌, subst, arith}
+use Rattle.std.specs.Prelude.{◌↔◌, count_by, map, vec_capacity}
+use Rattle.std.proofs.lemmas.Grind.{replicate_next}
+use Rattle.std.proofs.lemmas.List.{length-map}
+use Rattle.rail_base.specs.declared.limits.TheConstants.{TRAINS}
+use Rattle.rail_base.specs.declared.plant.SectionRow.{SectionRow}
+use Rattle.rail_rules.specs.Accepted.{is_accepted}
+use Rattle.rail_rules.specs.Moves.{Moves}
+use Rattle.rail_rules.specs.Numbers.{gather, listed, sum_below}
+use Rattle.rail_rules.specs.Places.{holds}
+use Rattle.rail_rules.specs.Plant.{Plant, bound, moves_of, trains}
+use Rattle.rail_list.specs.KeptLists.{HasRoomFor}
+use Rattle.rail_place.specs.Made.{IsMadeFor}
+use Rattle.rail_place.specs.Tables.{moves_in, MoveLists}
+use Rattle.rail_queue.specs.declared.event.Event.{Event}
+use Rattle.rail_queue.specs.declared.event.Class.TheVariants.{Ready}
+use Rattle.rail_state.specs.Events.{train_event}
+use Rattle.rail_state.specs.TrainStates.{outside, state_of}
+use Rattle.rail_state.proofs.CallerLemmas.{begins}
+use Rattle.rail_rules.specs.FcfsAlone.{fcfs_alone}
+use Rattle.rail_ledger.specs.declared.ledger.Ledger.{Ledger}
+use Rattle.rail_ledger.specs.Ledgers.{IsAt}
+use Rattle.rail_state.specs.declared.pushes.TheConstants.{MOVE_EVENTS}
+use Rattle.rail_state.specs.Representation.{IsBeginning}
+
+-- a ledger whose parts were all made anew
+pub record IsNew (ledger : Ledger) (table : List MoveLists) : Type 0 where
+  pub accepted : is_accepted ledger.plant ≡ true
+  pub same : moves_in table ≡ moves_of ledger.plant
+  pub made : IsMadeFor table ledger.places
+  pub positions : ledger.places.positions ≡ replicate (trains ledger.plant) 0
+  pub list : ledger.kept.trains ≡ []
+  pub list_fits : HasRoomFor table ledger.kept
+  pub begins : IsBeginning fcfs_alone ledger.plant ledger.state
+  pub queue_room : length ledger.state.queue.events + ledger.state.queue.spare ≡ bound ledger.plant 0 + MOVE_EVENTS
+  pub remaining_room : TRAINS ≤ vec_capacity ledger.remaining
+  pub remaining : ledger.remaining.items ≡ []
+
+zeros : (n : ℕ) → replicate {A = ℕ} n 0 ≡ listed (λ t. 0) n
+zeros zero = refl
+zeros (suc n) = let more : suc n ≡ n + 1 = omega arith in
+    ap (λ (k : ℕ). replicate {A = ℕ} k 0) more ∙ replicate_next {X = ℕ} n 0 ∙ ap (λ (xs : List ℕ). xs ++ 0 ∷ []) (zeros n)
+
+pub new_stands : (ledger : Ledger) (table : List MoveLists) → IsNew ledger table → IsAt [] ledger
+new_stands ledger table new = record {
+  rep = begins fcfs_alone ledger.plant ledger.state new.accepted new.begins;
+  placed = record {
+    positions = new.positions ∙ zeros (trains ledger.plant);
+    room = new.made.room;
+    counted = new.made.counted;
+    told = subst (λ (plan : Moves). (x u : ℕ) → (get_or ledger.places.owners x None ≡ Some u) ↔ (holds plan ledger.places.positions u x ≡ true)) new.same new.made.told;
+  };
+  keeps = record {
+    is_list = new.list;
+    room = subst (λ (plan : Moves). sum_below plan.moves plan.trains ≤ ledger.kept.room) new.same new.list_fits;
+  };
+  queue_room = new.queue_room;
+  list_room = λ going. new.remaining_room;
+  list_empty = λ going. new.remaining;
+}

@@ -1,0 +1,21 @@
+use Rattle.std.proofs.Common.{◌≡◌, ◌≢◌, false, Some, IsTrue}
+use Rattle.rail_rules.specs.Fronts.{Front}
+use Rattle.rail_queue.specs.Order.{first_time_of, is_sorted}
+use Rattle.rail_ledger.specs.declared.ledger.Listed.TheVariants as listed
+use Rattle.rail_ledger.specs.Ledgers.{IsAt, IsSomewhere, untried}
+use Rattle.rail_ledger.proofs.ledger.Ledger.left_to_decide.Given as goal
+
+abbrev pub invariant-loop-train : goal.invariant-loop-train
+invariant-loop-train l = record {
+  running : IsSomewhere l.self;
+  going : l.self.state.has_ended ≡ false;
+  unsettled : l.self.state.is_settled ≡ false;
+  none_due : first_time_of l.self.state.queue.events ≢ Some l.self.state.instant;
+  sorted : IsTrue (is_sorted l.self.state.queue.events);
+  unlisted : l.self.listed ≡ listed.Nothing;
+  plant : l.self.plant ≡ l.fn.self.plant;
+  at : (front : Front) → IsAt front l.fn.self → IsAt front l.self;
+}
+
+abbrev pub decreases-loop-train : goal.decreases-loop-train
+decreases-loop-train l = untried l.self.state.trains

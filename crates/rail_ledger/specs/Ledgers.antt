@@ -1,0 +1,181 @@
+-- The front that a ledger stands for.
+use Rattle.std.specs.Prelude.{suc, ◌==◌, ◌&&◌, not, Bool, ◌≡◌, ◌↔◌, ◌⊎◌, ℕ, ◌+◌, ◌<◌, ◌≤◌, ◌^◌, cond, true, false, List, [], ◌∷◌, length, get_or, Option, Some, None, IsTrue, vec_capacity}
+use Rattle.rail_base.specs.declared.history.Entry.{Entry}
+use Rattle.rail_base.specs.declared.limits.TheConstants.{SECTIONS, TRAINS}
+use Rattle.rail_rules.specs.Numbers.{sum_below}
+use Rattle.rail_base.specs.declared.history.Note.{Note}
+use Rattle.rail_base.specs.declared.history.Note.TheVariants.{Pulled, Appended, Fresh}
+use Rattle.rail_list.specs.Repairs.{IsNoted}
+use Rattle.rail_list.specs.GivenLists.{given_list}
+use Rattle.rail_rules.specs.Places.{after, holds}
+use Rattle.rail_rules.specs.Plant.{Plant, bound, moves, moves_of, trains}
+use Rattle.rail_rules.specs.Causes.{could_go, is_deciding}
+use Rattle.rail_rules.specs.Fronts.{Front, Line, has_ended, is_admission, is_hold, kept, places}
+use Rattle.rail_rules.specs.Lawful.{may_follow}
+use Rattle.rail_judging.specs.Verdicts.{broken_law}
+use Rattle.rail_rules.specs.RunHistories.{Seat, is_chosen, is_run}
+use Rattle.rail_place.specs.Made.{State}
+use Rattle.rail_list.specs.KeptLists.{Kept}
+use Rattle.rail_queue.specs.Order.{first_time_of}
+use Rattle.rail_state.specs.declared.train.TrainState.{TrainState}
+use Rattle.rail_state.specs.TrainStates.{is_untried, state_of}
+use Rattle.rail_state.specs.Representation.{IsNext, Represents, admit_line, is_due_now}
+use Rattle.rail_rules.specs.FcfsAlone.{fcfs_alone}
+use Rattle.rail_ledger.specs.declared.ledger.Ledger.{Ledger}
+use Rattle.rail_ledger.specs.declared.ledger.Listed.{Listed}
+use Rattle.rail_ledger.specs.declared.ledger.Listed.TheVariants as listed
+use Rattle.rail_rules.specs.Orders.{input_of}
+use Rattle.rail_state.specs.declared.pushes.TheConstants.{MOVE_EVENTS}
+use Rattle.rail_state.specs.declared.run_state.RunState.{RunState}
+
+-- the places are those of the front, with the trains that hold the sections
+pub record ArePlaces (plant : Plant) (front : Front) (state : State) : Type 0 where
+  pub positions : state.positions ≡ places plant front
+  pub room : length state.owners ≡ SECTIONS
+  pub counted : state.played < 2 ^ 64
+  pub told : (x u : ℕ) → (get_or state.owners x None ≡ Some u) ↔ IsTrue (holds (moves_of plant) state.positions u x)
+
+-- the kept list is that of the front, with room for all moves
+pub record IsKept (plant : Plant) (front : Front) (list : Kept) : Type 0 where
+  pub is_list : list.trains ≡ kept plant front
+  pub room : sum_below (moves plant) (trains plant) ≤ list.room
+
+-- the ledger stands for the front, but for the list that belongs to its last line
+pub record IsAt (front : Front) (ledger : Ledger) : Type 0 where
+  pub rep : Represents fcfs_alone ledger.plant front ledger.state
+  pub placed : ArePlaces ledger.plant front ledger.places
+  pub keeps : IsKept ledger.plant front ledger.kept
+  pub queue_room : length ledger.state.queue.events + ledger.state.queue.spare ≡ bound ledger.plant 0 + MOVE_EVENTS
+  pub list_room : has_ended front ≡ false → TRAINS ≤ vec_capacity ledger.remaining
+  pub list_empty : has_ended front ≡ false → ledger.remaining.items ≡ []
+
+-- the ledger stands for some front
+pub record IsSomewhere (ledger : Ledger) : Type 0 where
+  pub front : Front
+  pub at : IsAt front ledger
+
+-- the list that belongs to the last line: none, the kept list, or the trains that remain
+abbrev pub listed_in : Listed → List ℕ → List ℕ → List ℕ
+listed_in listed.Nothing kept_list remaining = []
+listed_in listed.Kept kept_list remaining = kept_list
+listed_in listed.Remaining kept_list remaining = remaining
+
+-- the same of a ledger
+abbrev pub list_in : Ledger → List ℕ
+list_in ledger = listed_in ledger.listed ledger.kept.trains ledger.remaining.items
+
+-- the trains of the last line's list
+abbrev pub list_of : Front → List ℕ
+list_of [] = []
+list_of (line ∷ before) = line.trains
+
+-- the line of an entry with the list that belongs to it
+abbrev pub line_in : Ledger → Entry → Line
+line_in ledger entry = record { entry = entry; trains = list_in ledger }
+
+-- the next event has the instant, or all that waits was told why
+abbrev pub MayGoOn : Ledger → Type 0
+MayGoOn ledger = (ledger.state.is_settled ≡ true) ⊎ (first_time_of ledger.state.queue.events ≡ Some ledger.state.instant)
+
+-- how many waiting trains were not looked at yet
+abbrev pub untried : List TrainState → ℕ
+untried states = sum_below (λ t. cond (is_untried (state_of states t)) 1 0) (length states)
+
+-- two ledgers differ in places, kept list, analyst, and what is kept of the trains alone
+pub record AreAlike (first second : Ledger) : Type 0 where
+  pub plant : second.plant ≡ first.plant
+  pub queue : second.state.queue ≡ first.state.queue
+  pub holders : second.state.holders ≡ first.state.holders
+  pub instant : second.state.instant ≡ first.state.instant
+  pub is_settled : second.state.is_settled ≡ first.state.is_settled
+  pub has_ended : second.state.has_ended ≡ first.state.has_ended
+  pub remaining : second.remaining ≡ first.remaining
+  pub listed : second.listed ≡ first.listed
+
+-- the ledger stands for each front for which it stood
+abbrev pub StandsAsBefore : Ledger → Ledger → Type 0
+StandsAsBefore old new = (front : Front) → IsAt front old → IsAt front new
+
+-- the line may follow each front for which the ledger stood, and it stands for the front with the line
+abbrev pub TakesLine : Ledger → Ledger → Line → Type 0
+TakesLine old new line = (front : Front) → IsAt front old → IsAt (line ∷ front) new
+
+-- the same of an entry with the list that then belongs to it
+abbrev pub GivesEntry : Ledger → Ledger → Entry → Type 0
+GivesEntry old new entry = TakesLine old new (line_in new entry)
+
+-- nothing is due at the instant of the front for which the ledger stands
+abbrev pub IsDeciding : Ledger → Type 0
+IsDeciding ledger = (front : Front) → IsAt front ledger → is_deciding (input_of fcfs_alone ledger.plant) front ≡ true
+
+-- the train waits, no cause of it is known, and nothing bars its next move
+abbrev pub IsNextTrain : Ledger → ℕ → Type 0
+IsNextTrain ledger t = (front : Front) → IsAt front ledger → IsNext fcfs_alone ledger.plant front ledger.state.holders ledger.state.trains t
+
+-- the line of the entry continues each run front at which the policy in force chooses the train
+abbrev pub ContinuesRun : Ledger → Ledger → ℕ → Entry → Type 0
+ContinuesRun old new t entry = (front : Front) (seats : List Seat) → IsAt front old
+    → IsTrue (is_run (input_of fcfs_alone old.plant) seats front) → is_chosen (input_of fcfs_alone old.plant) seats front t ≡ true
+    → IsTrue (is_run (input_of fcfs_alone old.plant) seats (line_in new entry ∷ front))
+
+-- an entry that is neither an admission nor a hold line
+abbrev pub IsOther : Entry → Type 0
+IsOther entry = (is_admission entry.what ≡ false) × (is_hold entry.what ≡ false)
+
+-- all that waits was told why, no list belongs to the last line, and the ledger stands as before
+abbrev pub IsSettled : Ledger → Ledger → Type 0
+IsSettled old new = (new.state.has_ended ≡ false) × (new.state.is_settled ≡ true) × (new.listed ≡ listed.Nothing) × StandsAsBefore old new
+
+-- one waiting train less has no known cause, and the ledger stands as before
+abbrev pub HasTried : Ledger → Ledger → Type 0
+HasTried old new = (untried new.state.trains < untried old.state.trains) × StandsAsBefore old new
+
+-- some train could be admitted at the instant of the front for which the ledger stands
+abbrev pub CouldGo : Ledger → Type 0
+CouldGo ledger = (front : Front) → IsAt front ledger
+    → (is_deciding (input_of fcfs_alone ledger.plant) front ≡ true) × (t : ℕ) × (could_go (input_of fcfs_alone ledger.plant) front t ≡ true)
+
+-- the line may not follow the front for which the ledger stands, and this is the law that it breaks
+abbrev pub IsRefused : Ledger → Line → ℕ → Type 0
+IsRefused ledger line law = (front : Front) → IsAt front ledger
+    → (may_follow (input_of fcfs_alone ledger.plant) front line ≡ false) × (law ≡ broken_law (input_of fcfs_alone ledger.plant) front line)
+
+-- a list brings every train inside to its exit after the train's next move, which the places have made
+pub record HasList (front : Front) (old new : Ledger) (t : ℕ) (note : Note) : Type 0 where
+  pub noted : IsNoted (moves_of old.plant) old.plant.tables.depth (places old.plant front) (kept old.plant front) t note new.kept.trains
+  pub positions : new.places.positions ≡ after (places old.plant front) t
+  pub room : length new.places.owners ≡ SECTIONS
+  pub counted : new.places.played < 2 ^ 64
+  pub told : (x u : ℕ) → (get_or new.places.owners x None ≡ Some u) ↔ IsTrue (holds (moves_of old.plant) new.places.positions u x)
+  pub list_room : sum_below (moves old.plant) (trains old.plant) ≤ new.kept.room
+
+-- the list that belongs to the line of an admission
+abbrev pub list_with : Note → Listed
+list_with Fresh = listed.Kept
+list_with Pulled = listed.Nothing
+list_with Appended = listed.Nothing
+
+-- the line of an entry with this list
+abbrev pub line_with : Entry → List ℕ → Line
+line_with entry list = record { entry = entry; trains = list }
+
+-- the line of an admission; only a fresh one brings its list
+abbrev pub admission : ℕ → ℕ → ℕ → Note → List ℕ → Line
+admission at t m note list = admit_line at t m note list
+
+-- the train waits, and this is its next move
+abbrev pub is_next_move : List TrainState → ℕ → ℕ → Bool
+is_next_move states t m = (state_of states t).waits && (m == suc (state_of states t).place)
+
+-- the train waits at this instant, this is its next move, and no hold line stands before in the round
+abbrev pub is_in_place : Ledger → ℕ → ℕ → ℕ → Bool → Bool
+is_in_place ledger at t m held = (at == ledger.state.instant) && not (is_due_now ledger.state) && is_next_move ledger.state.trains t m && not held
+
+-- places and kept list are those after an admission of the train with this note and list
+pub record HasGiven (front : Front) (old new : Ledger) (t : ℕ) (note : Note) (list : List ℕ) : Type 0 where
+  pub list_is : new.kept.trains ≡ given_list (moves_of old.plant) (kept old.plant front) t note list
+  pub positions : new.places.positions ≡ after (places old.plant front) t
+  pub room : length new.places.owners ≡ SECTIONS
+  pub counted : new.places.played < 2 ^ 64
+  pub told : (x u : ℕ) → (get_or new.places.owners x None ≡ Some u) ↔ IsTrue (holds (moves_of old.plant) new.places.positions u x)
+  pub list_room : sum_below (moves old.plant) (trains old.plant) ≤ new.kept.room

@@ -1,0 +1,2 @@
+-- What is kept of a ledger, and the front for which that stands.
+pub mod Ledgers

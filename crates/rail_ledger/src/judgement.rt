@@ -1,0 +1,216 @@
+//! A line is judged by what is kept.
+
+ghost use Rattle.std.specs.Prelude.{◌≡◌, ◌≢◌, ◌↔◌, ◌<◌, ◌∷◌, [], cond, is_some, Some, true, false, IsTrue, IsNone, IfSome};
+ghost use Rattle.rail_rules.specs.FcfsAlone.{fcfs_alone};
+ghost use Rattle.rail_ledger.specs.Ledgers.{CouldGo, GivesEntry, HasGiven, IsAt, IsRefused, IsSettled, IsSomewhere, MayGoOn, TakesLine, admission, is_in_place, is_next_move, line_in, line_with, list_in, list_with};
+ghost use Rattle.rail_ledger.specs.declared.judgement.Left.TheVariants.{Admission, Hold as HoldLine, Nothing};
+ghost use Rattle.rail_ledger.specs.declared.ledger.Listed.TheVariants as which;
+ghost use Rattle.rail_queue.specs.Order.{first_time_of, is_sorted};
+ghost use Rattle.rail_rules.specs.Causes.{is_deciding};
+ghost use Rattle.rail_rules.specs.Fronts.{Front, has_held, is_admission, is_hold, kept, places};
+ghost use Rattle.rail_base.specs.declared.history.Entry.{Entry};
+ghost use Rattle.rail_state.specs.Representation.{IsAdmissible};
+ghost use Rattle.rail_laws_run.specs.HolderTables.{held_cause};
+ghost use Rattle.rail_list.specs.GivenLists.{may_be_given};
+ghost use Rattle.rail_state.specs.TrainStates.{state_of};
+ghost use Rattle.rail_rules.specs.Plant.{moves_of, needed};
+ghost use Rattle.rail_rules.specs.Orders.{input_of};
+
+use crate::ledger::{Ledger, Listed, list_with};
+use rail_base::{Entry, Note, Time, TrainNo, What};
+use rail_list::admit_given;
+use rail_state::held_cause;
+
+/// What is left to decide at an instant at which nothing is pending.
+#[derive(Clone, Copy, Debug, PartialEq, Eq)]
+pub enum Left {
+    /// Some train could be admitted.
+    Admission,
+    /// This hold line is due.
+    Hold(Entry),
+    /// Nothing.
+    Nothing,
+}
+
+impl Ledger {
+    /// What is left to decide at this instant, at which nothing is pending. A hold line that is due is
+    /// given.
+    fn left_to_decide(&mut self) -> Left
+        requires running { IsSomewhere self.old }
+        requires going { self.old.state.has_ended ≡ false }
+        requires unsettled { self.old.state.is_settled ≡ false }
+        requires none_due { first_time_of self.old.state.queue.events ≢ Some self.old.state.instant }
+        requires sorted { IsTrue (is_sorted self.old.state.queue.events) }
+        requires unlisted { self.old.listed ≡ which.Nothing }
+        ensures admission { result ≡ Admission → CouldGo self.old }
+        ensures hold { (entry : Entry) → result ≡ HoldLine entry
+            → (is_hold entry.what ≡ true) × (self.new.plant ≡ self.old.plant) × GivesEntry self.old self.new entry × (list_in self.new ≡ []) }
+        ensures nothing { result ≡ Nothing → (self.new.plant ≡ self.old.plant) × IsSettled self.old self.new }
+    {
+        while let Some(train) = self.look() {
+            match self.find_list(train) {
+                Some(_) => return Left::Admission,
+                None => {}
+            }
+        }
+        match self.hold() {
+            Some(entry) => Left::Hold(entry),
+            None => Left::Nothing,
+        }
+    }
+
+    /// Takes a line that is no admission: `None` where it may follow, and then what is kept stands for the
+    /// lines with it; else the law that it breaks.
+    pub fn take_other(&mut self, entry: Entry, trains: &[TrainNo]) -> Option<u8>
+        requires running { IsSomewhere self.old }
+        requires other { is_admission entry.what ≡ false }
+        ensures taken { IsNone result → TakesLine self.old self.new (line_with entry trains.now) }
+        ensures refused { IfSome result (IsRefused self.old (line_with entry trains.now)) }
+    {
+        if self.state.has_ended {
+            return Some(1);
+        }
+        self.listed = Listed::Nothing;
+        if self.may_go_on() {
+            return self.take_next(entry, trains);
+        }
+        match self.left_to_decide() {
+            Left::Admission => Some(6),
+            Left::Hold(held) => self.compare(entry, trains, held, 6),
+            Left::Nothing => self.take_next(entry, trains),
+        }
+    }
+
+    /// Takes a line that is no admission where nothing is left to decide at this instant.
+    fn take_next(&mut self, entry: Entry, trains: &[TrainNo]) -> Option<u8>
+        requires running { IsSomewhere self.old }
+        requires going { self.old.state.has_ended ≡ false }
+        requires may { MayGoOn self.old }
+        requires unlisted { self.old.listed ≡ which.Nothing }
+        requires other { is_admission entry.what ≡ false }
+        ensures taken { IsNone result → TakesLine self.old self.new (line_with entry trains.now) }
+        ensures refused { IfSome result (IsRefused self.old (line_with entry trains.now)) }
+    {
+        let given = self.go_on();
+        self.compare(entry, trains, given, law_of_other(&entry))
+    }
+
+    /// `None` where the line that was given is this one; else the law.
+    fn compare(&self, entry: Entry, trains: &[TrainNo], given: Entry, law: u8) -> Option<u8>
+        ensures same { IsNone result → line_in self.now given ≡ line_with entry trains.now }
+        ensures other { IfSome result (λ broken. (broken ≡ law) × (line_in self.now given ≡ line_with entry trains.now → ⊥)) }
+    {
+        if are_same(&entry, &given) && are_same_lists(self.last_list(), trains) {
+            None
+        } else {
+            Some(law)
+        }
+    }
+
+    /// Takes an admission: `None` where it may follow, and then what is kept stands for the lines with it;
+    /// else the law that it breaks. `held` tells whether the last line was a hold line.
+    pub fn take_admission(
+        &mut self,
+        at: Time,
+        train: TrainNo,
+        place: u16,
+        note: Note,
+        list: &[TrainNo],
+        held: bool,
+    ) -> Option<u8>
+        requires running { IsSomewhere self.old }
+        requires going { self.old.state.has_ended ≡ false }
+        requires held { (front : Front) → IsAt front self.old → held ≡ has_held front }
+        ensures taken { IsNone result → TakesLine self.old self.new (admission at train place note list.now) }
+        ensures refused { IfSome result (IsRefused self.old (admission at train place note list.now)) }
+    {
+        if !self.is_in_place(at, train, place, held) {
+            return Some(2);
+        }
+        if self.is_occupied(train) {
+            return Some(4);
+        }
+        if !self.keep_given(train, note, list) {
+            return Some(5);
+        }
+        self.state.admit(&self.plant, train);
+        self.listed = list_with(note);
+        None
+    }
+
+    /// Whether the train waits at this instant, this is its next move, and no hold line stands before in the
+    /// round.
+    fn is_in_place(&self, at: Time, train: TrainNo, place: u16, held: bool) -> bool
+        requires { IsSomewhere self.now }
+        ensures exact { result ≡ is_in_place self.now at train place held }
+        ensures sorted { IsTrue (is_sorted self.now.state.queue.events) }
+    {
+        let first = self.state.queue.first_time();
+        at == self.state.instant
+            && first != Some(self.state.instant)
+            && self.is_next_move(train, place)
+            && !held
+    }
+
+    /// Whether the train waits, and this is its next move.
+    fn is_next_move(&self, train: TrainNo, place: u16) -> bool
+        requires { IsSomewhere self.now }
+        ensures { result ≡ is_next_move self.now.state.trains train place }
+    {
+        if train.0 >= self.plant.moves().trains() {
+            return false;
+        }
+        let train_state = self.state.trains.get(train);
+        train_state.waits && u32::from(place) == u32::from(train_state.place) + 1
+    }
+
+    /// Whether a needed section of the train's next move is held.
+    fn is_occupied(&self, train: TrainNo) -> bool
+        requires running { IsSomewhere self.now }
+        requires waits { (state_of self.now.state.trains train).waits ≡ true }
+        ensures { result ≡ is_some (held_cause self.now.state.holders (needed self.now.plant train (state_of self.now.state.trains train).place)) }
+    {
+        let place = self.state.trains.get(train).place;
+        let row = self.plant.move_row(train, place + 1);
+        held_cause(&self.state.holders, row.sections.as_slice()).is_some()
+    }
+
+    /// Makes the train's next move on the places, and keeps the list that its admission with this note keeps,
+    /// where that completes after it.
+    fn keep_given(&mut self, train: TrainNo, note: Note, list: &[TrainNo]) -> bool
+        requires running { IsSomewhere self.old }
+        requires going { self.old.state.has_ended ≡ false }
+        requires next { (front : Front) → IsAt front self.old → (is_deciding (input_of fcfs_alone self.old.plant) front ≡ true) × IsAdmissible fcfs_alone self.old.plant front self.old.state.holders self.old.state.trains train }
+        ensures lists { self.new ≡ record self.old { places = self.new.places; kept = self.new.kept } }
+        ensures exact { (front : Front) → IsAt front self.old → result ≡ may_be_given (moves_of self.old.plant) (places self.old.plant front) (kept self.old.plant front) train note list.now }
+        ensures given { IsTrue result → (front : Front) → IsAt front self.old → HasGiven front self.old self.new train note list.now }
+    {
+        let moves = self.plant.moves();
+        moves.trains();
+        admit_given(moves, &mut self.places, &mut self.kept, train, note, list)
+    }
+}
+
+/// Whether the two entries are one.
+fn are_same(entry: &Entry, given: &Entry) -> bool
+    ensures { IsTrue result ↔ (given.now ≡ entry.now) }
+{
+    entry == given
+}
+
+/// Whether the two lists are one.
+fn are_same_lists(list: &[TrainNo], trains: &[TrainNo]) -> bool
+    ensures { IsTrue result ↔ (list.now ≡ trains.now) }
+{
+    list == trains
+}
+
+/// The law that the line breaks where it is no admission, and nothing is left to decide.
+fn law_of_other(entry: &Entry) -> u8
+    ensures { result ≡ cond (is_hold entry.now.what) 6 1 }
+{
+    match entry.what {
+        What::Hold { .. } => 6,
+        _ => 1,
+    }
+}

@@ -1,4 +1,0 @@
-pub mod Known
-pub mod Causing
-pub mod Listing
-pub mod Writing

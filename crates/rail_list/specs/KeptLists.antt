@@ -1,0 +1,18 @@
+-- The kept list and its room.
+use Rattle.std.specs.Prelude.{ℕ, ◌==◌, cond, ◌≤◌, List, [], ◌∷◌, length}
+use Rattle.rail_rules.specs.Numbers.{sum_below}
+use Rattle.rail_place.specs.Tables.{moves_in, MoveLists}
+
+-- the trains that move, in this order, and for how many entries memory was taken
+pub record Kept : Type 0 where
+  pub trains : List ℕ
+  pub room : ℕ
+
+-- the kept list was made for these moves: there is room for each move of each train
+abbrev pub HasRoomFor : List MoveLists → Kept → Type 0
+HasRoomFor table kept = sum_below (moves_in table).moves (length table) ≤ kept.room
+
+-- the entries before the first of the train, all of them where it has none
+abbrev pub before_first : ℕ → List ℕ → List ℕ
+before_first t [] = []
+before_first t (u ∷ rest) = cond (u == t) [] (u ∷ before_first t rest)

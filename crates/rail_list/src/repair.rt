@@ -1,0 +1,104 @@
+ghost use Rattle.std.specs.Prelude.{◌≡◌, ℕ, ◌<◌, true, false, length, IsTrue, IsNone, IsSome, IfSome};
+ghost use Rattle.rail_rules.specs.Analysis.{finds};
+ghost use Rattle.rail_rules.specs.Places.{after, completes, is_legal};
+ghost use Rattle.rail_place.specs.Made.{IsMadeFor};
+ghost use Rattle.rail_place.specs.Tables.{moves_in};
+ghost use Rattle.rail_list.specs.KeptLists.{HasRoomFor};
+ghost use Rattle.rail_list.specs.Repairs.{IsNoted, is_known, is_repairable_for};
+
+use crate::KeptList;
+use rail_base::{Note, TrainNo};
+use rail_consequence::Analyst;
+use rail_place::{Moves, Places};
+
+/// Makes the train's next move on the places where a list is known that brings every train inside to its
+/// exit after it, and keeps that list: the repaired one, or else a fresh one that the analysis finds with at
+/// most `depth` free legs. `None` where no list is known; then places and list are as before.
+pub fn admit_by_list(
+    moves: &Moves,
+    places: &mut Places,
+    kept: &mut KeptList,
+    analyst: &mut Analyst,
+    depth: u8,
+    train: TrainNo,
+) -> Option<Note>
+    requires made { IsMadeFor moves.now places.old }
+    requires room { HasRoomFor moves.now kept.old }
+    requires completes { IsTrue (completes (moves_in moves.now) places.old.positions kept.old.trains) }
+    requires train { train < length moves.now }
+    requires legal { IsTrue (is_legal (moves_in moves.now) places.old.positions train) }
+    ensures made { IsMadeFor moves.now places.new }
+    ensures room { kept.new.room ≡ kept.old.room }
+    ensures none { IsNone result → (places.new.positions ≡ places.old.positions) × (kept.new ≡ kept.old) × (is_known (moves_in moves.now) depth places.old.positions kept.old.trains train ≡ false) }
+    ensures moved { IsSome result → places.new.positions ≡ after places.old.positions train }
+    ensures note { IfSome result (λ note. IsNoted (moves_in moves.now) depth places.old.positions kept.old.trains train note kept.new.trains) }
+    ensures completes { IsTrue (completes (moves_in moves.now) places.new.positions kept.new.trains) }
+{
+    if let Some(note) = repair(moves, places, kept, train) {
+        places.advance(moves, train);
+        return Some(note);
+    }
+    if admit_afresh(moves, places, kept, analyst, depth, train) {
+        Some(Note::Fresh)
+    } else {
+        None
+    }
+}
+
+/// Repairs the list for the train's next move, and says how. `None` exactly where the repaired list
+/// doesn't complete after the move; then the list is as before. The places are as before.
+fn repair(moves: &Moves, places: &mut Places, kept: &mut KeptList, train: TrainNo) -> Option<Note>
+    requires made { IsMadeFor moves.now places.old }
+    requires room { HasRoomFor moves.now kept.old }
+    requires completes { IsTrue (completes (moves_in moves.now) places.old.positions kept.old.trains) }
+    requires train { train < length moves.now }
+    requires legal { IsTrue (is_legal (moves_in moves.now) places.old.positions train) }
+    ensures made { IsMadeFor moves.now places.new }
+    ensures room { kept.new.room ≡ kept.old.room }
+    ensures positions { places.new.positions ≡ places.old.positions }
+    ensures none { IsNone result → (kept.new.trains ≡ kept.old.trains) × (is_repairable_for (moves_in moves.now) places.old.positions kept.old.trains train ≡ false) }
+    ensures note { IfSome result (λ note. (depth : ℕ) → IsNoted (moves_in moves.now) depth places.old.positions kept.old.trains train note kept.new.trains) }
+{
+    if places.position(train) > 0 {
+        if kept.pull(moves, places, train) {
+            return Some(Note::Pulled);
+        }
+    } else if kept.append(moves, places, train) {
+        return Some(Note::Appended);
+    }
+    None
+}
+
+/// Makes the train's next move where the analysis finds a list after it, and keeps that list. False
+/// exactly where it finds none; then places and list are as before.
+fn admit_afresh(
+    moves: &Moves,
+    places: &mut Places,
+    kept: &mut KeptList,
+    analyst: &mut Analyst,
+    depth: u8,
+    train: TrainNo,
+) -> bool
+    requires made { IsMadeFor moves.now places.old }
+    requires room { HasRoomFor moves.now kept.old }
+    requires train { train < length moves.now }
+    requires legal { IsTrue (is_legal (moves_in moves.now) places.old.positions train) }
+    ensures made { IsMadeFor moves.now places.new }
+    ensures room { kept.new.room ≡ kept.old.room }
+    ensures exact { result ≡ finds (moves_in moves.now) depth (after places.old.positions train) }
+    ensures none { result ≡ false → (places.new.positions ≡ places.old.positions) × (kept.new.trains ≡ kept.old.trains) }
+    ensures moved { IsTrue result → places.new.positions ≡ after places.old.positions train }
+    ensures completes { IsTrue result → IsTrue (completes (moves_in moves.now) (after places.old.positions train) kept.new.trains) }
+{
+    places.advance(moves, train);
+    match analyst.find(moves, places, depth) {
+        Some(list) => {
+            kept.replace(list);
+            true
+        }
+        None => {
+            places.retreat(moves, train);
+            false
+        }
+    }
+}

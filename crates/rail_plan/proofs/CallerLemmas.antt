@@ -1,0 +1,6 @@
+-- Lemmas for the crates above: what may be cited of this crate beside its definitions and public clauses. The other proof files are private to it.
+
+-- Naming: names in order, of which no two are the same.
+
+-- a set of the names before an index, with the name at the index
+pub use Rattle.rail_plan.proofs.Naming.{inserted}

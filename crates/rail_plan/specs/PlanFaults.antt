@@ -1,0 +1,71 @@
+-- Which tables are planned, and their faults.
+use Rattle.std.specs.Prelude.{◌≡◌, ℕ, zero, suc, ◌-◌, ◌≤◌, Bool, not, cond, nat_le, List, [], length, map, sum_by, Option, Some, None, IsTrue}
+use Rattle.std.specs.List.{find, list_all}
+use Rattle.rail_base.specs.declared.limits.TheConstants.{SECTIONS, TRAINS, RELEASE, DEPTH}
+use Rattle.rail_base.specs.declared.plant.Tables.{Tables}
+use Rattle.rail_base.specs.declared.plant.SectionRow.{SectionRow}
+use Rattle.rail_base.specs.declared.plant.TrainRow.{TrainRow}
+use Rattle.rail_base.specs.declared.plant.MoveRow.{MoveRow}
+use Rattle.rail_rules.specs.Numbers.{all_below, is_in, or_else}
+use Rattle.rail_rules.specs.Plant.{Plant, section, train, moves, needed, standing_after, shortest_end, from_turn, longer}
+use Rattle.rail_rules.specs.Accepted.{are_distinct_names, is_section_in_range, is_train_in_range}
+use Rattle.rail_plan.specs.declared.faults.PlanFault.{PlanFault}
+use Rattle.rail_plan.specs.declared.faults.PlanFault.TheVariants.{TooLong, SelfBlocked, OutOfMemory}
+
+-- the plant of the tables, without calls
+abbrev pub bare : Tables → Plant
+bare tables = record { tables = tables; calls = [] }
+
+-- tables within the limits and ranges, with distinct names of sections and of trains; each move runs over known sections and none twice, each turn is at a step of its move, and none is after a train's last move
+pub record IsPlannable (tables : Tables) : Type 0 where
+  pub few_sections : length tables.sections ≤ SECTIONS
+  pub few_trains : length tables.trains ≤ TRAINS
+  pub release : tables.release ≤ RELEASE
+  pub depth : tables.depth ≤ DEPTH
+  pub sections : IsTrue (list_all is_section_in_range tables.sections)
+  pub section_names : IsTrue (are_distinct_names (map (λ (row : SectionRow). row.name) tables.sections))
+  pub train_names : IsTrue (are_distinct_names (map (λ (row : TrainRow). row.name) tables.trains))
+  pub trains : IsTrue (all_below (is_train_in_range (bare tables)) (length tables.trains))
+
+-- the metres of the sections together
+abbrev pub metres_of : Plant → List ℕ → ℕ
+metres_of plant sections = sum_by (λ x. (section plant x).length) sections
+
+-- the standing set after a move of a train of so many metres
+abbrev pub standing_of : Plant → ℕ → MoveRow → List ℕ
+standing_of plant metres row = longer (shortest_end plant metres row.sections) (from_turn row.turn row.sections)
+
+-- the train is longer than the sections of its move's route
+abbrev pub is_too_long : Plant → ℕ → ℕ → Bool
+is_too_long plant t m = not (nat_le (train plant t).kind.length (metres_of plant (needed plant t m)))
+
+-- the first needed section of the next move on which the train stands after its move m
+abbrev pub blocking : Plant → ℕ → ℕ → Option ℕ
+blocking plant t m = find (λ x. is_in x (standing_after plant t m)) (needed plant t (suc m))
+
+-- the fault that a blocking section is
+abbrev pub blocked_by : ℕ → ℕ → Option ℕ → Option PlanFault
+blocked_by t place None = None
+blocked_by t place (Some x) = Some (SelfBlocked t place x)
+
+-- the fault of a train at the place after its move m: it is too long to stand there, or blocks its own way
+abbrev pub fault_at : Plant → ℕ → ℕ → Option PlanFault
+fault_at plant t m = or_else (cond (is_too_long plant t m) (Some (TooLong t (suc m))) None) (blocked_by t (suc m) (blocking plant t m))
+
+-- the answer for the first of the numbers below the bound that has one
+abbrev pub first_answer : {X : Type 0} → (ℕ → Option X) → ℕ → Option X
+first_answer f zero = None
+first_answer f (suc n) = or_else (first_answer f n) (f n)
+
+-- the first fault of a train, at a place before its last
+abbrev pub fault_of_train : Plant → ℕ → Option PlanFault
+fault_of_train plant t = first_answer (fault_at plant t) (moves plant t - 1)
+
+-- the first fault of the tables, train by train
+abbrev pub fault_of : Tables → Option PlanFault
+fault_of tables = first_answer (fault_of_train (bare tables)) (length tables.trains)
+
+-- a fault answers the first one, if it is that one; want of memory may stand in place of any answer
+abbrev pub IsAnswer : Option PlanFault → PlanFault → Type 0
+IsAnswer first OutOfMemory = Unit {0}
+IsAnswer first fault = first ≡ Some fault

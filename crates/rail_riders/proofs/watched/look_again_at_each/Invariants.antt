@@ -1,7 +1,0 @@
-use Rattle.std.proofs.Common.{◌≡◌, false, take}
-use Rattle.std.specs.List.{fold}
-use Rattle.rail_riders.specs.Watching.{look_again}
-use Rattle.rail_riders.proofs.watched.look_again_at_each.Given as goal
-
-abbrev pub invariant-loop-train : goal.invariant-loop-train
-invariant-loop-train l = (l.rows, l.any) ≡ fold (look_again l.section) (l.initial.rows, false) (take l.train-index l.watched)

@@ -1,0 +1,28 @@
+-- Lemmas for the crates above: what may be cited of this crate beside its definitions and public clauses. The other proof files are private to it.
+
+-- Below: tests and sums over the numbers below a bound.
+pub use Rattle.rail_rules.proofs.Below.{all_below_at, all_below_from, any_below_at, any_below_found, any_below_from, any_below_none, sum_below-le, sum_below_same}
+-- a sum of no greater numbers, one of which is less, is less
+pub use Rattle.rail_rules.proofs.Below.{sum_below-lt}
+-- Members: numbers in lists.
+pub use Rattle.rail_rules.proofs.Members.{apart_at, apart_from, apart_sym, is_in-head, list_all_at, list_any_at, list_any_none}
+-- StatesKept: a legal move from a valid state leads to a valid state.
+pub use Rattle.rail_rules.proofs.StatesKept.{legal_move_kept, state_from_parts, state_parts}
+-- a train stands on sections that its move needed
+pub use Rattle.rail_rules.proofs.StatesKept.{stand_needed}
+-- Parts: the instants of a blocking interval are in order, and so its parts sum to its length.
+pub use Rattle.rail_rules.proofs.Parts.{enter_before_leave, go_after_run, head_time-begun, head_time-le, leave_before_clearing}
+-- the head arrives after its free run
+pub use Rattle.rail_rules.proofs.Parts.{arrive_after_run}
+-- the head enters each section before the end of its run
+pub use Rattle.rail_rules.proofs.Parts.{enter_before_run}
+-- and its next move, where it has one, doesn't begin before it arrives
+pub use Rattle.rail_rules.proofs.Parts.{go_after_arrive}
+-- a move begins after its signal
+pub use Rattle.rail_rules.proofs.Parts.{start_after_signal}
+-- Found: trying every list of so many legs finds one exactly where there is one.
+pub use Rattle.rail_rules.proofs.Found.{finds_exactly, leg_parts}
+-- Unchanged: a line that is no admission changes no event line of an admitted move.
+pub use Rattle.rail_rules.proofs.Unchanged.{gather_same}
+-- the admissions are those before the line
+pub use Rattle.rail_rules.proofs.Unchanged.{admissions_kept}

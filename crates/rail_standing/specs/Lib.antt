@@ -1,2 +1,0 @@
--- What a run keeps, and the front that it stands for.
-pub mod Parts

@@ -1,0 +1,389 @@
+-- An admission: what it changes.
+use Rattle.std.proofs.Common.{◌≡◌, ℕ, zero, suc, ◌+◌, ◌-◌, ◌<◌, max, Bool, true, false, not, ◌&&◌, cond, eqb, List, [], ◌∷◌, ◌++◌, length, get_or, Option, Some, None, is_some, refl, sym, ap, ◌∙◌, subst, ◌⊎◌, inl, ⊎_elim, arith}
+use Rattle.std.specs.Prelude.{count_by, nat_lt}
+use Rattle.std.proofs.lemmas.Bool.{and_parts, and_from, and_left, and_right, or_left, or_right, cases_Bool, cases_lt, eqb-true, eq-eqb, ne_eqb, lt-ltb, ltb-true, false≢true, cond-true, cond-false, cond_both, not_from_true, not_from_false, not-true}
+use Rattle.std.proofs.lemmas.Option.{none-some}
+use Rattle.rail_base.specs.declared.history.Entry.{Entry}
+use Rattle.rail_base.specs.declared.history.Note.{Note}
+use Rattle.rail_base.specs.declared.history.Cause.{Cause}
+use Rattle.rail_rules.specs.Numbers.{gather, is_in, or_else}
+use Rattle.rail_rules.specs.Plant.{Plant, is_forced, move_row, trains, moves, moves_of, needed, step_section, steps}
+use Rattle.rail_rules.specs.Times.{admitted, arrive, does_pass, free_run, go, passes, previous, ready, signal_time, stop_at, stop_time}
+use Rattle.rail_rules.specs.Fronts.{Front, Line, admissions, has_ended, instant, kept, places}
+use Rattle.rail_rules.specs.Intervals.{end_of}
+use Rattle.rail_rules.specs.Events.{arrive_line, enter_line, free_lines, move_events, out_lines}
+use Rattle.rail_rules.specs.Causes.{closed_cause, is_deciding, is_ready, last_hold, place, stop_cause}
+use Rattle.rail_rules.specs.Orders.{told, Dispatch, input_of}
+use Rattle.rail_laws_front.specs.Premises.{IsWellFormed}
+use Rattle.rail_laws_front.proofs.CallerLemmas.{agree_added, admitted_added, free_run_agrees, is_added, length_added, ready_agrees, arrives_passing, arrives_stopping, go_after_admission, not_admitted, run_after_go, admission_added, admission_of_other}
+use Rattle.rail_laws_events.specs.Accounts.{tally}
+use Rattle.rail_laws_events.specs.Changes.{taken_back, freed_before, gained, ready_after}
+use Rattle.rail_laws_events.proofs.CallerLemmas.{tally-append}
+use Rattle.rail_laws_run.specs.HolderTables.{AreHolders, held_cause}
+use Rattle.rail_laws_run.specs.Heads.{IsHead}
+use Rattle.rail_block.specs.declared.times.MoveTimes.{MoveTimes}
+use Rattle.rail_block.specs.CarriedTimes.{times_at}
+use Rattle.rail_queue.specs.declared.event.Event.{Event}
+use Rattle.rail_queue.specs.declared.event.Class.TheVariants as class
+use Rattle.rail_state.specs.Events.{end_lines, event_of, deferred_event, step_lines, train_event}
+use Rattle.rail_laws_run.proofs.CallerLemmas.{no_later_hold, unheld, unready_by_admission, admission_due}
+use Rattle.rail_state.specs.declared.train.TrainState.{TrainState}
+use Rattle.rail_state.specs.TrainStates.{state_of}
+use Rattle.rail_state.specs.TrainStates.{admitted as admitted_state}
+use Rattle.rail_state.specs.Representation.{IsAdmissible, IsAdmitLine, IsBound, IsDeferred, MayKeep, Represents, admit_line, deferred_events, passing_event}
+use Rattle.rail_state.proofs.Below.{ready_runs, well_formed_plant, head_kept, holders_taken, out_kept}
+use Rattle.rail_state.proofs.Admitting.{admits, lawful_line, left_of_ready, no_hold, ready_it, waits_it}
+use Rattle.rail_state.proofs.Counts.{count-exchanged}
+use Rattle.rail_state.proofs.Next.{carried_ready}
+use Rattle.rail_state.proofs.Early.{held_before_now}
+use Rattle.rail_rules.specs.Events.{due_lines}
+use Rattle.rail_state.specs.declared.run_state.RunState.{RunState}
+
+-- where no needed section is held, each is free
+pub each_free : (h : List (Option ℕ)) (xs : List ℕ) → held_cause h xs ≡ None → (x : ℕ) → is_in x xs ≡ true → get_or h x None ≡ None
+each_free h [] free x there = absurd (false≢true there)
+each_free h (y ∷ ys) free x there = at (get_or h y None) refl free (λ free_rest in_rest. each_free h ys free_rest x in_rest)
+  where
+    at : (o : Option ℕ) → get_or h y None ≡ o → or_else (Rattle.std.specs.Option.option_map (Rattle.rail_base.specs.declared.history.Cause.TheVariants.Blocked y) o) (held_cause h ys) ≡ None → (held_cause h ys ≡ None → is_in x ys ≡ true → get_or h x None ≡ None) → get_or h x None ≡ None
+    at (Some u) is free' deeper = absurd (none-some _ (sym free'))
+    at None is free' deeper =
+        ⊎_elim
+        (λ here. subst (λ z. get_or h z None ≡ None) (eqb-true y x here) is)
+        (λ later. deeper free' later)
+        (Rattle.std.proofs.lemmas.Bool.or_cases (eqb y x) (is_in x ys) there)
+
+-- where nothing bars, nothing holds
+bar_free : (a b c : Option Cause) → or_else a (or_else b c) ≡ None → c ≡ None
+bar_free None None c h = h
+bar_free (Some x) b c h = absurd (none-some x (sym h))
+bar_free None (Some x) c h = absurd (none-some x (sym h))
+
+module _ (dispatch : Dispatch) (plant : Plant) (front : Front) (state : RunState) (rep : Represents dispatch plant front state) (going : has_ended front ≡ false) (deciding : is_deciding (input_of dispatch plant) front ≡ true) (t : ℕ) (next : IsAdmissible dispatch plant front state.holders state.trains t) (note : Note) (list : List ℕ) (noted : MayKeep (moves_of plant) (places plant front) (kept plant front) t note list) (times : MoveTimes) (arrival : Option ℕ) (after_it : RunState) (has : IsAdmitLine plant front t times arrival state after_it) where
+  abbrev line : Line
+  line = admit_line state.instant t (suc (place front t)) note list
+
+  abbrev adms : List ℕ
+  adms = admissions front t
+
+  fine : IsWellFormed plant
+  fine = well_formed_plant plant rep.accepted
+
+  left : place front t < moves plant t
+  left = left_of_ready dispatch plant front t (ready_it dispatch plant front state rep going deciding t next note list noted)
+
+  added : admissions (line ∷ front) t ≡ admissions front t ++ state.instant ∷ []
+  added = admission_added line front t (suc (place front t)) note refl
+
+  others : (u : ℕ) → (u ≡ t → ⊥) → admissions (line ∷ front) u ≡ admissions front u
+  others u other = admission_of_other line front t (suc (place front t)) note u refl other
+
+  this_state : state_of after_it.trains t ≡ admitted_state times arrival (state_of state.trains t)
+  this_state = has.trains t next.known_train ∙ cond-true (eqb t t) (admitted_state times arrival (state_of state.trains t)) _ (eq-eqb t t refl)
+
+  other_state : (u : ℕ) → u < trains plant → (u ≡ t → ⊥) → state_of after_it.trains u ≡ record (state_of state.trains u) { known = None }
+  other_state u lt other = has.trains u lt ∙ cond-false (eqb t u) _ (record (state_of state.trains u) { known = None }) (ne_eqb t u (λ e. other (sym e)))
+
+  -- the times of the old and the new place
+  old_times : (state_of state.trains t).times ≡ times_at plant t (admissions front t) (place front t)
+  old_times = rep.times.times t next.known_train
+
+  passes_is : times.passes ≡ passes plant t (admissions front t ++ state.instant ∷ []) (place front t)
+  passes_is = ap (λ ts. ts.passes) has.are_times
+
+  go_is : times.go ≡ go plant t (admissions front t ++ state.instant ∷ []) (place front t)
+  go_is = ap (λ ts. ts.go) has.are_times
+
+  -- the admission is at the ready time and the place isn't forced where the train passes, and else not both
+  passes_means : passes plant t (admissions front t ++ state.instant ∷ []) (place front t) ≡ (not (is_forced plant t (place front t)) && eqb state.instant (ready plant t (admissions front t) (place front t)))
+  passes_means =
+      ap (λ b. b && does_pass plant t (place front t) (previous (admissions front t ++ state.instant ∷ []) (place front t)) (free_run plant t (admissions front t ++ state.instant ∷ []) (place front t)) (admitted (admissions front t ++ state.instant ∷ []) (place front t))) (is_added (admissions front t) state.instant)
+      ∙ ap (λ at. not (is_forced plant t (place front t)) && eqb at (ready plant t (admissions front t ++ state.instant ∷ []) (place front t))) (admitted_added (admissions front t) state.instant)
+      ∙ ap (λ r. not (is_forced plant t (place front t)) && eqb state.instant r) (ready_agrees plant t (admissions front t ++ state.instant ∷ []) (admissions front t) (place front t) (place front t) (agree_added (admissions front t) state.instant) (omega arith))
+
+  -- the arrival that was deferred, where the train passes and where it doesn't
+  passing_balance : (q : Event → Bool) → count_by q (passing_event t (place front t) times) + tally (λ e. q (event_of e)) (taken_back plant t (admissions front t) (place front t)) ≡ tally (λ e. q (event_of e)) (taken_back plant t (admissions front t ++ state.instant ∷ []) (place front t)) + count_by q (deferred_event t (state_of state.trains t).place (state_of state.trains t).deferred)
+  passing_balance q = of (place front t) refl
+    where
+      p : Entry → Bool
+      p = λ e. q (event_of e)
+
+      known : t < trains plant
+      known = next.known_train
+
+      train_state : TrainState
+      train_state = state_of state.trains t
+
+      no_arrival : (m : ℕ) (o : Option ℕ) → ((at : ℕ) → o ≡ Some at → ⊥) → count_by q (deferred_event t m o) ≡ 0
+      no_arrival m None none = refl
+      no_arrival m (Some at) none = absurd (none at refl)
+
+      held_one : (m : ℕ) (o : Option ℕ) (at : ℕ) → o ≡ Some at → count_by q (deferred_event t m o) ≡ cond (q (train_event at class.Arrive t m)) 1 0
+      held_one m o at is = ap (λ x. count_by q (deferred_event t m x)) is ∙ omega arith
+
+      of : (k : ℕ) → place front t ≡ k → count_by q (passing_event t k times) + tally (λ e. q (event_of e)) (taken_back plant t (admissions front t) k) ≡ tally (λ e. q (event_of e)) (taken_back plant t (admissions front t ++ state.instant ∷ []) k) + count_by q (deferred_event t (state_of state.trains t).place (state_of state.trains t).deferred)
+      of zero here =
+          omega (arith, no_arrival (state_of state.trains t).place (state_of state.trains t).deferred (λ at held. omega (arith, (rep.pending.deferred t at known held).begun, rep.times.places t known, here)))
+      of (suc m) here = ⊎_elim passing stopping (cases_Bool (passes plant t (admissions front t ++ state.instant ∷ []) (suc m)))
+        where
+          more_moves : suc m ≡ moves plant t → ⊥
+          more_moves e = omega (arith, e, left, here)
+
+          place_is : (state_of state.trains t).place ≡ suc m
+          place_is = rep.times.places t known ∙ here
+
+          arrive_old : arrive plant t (admissions front t) m ≡ stop_at plant t (admissions front t) m
+          arrive_old = arrives_stopping plant t (admissions front t) m more_moves (ap (λ b. b && does_pass plant t (suc m) (previous (admissions front t) (suc m)) (free_run plant t (admissions front t) (suc m)) (admitted (admissions front t) (suc m))) (not_admitted (admissions front t) (suc m) (omega (arith, here))))
+
+          means : passes plant t (admissions front t ++ state.instant ∷ []) (suc m) ≡ (not (is_forced plant t (suc m)) && eqb state.instant (ready plant t (admissions front t) (suc m)))
+          means = subst (λ k. passes plant t (admissions front t ++ state.instant ∷ []) k ≡ (not (is_forced plant t k) && eqb state.instant (ready plant t (admissions front t) k))) here passes_means
+
+          stop_old : stop_at plant t (admissions front t) m ≡ stop_time plant t (state_of state.trains t).times.free_run
+          stop_old = sym (ap (λ ts. stop_time plant t ts.free_run) (old_times ∙ ap (times_at plant t (admissions front t)) here))
+
+          ready_is : (state_of state.trains t).times.next_ready ≡ ready plant t (admissions front t) (suc m)
+          ready_is = ap (λ ts. ts.next_ready) old_times ∙ carried_ready plant t (admissions front t) (place front t) left ∙ ap (ready plant t (admissions front t)) here
+
+          passing : passes plant t (admissions front t ++ state.instant ∷ []) (suc m) ≡ true → count_by q (passing_event t (suc m) times) + tally (λ e. q (event_of e)) (taken_back plant t (admissions front t) (suc m)) ≡ tally (λ e. q (event_of e)) (taken_back plant t (admissions front t ++ state.instant ∷ []) (suc m)) + count_by q (deferred_event t (state_of state.trains t).place (state_of state.trains t).deferred)
+          passing pass =
+              let both = and_parts (not (is_forced plant t (suc m))) (eqb state.instant (ready plant t (admissions front t) (suc m))) (sym means ∙ pass) in
+              let arrive_new : arrive plant t (admissions front t ++ state.instant ∷ []) m ≡ go plant t (admissions front t ++ state.instant ∷ []) (suc m) = arrives_passing plant t (admissions front t ++ state.instant ∷ []) m more_moves pass in
+              let go_now : times.go ≡ go plant t (admissions front t ++ state.instant ∷ []) (suc m) = go_is ∙ ap (go plant t (admissions front t ++ state.instant ∷ [])) here in
+              let passes_now : times.passes ≡ true = passes_is ∙ ap (passes plant t (admissions front t ++ state.instant ∷ [])) here ∙ pass in
+              let told : count_by q (passing_event t (suc m) times) ≡ cond (q (train_event times.go class.Arrive t (suc m))) 1 0 = ap (count_by q) (cond-true (nat_lt 0 (suc m) && times.passes) (train_event times.go class.Arrive t (suc m) ∷ []) [] (and_from (nat_lt 0 (suc m)) times.passes (lt-ltb 0 (suc m) (omega arith)) passes_now)) ∙ omega arith in
+              let was : tally (λ e. q (event_of e)) (taken_back plant t (admissions front t) (suc m)) ≡ cond (q (train_event (arrive plant t (admissions front t) m) class.Arrive t (suc m))) 1 0 = omega arith in
+              let is_now : tally (λ e. q (event_of e)) (taken_back plant t (admissions front t ++ state.instant ∷ []) (suc m)) ≡ cond (q (train_event (arrive plant t (admissions front t ++ state.instant ∷ []) m) class.Arrive t (suc m))) 1 0 = omega arith in
+              omega (
+                arith,
+                told,
+                was,
+                is_now,
+                ap {B = ℕ} (λ at. cond (q (train_event at class.Arrive t (suc m))) 1 0) go_now,
+                ap {B = ℕ} (λ at. cond (q (train_event at class.Arrive t (suc m))) 1 0) arrive_new,
+                ap {B = ℕ} (λ at. cond (q (train_event at class.Arrive t (suc m))) 1 0) (arrive_old ∙ stop_old),
+                ap (λ k. count_by q (deferred_event t k (state_of state.trains t).deferred)) place_is,
+                held_now (state_of state.trains t).deferred refl (not-true (is_forced plant t (suc m)) both.0) (eqb-true state.instant (ready plant t (admissions front t) (suc m)) both.1),
+              )
+            where
+              held_now : (o : Option ℕ) → (state_of state.trains t).deferred ≡ o → is_forced plant t (suc m) ≡ false → state.instant ≡ ready plant t (admissions front t) (suc m) → count_by q (deferred_event t (suc m) (state_of state.trains t).deferred) ≡ cond (q (train_event (stop_time plant t (state_of state.trains t).times.free_run) class.Arrive t (suc m))) 1 0
+              held_now (Some at) is loose now_ready = held_one (suc m) (state_of state.trains t).deferred at is ∙ ap {B = ℕ} (λ a. cond (q (train_event a class.Arrive t (suc m))) 1 0) (rep.pending.deferred t at known is).stops
+              held_now None is loose now_ready =
+                  ⊎_elim
+                  (λ forced. absurd (false≢true (sym loose ∙ ap (is_forced plant t) (sym place_is) ∙ forced)))
+                  (λ held. told_before (state_of state.trains t).last_hold refl held)
+                  (rep.pending.bound t known is (omega (arith, place_is)) (omega (arith, place_is, left, here)))
+                where
+                  told_before : (c : Option Cause) → (state_of state.trains t).last_hold ≡ c → is_some (state_of state.trains t).last_hold ≡ true → count_by q (deferred_event t (suc m) (state_of state.trains t).deferred) ≡ cond (q (train_event (stop_time plant t (state_of state.trains t).times.free_run) class.Arrive t (suc m))) 1 0
+                  told_before None told_is some = absurd (false≢true (sym (ap is_some told_is) ∙ some))
+                  told_before (Some w) told_is some =
+                      absurd (omega (
+                        arith,
+                        held_before_now (input_of dispatch plant) fine front rep.lawful going (no_hold dispatch plant front state rep going deciding t next note list noted) t w (ready_runs (input_of dispatch plant) front t (ready_it dispatch plant front state rep going deciding t next note list noted)) (sym (rep.waiting.told t known) ∙ told_is),
+                        now_ready,
+                        rep.time,
+                        ap (ready plant t (admissions front t)) here,
+                      ))
+
+          stopping : passes plant t (admissions front t ++ state.instant ∷ []) (suc m) ≡ false → count_by q (passing_event t (suc m) times) + tally (λ e. q (event_of e)) (taken_back plant t (admissions front t) (suc m)) ≡ tally (λ e. q (event_of e)) (taken_back plant t (admissions front t ++ state.instant ∷ []) (suc m)) + count_by q (deferred_event t (state_of state.trains t).place (state_of state.trains t).deferred)
+          stopping pass =
+              let passes_now : times.passes ≡ false = passes_is ∙ ap (passes plant t (admissions front t ++ state.instant ∷ [])) here ∙ pass in
+              let run_same : free_run plant t (admissions front t ++ state.instant ∷ []) (suc m) ≡ free_run plant t (admissions front t) (suc m) = free_run_agrees plant t (admissions front t ++ state.instant ∷ []) (admissions front t) (place front t) (suc m) (agree_added (admissions front t) state.instant) (omega (arith, here)) in
+              let arrive_new : arrive plant t (admissions front t ++ state.instant ∷ []) m ≡ arrive plant t (admissions front t) m = arrives_stopping plant t (admissions front t ++ state.instant ∷ []) m more_moves pass ∙ ap (stop_time plant t) run_same ∙ sym arrive_old in
+              let told : count_by q (passing_event t (suc m) times) ≡ 0 = ap (count_by q) (cond-false (nat_lt 0 (suc m) && times.passes) (train_event times.go class.Arrive t (suc m) ∷ []) [] (and_right (nat_lt 0 (suc m)) times.passes passes_now)) in
+              let was : tally (λ e. q (event_of e)) (taken_back plant t (admissions front t) (suc m)) ≡ cond (q (train_event (arrive plant t (admissions front t) m) class.Arrive t (suc m))) 1 0 = omega arith in
+              let is_now : tally (λ e. q (event_of e)) (taken_back plant t (admissions front t ++ state.instant ∷ []) (suc m)) ≡ cond (q (train_event (arrive plant t (admissions front t ++ state.instant ∷ []) m) class.Arrive t (suc m))) 1 0 = omega arith in
+              omega (
+                arith,
+                told,
+                was,
+                is_now,
+                ap {B = ℕ} (λ at. cond (q (train_event at class.Arrive t (suc m))) 1 0) arrive_new,
+                no_arrival (state_of state.trains t).place (state_of state.trains t).deferred (λ at held. none_held at held (rep.pending.deferred t at known held)),
+              )
+            where
+              none_held : (at : ℕ) → (state_of state.trains t).deferred ≡ Some at → IsDeferred plant t (instant front) (state_of state.trains t) at → ⊥
+              none_held at held back =
+                  ⊎_elim
+                  (λ unready. false≢true (sym unready ∙ waits_it dispatch plant front state rep going deciding t next note list noted))
+                  (λ now_ready. false≢true (sym pass ∙ means ∙ and_from (not (is_forced plant t (suc m))) (eqb state.instant (ready plant t (admissions front t) (suc m))) (not_from_false (is_forced plant t (suc m)) (ap (is_forced plant t) (sym place_is) ∙ back.loose)) (eq-eqb state.instant (ready plant t (admissions front t) (suc m)) (rep.time ∙ sym now_ready.0 ∙ ready_is))))
+                  back.still
+
+  lines_balance : (p : Entry → Bool) → tally p (gained plant t (admissions front t ++ state.instant ∷ []) (place front t)) ≡ tally p (taken_back plant t (admissions front t ++ state.instant ∷ []) (place front t)) + tally p (freed_before plant t (admissions front t ++ state.instant ∷ []) (place front t)) + tally p (step_lines plant t (admissions front t ++ state.instant ∷ []) (place front t)) + tally p (end_lines plant t (admissions front t ++ state.instant ∷ []) (place front t))
+  lines_balance p =
+      let m : ℕ = place front t in
+      let now : List ℕ = admissions front t ++ state.instant ∷ [] in
+      let enters : List Entry = gather (λ j. enter_line plant t now m j ∷ []) (steps plant t m) in
+      let frees : List Entry = gather (λ j. free_lines t (step_section plant t m j) (end_of plant t now m j)) (steps plant t m) in
+      let arrives : List Entry = arrive_line plant t now m ∷ [] in
+      omega (
+        arith,
+        tally-append p (taken_back plant t now m ++ freed_before plant t now m ++ move_events plant t now m) (ready_after plant t now m),
+        tally-append p (taken_back plant t now m ++ freed_before plant t now m) (move_events plant t now m),
+        tally-append p (taken_back plant t now m) (freed_before plant t now m),
+        tally-append p (enters ++ arrives ++ frees) (out_lines plant t now m),
+        tally-append p (enters ++ arrives) frees,
+        tally-append p enters arrives,
+        tally-append p enters frees,
+        tally-append p (arrives ++ out_lines plant t now m) (ready_after plant t now m),
+        tally-append p arrives (out_lines plant t now m),
+      )
+
+  counted : (q : Event → Bool) → count_by q after_it.queue.events + count_by q (deferred_events plant after_it.trains) ≡ tally (λ e. q (event_of e)) (due_lines (input_of dispatch plant) (line ∷ front))
+  counted q =
+      let p : Entry → Bool = λ e. q (event_of e) in
+      omega (
+        arith,
+        rep.pending.counted q,
+        has.pushed q,
+        admission_due (input_of dispatch plant) fine line front (lawful_line dispatch plant front state rep going deciding t next note list noted) t (suc (place front t)) note (admits dispatch plant front state rep going deciding t next note list noted) p (λ at k. refl),
+        ap (λ list'. tally p (gained plant t list' (place front t))) added,
+        lines_balance p,
+        passing_balance q,
+        count-exchanged q (λ u. deferred_event u (state_of state.trains u).place (state_of state.trains u).deferred) (λ u. deferred_event u (state_of after_it.trains u).place (state_of after_it.trains u).deferred) (trains plant) t next.known_train
+            (λ u lt other. ap (λ (r : TrainState). deferred_event u r.place r.deferred) (sym (other_state u lt other))),
+        ap (λ (r : TrainState). count_by q (deferred_event t r.place r.deferred)) this_state,
+        ap (λ m. count_by q (deferred_event t (suc m) arrival)) (rep.times.places t next.known_train),
+      )
+
+  -- the held arrival at the end of the move comes after the train is ready for the next one
+  early : (at : ℕ) → is_forced plant t (suc (place front t)) ≡ false → suc (place front t) < moves plant t → at ≡ stop_time plant t times.free_run → times.next_ready < at
+  early at loose more_left stops =
+      let now : List ℕ = admissions front t ++ state.instant ∷ [] in
+      let m : ℕ = place front t in
+      let run_is : times.free_run ≡ free_run plant t now (suc m) = ap (λ ts. ts.free_run) has.are_times in
+      let ready_is : times.next_ready ≡ ready plant t now (suc m) = ap (λ ts. ts.next_ready) has.are_times ∙ carried_ready plant t now (suc m) more_left in
+      let soon : state.instant < free_run plant t now (suc m) = omega (arith, go_after_admission plant t fine now m left, run_after_go plant t fine now m left, admitted_added (admissions front t) state.instant) in
+      let loose_ready : ready plant t now (suc m) ≡ max (previous now (suc m)) (free_run plant t now (suc m) - (signal_time plant t (suc m) + (move_row plant t (suc m)).approach)) = cond-false (is_forced plant t (suc m)) _ (max (previous now (suc m)) (free_run plant t now (suc m) - (signal_time plant t (suc m) + (move_row plant t (suc m)).approach))) loose in
+      let setting : 0 < (move_row plant t (suc m)).setting = fine.some_setting t (suc m) more_left in
+      omega (arith, stops, run_is, ready_is, soon, loose_ready, setting, admitted_added (admissions front t) state.instant)
+
+  -- an arrival that is deferred, of this train or of another one
+  held_after : (u at : ℕ) → u < trains plant → (state_of after_it.trains u).deferred ≡ Some at → IsDeferred plant u state.instant (state_of after_it.trains u) at
+  held_after u at lt held =
+      ⊎_elim
+      (λ here. let e : t ≡ u = sym (eqb-true u t here) in subst (λ v. (state_of after_it.trains v).deferred ≡ Some at → IsDeferred plant v state.instant (state_of after_it.trains v) at) e this_train held)
+      (λ other_train.
+      let same = other_state u lt (λ e. false≢true (sym other_train ∙ eq-eqb u t e)) in
+      let back = rep.pending.deferred u at lt (sym (ap (λ (r : TrainState). r.deferred) same) ∙ held) in
+      subst (λ (r : TrainState). IsDeferred plant u state.instant r at) (sym same) (record {
+        begun = back.begun;
+        left = back.left;
+        loose = back.loose;
+        stops = back.stops;
+        early = back.early;
+        still = subst (λ now. ((state_of state.trains u).waits ≡ false) ⊎ (((state_of state.trains u).times.next_ready ≡ now) × ((state_of state.trains u).last_hold ≡ None))) (sym rep.time) back.still;
+      }))
+      (cases_Bool (eqb u t))
+    where
+      this_train : (state_of after_it.trains t).deferred ≡ Some at → IsDeferred plant t state.instant (state_of after_it.trains t) at
+      this_train held' =
+          let is : arrival ≡ Some at = sym (ap (λ (r : TrainState). r.deferred) this_state) ∙ held' in
+          let facts = has.deferred at is in
+          let place_is : (state_of state.trains t).place ≡ place front t = rep.times.places t next.known_train in
+          subst (λ (r : TrainState). IsDeferred plant t state.instant r at) (sym this_state) (record {
+            begun = omega arith;
+            left = omega (arith, facts.1, place_is);
+            loose = ap (λ k. is_forced plant t (suc k)) place_is ∙ facts.0;
+            stops = facts.2;
+            early = early at facts.0 facts.1 facts.2;
+            still = inl refl;
+          })
+
+  bound_after : (u : ℕ) → u < trains plant → (state_of after_it.trains u).deferred ≡ None → 0 < (state_of after_it.trains u).place → (state_of after_it.trains u).place < moves plant u → IsBound plant u (state_of after_it.trains u)
+  bound_after u lt none some left_now =
+      ⊎_elim
+      (λ here. let e : t ≡ u = sym (eqb-true u t here) in subst (λ v. (state_of after_it.trains v).deferred ≡ None → (state_of after_it.trains v).place < moves plant v → IsBound plant v (state_of after_it.trains v)) e this_train none left_now)
+      (λ other_train.
+      let same = other_state u lt (λ e. false≢true (sym other_train ∙ eq-eqb u t e)) in
+      subst (λ (r : TrainState). IsBound plant u r) (sym same) (rep.pending.bound u lt (sym (ap (λ (r : TrainState). r.deferred) same) ∙ none) (subst (λ (r : TrainState). 0 < r.place) same some) (subst (λ (r : TrainState). r.place < moves plant u) same left_now)))
+      (cases_Bool (eqb u t))
+    where
+      this_train : (state_of after_it.trains t).deferred ≡ None → (state_of after_it.trains t).place < moves plant t → IsBound plant t (state_of after_it.trains t)
+      this_train none' left' =
+          let place_is : (state_of after_it.trains t).place ≡ suc (place front t) = ap (λ (r : TrainState). r.place) this_state ∙ ap suc (rep.times.places t next.known_train) in
+          ⊎_elim
+          (λ forced. inl (ap (is_forced plant t) place_is ∙ forced))
+          (λ last. absurd (omega (arith, last, left', place_is)))
+          (has.not_deferred (sym (ap (λ (r : TrainState). r.deferred) this_state) ∙ none'))
+
+  -- a part of a train that an admission leaves, of this train too
+  same_part : {B : Type 0} (part : TrainState → B) → ((r : TrainState) → part (admitted_state times arrival r) ≡ part r) → ((r : TrainState) → part (record r { known = None }) ≡ part r) → (u : ℕ) → u < trains plant → part (state_of after_it.trains u) ≡ part (state_of state.trains u)
+  same_part part this other u lt =
+      ⊎_elim
+      (λ here. let e : t ≡ u = sym (eqb-true u t here) in subst (λ v. part (state_of after_it.trains v) ≡ part (state_of state.trains v)) e (ap part this_state ∙ this (state_of state.trains t)))
+      (λ other_train. ap part (other_state u lt (λ e. false≢true (sym other_train ∙ eq-eqb u t e))) ∙ other (state_of state.trains u))
+      (cases_Bool (eqb u t))
+
+  none_known : (u : ℕ) → u < trains plant → (state_of after_it.trains u).known ≡ None
+  none_known u lt =
+      ⊎_elim
+      (λ here. let e : t ≡ u = sym (eqb-true u t here) in subst (λ v. (state_of after_it.trains v).known ≡ None) e (ap (λ (r : TrainState). r.known) this_state))
+      (λ other_train. ap (λ (r : TrainState). r.known) (other_state u lt (λ e. false≢true (sym other_train ∙ eq-eqb u t e))))
+      (cases_Bool (eqb u t))
+
+  -- the run stands for the front with the line
+  pub admitted_line : Represents dispatch plant (line ∷ front) after_it
+  admitted_line =
+      let lawful = lawful_line dispatch plant front state rep going deciding t next note list noted in
+      let by_it = admits dispatch plant front state rep going deciding t next note list noted in
+      let unready = unready_by_admission (input_of dispatch plant) line front t (suc (place front t)) note lawful by_it in
+      record {
+        accepted = rep.accepted;
+        lawful = lawful;
+        time = has.time;
+        ended = has.going ∙ rep.ended ∙ going;
+        begun = λ none. absurd (omega (arith, ap length none));
+        times = record {
+          many = has.many ∙ rep.times.many;
+          places = λ u lt.
+              ⊎_elim
+              (λ here. let e : t ≡ u = sym (eqb-true u t here) in subst (λ v. (state_of after_it.trains v).place ≡ place (line ∷ front) v) e
+              (ap (λ (r : TrainState). r.place) this_state ∙ ap suc (rep.times.places t next.known_train) ∙ sym (ap length added ∙ length_added (admissions front t) state.instant)))
+              (λ other_train.
+              let other : u ≡ t → ⊥ = λ e. false≢true (sym other_train ∙ eq-eqb u t e) in
+              ap (λ (r : TrainState). r.place) (other_state u lt other) ∙ rep.times.places u lt ∙ sym (ap length (others u other)))
+              (cases_Bool (eqb u t));
+          times = λ u lt.
+              ⊎_elim
+              (λ here. let e : t ≡ u = sym (eqb-true u t here) in subst (λ v. (state_of after_it.trains v).times ≡ times_at plant v (admissions (line ∷ front) v) (place (line ∷ front) v)) e
+              (ap (λ (r : TrainState). r.times) this_state ∙ has.are_times ∙ ap (times_at plant t (admissions front t ++ state.instant ∷ [])) (sym (length_added (admissions front t) state.instant)) ∙ sym (ap (λ list'. times_at plant t list' (length list')) added)))
+              (λ other_train.
+              let other : u ≡ t → ⊥ = λ e. false≢true (sym other_train ∙ eq-eqb u t e) in
+              ap (λ (r : TrainState). r.times) (other_state u lt other) ∙ rep.times.times u lt ∙ sym (ap (λ list'. times_at plant u list' (length list')) (others u other)))
+              (cases_Bool (eqb u t));
+        };
+        pending = record { counted = counted; deferred = held_after; bound = bound_after };
+        heads = record {
+          place_counts = λ u lt. subst (λ h. 0 < h.place) (sym (same_part (λ r. r.head) (λ r. refl) (λ r. refl) u lt)) (rep.heads.place_counts u lt);
+          step_counts = λ u lt. subst (λ h. 0 < h.step) (sym (same_part (λ r. r.head) (λ r. refl) (λ r. refl) u lt)) (rep.heads.step_counts u lt);
+          heads = λ u lt. subst (λ h. IsHead plant (line ∷ front) u (h.place - 1) (h.step - 1)) (sym (same_part (λ r. r.head) (λ r. refl) (λ r. refl) u lt))
+              (head_kept (input_of dispatch plant) fine line front lawful u ((state_of state.trains u).head.place - 1) ((state_of state.trains u).head.step - 1) refl (rep.heads.heads u lt));
+        };
+        waiting = record {
+          ready = λ u lt.
+              ⊎_elim
+              (λ here. let e : t ≡ u = sym (eqb-true u t here) in subst (λ v. (state_of after_it.trains v).waits ≡ is_ready (input_of dispatch plant) (line ∷ front) v) e (ap (λ (r : TrainState). r.waits) this_state ∙ sym unready.0))
+              (λ other_train.
+              let other : u ≡ t → ⊥ = λ e. false≢true (sym other_train ∙ eq-eqb u t e) in
+              ap (λ (r : TrainState). r.waits) (other_state u lt other) ∙ rep.waiting.ready u lt ∙ sym (unready.1 u other))
+              (cases_Bool (eqb u t));
+          told = λ u lt.
+              ⊎_elim
+              (λ here. let e : t ≡ u = sym (eqb-true u t here) in subst (λ v. (state_of after_it.trains v).last_hold ≡ last_hold (line ∷ front) v (suc (place (line ∷ front) v))) e
+              (ap (λ (r : TrainState). r.last_hold) this_state
+              ∙ sym (no_later_hold (input_of dispatch plant) front t (suc (place front t)) rep.lawful (omega arith))
+              ∙ sym (unheld line front t (suc (suc (place front t))) refl)
+              ∙ sym (ap (λ k. last_hold (line ∷ front) t (suc k)) (ap length added ∙ length_added (admissions front t) state.instant))))
+              (λ other_train.
+              let other : u ≡ t → ⊥ = λ e. false≢true (sym other_train ∙ eq-eqb u t e) in
+              ap (λ (r : TrainState). r.last_hold) (other_state u lt other) ∙ rep.waiting.told u lt ∙ sym (unheld line front u (suc (place front u)) refl) ∙ sym (ap (λ k. last_hold (line ∷ front) u (suc k)) (ap length (others u other))))
+              (cases_Bool (eqb u t));
+          out = λ u lt. same_part (λ r. r.is_out) (λ r. refl) (λ r. refl) u lt ∙ rep.waiting.out u lt ∙ sym (out_kept line front u refl);
+        };
+        holders = subst (AreHolders plant (line ∷ front)) (sym has.holders) (holders_taken (input_of dispatch plant) rep.accepted line front lawful t (suc (place front t)) note by_it state.holders (each_free state.holders (needed plant t (place front t)) (bar_free (stop_cause t (told dispatch.commands front)) (closed_cause (needed plant t (place front t)) (told dispatch.commands front)) (held_cause state.holders (needed plant t (place front t))) next.free)) rep.holders);
+        known = record {
+          cause = λ u c lt k. absurd (none-some c (sym (none_known u lt) ∙ k));
+          waits = λ u c lt k. absurd (none-some c (sym (none_known u lt) ∙ k));
+          no_more = λ held_last u lt waits. absurd (false≢true held_last);
+        };
+        settled = λ settled. absurd (false≢true (sym has.settled ∙ settled));
+      }

@@ -1,0 +1,42 @@
+-- What is decided at an instant at which nothing is due, and when all is settled.
+use Rattle.std.proofs.Common.{◌≡◌, ℕ, true, false, not, List, [], ◌∷◌, refl, sym, ap, ◌∙◌}
+use Rattle.std.proofs.lemmas.Bool.{and_from}
+use Rattle.rail_rules.specs.Numbers.{or_else}
+use Rattle.rail_rules.specs.Plant.{Plant, needed}
+use Rattle.rail_rules.specs.Fronts.{Front, Line, has_ended, instant}
+use Rattle.rail_rules.specs.Orders.{told, Dispatch, input_of}
+use Rattle.rail_rules.specs.Events.{due_lines, is_quiet}
+use Rattle.rail_rules.specs.Causes.{bar, cause, closed_cause, is_deciding, is_settled, list_cause, place, stop_cause}
+use Rattle.rail_state.specs.Representation.{Represents}
+use Rattle.rail_state.specs.SeenCauses.{seen_bar, seen_cause}
+use Rattle.rail_state.proofs.Below.{settled_when_told, holders_block}
+use Rattle.rail_state.specs.declared.run_state.RunState.{RunState}
+
+pub deciding_when_quiet : (dispatch : Dispatch) (plant : Plant) (line : Line) (before : Front) → has_ended (line ∷ before) ≡ false → is_quiet (due_lines (input_of dispatch plant) (line ∷ before)) line.entry.at ≡ true → is_deciding (input_of dispatch plant) (line ∷ before) ≡ true
+deciding_when_quiet dispatch plant line before going quiet = and_from (not (has_ended (line ∷ before))) (is_quiet (due_lines (input_of dispatch plant) (line ∷ before)) line.entry.at) (ap not going) quiet
+
+-- what bars a train at a decision is told by the orders and the table of holders
+pub bar_seen : (dispatch : Dispatch) (plant : Plant) (front : Front) (state : RunState) → Represents dispatch plant front state → is_deciding (input_of dispatch plant) front ≡ true → (t : ℕ) → bar (input_of dispatch plant) front t ≡ seen_bar (told dispatch.commands front) state.holders t (needed plant t (place front t))
+bar_seen dispatch plant front state rep deciding t =
+    let sections : List ℕ = needed plant t (place front t) in
+    ap (λ c. or_else (stop_cause t (told dispatch.commands front)) (or_else (closed_cause sections (told dispatch.commands front)) c)) (holders_block (input_of dispatch plant) rep.accepted front rep.lawful deciding state.holders rep.holders sections)
+
+-- the cause at a decision is the one by the table of holders
+pub cause_seen : (dispatch : Dispatch) (plant : Plant) (front : Front) (state : RunState) → Represents dispatch plant front state → is_deciding (input_of dispatch plant) front ≡ true → (t : ℕ) → cause (input_of dispatch plant) front t ≡ seen_cause (input_of dispatch plant) front state.holders t
+cause_seen dispatch plant front state rep deciding t =
+    let sections : List ℕ = needed plant t (place front t) in
+    ap (λ c. or_else (or_else (stop_cause t (told dispatch.commands front)) (or_else (closed_cause sections (told dispatch.commands front)) c)) (list_cause (input_of dispatch plant) front t)) (holders_block (input_of dispatch plant) rep.accepted front rep.lawful deciding state.holders rep.holders sections)
+
+-- everything is settled where nothing is due and all were told why they wait
+pub settled_front : (dispatch : Dispatch) (plant : Plant) (front : Front) (state : RunState) → Represents dispatch plant front state → has_ended front ≡ false → state.is_settled ≡ true → is_quiet (due_lines (input_of dispatch plant) front) (instant front) ≡ true → is_settled (input_of dispatch plant) front ≡ true
+settled_front dispatch plant [] state rep going settled quiet = refl
+settled_front dispatch plant (line ∷ before) state rep going settled quiet =
+    let deciding = deciding_when_quiet dispatch plant line before going quiet in
+    settled_when_told (input_of dispatch plant) (line ∷ before) deciding
+    (λ t known ready.
+    let told = rep.settled settled t known (rep.waiting.ready t known ∙ ready) in
+    record {
+      why = told.why;
+      is_cause = cause_seen dispatch plant (line ∷ before) state rep deciding t ∙ rep.known.cause t told.why known told.known;
+      is_told = sym (rep.waiting.told t known) ∙ told.told;
+    })

@@ -1,0 +1,255 @@
+-- What is done to each watched train in turn is done to all trains, and what it makes of the list.
+use Rattle.std.proofs.Common.{◌≡◌, ℕ, ◌+◌, ◌<◌, Bool, true, false, not, ◌&&◌, ◌||◌, cond, nat_le, is_some, List, length, get_or, set, take, ◌==◌, vec_capacity, Option, Some, None, MatchOption, refl, sym, ◌∙◌, ap, subst, ⊎_elim, arith}
+use Rattle.std.specs.List.{filter, find, fold}
+use Rattle.std.specs.Option.{ForSome}
+use Rattle.std.specs.Global.{Vec}
+use Rattle.std.proofs.lemmas.List.{length-set, get_or_past}
+use Rattle.std.proofs.lemmas.Bool.{cases_lt, cases_Bool, false≢true, or_cases, or_parts, cond-true, cond-false, eq-eqb}
+use Rattle.std.proofs.lemmas.Bool.Decides.{nat_tests}
+use Rattle.std.proofs.lemmas.List.Sums.{fold_more}
+use Rattle.std.proofs.lemmas.Option.{same_Some}
+use Rattle.rail_base.specs.declared.history.Cause.{Cause}
+use Rattle.rail_rules.specs.Plant.{Plant, moves, needed, trains}
+use Rattle.rail_laws_run.specs.HolderTables.{held_cause}
+use Rattle.rail_block.specs.declared.times.MoveTimes.{MoveTimes}
+use Rattle.rail_state.specs.declared.train.TrainState.{TrainState}
+use Rattle.rail_state.specs.TrainStates.{admitted, is_blocked_at, lacks_hold_line, is_untried, looked_at, no_state, state_admitted, state_of, without_known}
+use Rattle.rail_state.specs.FirstUntried.{earlier, first_with, ready_of}
+use Rattle.rail_state.specs.Watched.{AreWatched, forget, is_watched, look_again, look_at, unknown}
+use Rattle.rail_state.proofs.TrainsChanged.{IsChanged, changed_none, changed_more, changed_over, changed_all}
+use Rattle.rail_state.proofs.First.{IsLookedAt, looked_none, looked_more, looked_over}
+use Rattle.rail_state.proofs.TrainNumbers.{first_is_least, IsLeast, in_turn, numbers, passes_both, same_pass}
+use Rattle.rail_state.proofs.WatchedKept.{is_watched_in, none_known, not_blocked, not_known, not_untried, still_watched, untold_watched, written}
+
+-- what is done to each watched train in turn, where it wouldn't change the others
+pub all_watched : {S : Type 0} (step : S → ℕ → S) (Holds : S → ℕ → Type 0) (s : S) (states : List TrainState) (watched : Vec ℕ) → AreWatched states watched → Holds s 0 → ((now : S) (i : ℕ) → i < length states → Holds now i → Holds (step now i) (i + 1)) → ((now : S) (i : ℕ) → is_watched (state_of states i) ≡ false → Holds now i → Holds now (i + 1)) → Holds (fold step s watched.items) (length states)
+all_watched {S} step Holds s states watched kept start more over =
+    let P : List ℕ → Type 0 = λ list. Holds (fold step s list) (length states) in
+    subst P (sym kept.exact) (in_turn step (is_watched_in states) Holds s (length states) start (λ now i lt _. more now i lt) (λ now i _. over now i))
+
+-- all causes are forgotten
+pub all_forgotten : (states : List TrainState) (watched : Vec ℕ) → AreWatched states watched → IsChanged (λ _. unknown) states (fold forget states watched.items) (length states)
+all_forgotten states watched kept =
+    all_watched forget (IsChanged (λ _. unknown) states) states states watched kept (changed_none (λ _. unknown) states)
+    (changed_more (λ _. unknown) states)
+    (λ now i off. changed_over (λ _. unknown) states now i (let train_state : TrainState = state_of states i in ap (λ known. record train_state { known = known }) (none_known train_state.known (not_known train_state off))))
+
+-- each cause is forgotten
+pub forgotten_each : (old mid : List TrainState) → IsChanged (λ _. unknown) old mid (length old) → (u : ℕ) → state_of mid u ≡ unknown (state_of old u)
+forgotten_each old mid changed = changed_all (λ _. unknown) old mid changed (λ u. refl)
+
+-- the causes of the trains of the list are forgotten
+pub forgotten_now : (states shown new : List TrainState) (watched : Vec ℕ) (list : List ℕ) → AreWatched states watched → shown ≡ states → list ≡ watched.items → new ≡ fold forget shown list → IsChanged (λ _. unknown) states new (length states)
+forgotten_now states shown new watched list kept shown_is list_is is =
+    let whole : new ≡ fold forget states watched.items = is ∙ ap (λ (rs : List TrainState). fold forget rs list) shown_is ∙ ap (fold forget states) list_is in
+    subst (λ (now : List TrainState). IsChanged (λ _. unknown) states now (length states)) (sym whole) (all_forgotten states watched kept)
+
+or_none : (b : Bool) → (b || false) ≡ b
+or_none true = refl
+or_none false = refl
+
+-- behind an admission those of the watched trains are watched that wait still
+pub admitted_kept : (old mid : List TrainState) (watched now : Vec ℕ) (t : ℕ) (train_state : TrainState) → AreWatched old watched → IsChanged (λ _. unknown) old mid (length old) → t < length old → train_state.waits ≡ false → train_state.known ≡ None → now.items ≡ filter (λ u. (state_of (set mid t train_state) u).waits) watched.items → vec_capacity now ≡ vec_capacity watched → AreWatched (set mid t train_state) now
+admitted_kept old mid watched now t train_state kept changed lt off none items room =
+    let new : List TrainState = set mid t train_state in
+    let waits : ℕ → Bool = λ u. (state_of new u).waits in
+    let within : t < length mid = omega (arith, lt, changed.long) in
+    let long : length new ≡ length old = length-set mid t train_state ∙ changed.long in
+    let each : (u : ℕ) → state_of mid u ≡ unknown (state_of old u) = forgotten_each old mid changed in
+    let unknown_now : (u : ℕ) → (state_of new u).known ≡ None = written (λ u now. now.known ≡ None) mid t train_state within none (λ u _. ap (λ (r : TrainState). r.known) (each u)) in
+    let waited : (u : ℕ) → waits u ≡ true → is_watched_in old u ≡ true =
+    written (λ u now. now.waits ≡ true → is_watched_in old u ≡ true) mid t train_state within
+    (λ is. absurd (false≢true (sym off ∙ is)))
+    (λ u _ is. ap (λ waits. waits || is_some (state_of old u).known) (sym (ap (λ (r : TrainState). r.waits) (each u)) ∙ is)) in
+    record {
+      few = omega (arith, kept.few, long);
+      exact = items
+          ∙ ap (filter waits) kept.exact
+          ∙ passes_both (is_watched_in old) waits (numbers (length old)) waited
+          ∙ same_pass waits (is_watched_in new) (length old) (λ u _. sym (ap (λ known. waits u || is_some known) (unknown_now u) ∙ or_none (waits u)))
+          ∙ ap (λ n. filter (is_watched_in new) (numbers n)) (sym long);
+      room = omega (arith, kept.room, long, room);
+      free = λ u x _. ap (is_blocked_at x) (unknown_now u);
+    }
+
+-- an admission changes the trains so
+pub admitted_each : (old mid : List TrainState) (t : ℕ) (times : MoveTimes) (arrival : Option ℕ) → IsChanged (λ _. unknown) old mid (length old) → t < length old → (u : ℕ) → state_of (set mid t (admitted times arrival (state_of mid t))) u ≡ state_admitted t times arrival u (state_of old u)
+admitted_each old mid t times arrival changed lt =
+    let each : (u : ℕ) → state_of mid u ≡ unknown (state_of old u) = forgotten_each old mid changed in
+    written (λ u now. now ≡ state_admitted t times arrival u (state_of old u)) mid t (admitted times arrival (state_of mid t)) (omega (arith, lt, changed.long))
+    (ap (admitted times arrival) (each t) ∙ sym (cond-true (t == t) (admitted times arrival (state_of old t)) (unknown (state_of old t)) (eq-eqb t t refl)))
+    (λ u ne. each u ∙ sym (cond-false (t == u) (admitted times arrival (state_of old u)) (unknown (state_of old u)) (grind (arith, nat_tests))))
+
+-- all trains were looked at
+pub all_looked_at : (plant : Plant) (holders : List (Option ℕ)) (states : List TrainState) (watched : Vec ℕ) → AreWatched states watched → IsLookedAt plant holders states (fold (look_at plant holders) (states, None) watched.items).0 (length states) (fold (look_at plant holders) (states, None) watched.items).1
+all_looked_at plant holders states watched kept =
+    let Holds : List TrainState × Option ℕ → ℕ → Type 0 = λ now i. IsLookedAt plant holders states now.0 i now.1 in
+    all_watched (look_at plant holders) Holds (states, None) states watched kept (looked_none plant holders states)
+    (λ now i lt h. looked_more plant holders states now.0 i now.1 lt h)
+    (λ now i off h. looked_over plant holders states now.0 i now.1 (not_untried (state_of states i) off) h)
+
+-- the trains of the list were looked at
+pub looked_now : (plant : Plant) (holders : List (Option ℕ)) (states shown new : List TrainState) (watched : Vec ℕ) (list : List ℕ) (first : Option ℕ) → AreWatched states watched → shown ≡ states → list ≡ watched.items → (new, first) ≡ fold (look_at plant holders) (shown, None) list → IsLookedAt plant holders states new (length states) first
+looked_now plant holders states shown new watched list first kept shown_is list_is is =
+    let whole : (new, first) ≡ fold (look_at plant holders) (states, None) watched.items = is ∙ ap (λ (rs : List TrainState). fold (look_at plant holders) (rs, None) list) shown_is ∙ ap (fold (look_at plant holders) (states, None)) list_is in
+    let P : List TrainState × Option ℕ → Type 0 = λ now. IsLookedAt plant holders states now.0 (length states) now.1 in
+    subst P (sym whole) (all_looked_at plant holders states watched kept)
+
+-- whether a train is watched doesn't change where it is looked at
+looked_at_watched : (waits : Bool) (known cause : Option Cause) → (waits || is_some (cond (waits && not (is_some known)) cause known)) ≡ (waits || is_some known)
+looked_at_watched true known cause = refl
+looked_at_watched false known cause = refl
+
+-- all trains were looked at, and the list stays
+pub looked_at_kept : (plant : Plant) (holders : List (Option ℕ)) (old new : List TrainState) (watched : Vec ℕ) (first : Option ℕ) → AreWatched old watched → IsLookedAt plant holders old new (length old) first → AreWatched new watched
+looked_at_kept plant holders old new watched first kept looked =
+    let each : (t : ℕ) → state_of new t ≡ looked_at plant holders t (state_of old t) = changed_all (looked_at plant holders) old new looked.trains (λ t. refl) in
+    still_watched old new watched kept looked.trains.long
+    (λ t. let train_state : TrainState = state_of old t in ap is_watched (each t) ∙ looked_at_watched train_state.waits train_state.known (held_cause holders (needed plant t train_state.place)))
+    (λ t x off.
+    let train_state : TrainState = state_of old t in
+    let waits : train_state.waits ≡ false = sym (ap (λ (r : TrainState). r.waits) (each t)) ∙ off in
+    ap (λ (r : TrainState). is_blocked_at x r.known) (each t)
+    ∙ ap (λ waits. is_blocked_at x (cond (waits && not (is_some train_state.known)) (held_cause holders (needed plant t train_state.place)) train_state.known)) waits
+    ∙ kept.free t x waits)
+
+-- one more train of the list is looked at
+pub looked_step : (plant : Plant) (holders : List (Option ℕ)) (start : List TrainState × Option ℕ) (list : List ℕ) (rows new : List TrainState) (first chosen : Option ℕ) (i t : ℕ) → (rows, first) ≡ fold (look_at plant holders) start (take i list) → i < length list → t ≡ get_or list i t → new ≡ set rows t (looked_at plant holders t (state_of rows t)) → chosen ≡ first_with new first t → (new, chosen) ≡ fold (look_at plant holders) start (take (i + 1) list)
+looked_step plant holders start list rows new first chosen i t so_far lt item new_is chosen_is =
+    ap (λ (some : Option ℕ). (new, some)) chosen_is
+    ∙ ap (λ (rs : List TrainState). (rs, first_with rs first t)) new_is
+    ∙ ap (λ (now : List TrainState × Option ℕ). look_at plant holders now t) so_far
+    ∙ ap (look_at plant holders (fold (look_at plant holders) start (take i list))) item
+    ∙ sym (fold_more (look_at plant holders) start list i t lt)
+
+-- a look leaves that each waiting train has a next move
+pub moves_stay : (plant : Plant) (holders : List (Option ℕ)) (rows new : List TrainState) (t : ℕ) → t < length rows → new ≡ set rows t (looked_at plant holders t (state_of rows t)) → ((u : ℕ) → u < trains plant → (state_of rows u).waits ≡ true → (state_of rows u).place < moves plant u) → (u : ℕ) → u < trains plant → (state_of new u).waits ≡ true → (state_of new u).place < moves plant u
+moves_stay plant holders rows new t lt new_is before =
+    subst (λ (rs : List TrainState). (u : ℕ) → u < trains plant → (state_of rs u).waits ≡ true → (state_of rs u).place < moves plant u) (sym new_is)
+    (written (λ u train_state. u < trains plant → train_state.waits ≡ true → train_state.place < moves plant u) rows t (looked_at plant holders t (state_of rows t)) lt (before t) (λ u _. before u))
+
+either_below : (b : Bool) (u t n : ℕ) → u < n → t < n → cond b u t < n
+either_below true u t n first second = first
+either_below false u t n first second = second
+
+earlier_below : (rows : List TrainState) (first : Option ℕ) (t n : ℕ) → ForSome first (λ u. u < n) → t < n → earlier rows first t < n
+earlier_below rows None t n before lt = lt
+earlier_below rows (Some u) t n before lt = either_below (nat_le (ready_of rows u) (ready_of rows t)) u t n (before u refl) lt
+
+-- the first train so far is one of the trains
+pub first_below : (rows : List TrainState) (first chosen : Option ℕ) (t n : ℕ) → ForSome first (λ u. u < n) → t < n → chosen ≡ first_with rows first t → ForSome chosen (λ u. u < n)
+first_below rows first chosen t n before lt chosen_is =
+    subst (λ (some : Option ℕ). ForSome some (λ u. u < n)) (sym chosen_is)
+    (⊎_elim
+    (λ is. rw is (λ u same. subst (λ k. k < n) (same_Some (earlier rows first t) u same) (earlier_below rows first t n before lt)))
+    (λ off. rw off before)
+    (cases_Bool (is_untried (state_of rows t))))
+
+-- the trains below the bound were looked at again, and some was blocked at the section
+pub record IsLookedAgain (x : ℕ) (old now : List TrainState) (bound : ℕ) (any : Bool) : Type 0 where
+  pub trains : IsChanged (λ _. without_known x) old now bound
+  pub none : any ≡ false → (t : ℕ) → t < bound → is_blocked_at x (state_of old t).known ≡ false
+  pub some : any ≡ true → (t : ℕ) × (is_blocked_at x (state_of old t).known ≡ true)
+
+looked_again_more : (x : ℕ) (old now : List TrainState) (i : ℕ) (any : Bool) → i < length old → IsLookedAgain x old now i any → IsLookedAgain x old (set now i (without_known x (state_of now i))) (i + 1) (any || is_blocked_at x (state_of now i).known)
+looked_again_more x old now i any lt h =
+    let same : is_blocked_at x (state_of now i).known ≡ is_blocked_at x (state_of old i).known = ap (λ (r : TrainState). is_blocked_at x r.known) (h.trains.from i (omega arith)) in
+    record {
+      trains = changed_more (λ _. without_known x) old now i lt h.trains;
+      none = λ off t within.
+          let parts = or_parts any (is_blocked_at x (state_of now i).known) off in
+          ⊎_elim
+          (λ below. h.none parts.0 t below)
+          (λ above.
+          let here : i ≡ t = omega arith in
+          let P : ℕ → Type 0 = λ k. is_blocked_at x (state_of old k).known ≡ false in
+          subst P here (sym same ∙ parts.1))
+          (cases_lt t i);
+      some = λ yes. ⊎_elim (λ before. h.some before) (λ here. (i, sym same ∙ here)) (or_cases any (is_blocked_at x (state_of now i).known) yes);
+    }
+
+looked_again_over : (x : ℕ) (old now : List TrainState) (i : ℕ) (any : Bool) → is_blocked_at x (state_of old i).known ≡ false → IsLookedAgain x old now i any → IsLookedAgain x old now (i + 1) any
+looked_again_over x old now i any off h =
+    let train_state : TrainState = state_of old i in
+    record {
+      trains = changed_over (λ _. without_known x) old now i (ap (λ b. record train_state { known = cond b None train_state.known }) off) h.trains;
+      none = λ fails t within.
+          ⊎_elim
+          (λ below. h.none fails t below)
+          (λ above.
+          let here : i ≡ t = omega arith in
+          let P : ℕ → Type 0 = λ k. is_blocked_at x (state_of old k).known ≡ false in
+          subst P here off)
+          (cases_lt t i);
+      some = h.some;
+    }
+
+-- all trains were looked at again
+pub all_looked_again : (x : ℕ) (states : List TrainState) (watched : Vec ℕ) → AreWatched states watched → IsLookedAgain x states (fold (look_again x) (states, false) watched.items).0 (length states) (fold (look_again x) (states, false) watched.items).1
+all_looked_again x states watched kept =
+    let Holds : List TrainState × Bool → ℕ → Type 0 = λ now i. IsLookedAgain x states now.0 i now.1 in
+    all_watched (look_again x) Holds (states, false) states watched kept
+    (record { trains = changed_none (λ _. without_known x) states; none = λ _ t lt. absurd (omega (arith, lt)); some = λ yes. absurd (false≢true yes) })
+    (λ now i lt h. looked_again_more x states now.0 i now.1 lt h)
+    (λ now i off h. looked_again_over x states now.0 i now.1 (not_blocked x (state_of states i).known (not_known (state_of states i) off)) h)
+
+-- the trains of the list were looked at again
+pub looked_again_now : (x : ℕ) (states shown new : List TrainState) (watched : Vec ℕ) (list : List ℕ) (any : Bool) → AreWatched states watched → shown ≡ states → list ≡ watched.items → (new, any) ≡ fold (look_again x) (shown, false) list → IsLookedAgain x states new (length states) any
+looked_again_now x states shown new watched list any kept shown_is list_is is =
+    let whole : (new, any) ≡ fold (look_again x) (states, false) watched.items = is ∙ ap (λ (rs : List TrainState). fold (look_again x) (rs, false) list) shown_is ∙ ap (fold (look_again x) (states, false)) list_is in
+    let P : List TrainState × Bool → Type 0 = λ now. IsLookedAgain x states now.0 (length states) now.1 in
+    subst P (sym whole) (all_looked_again x states watched kept)
+
+-- a train that doesn't wait is as it was where it is looked at again
+again_same : (x : ℕ) (train_state : TrainState) → is_blocked_at x train_state.known ≡ false → without_known x train_state ≡ train_state
+again_same x train_state off = ap (λ b. record train_state { known = cond b None train_state.known }) off
+
+-- all trains were looked at again, and the list stays
+pub looked_again_kept : (x : ℕ) (old new : List TrainState) (watched : Vec ℕ) (any : Bool) → AreWatched old watched → IsLookedAgain x old new (length old) any → AreWatched new watched
+looked_again_kept x old new watched any kept looked =
+    let each : (t : ℕ) → state_of new t ≡ without_known x (state_of old t) = changed_all (λ _. without_known x) old new looked.trains (λ t. refl) in
+    still_watched old new watched kept looked.trains.long
+    (λ t.
+    let train_state : TrainState = state_of old t in
+    ⊎_elim
+    (λ waits.
+    ap is_watched (each t) ∙ ap (λ waits. waits || is_some (without_known x train_state).known) waits ∙ sym (ap (λ waits. waits || is_some train_state.known) waits))
+    (λ off. ap is_watched (each t ∙ again_same x train_state (kept.free t x off)))
+    (cases_Bool train_state.waits))
+    (λ t y off.
+    let train_state : TrainState = state_of old t in
+    let waits : train_state.waits ≡ false = sym (ap (λ (r : TrainState). r.waits) (each t)) ∙ off in
+    ap (λ (r : TrainState). is_blocked_at y r.known) (each t ∙ again_same x train_state (kept.free t x waits)) ∙ kept.free t y waits)
+
+-- no train was blocked at the section, where none was so far
+pub none_blocked : (x : ℕ) (old new : List TrainState) (any : Bool) → IsLookedAgain x old new (length old) any → any ≡ false → (t : ℕ) → is_blocked_at x (state_of old t).known ≡ false
+none_blocked x old new any looked off t =
+    ⊎_elim
+    (λ below. looked.none off t below)
+    (λ above. ap (λ (r : TrainState). is_blocked_at x r.known) (get_or_past old t no_state above))
+    (cases_lt t (length old))
+
+-- the first watched train that wasn't told is the first of all
+pub first_lacking_of_all : (states : List TrainState) (watched : Vec ℕ) → AreWatched states watched → IsLeast (λ t. lacks_hold_line (state_of states t)) (length states) (find (λ t. lacks_hold_line (state_of states t)) watched.items)
+first_lacking_of_all states watched kept =
+    let P : List ℕ → Type 0 = λ list. IsLeast (λ t. lacks_hold_line (state_of states t)) (length states) (find (λ t. lacks_hold_line (state_of states t)) list) in
+    subst P (sym kept.exact) (first_is_least (is_watched_in states) (λ t. lacks_hold_line (state_of states t)) (length states) (λ t untold. untold_watched (state_of states t) untold))
+
+-- of all trains the first one that wasn't told
+abbrev IsFirstUntold : List TrainState → Option ℕ → Type 0
+IsFirstUntold states found = MatchOption found ((t : ℕ) → lacks_hold_line (state_of states t) ≡ false) (λ train. (train < length states) × (lacks_hold_line (state_of states train) ≡ true) × ((u : ℕ) → u < train → lacks_hold_line (state_of states u) ≡ false))
+
+least_of_all : (states : List TrainState) (found : Option ℕ) → IsLeast (λ t. lacks_hold_line (state_of states t)) (length states) found → IsFirstUntold states found
+least_of_all states None least = λ t.
+    ⊎_elim
+    (λ below. least t below)
+    (λ above. ap lacks_hold_line (get_or_past states t no_state above))
+    (cases_lt t (length states))
+least_of_all states (Some t) least = least
+
+-- the first of the list's trains that wasn't told is that of all trains
+pub untold_now : (states shown self : List TrainState) (watched : Vec ℕ) (list : List ℕ) (found : Option ℕ) → AreWatched states watched → shown ≡ states → list ≡ watched.items → states ≡ self → found ≡ find (λ t. lacks_hold_line (state_of shown t)) list → IsFirstUntold self found
+untold_now states shown self watched list found kept shown_is list_is self_is is =
+    let whole : found ≡ find (λ t. lacks_hold_line (state_of states t)) watched.items = is ∙ ap (λ (rs : List TrainState). find (λ t. lacks_hold_line (state_of rs t)) list) shown_is ∙ ap (find (λ t. lacks_hold_line (state_of states t))) list_is in
+    subst (λ (rs : List TrainState). IsFirstUntold rs found) self_is
+    (least_of_all states found (subst (IsLeast (λ t. lacks_hold_line (state_of states t)) (length states)) (sym whole) (first_lacking_of_all states watched kept)))

@@ -1,0 +1,67 @@
+use Rattle.std.proofs.Common.{◌≡◌, ℕ, suc, ◌+◌, ◌-◌, Bool, List, [], ◌∷◌, count_by, length, ap, sym, ◌∙◌, arith}
+use Rattle.rail_base.specs.declared.history.Entry.{Entry}
+use Rattle.rail_laws_events.specs.Accounts.{tally}
+use Rattle.rail_laws_events.proofs.CallerLemmas.{tally-append}
+use Rattle.rail_block.specs.declared.times.MoveTimes.{MoveTimes}
+use Rattle.rail_queue.specs.declared.event.Event.{Event}
+use Rattle.rail_queue.specs.declared.event.Class.TheVariants.{Enter}
+use Rattle.rail_rules.specs.Events.{enter_line, free_lines}
+use Rattle.rail_rules.specs.Intervals.{end_of}
+use Rattle.rail_rules.specs.Numbers.{gather}
+use Rattle.rail_rules.specs.Plant.{step_section, steps}
+use Rattle.rail_rules.specs.Times.{enter}
+use Rattle.rail_state.specs.Events.{event_of, train_event}
+use Rattle.rail_state.proofs.Counting.{one_more}
+use Rattle.rail_state.proofs.Leaving.{as_rows, before, item_of_step, made_at}
+use Rattle.rail_state.proofs.pushes.push_steps.Goals as goal
+
+pub loop-index-init : goal.loop-index-init
+loop-index-init c = record {
+  entering = λ adms is. ap (λ (own : MoveTimes). own.go) (made_at c.args.plant.now c.args.train adms c.args.place c.args.times.now c.requires.first is);
+  soon = omega arith;
+  counted = λ adms long is q. omega arith;
+  room = omega arith;
+  spare = omega arith;
+}
+
+pub loop-index-preserved : goal.loop-index-preserved
+loop-index-preserved c = record {
+  entering = λ adms is.
+      let index : c.loop-index.index + 1 - 1 ≡ c.loop-index.index = omega arith in
+      c.next_enter_time-left.ensures.time adms is (c.loop-index.invariant.entering adms is ∙ ap (enter c.args.plant.now c.args.train adms (c.args.place - 1)) (sym index));
+  soon = omega (arith, c.loop-index.invariant.soon, c.next_enter_time-left.ensures.soon);
+  counted = λ adms long is q.
+      let plant = c.args.plant.now in
+      let t = c.args.train in
+      let m = c.args.place - 1 in
+      let i = c.loop-index.index in
+      let index : c.loop-index.index + 1 - 1 ≡ i = omega arith in
+      let at : c.args.place ≡ suc m = before c.args.place c.requires.first in
+      let p : Entry → Bool = λ e. q (event_of e) in
+      let entered = c.loop-index.invariant.entering adms is in
+      let left = c.next_enter_time-left.ensures.time adms is (entered ∙ ap (enter plant t adms m) (sym index)) in
+      let section = item_of_step plant t m i c.index-sections-index.result c.as_slice-sections.result.now (as_rows plant t m c.move_row.result.now c.as_slice-sections.result.now c.move_row.ensures.row c.as_slice-sections.ensures) c.loop-index-test.true c.index-sections-index.is in
+      let enters : ℕ → List Entry = λ j. enter_line plant t adms m j ∷ [] in
+      let frees : ℕ → List Entry = λ j. free_lines t (step_section plant t m j) (end_of plant t adms m j) in
+      let event : count_by q (c.event_of_train.result ∷ []) ≡ count_by q (train_event (enter plant t adms m i) Enter t (suc m) ∷ []) =
+      ap (λ (e : Event). count_by q (e ∷ [])) c.event_of_train.ensures ∙ (λ k. count_by q (train_event (entered k) Enter t (at k) ∷ [])) in
+      let freed : tally p (free_lines t c.index-sections-index.result (end_of plant t adms m (i + 1 - 1))) ≡ tally p (frees i) = λ k. tally p (free_lines t (section k) (end_of plant t adms m (index k))) in
+      one_more p enters frees i (count_by q c.args.queue.now.events) (count_by q c.loop-index.queue.events) (count_by q c.push.new.queue.events) (count_by q c.push_left.new.queue.events)
+      (c.loop-index.invariant.counted adms long is q)
+      (omega (arith, c.push.ensures.counted q, event))
+      (c.push_left.ensures.counted adms long left q ∙ ap (λ n. count_by q c.push.new.queue.events + n) freed);
+  room = omega (arith, c.loop-index.invariant.room, c.push.ensures.room, c.push_left.ensures.room);
+  spare = omega (arith, c.loop-index.invariant.spare, c.push.ensures.spare, c.push_left.ensures.spare);
+}
+
+pub returns-clause-counted : goal.returns-clause-counted
+returns-clause-counted c = λ adms long is q.
+    let plant = c.args.plant.now in
+    let t = c.args.train in
+    let m = c.args.place - 1 in
+    let p : Entry → Bool = λ e. q (event_of e) in
+    let enters : ℕ → List Entry = λ j. enter_line plant t adms m j ∷ [] in
+    let frees : ℕ → List Entry = λ j. free_lines t (step_section plant t m j) (end_of plant t adms m j) in
+    let all = as_rows plant t m c.move_row.result.now c.as_slice-sections.result.now c.move_row.ensures.row c.as_slice-sections.ensures in
+    let done : c.loop-index.index ≡ steps plant t m = omega (arith, c.loop-index-test.false, c.loop-index.auto.index-end, ap length all) in
+    omega (arith, c.loop-index.invariant.counted adms long is q, ap (λ n. tally p (gather enters n)) done, ap (λ n. tally p (gather frees n)) done, tally-append p (gather enters (steps plant t m)) (gather frees (steps plant t m)))

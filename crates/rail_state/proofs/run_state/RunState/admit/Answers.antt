@@ -1,0 +1,50 @@
+use Rattle.std.proofs.Common.{◌≡◌, ◌⊎◌, ℕ, ◌+◌, ◌<◌, ◌^◌, List, [], ◌∷◌, ◌++◌, length, Option, false, true, refl, sym, ap, ◌∙◌, subst, arith}
+use Rattle.std.proofs.lemmas.List.{length-append}
+use Rattle.rail_block.specs.declared.times.MoveTimes.{MoveTimes}
+use Rattle.rail_block.specs.CarriedTimes.{AreBelow, times_at}
+use Rattle.rail_laws_run.specs.HolderTables.{taken_by}
+use Rattle.rail_state.specs.declared.train.TrainState.{TrainState}
+use Rattle.rail_rules.specs.Fronts.{Front, admissions}
+use Rattle.rail_rules.specs.Plant.{is_forced, moves, needed}
+use Rattle.rail_rules.specs.Times.{stop_time}
+use Rattle.rail_state.proofs.GivenMoves.{next_place, next_times, pushed_at}
+use Rattle.rail_state.proofs.run_state.RunState.admit.Goals as goal
+
+pub push_move-arrival-requires-clause-times : goal.push_move-arrival-requires-clause-times
+push_move-arrival-requires-clause-times c =
+    let front : Front = c.requires.givable.0 in
+    let givable = c.requires.givable.1 in
+    let times = next_times c.args.plant.now front c.args.self.now.trains c.args.self.now.instant c.args.train c.get.result.now c.times_of-times.result givable c.get.ensures c.times_of-times.ensures.times in
+    subst (AreBelow (2 ^ 51)) (sym times) givable.below_next
+
+pub returns-clause-given : goal.returns-clause-given
+returns-clause-given c = λ front givable.
+    let plant = c.args.plant.now in
+    let t = c.args.train in
+    let now = c.args.self.now.instant in
+    let train_state : TrainState = c.get.result.now in
+    let next : ℕ = train_state.place + 1 in
+    let times : MoveTimes = c.times_of-times.result in
+    let arrival : Option ℕ = c.push_move-arrival.result in
+    let adms : List ℕ = admissions front t ++ now ∷ [] in
+    let at = next_place plant front c.args.self.now.trains now t train_state givable c.get.ensures in
+    let are_times = next_times plant front c.args.self.now.trains now t train_state times givable c.get.ensures c.times_of-times.ensures.times in
+    let long : length adms ≡ next = omega (arith, length-append (admissions front t) (now ∷ []), at.after) in
+    let made : times ≡ times_at plant t adms next = are_times ∙ ap (times_at plant t adms) (sym at.after) in
+    let H : ℕ → ℕ → Type 0 = λ at p. (is_forced plant t p ≡ false) × (p < moves plant t) × (at ≡ stop_time plant t times.free_run) in
+    let N : ℕ → Type 0 = λ p. (is_forced plant t p ≡ true) ⊎ (p ≡ moves plant t) in (
+      times,
+      arrival,
+      record {
+        pushed = λ q. pushed_at plant front t next adms times arrival q c.args.self.now.queue.events c.push_move-arrival.new.queue.events at (c.push_move-arrival.ensures.counted adms long made q);
+        are_times = are_times;
+        deferred = λ when is. subst (H when) at.after (c.push_move-arrival.ensures.deferred when is);
+        not_deferred = λ is. subst N at.after (c.push_move-arrival.ensures.not_deferred is);
+        many = c.admit.ensures.length;
+        trains = λ u lt. c.admit.ensures.trains u (omega (arith, lt, givable.many));
+        holders = c.take_sections.ensures ∙ ap (λ m. taken_by c.args.self.now.holders (needed plant t m) t) at.before;
+        time = refl;
+        going = refl;
+        settled = refl;
+      },
+    )

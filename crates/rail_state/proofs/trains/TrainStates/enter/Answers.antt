@@ -1,0 +1,14 @@
+use Rattle.std.proofs.Common.{◌≡◌, ◌<◌, length, ap, arith}
+use Rattle.rail_state.specs.declared.train.TrainState.{TrainState}
+use Rattle.rail_state.specs.TrainStates.{state_of}
+use Rattle.rail_state.proofs.WatchedKept.{still_watched_at, train_read}
+use Rattle.rail_state.proofs.trains.TrainStates.enter.Goals as goal
+
+pub invariant_of-self : goal.invariant_of-self
+invariant_of-self c =
+    let old = c.self.inside.rows.items in
+    let t = c.from.result in
+    let train_state : TrainState = c.index_mut-train_state.result.now in
+    let within : t < length old = omega (arith, ap length c.self.view_is) in
+    let read : train_state ≡ state_of old t = train_read old t train_state within c.index_mut-train_state.ensures.value in
+    still_watched_at old c.self.inside.watched t (record train_state { head = c.head_behind-train_state.result }) c.self.invariant within (ap (λ (r : TrainState). r.waits) read) (ap (λ (r : TrainState). r.known) read)

@@ -1,0 +1,50 @@
+-- The events that the lines of a history are.
+use Rattle.std.specs.Prelude.{ℕ, List, [], ◌∷◌, ◌++◌, Option, Some, None}
+use Rattle.rail_base.specs.declared.history.Entry.{Entry}
+use Rattle.rail_base.specs.declared.history.What.{What}
+use Rattle.rail_base.specs.declared.history.What.TheVariants as what
+use Rattle.rail_rules.specs.Numbers.{gather}
+use Rattle.rail_rules.specs.Plant.{Plant, steps, step_section}
+use Rattle.rail_rules.specs.Intervals.{end_of}
+use Rattle.rail_rules.specs.Events.{arrive_line, enter_line, free_lines, out_lines}
+use Rattle.rail_laws_events.specs.Changes.{ready_after}
+use Rattle.rail_queue.specs.declared.event.Event.{Event}
+use Rattle.rail_queue.specs.declared.event.Class.{Class}
+use Rattle.rail_queue.specs.declared.event.Class.TheVariants as class
+
+-- an event in one of the classes that are numbered by train
+abbrev pub train_event : ℕ → Class → ℕ → ℕ → Event
+train_event at class t m = record { at = at; class = class; number = t; place = m; train = t }
+
+-- the event that gives a section free behind a train; it tells no move
+abbrev pub section_event : ℕ → ℕ → ℕ → Event
+section_event at x t = record { at = at; class = class.Free; number = x; place = 0; train = t }
+
+-- the event of what a line says at a time; the section that is entered isn't told
+abbrev pub event_at : ℕ → What → Event
+event_at at (what.Free x t) = section_event at x t
+event_at at (what.Arrive t m) = train_event at class.Arrive t m
+event_at at (what.Enter t m x) = train_event at class.Enter t m
+event_at at (what.Out t) = train_event at class.Out t 0
+event_at at (what.Ready t m) = train_event at class.Ready t m
+event_at at (what.Told k) = record { at = at; class = class.Command; number = k; place = 0; train = 0 }
+event_at at (what.Untold k) = record { at = at; class = class.Command; number = k; place = 0; train = 0 }
+event_at at _ = record { at = at; class = class.Command; number = 0; place = 0; train = 0 }
+
+-- the event of a line
+abbrev pub event_of : Entry → Event
+event_of e = event_at e.at e.what
+
+-- the arrival that is deferred, at the end of a move counted from 1
+abbrev pub deferred_event : ℕ → ℕ → Option ℕ → List Event
+deferred_event t m None = []
+deferred_event t m (Some at) = train_event at class.Arrive t m ∷ []
+
+-- the lines of a move at its steps: its head enters, and the section is given free where the interval has an end
+abbrev pub step_lines : Plant → ℕ → List ℕ → ℕ → List Entry
+step_lines plant t adms m = gather (λ j. enter_line plant t adms m j ∷ []) (steps plant t m)
+    ++ gather (λ j. free_lines t (step_section plant t m j) (end_of plant t adms m j)) (steps plant t m)
+
+-- the lines at the end of a move: its arrival, after the last move the out line, else the ready line of the next one
+abbrev pub end_lines : Plant → ℕ → List ℕ → ℕ → List Entry
+end_lines plant t adms m = arrive_line plant t adms m ∷ [] ++ out_lines plant t adms m ++ ready_after plant t adms m

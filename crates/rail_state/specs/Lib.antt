@@ -1,0 +1,11 @@
+-- The events that lines are, and those that come with an admission.
+pub mod Events
+-- What a run keeps of each train.
+pub mod TrainStates
+pub mod FirstUntried
+pub mod Watched
+-- What a run keeps, and the front that it stands for.
+pub mod Representation
+-- What a command's line changes.
+pub mod SeenCauses
+pub mod Admissions

@@ -1,0 +1,86 @@
+-- What a run keeps of each train, and how lines change it.
+use Rattle.std.specs.Prelude.{◌≡◌, ℕ, suc, ◌+◌, ◌-◌, ◌==◌, Bool, true, false, not, ◌&&◌, cond, nat_lt, is_some, List, [], ◌∷◌, get_or, Option, Some, None}
+use Rattle.rail_base.specs.declared.history.What.{What}
+use Rattle.rail_base.specs.declared.history.What.TheVariants.{Free, Enter, Out, Ready}
+use Rattle.rail_base.specs.declared.history.Cause.{Cause}
+use Rattle.rail_base.specs.declared.history.Cause.TheVariants.{Blocked}
+use Rattle.rail_rules.specs.Plant.{Plant, claimed, steps}
+use Rattle.rail_rules.specs.Fronts.{same_cause}
+use Rattle.rail_rules.specs.Numbers.{comes_before}
+use Rattle.rail_laws_run.specs.HolderTables.{held_cause}
+use Rattle.rail_block.specs.declared.times.MoveTimes.{MoveTimes}
+use Rattle.rail_block.specs.CarriedTimes.{times_at}
+use Rattle.rail_state.specs.declared.train.Head.{Head}
+use Rattle.rail_state.specs.declared.train.TrainState.{TrainState}
+
+-- what stands for the times of a train that a run doesn't have
+abbrev pub no_times : MoveTimes
+no_times = record { admitted = 0; passes = false; go = 0; free_run = 0; next_ready = 0 }
+
+-- what stands for a train that a run doesn't have
+abbrev pub no_state : TrainState
+no_state = record { place = 0; times = no_times; head = record { place = 0; step = 0 }; deferred = None; waits = false; last_hold = None; known = None; is_out = false }
+
+-- the train of this number
+abbrev pub state_of : List TrainState → ℕ → TrainState
+state_of states t = get_or states t no_state
+
+-- a train before its entry
+abbrev pub outside : Plant → ℕ → TrainState
+outside plant t = record { place = 0; times = times_at plant t [] 0; head = record { place = 1; step = 1 }; deferred = None; waits = false; last_hold = None; known = None; is_out = false }
+
+-- the cause is that this section is blocked
+abbrev pub is_blocked_at : ℕ → Option Cause → Bool
+is_blocked_at x (Some (Blocked y u)) = y == x
+is_blocked_at x _ = false
+
+-- where the head enters next, behind a step; moves and steps count from 1
+abbrev pub head_behind : Plant → ℕ → Head → Head
+head_behind plant t head = cond (nat_lt head.step (steps plant t (head.place - 1)))
+    (record { place = head.place; step = head.step + 1 })
+    (record { place = head.place + 1; step = 1 })
+
+-- a line that frees the section: the cause is no longer known where it was that this section is blocked
+abbrev pub without_known : ℕ → TrainState → TrainState
+without_known x train_state = record train_state { known = cond (is_blocked_at x train_state.known) None train_state.known }
+
+-- an event line changes what is kept of a train
+abbrev pub state_after : Plant → What → ℕ → TrainState → TrainState
+state_after plant (Free x u) t train_state = without_known x train_state
+state_after plant (Enter u m x) t train_state = cond (u == t) (record train_state { head = head_behind plant t train_state.head }) train_state
+state_after plant (Out u) t train_state = cond (u == t) (record train_state { is_out = true }) train_state
+state_after plant (Ready u m) t train_state = cond (u == t) (record train_state { waits = true }) train_state
+state_after plant _ t train_state = train_state
+
+-- the train waits, and the cause of its next move isn't known
+abbrev pub is_untried : TrainState → Bool
+is_untried train_state = train_state.waits && not (is_some train_state.known)
+
+-- a train that is untried is looked at: where a needed section of its next move is held, that is its cause
+abbrev pub looked_at : Plant → List (Option ℕ) → ℕ → TrainState → TrainState
+looked_at plant holders t train_state = record train_state { known = cond (is_untried train_state) (held_cause holders (claimed plant t train_state.place)) train_state.known }
+
+-- what orders the waiting trains: when they are ready, then their number
+abbrev pub turn : List TrainState → ℕ → List ℕ
+turn states t = (state_of states t).times.next_ready ∷ t ∷ []
+
+-- the train is the first of the untried ones
+pub record IsReadyFirst (states : List TrainState) (t : ℕ) : Type 0 where
+  pub untried : is_untried (state_of states t) ≡ true
+  pub first : (u : ℕ) → is_untried (state_of states u) ≡ true → comes_before (turn states u) (turn states t) ≡ false
+
+-- the train has a known cause that its last hold line doesn't name
+abbrev pub lacks_hold_line : TrainState → Bool
+lacks_hold_line train_state = train_state.waits && is_some train_state.known && not (same_cause train_state.last_hold train_state.known)
+
+-- what is kept of a train after its hold line: no arrival is deferred
+abbrev pub after_hold_line : TrainState → TrainState
+after_hold_line train_state = record train_state { last_hold = train_state.known; deferred = None }
+
+-- what is kept of a train after the admission of its next move, with the times of that move and the arrival that is deferred
+abbrev pub admitted : MoveTimes → Option ℕ → TrainState → TrainState
+admitted times arrival train_state = record train_state { place = suc train_state.place; times = times; deferred = arrival; waits = false; last_hold = None; known = None }
+
+-- what is kept of the trains after an admission of one of them: no cause is known
+abbrev pub state_admitted : ℕ → MoveTimes → Option ℕ → ℕ → TrainState → TrainState
+state_admitted u times arrival t train_state = cond (u == t) (admitted times arrival train_state) (record train_state { known = None })

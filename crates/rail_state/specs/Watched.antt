@@ -1,0 +1,46 @@
+-- Which trains a run watches, and what it does to each of them in turn.
+use Rattle.std.specs.Prelude.{◌≡◌, ℕ, ◌<◌, ◌≤◌, Bool, false, ◌||◌, cond, nat_lt, is_some, List, [], ◌∷◌, length, set, Option, None, vec_capacity}
+use Rattle.std.specs.List.{filter}
+use Rattle.std.specs.Global.{Vec}
+use Rattle.rail_rules.specs.Plant.{Plant}
+use Rattle.rail_rules.specs.Numbers.{listed}
+use Rattle.rail_state.specs.declared.train.TrainState.{TrainState}
+use Rattle.rail_state.specs.TrainStates.{state_of, is_blocked_at, looked_at, without_known}
+use Rattle.rail_state.specs.FirstUntried.{first_with}
+
+-- the train waits, or the cause of its next move is known
+abbrev pub is_watched : TrainState → Bool
+is_watched train_state = train_state.waits || is_some train_state.known
+
+-- the trains that are watched, by number
+abbrev pub watched_of : List TrainState → List ℕ
+watched_of states = filter (λ t. is_watched (state_of states t)) (listed (λ t. t) (length states))
+
+-- these are the trains that are watched, and there is room for all
+pub record AreWatched (states : List TrainState) (watched : Vec ℕ) : Type 0 where
+  pub few : length states < 65536
+  pub exact : watched.items ≡ watched_of states
+  pub room : length states ≤ vec_capacity watched
+  -- a train that doesn't wait isn't blocked
+  pub free : (t x : ℕ) → (state_of states t).waits ≡ false → is_blocked_at x (state_of states t).known ≡ false
+
+-- the numbers with one more, in front of those that aren't less
+abbrev pub inserted : ℕ → List ℕ → List ℕ
+inserted t [] = t ∷ []
+inserted t (u ∷ rest) = cond (nat_lt u t) (u ∷ inserted t rest) (t ∷ u ∷ rest)
+
+-- this train is looked at, and may be the first untried one so far
+abbrev pub look_at : Plant → List (Option ℕ) → List TrainState × Option ℕ → ℕ → List TrainState × Option ℕ
+look_at plant holders so_far t = let states = set so_far.0 t (looked_at plant holders t (state_of so_far.0 t)) in (states, first_with states so_far.1 t)
+
+-- the cause of this train is no longer known where it was this section, and whether it was so for one so far
+abbrev pub look_again : ℕ → List TrainState × Bool → ℕ → List TrainState × Bool
+look_again x so_far t = (set so_far.0 t (without_known x (state_of so_far.0 t)), so_far.1 || is_blocked_at x (state_of so_far.0 t).known)
+
+-- what is kept of a train once no cause of its next move is known
+abbrev pub unknown : TrainState → TrainState
+unknown train_state = record train_state { known = None }
+
+-- the cause of this train is no longer known
+abbrev pub forget : List TrainState → ℕ → List TrainState
+forget states t = set states t (unknown (state_of states t))

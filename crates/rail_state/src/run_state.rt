@@ -1,0 +1,210 @@
+//! The state of a run as one.
+
+ghost use Rattle.std.specs.Prelude.{◌≡◌, ℕ, suc, ◌+◌, ◌<◌, ◌≤◌, [], ◌∷◌, Bool, Option, Some, None, true, false, length, count_by, replicate, IfOk, IsSome};
+ghost use Rattle.rail_base.specs.declared.history.Cause.{Cause};
+ghost use Rattle.rail_base.specs.declared.history.What.TheVariants.{Hold};
+ghost use Rattle.rail_block.specs.declared.times.MoveTimes.{MoveTimes};
+ghost use Rattle.rail_laws_run.specs.HolderTables.{held_cause};
+ghost use Rattle.rail_queue.specs.declared.event.Class.TheVariants.{Ready};
+ghost use Rattle.rail_queue.specs.declared.event.Event.{Event};
+ghost use Rattle.rail_rules.specs.Fronts.{Front};
+ghost use Rattle.rail_rules.specs.Numbers.{gather, listed};
+ghost use Rattle.rail_rules.specs.Plant.{bound, claimed, trains};
+ghost use Rattle.rail_state.specs.Admissions.{IsGivable};
+ghost use Rattle.rail_state.specs.Events.{deferred_event, train_event};
+ghost use Rattle.rail_state.specs.Representation.{IsAdmitLine, IsHoldLine, IsReadyFor, StaysSettled, holders_after, what_of};
+ghost use Rattle.rail_state.specs.TrainStates.{outside, lacks_hold_line, state_after, state_of};
+ghost use Rattle.rail_state.specs.declared.pushes.TheConstants.{MOVE_EVENTS};
+
+use crate::admission::{push_move, take_sections};
+use crate::events::event_of_train;
+use crate::pushes::{MOVE_EVENTS, push_entry};
+use crate::trains::TrainStates;
+use rail_base::{Cause, OutOfMemory, SectionNo, Time, TrainNo, What};
+use rail_block::times_of;
+use rail_plan::Plant;
+use rail_queue::{Class, Event, EventQueue};
+use rail_release::Holders;
+use std::alloc::Global;
+
+/// What is kept of a run beside its plant, its places and its lists.
+#[derive(Drop)]
+pub struct RunState {
+    /// The events that are pending.
+    pub queue: EventQueue,
+    /// What is kept of each train.
+    pub trains: TrainStates,
+    /// Who holds each section.
+    pub holders: Holders,
+    /// The time of the last line, in tenths of a second; 0 before the first.
+    pub instant: Time,
+    /// Each waiting train was told why it waits.
+    pub is_settled: bool,
+    /// The end line was given.
+    pub has_ended: bool,
+}
+
+impl RunState {
+    /// The state before the first line. All memory that it needs is taken here.
+    pub fn new(alloc: Global, plant: &Plant) -> Result<RunState, OutOfMemory>
+        ensures events { IfOk result (λ state. (q : Event → Bool) → count_by q state.queue.events ≡ count_by q (gather (λ t. train_event (state_of state.trains t).times.next_ready Ready t 1 ∷ []) (trains plant.now))) }
+        ensures room { IfOk result (λ state. length state.queue.events + state.queue.spare ≡ bound plant.now 0 + MOVE_EVENTS) }
+        ensures trains { IfOk result (λ state. state.trains ≡ listed (outside plant.now) (trains plant.now)) }
+        ensures holders { IfOk result (λ state. state.holders ≡ replicate (length plant.now.tables.sections) None) }
+        ensures instant { IfOk result (λ state. state.instant ≡ 0) }
+        ensures settled { IfOk result (λ state. state.is_settled ≡ true) }
+        ensures going { IfOk result (λ state. state.has_ended ≡ false) }
+    {
+        let holders = free_sections(alloc, plant)?;
+        let trains = TrainStates::new(alloc, plant)?;
+        let queue = first_events(alloc, plant, &trains)?;
+        Ok(RunState {
+            queue,
+            trains,
+            holders,
+            instant: Time(0),
+            is_settled: true,
+            has_ended: false,
+        })
+    }
+
+    /// The event happens: the instant is its time, the section that it frees has no holder, and what is kept
+    /// of the trains is as its line leaves it. What the line says.
+    pub fn happen(&mut self, plant: &Plant, event: Event) -> What
+        requires ready { IsReadyFor plant.now self.old event }
+        requires many { length self.old.trains ≡ trains plant.now }
+        ensures what { result ≡ what_of plant.now self.old.trains event }
+        ensures queue { self.new.queue ≡ self.old.queue }
+        ensures instant { self.new.instant ≡ event.at }
+        ensures going { self.new.has_ended ≡ self.old.has_ended }
+        ensures holders { self.new.holders ≡ holders_after (what_of plant.now self.old.trains event) self.old.holders }
+        ensures many { length self.new.trains ≡ length self.old.trains }
+        ensures trains { (t : ℕ) → state_of self.new.trains t ≡ state_after plant.now (what_of plant.now self.old.trains event) t (state_of self.old.trains t) }
+        ensures settled { self.new.is_settled ≡ true → (self.old.is_settled ≡ true) × StaysSettled plant.now self.old.trains (what_of plant.now self.old.trains event) }
+    {
+        let train = event.train;
+        let place = event.place;
+        self.instant = event.at;
+        match event.class {
+            Class::Free => {
+                let section = SectionNo(event.number);
+                self.holders.free(section);
+                let was_cause = self.trains.look_again_at(section);
+                self.is_settled = self.is_settled && !was_cause;
+                What::Free { section, train }
+            }
+            Class::Arrive => What::Arrive { train, place },
+            Class::Enter => {
+                let section = self.trains.enter(plant, train);
+                What::Enter {
+                    train,
+                    place,
+                    section,
+                }
+            }
+            Class::Out => {
+                self.trains.leave(train);
+                What::Out { train }
+            }
+            Class::Ready => {
+                self.trains.make_ready(train);
+                self.is_settled = false;
+                What::Ready { train, place }
+            }
+            Class::Command => What::Told {
+                command: event.number,
+            },
+        }
+    }
+
+    /// The train's next move is admitted at the instant: its events are pending, its needed sections are held by
+    /// the train, and its times are carried.
+    pub fn admit(&mut self, plant: &Plant, train: TrainNo)
+        requires givable { (front : Front) × IsGivable plant.now front self.old.trains self.old.instant train }
+        requires room { MOVE_EVENTS ≤ self.old.queue.spare }
+        requires sections { length self.old.holders ≡ length plant.now.tables.sections }
+        requires free { held_cause self.old.holders (claimed plant.now train (state_of self.old.trains train).place) ≡ None }
+        ensures given { (front : Front) → IsGivable plant.now front self.old.trains self.old.instant train
+            → (times : MoveTimes) × (arrival : Option ℕ) × IsAdmitLine plant.now front train times arrival self.old self.new }
+        ensures room { length self.new.queue.events + self.new.queue.spare ≡ length self.old.queue.events + self.old.queue.spare }
+    {
+        let before = *self.trains.get(train);
+        let place = before.place + 1;
+        let times = times_of(plant, train, place, self.instant, &before.times);
+        let arrival = push_move(plant, &mut self.queue, train, place, &times);
+        self.trains.admit(train, times, arrival);
+        take_sections(plant, &mut self.holders, train, place);
+        self.is_settled = false;
+    }
+
+    /// The hold line of the train's next move is given, with its known cause: an arrival that was deferred is
+    /// pending. What the line says.
+    pub fn hold(&mut self, train: TrainNo) -> What
+        requires train { train < length self.old.trains }
+        requires lacks { lacks_hold_line (state_of self.old.trains train) ≡ true }
+        requires place { (state_of self.old.trains train).place < 65535 }
+        requires room { 1 ≤ self.old.queue.spare }
+        requires unsettled { self.old.is_settled ≡ false }
+        ensures what { (why : Cause) → (state_of self.old.trains train).known ≡ Some why → result ≡ Hold train ((state_of self.old.trains train).place + 1) why }
+        ensures line { IsHoldLine train self.old self.new }
+        ensures room { length self.new.queue.events + self.new.queue.spare ≡ length self.old.queue.events + self.old.queue.spare }
+    {
+        let train_state = *self.trains.get(train);
+        let arrival = self.trains.tell(train);
+        push_deferred(&mut self.queue, train, train_state.place, arrival);
+        held(train, train_state.place + 1, train_state.known)
+    }
+}
+
+/// What a hold line of this move says, where its cause is known.
+fn held(train: TrainNo, place: u16, known: Option<Cause>) -> What
+    requires { IsSome known }
+    ensures { (why : Cause) → known ≡ Some why → result ≡ Hold train place why }
+{
+    match known {
+        Some(cause) => What::Hold {
+            train,
+            place,
+            cause,
+        },
+        None => unreachable!(),
+    }
+}
+
+/// Pushes the arrival of the train at the end of this move, where there is one that was deferred.
+fn push_deferred(queue: &mut EventQueue, train: TrainNo, place: u16, arrival: Option<Time>)
+    requires { 1 ≤ queue.old.spare }
+    ensures counted { (q : Event → Bool) → count_by q queue.new.events ≡ count_by q queue.old.events + count_by q (deferred_event train place arrival) }
+    ensures room { length queue.new.events + queue.new.spare ≡ length queue.old.events + queue.old.spare }
+{
+    if let Some(at) = arrival {
+        queue.push(event_of_train(at, Class::Arrive, train, place));
+    }
+}
+
+/// The sections of the plant, which nobody holds.
+fn free_sections(alloc: Global, plant: &Plant) -> Result<Holders, OutOfMemory>
+    ensures { IfOk result (λ holders. holders ≡ replicate (length plant.now.tables.sections) None) }
+{
+    Holders::new(alloc, plant.names().sections.len() as u16)
+}
+
+/// The queue of the first events: each train's first move is ready.
+fn first_events(
+    alloc: Global,
+    plant: &Plant,
+    states: &TrainStates,
+) -> Result<EventQueue, OutOfMemory>
+    requires { states.now ≡ listed (outside plant.now) (trains plant.now) }
+    ensures counted { IfOk result (λ queue. (q : Event → Bool) → count_by q queue.events ≡ count_by q (gather (λ t. train_event (state_of states.now t).times.next_ready Ready t 1 ∷ []) (trains plant.now))) }
+    ensures room { IfOk result (λ queue. length queue.events + queue.spare ≡ bound plant.now 0 + MOVE_EVENTS) }
+{
+    let trains = plant.moves().trains();
+    let room = plant.event_bound(0) as usize + MOVE_EVENTS;
+    let mut queue = EventQueue::with_room(alloc, room)?;
+    for number in 0..trains {
+        let train = TrainNo(number);
+        push_entry(&mut queue, train, &states.get(train).times);
+    }
+    Ok(queue)
+}

@@ -1,0 +1,187 @@
+//! One train.
+
+ghost use Rattle.std.specs.Prelude.{◌≡◌, ◌-◌, ◌<◌, ◌≤◌, [], ◌∷◌, ◌++◌, length, true, vec_len, vec_capacity};
+ghost use Rattle.std.specs.List.{All};
+ghost use Rattle.rail_base.specs.declared.limits.TheConstants.{ITINERARY_ROUTES};
+ghost use Rattle.rail_rules.specs.Plant.{moves, needed, steps, trains};
+ghost use Rattle.rail_laws_run.specs.HolderTables.{held_cause};
+ghost use Rattle.rail_state.specs.TrainStates.{admitted, head_behind, is_blocked_at, lacks_hold_line, is_untried, looked_at, outside, after_hold_line, without_known};
+ghost use Rattle.rail_state.specs.Watched.{is_watched};
+
+use rail_base::{Cause, SectionNo, Time, TrainNo};
+use rail_block::{MoveTimes, entry_times};
+use rail_plan::Plant;
+use rail_release::Holders;
+
+/// Where the head of a train enters a section next: a move and a step of it, both counted from 1.
+#[derive(Clone, Copy, Debug, PartialEq, Eq)]
+pub struct Head {
+    pub place: u16,
+    pub step: u16,
+}
+
+/// What a run keeps of a train. Its next move is the one after its last admitted move.
+#[derive(Clone, Copy, Debug, PartialEq, Eq)]
+pub struct TrainState {
+    /// How many of its moves are admitted.
+    pub place: u16,
+    /// The times of its last admitted move, or of its entry.
+    pub times: MoveTimes,
+    pub head: Head,
+    /// When it arrives at the end of its last admitted move by a stop, as long as it may still pass there.
+    pub deferred: Option<Time>,
+    /// The ready line of its next move was given.
+    pub waits: bool,
+    /// The cause on the last hold line of its next move.
+    pub last_hold: Option<Cause>,
+    /// Why its next move isn't admitted, where this is known.
+    pub known: Option<Cause>,
+    /// Its out line was given.
+    pub is_out: bool,
+}
+
+impl TrainState {
+    /// Whether the train waits, and the cause of its next move isn't known.
+    pub fn is_untried(&self) -> bool
+        ensures { result ≡ is_untried self.now }
+    {
+        self.waits && self.known.is_none()
+    }
+
+    /// Whether the train has a known cause that its last hold line doesn't name.
+    pub fn lacks_hold_line(&self) -> bool
+        ensures { result ≡ lacks_hold_line self.now }
+    {
+        self.waits && self.known.is_some() && self.last_hold != self.known
+    }
+
+    /// Whether the train waits, or the cause of its next move is known.
+    pub(crate) fn is_watched(&self) -> bool
+        ensures { result ≡ is_watched self.now }
+    {
+        self.waits || self.known.is_some()
+    }
+
+    /// Whether the known cause is that this section is blocked.
+    pub fn is_blocked_at(&self, freed: SectionNo) -> bool
+        ensures { result ≡ is_blocked_at freed self.now.known }
+    {
+        match self.known {
+            Some(Cause::Blocked { section, .. }) => section == freed,
+            _ => false,
+        }
+    }
+
+    /// The cause is no longer known where it was that this section is blocked. Whether it was.
+    pub(crate) fn forget(&mut self, freed: SectionNo) -> bool
+        ensures train_state { self.new ≡ without_known freed self.old }
+        ensures was { result ≡ is_blocked_at freed self.old.known }
+    {
+        let was_blocked = self.is_blocked_at(freed);
+        if was_blocked {
+            self.known = None;
+        }
+        was_blocked
+    }
+
+    /// The cause of the train, where it is untried and a needed section of its next move is held.
+    pub(crate) fn look(&mut self, plant: &Plant, holders: &Holders, train: TrainNo)
+        requires known { train < trains plant.now }
+        requires sections { length holders.now ≡ length plant.now.tables.sections }
+        requires moves { self.old.waits ≡ true → self.old.place < moves plant.now train }
+        ensures { self.new ≡ looked_at plant.now holders.now train self.old }
+    {
+        if self.is_untried() {
+            has_few_moves(plant, train);
+            let row = plant.move_row(train, self.place + 1);
+            self.known = held_cause(holders, row.sections.as_slice());
+        }
+    }
+
+    /// The hold line of the next move was given, with the known cause. The arrival that was deferred.
+    pub(crate) fn tell(&mut self) -> Option<Time>
+        ensures train_state { self.new ≡ after_hold_line self.old }
+        ensures arrival { result ≡ self.old.deferred }
+    {
+        self.last_hold = self.known;
+        self.deferred.take()
+    }
+
+    /// The next move is admitted, with these times; `arrival` is deferred.
+    pub(crate) fn admit(&mut self, times: MoveTimes, arrival: Option<Time>)
+        requires { self.old.place < 65535 }
+        ensures { self.new ≡ admitted times arrival self.old }
+    {
+        self.place += 1;
+        self.times = times;
+        self.deferred = arrival;
+        self.waits = false;
+        self.last_hold = None;
+        self.known = None;
+    }
+}
+
+/// Adds the train before its entry.
+pub(crate) fn push_outside(states: &mut Vec<TrainState>, plant: &Plant, train: TrainNo)
+    requires train { train < trains plant.now }
+    requires room { vec_len states.old < vec_capacity states.old }
+    ensures trains { states.new.items ≡ states.old.items ++ outside plant.now train ∷ [] }
+    ensures room { vec_capacity states.new ≡ vec_capacity states.old }
+{
+    states.push_reserved(TrainState {
+        place: 0,
+        times: entry_times(plant, train),
+        head: Head { place: 1, step: 1 },
+        deferred: None,
+        waits: false,
+        last_hold: None,
+        known: None,
+        is_out: false,
+    });
+}
+
+/// The numbers of the train's moves are small.
+fn has_few_moves(plant: &Plant, train: TrainNo)
+    requires { train < trains plant.now }
+    ensures { moves plant.now train ≤ ITINERARY_ROUTES }
+{
+    plant.train(train);
+}
+
+/// Where the head enters next, behind a step.
+pub(crate) fn head_behind(plant: &Plant, train: TrainNo, head: Head) -> Head
+    requires known { train < trains plant.now }
+    requires first { 1 ≤ head.place }
+    requires last { head.place ≤ moves plant.now train }
+    ensures { result ≡ head_behind plant.now train head }
+{
+    has_few_moves(plant, train);
+    let steps = plant.move_row(train, head.place).sections.as_slice().len();
+    if usize::from(head.step) < steps {
+        Head {
+            place: head.place,
+            step: head.step + 1,
+        }
+    } else {
+        Head {
+            place: head.place + 1,
+            step: 1,
+        }
+    }
+}
+
+/// The cause that the first held section of these is.
+pub fn held_cause(holders: &Holders, sections: &[SectionNo]) -> Option<Cause>
+    requires { All (λ x. x < length holders.now) sections.now }
+    ensures { result ≡ held_cause holders.now sections.now }
+{
+    for section in sections {
+        if let Some(holder) = holders.holder(*section) {
+            return Some(Cause::Blocked {
+                section: *section,
+                holder,
+            });
+        }
+    }
+    None
+}

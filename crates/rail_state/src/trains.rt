@@ -1,0 +1,180 @@
+//! All trains of a run.
+
+ghost use Rattle.std.specs.Prelude.{◌≡◌, ℕ, ◌-◌, ◌<◌, ◌≤◌, not, [], length, set, true, false, IfOk, MatchOption, vec_capacity};
+ghost use Rattle.std.specs.List.{filter};
+ghost use Rattle.rail_base.specs.declared.history.Cause.TheVariants.{NoList};
+ghost use Rattle.rail_base.specs.declared.history.What.TheVariants.{Free, Enter, Out, Ready};
+ghost use Rattle.rail_rules.specs.Plant.{Plant, moves, step_section, steps, trains};
+ghost use Rattle.rail_rules.specs.Numbers.{listed};
+ghost use Rattle.rail_state.specs.TrainStates.{IsReadyFirst, is_blocked_at, lacks_hold_line, is_untried, looked_at, outside, state_admitted, state_after, state_of, after_hold_line};
+
+use crate::train::{TrainState, head_behind, push_outside};
+use crate::watched::{
+    first_lacking, forget_causes, keep_waiting, look_again_at_each, look_at_each, watch,
+};
+use rail_base::{Cause, OutOfMemory, SectionNo, Time, TrainNo};
+use rail_block::MoveTimes;
+use rail_plan::Plant;
+use rail_release::Holders;
+use std::alloc::Global;
+use std::marker::Model;
+
+/// What a run keeps of each train, by train number. Contracts see it as the list of its entries.
+#[derive(Debug, Drop)]
+pub struct TrainStates {
+    rows: Vec<TrainState>,
+    /// By number, the trains that wait, and those with a known cause: `note_no_list` gives one to any train.
+    /// The others need no look.
+    watched: Vec<TrainNo>,
+}
+
+impl Model for TrainStates {
+    ghost use Rattle.std.specs.Prelude.{List};
+    ghost use Rattle.rail_state.specs.declared.train.TrainState.{TrainState};
+    ghost use Rattle.rail_state.specs.Watched.{AreWatched};
+
+    ghost Value = { List TrainState };
+
+    ghost view = { λ states. states.rows.items };
+
+    ghost invariant = { λ states. AreWatched states.rows.items states.watched };
+}
+
+impl TrainStates {
+    /// The trains of the plant before their entries.
+    pub fn new(alloc: Global, plant: &Plant) -> Result<TrainStates, OutOfMemory>
+        ensures { IfOk result (λ states. states ≡ listed (outside plant.now) (trains plant.now)) }
+    {
+        let trains = plant.moves().trains();
+        let mut rows = Vec::with_capacity(alloc, usize::from(trains))?;
+        let watched = Vec::with_capacity(alloc, usize::from(trains))?;
+        for number in 0..trains {
+            push_outside(&mut rows, plant, TrainNo(number));
+        }
+        Ok(TrainStates { rows, watched })
+    }
+
+    /// What is kept of the train.
+    pub fn get(&self, train: TrainNo) -> &TrainState
+        requires { train < length self.now }
+        ensures { result.now ≡ state_of self.now train }
+    {
+        &self.rows[usize::from(train.0)]
+    }
+
+    /// The section that the train's head enters next, after which the next one is that behind it.
+    pub fn enter(&mut self, plant: &Plant, train: TrainNo) -> SectionNo
+        requires train { train < length self.old }
+        requires known { train < trains plant.now }
+        requires first { 1 ≤ (state_of self.old train).head.place }
+        requires last { (state_of self.old train).head.place ≤ moves plant.now train }
+        requires first_step { 1 ≤ (state_of self.old train).head.step }
+        requires last_step { (state_of self.old train).head.step ≤ steps plant.now train ((state_of self.old train).head.place - 1) }
+        ensures section { result ≡ step_section plant.now train ((state_of self.old train).head.place - 1) ((state_of self.old train).head.step - 1) }
+        ensures length { length self.new ≡ length self.old }
+        ensures trains { (m x t : ℕ) → state_of self.new t ≡ state_after plant.now (Enter train m x) t (state_of self.old t) }
+    {
+        let train_state = &mut self.rows[usize::from(train.0)];
+        let head = train_state.head;
+        train_state.head = head_behind(plant, train, head);
+        plant.move_row(train, head.place).sections.as_slice()[usize::from(head.step) - 1]
+    }
+
+    /// The train's out line was given.
+    pub fn leave(&mut self, train: TrainNo)
+        requires { train < length self.old }
+        ensures length { length self.new ≡ length self.old }
+        ensures trains { (plant : Plant) (t : ℕ) → state_of self.new t ≡ state_after plant (Out train) t (state_of self.old t) }
+    {
+        let train_state = &mut self.rows[usize::from(train.0)];
+        train_state.is_out = true;
+    }
+
+    /// The ready line of the train's next move was given.
+    pub fn make_ready(&mut self, train: TrainNo)
+        requires { train < length self.old }
+        ensures length { length self.new ≡ length self.old }
+        ensures trains { (plant : Plant) (m t : ℕ) → state_of self.new t ≡ state_after plant (Ready train m) t (state_of self.old t) }
+    {
+        watch(&mut self.watched, &self.rows, train);
+        let train_state = &mut self.rows[usize::from(train.0)];
+        train_state.waits = true;
+    }
+
+    /// A section is free: the causes of the trains that were held for it are no longer known. Whether there were any.
+    pub fn look_again_at(&mut self, section: SectionNo) -> bool
+        ensures length { length self.new ≡ length self.old }
+        ensures trains { (plant : Plant) (u t : ℕ) → state_of self.new t ≡ state_after plant (Free section u) t (state_of self.old t) }
+        ensures any { result ≡ false → (t : ℕ) → is_blocked_at section (state_of self.old t).known ≡ false }
+        ensures some { result ≡ true → (t : ℕ) × (is_blocked_at section (state_of self.old t).known ≡ true) }
+    {
+        look_again_at_each(&mut self.rows, &self.watched, section)
+    }
+
+    /// Looks at the trains that wait without a known cause: where a needed section of the next move is
+    /// held, that is the cause. Of the others, the train that was ready first, and of several that with
+    /// the least number.
+    pub fn look(&mut self, plant: &Plant, holders: &Holders) -> Option<TrainNo>
+        requires known { length self.old ≡ trains plant.now }
+        requires sections { length holders.now ≡ length plant.now.tables.sections }
+        requires moves { (t : ℕ) → t < trains plant.now → (state_of self.old t).waits ≡ true → (state_of self.old t).place < moves plant.now t }
+        ensures length { length self.new ≡ length self.old }
+        ensures trains { (t : ℕ) → t < length self.old → state_of self.new t ≡ looked_at plant.now holders.now t (state_of self.old t) }
+        ensures first { MatchOption result ((t : ℕ) → is_untried (state_of self.new t) ≡ false) (λ train. (train < length self.new) × IsReadyFirst self.new train) }
+    {
+        look_at_each(&mut self.rows, &self.watched, plant, holders)
+    }
+
+    /// No list is known for the train.
+    pub fn note_no_list(&mut self, train: TrainNo)
+        requires { train < length self.old }
+        ensures { self.new ≡ set self.old train (record (state_of self.old train) { known = Some NoList }) }
+    {
+        watch(&mut self.watched, &self.rows, train);
+        let train_state = &mut self.rows[usize::from(train.0)];
+        train_state.known = Some(Cause::NoList);
+    }
+
+    /// The first train that has a known cause which its last hold line doesn't name.
+    pub fn first_lacking(&self) -> Option<TrainNo>
+        ensures { MatchOption result ((t : ℕ) → lacks_hold_line (state_of self.now t) ≡ false) (λ train. (train < length self.now) × (lacks_hold_line (state_of self.now train) ≡ true) × ((u : ℕ) → u < train → lacks_hold_line (state_of self.now u) ≡ false)) }
+    {
+        first_lacking(&self.rows, &self.watched)
+    }
+
+    /// The hold line of the train's next move was given, with its known cause. No arrival is deferred then: the one that was is the answer.
+    pub fn tell(&mut self, train: TrainNo) -> Option<Time>
+        requires { train < length self.old }
+        ensures trains { self.new ≡ set self.old train (after_hold_line (state_of self.old train)) }
+        ensures arrival { result ≡ (state_of self.old train).deferred }
+    {
+        let train_state = &mut self.rows[usize::from(train.0)];
+        train_state.tell()
+    }
+
+    /// The train's next move is admitted, with these times; `arrival` is deferred. No cause is known then.
+    pub fn admit(&mut self, train: TrainNo, times: MoveTimes, arrival: Option<Time>)
+        requires train { train < length self.old }
+        requires place { (state_of self.old train).place < 65535 }
+        ensures length { length self.new ≡ length self.old }
+        ensures trains { (t : ℕ) → t < length self.old → state_of self.new t ≡ state_admitted train times arrival t (state_of self.old t) }
+    {
+        forget_causes(&mut self.rows, &self.watched);
+        let train_state = &mut self.rows[usize::from(train.0)];
+        train_state.admit(times, arrival);
+        keep_waiting(&mut self.watched, &self.rows);
+    }
+
+    /// Puts the trains that are not out into the list, by number.
+    pub fn list_remaining(&self, into: &mut Vec<TrainNo>)
+        requires empty { into.old.items ≡ [] }
+        requires room { length self.now ≤ vec_capacity into.old }
+        ensures { into.new.items ≡ filter (λ t. not (state_of self.now t).is_out) (listed (λ t. t) (length self.now)) }
+    {
+        for (number, train_state) in self.rows.iter().enumerate() {
+            if !train_state.is_out {
+                into.push_reserved(TrainNo(number as u16));
+            }
+        }
+    }
+}

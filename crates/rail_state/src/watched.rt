@@ -1,0 +1,141 @@
+//! The trains that a run watches: those that wait, and those with a known cause.
+
+ghost use Rattle.std.specs.Prelude.{◌≡◌, ℕ, ◌<◌, true, false, cond, length, vec_len, vec_capacity, None};
+ghost use Rattle.std.specs.List.{All, filter, find, fold};
+ghost use Rattle.std.specs.List.Sorted.{IsNonDecreasing};
+ghost use Rattle.std.specs.Option.{ForSome};
+ghost use Rattle.rail_rules.specs.Plant.{moves, trains};
+ghost use Rattle.rail_state.specs.TrainStates.{lacks_hold_line, state_of};
+ghost use Rattle.rail_state.specs.FirstUntried.{first_with};
+ghost use Rattle.rail_state.specs.Watched.{AreWatched, forget, inserted, is_watched, look_again, look_at};
+
+use crate::train::TrainState;
+use rail_base::{SectionNo, Time, TrainNo};
+use rail_plan::Plant;
+use rail_release::Holders;
+
+/// Watches the train from now on, if it isn't watched yet.
+pub(crate) fn watch(watched: &mut Vec<TrainNo>, rows: &[TrainState], train: TrainNo)
+    requires train { train < length rows.now }
+    requires watched { AreWatched rows.now watched.old }
+    ensures watched { watched.new.items ≡ cond (is_watched (state_of rows.now train)) watched.old.items (inserted train watched.old.items) }
+    ensures room { vec_capacity watched.new ≡ vec_capacity watched.old }
+{
+    if !rows[usize::from(train.0)].is_watched() {
+        insert_train(watched, train);
+    }
+}
+
+/// Puts the train among the trains, which are sorted by number.
+fn insert_train(trains: &mut Vec<TrainNo>, train: TrainNo)
+    requires sorted { IsNonDecreasing trains.old.items }
+    requires room { vec_len trains.old < vec_capacity trains.old }
+    ensures trains { trains.new.items ≡ inserted train trains.old.items }
+    ensures room { vec_capacity trains.new ≡ vec_capacity trains.old }
+{
+    let place = trains.partition_point(|other| other.0 < train.0);
+    trains.insert(place, train).unwrap();
+}
+
+/// Keeps those of the trains that wait.
+pub(crate) fn keep_waiting(trains: &mut Vec<TrainNo>, rows: &[TrainState])
+    ensures trains { trains.new.items ≡ filter (λ t. (state_of rows.now t).waits) trains.old.items }
+    ensures room { vec_capacity trains.new ≡ vec_capacity trains.old }
+{
+    trains.retain(|train| waits(rows, *train));
+}
+
+/// Whether there is such a train, and it waits.
+fn waits(rows: &[TrainState], train: TrainNo) -> bool
+    ensures { result ≡ (state_of rows.now train).waits }
+{
+    match rows.get(usize::from(train.0)) {
+        Some(train_state) => train_state.waits,
+        None => false,
+    }
+}
+
+/// Looks at each of these trains. Of those that are untried then, the one that was ready first, and of
+/// several that the first of these.
+pub(crate) fn look_at_each(
+    rows: &mut [TrainState],
+    watched: &[TrainNo],
+    plant: &Plant,
+    holders: &Holders,
+) -> Option<TrainNo>
+    requires watched { All (λ t. t < length rows.old) watched.now }
+    requires known { length rows.old ≡ trains plant.now }
+    requires sections { length holders.now ≡ length plant.now.tables.sections }
+    requires moves { (t : ℕ) → t < trains plant.now → (state_of rows.old t).waits ≡ true → (state_of rows.old t).place < moves plant.now t }
+    ensures { (rows.new, result) ≡ fold (look_at plant.now holders.now) (rows.old, None) watched.now }
+{
+    let mut first = None;
+    for train in watched {
+        rows[usize::from(train.0)].look(plant, holders, *train);
+        first = first_with(rows, first, *train);
+    }
+    first
+}
+
+/// Of the first of the untried trains before this one and this one, the first.
+fn first_with(rows: &[TrainState], first: Option<TrainNo>, train: TrainNo) -> Option<TrainNo>
+    requires train { train < length rows.now }
+    requires first { ForSome first (λ u. u < length rows.now) }
+    ensures { result ≡ first_with rows.now first train }
+{
+    if !rows[usize::from(train.0)].is_untried() {
+        return first;
+    }
+    match first {
+        Some(other) if ready(rows, other) <= ready(rows, train) => first,
+        _ => Some(train),
+    }
+}
+
+/// When the train is ready for its next move.
+fn ready(rows: &[TrainState], train: TrainNo) -> Time
+    requires { train < length rows.now }
+    ensures { result ≡ (state_of rows.now train).times.next_ready }
+{
+    rows[usize::from(train.0)].times.next_ready
+}
+
+/// The causes of those of these trains that were held for this section are no longer known. Whether there
+/// were any.
+pub(crate) fn look_again_at_each(
+    rows: &mut [TrainState],
+    watched: &[TrainNo],
+    section: SectionNo,
+) -> bool
+    requires { All (λ t. t < length rows.old) watched.now }
+    ensures { (rows.new, result) ≡ fold (look_again section) (rows.old, false) watched.now }
+{
+    let mut any = false;
+    for train in watched {
+        any |= rows[usize::from(train.0)].forget(section);
+    }
+    any
+}
+
+/// The first of these trains that has a known cause which its last hold line doesn't name.
+pub(crate) fn first_lacking(rows: &[TrainState], watched: &[TrainNo]) -> Option<TrainNo>
+    requires { All (λ t. t < length rows.now) watched.now }
+    ensures { result ≡ find (λ t. lacks_hold_line (state_of rows.now t)) watched.now }
+{
+    for train in watched {
+        if rows[usize::from(train.0)].lacks_hold_line() {
+            return Some(*train);
+        }
+    }
+    None
+}
+
+/// The causes of these trains are no longer known.
+pub(crate) fn forget_causes(rows: &mut [TrainState], watched: &[TrainNo])
+    requires { All (λ t. t < length rows.old) watched.now }
+    ensures { rows.new ≡ fold forget rows.old watched.now }
+{
+    for train in watched {
+        rows[usize::from(train.0)].known = None;
+    }
+}

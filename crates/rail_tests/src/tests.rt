@@ -1,0 +1,202 @@
+//! The rows, each with the values that the rules give it by hand.
+mod scenes;
+
+ghost use Rattle.std.specs.Prelude.{◌≡◌, ◌<◌, ◌^◌};
+ghost use Rattle.rail_rules.specs.Plant.{moves, steps, trains};
+ghost use Rattle.rail_block.specs.CarriedTimes.{AreBelow};
+
+use rail_base::{Cause, Fault, Interval, Parts, SectionNo, Time, TrainNo, What};
+use rail_block::{
+    MoveTimes, arrive_time, end_of, enter_time, entry_times, interval_of, leave_time, out_time,
+    stop_at, times_of,
+};
+use rail_engine::Engine;
+use rail_plan::Plant;
+use rail_scene::{compile, read_scene};
+use scenes::{LOOP, TURN};
+use std::alloc::Global;
+use std::process::Abort;
+use std::test::Fail;
+
+/// The only train of a row.
+const A: TrainNo = TrainNo(0);
+
+/// The third section of the station.
+const L1: SectionNo = SectionNo(2);
+
+/// The plant of a scene file.
+fn plant_of(alloc: Global, text: &str) -> Result<Plant, Fault> {
+    let scene = read_scene(alloc, text.as_bytes())?;
+    compile(alloc, &scene)
+}
+
+/// A train that waits for its own tail. It comes over W, PW and L1, where its head takes 400, 20 and 400
+/// tenths of a second, turns, and goes back over PW and W; the start supplement is 100, and its whole
+/// length clears a section in 400. It is admitted as soon as it is ready, and then when PW is given free.
+#[test]
+fn turns_at_the_station(rt: HostRuntime) -> Result<(), Fail> {
+    let plant = plant_of(rt.alloc(), TURN)?;
+    runs_in_time(&rt, &plant);
+    blocks_where_it_stands(&rt, &plant);
+    Ok(())
+}
+
+/// The times of its two moves.
+fn both_moves(rt: &impl Abort, plant: &Plant) -> (MoveTimes, MoveTimes)
+    ensures train { 0 < trains plant.now }
+    ensures moves { moves plant.now 0 ≡ 2 }
+    ensures there { steps plant.now 0 0 ≡ 3 }
+    ensures back { steps plant.now 0 1 ≡ 2 }
+    ensures first { AreBelow (2 ^ 51) result.0 }
+    ensures second { AreBelow (2 ^ 51) result.1 }
+{
+    assert_eq!(rt; plant.moves().trains(), 1);
+    assert_eq!(rt; plant.train(A).moves.as_slice().len(), 2);
+    assert_eq!(rt; plant.move_row(A, 1).sections.as_slice().len(), 3);
+    assert_eq!(rt; plant.move_row(A, 2).sections.as_slice().len(), 2);
+    // Setting, watching and approach are 10, 10 and 100 before its entry.
+    let entry = entry_times(plant, A);
+    assert_eq!(rt;
+        (entry.free_run, entry.next_ready),
+        (Time(1_200), Time(1_080))
+    );
+    // It passes the portal at its entry time and is at E1 after 820. The signal W1 is to be clear 20
+    // before it would depart.
+    let first = times_of(plant, A, 1, Time(1_080), &entry);
+    assert_eq!(rt;
+        (first.passes, first.go, first.free_run, first.next_ready),
+        (true, Time(1_200), Time(2_020), Time(2_000))
+    );
+    // It starts 20 after the admission, and its head is at the portal after 100, 20 and 400.
+    let second = times_of(plant, A, 2, Time(2_040), &first);
+    assert_eq!(rt;
+        (second.passes, second.go, second.free_run),
+        (false, Time(2_060), Time(2_580))
+    );
+    (first, second)
+}
+
+/// When it arrives, enters, leaves, clears and is out.
+fn runs_in_time(rt: &impl Abort, plant: &Plant) {
+    let (first, second) = both_moves(rt, plant);
+    assert_eq!(rt; stop_at(plant, A, &first), Time(2_020));
+    assert_eq!(rt;
+        arrive_time(plant, A, 1, &first, Some(&second)),
+        Time(2_020)
+    );
+    assert_eq!(rt; arrive_time(plant, A, 2, &second, None), Time(2_580));
+    assert_eq!(rt; enter_time(plant, A, 2, &second, 1), Time(2_060));
+    // The start supplement and PW.
+    assert_eq!(rt; enter_time(plant, A, 2, &second, 2), Time(2_180));
+    // W, and then PW.
+    assert_eq!(rt;
+        leave_time(plant, A, 1, 2, &first, Some(&second)),
+        Time(1_620)
+    );
+    assert_eq!(rt;
+        leave_time(plant, A, 1, 3, &first, Some(&second)),
+        Time(2_020)
+    );
+    // The train is clear of PW 400 after its head, and PW is given free 20 later.
+    assert_eq!(rt; end_of(plant, A, 1, 2, &first, None), Some(Time(2_040)));
+    // It begins to clear L1 after its start supplement.
+    assert_eq!(rt;
+        end_of(plant, A, 1, 3, &first, Some(&second)),
+        Some(Time(2_580))
+    );
+    assert_eq!(rt; out_time(plant, A, &second), Time(2_980));
+}
+
+/// The blocking interval of L1, on which it stands: open at first, and closed by its second move.
+fn blocks_where_it_stands(rt: &impl Abort, plant: &Plant) {
+    let (first, second) = both_moves(rt, plant);
+    // It stands from 2,020 until it starts at 2,060 and has lost 100.
+    let parts = Parts {
+        setting: Some(10),
+        watching: Some(10),
+        approach: Some(100),
+        waiting: Some(0),
+        earlier: Some(420),
+        running: Some(400),
+        standing: Some(140),
+        clearing: Some(400),
+        release: Some(20),
+    };
+    let closed = Interval {
+        section: L1,
+        train: A,
+        place: 1,
+        begin: Time(1_080),
+        end: Some(Time(2_580)),
+        parts,
+    };
+    assert_eq!(rt; interval_of(plant, A, 1, 3, &first, Some(&second)), closed);
+    let open = Interval {
+        end: None,
+        parts: Parts {
+            standing: None,
+            ..parts
+        },
+        ..closed
+    };
+    assert_eq!(rt; interval_of(plant, A, 1, 3, &first, None), open);
+}
+
+/// The second train of a row.
+const B: TrainNo = TrainNo(1);
+
+/// Two trains that pass each other at a loop: the kept list has the moves that are left of those inside,
+/// and no line brings a list of its own.
+#[test]
+fn keeps_the_moves_that_are_left(rt: HostRuntime) -> Result<(), Fail> {
+    let plant = plant_of(rt.alloc(), LOOP)?;
+    let mut engine = Engine::begin(rt.alloc(), plant)?;
+    assert_eq!(rt; engine.plant().moves().trains(), 2);
+    assert!(rt; engine.kept().is_empty());
+    is_admitted(&rt, &mut engine, A, 1, &[A]);
+    is_admitted(&rt, &mut engine, B, 1, &[A, B]);
+    is_admitted(&rt, &mut engine, A, 2, &[B]);
+    is_admitted(&rt, &mut engine, B, 2, &[]);
+    assert!(rt; next_admission(&mut engine).is_none());
+    assert!(rt; engine.step().is_none());
+    Ok(())
+}
+
+/// The next admission is that of this move of the train, after which the kept list is this.
+fn is_admitted(rt: &impl Abort, engine: &mut Engine, train: TrainNo, place: u16, kept: &[TrainNo]) {
+    assert_eq!(rt; next_admission(engine), Some((train, place)));
+    assert!(rt; engine.kept() == kept);
+    assert!(rt; engine.listed().is_empty());
+}
+
+/// The train and the move of the next admission, if there is one among the next lines and no train is
+/// held before it.
+fn next_admission(engine: &mut Engine) -> Option<(TrainNo, u16)> {
+    for _ in 0..100 {
+        let entry = engine.step()?;
+        if cause_of(entry.what).is_some() {
+            return None;
+        }
+        let admitted = admission_of(entry.what);
+        if admitted.is_some() {
+            return admitted;
+        }
+    }
+    None
+}
+
+/// Why a line holds a train, if it is a hold line.
+fn cause_of(what: What) -> Option<Cause> {
+    match what {
+        What::Hold { cause, .. } => Some(cause),
+        _ => None,
+    }
+}
+
+/// The train and the move that a line admits, if it is an admission.
+fn admission_of(what: What) -> Option<(TrainNo, u16)> {
+    match what {
+        What::Admit { train, place, .. } => Some((train, place)),
+        _ => None,
+    }
+}

@@ -1,2 +1,0 @@
--- What can be written so that it can be told from all else.
-pub mod Writable

@@ -1,3 +1,0 @@
--- Lemmas on how far times may rise, which the law above cites.
-pub mod Limits
-pub mod Reached

@@ -1,0 +1,30 @@
+-- Lemmas for the crates above: what may be cited of this crate beside its definitions and public clauses. The other proof files are private to it.
+
+-- Rolls: items in order beside the list of their keys.
+pub use Rattle.rail_track.proofs.Rolls.{found_item, list_any-map}
+-- Tallies: names, and how often each is counted.
+pub use Rattle.rail_track.proofs.Tallies.{same_from_name, same_name-comm, same_name-self}
+-- Refusals: first refusals.
+pub use Rattle.rail_track.proofs.Refusals.{all_passed, none_failing, passed_at, refused_at}
+-- no test fails
+pub use Rattle.rail_track.proofs.Refusals.{AllPassed}
+-- the first refusal answers itself
+pub use Rattle.rail_track.proofs.Refusals.{answers_first}
+-- the tests of one list before those of another
+pub use Rattle.rail_track.proofs.Refusals.{first_failing-append}
+-- a test that fails less often passes where the other does
+pub use Rattle.rail_track.proofs.Refusals.{passes_too}
+-- Withouts: a list without its first item that passes a test.
+pub use Rattle.rail_track.proofs.Withouts.{are_apart-push, count_by-without, count_by-without-le, length-without-le, list_all-without, without-absent}
+-- whether an item passes, by the number of those that do
+pub use Rattle.rail_track.proofs.Withouts.{count_by_none}
+-- some item passes where more than none do
+pub use Rattle.rail_track.proofs.Withouts.{list_any-count_by}
+-- Soundness: sound tracks stay sound.
+pub use Rattle.rail_track.proofs.Soundness.{accepted, sections_at-push}
+-- what the tests of an accepted section say of it
+pub use Rattle.rail_track.proofs.Soundness.{IsAccepted}
+-- a test that no name passes is failed by each name that is there
+pub use Rattle.rail_track.proofs.Soundness.{fails_at}
+-- a joint that is not full is in one section at most
+pub use Rattle.rail_track.proofs.Soundness.{one_more}

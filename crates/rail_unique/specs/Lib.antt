@@ -1,2 +1,0 @@
--- When two run histories are one.
-pub mod Forks

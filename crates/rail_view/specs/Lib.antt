@@ -1,4 +1,0 @@
--- How a lawful front goes on, and the event lines by move and step.
-pub mod Views
-pub mod Indexed
-pub mod Premises

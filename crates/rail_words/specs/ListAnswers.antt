@@ -1,0 +1,32 @@
+-- What the reading of a list file answers.
+use Rattle.std.specs.Prelude.{◌≡◌, ℕ, ◌<◌, ◌≤◌, ◌^◌, List, length, get_or, Option, Some}
+use Rattle.std.specs.List.{All}
+use Rattle.rail_base.specs.declared.refusals.Fault.{Fault}
+use Rattle.rail_base.specs.declared.refusals.Fault.TheVariants.{Refused, OutOfMemory}
+use Rattle.rail_base.specs.declared.refusals.Part.TheVariants.{Line}
+use Rattle.rail_base.specs.declared.refusals.Reason.{Reason}
+use Rattle.rail_base.specs.declared.refusals.Refusal.{Refusal}
+use Rattle.rail_rules.specs.Moves.{Moves}
+use Rattle.rail_place.specs.Tables.{moves_in, MoveLists}
+use Rattle.rail_words.specs.Lists.{Listed, number_of_train, train_of}
+
+-- a fault answers the first refusal, if it is that refusal; want of memory may stand in place of any answer
+abbrev pub Answers : Option Refusal → Fault → Type 0
+Answers first (Refused refusal) = first ≡ Some refusal
+Answers first OutOfMemory = Unit {0}
+
+-- a line is refused for this reason
+abbrev pub refusal_at : Reason → ℕ → Fault
+refusal_at reason n = Refused (record { reason = reason; part = Line; item = n; step = 0 })
+
+-- the train of this name is known, and has at least so many moves, which are few
+pub record IsPosition (names : List (List ℕ)) (plan : Moves) (name : List ℕ) (position : ℕ) : Type 0 where
+  pub known : train_of names name ≡ Some (number_of_train names name)
+  pub within : position ≤ plan.moves (number_of_train names name)
+  pub small : position < 2 ^ 16
+
+-- there is a position of each train, within its moves, and only trains that there are are to be moved
+pub record IsListFor (table : List MoveLists) (listed : Listed) : Type 0 where
+  pub long : length listed.positions ≡ length table
+  pub within : (t : ℕ) → t < length table → get_or listed.positions t 0 ≤ (moves_in table).moves t
+  pub trains : All (λ t. t < length table) listed.list

@@ -1,0 +1,31 @@
+//! Worked rows: small inputs with the histories that were computed for them by hand, on which the
+//! definitions of a lawful run are evaluated. It stands on the definitions alone, and only the instances of the
+//! laws in `rail_tests` stand on it. The expected lines are written by `tools/write_rows.py` from `examples/`; a
+//! history is changed there and never here.
+#![tactic(auto)]
+
+mod analysis_row;
+mod cancelled_row;
+mod cancelled_too_late_row;
+mod closed_section_row;
+mod deadlock_avoided_row;
+mod go_and_stop_row;
+mod interval_rows;
+mod loop_row;
+mod one_train_row;
+mod policies_row;
+mod stop_and_go_row;
+mod turn_row;
+
+pub use analysis_row::a_free_leg_is_needed;
+pub use cancelled_row::a_cancelled_train;
+pub use cancelled_too_late_row::a_train_cancelled_too_late;
+pub use closed_section_row::a_closed_section_ends_the_run;
+pub use deadlock_avoided_row::a_deadlock_avoided;
+pub use go_and_stop_row::go_then_stop_at_one_instant;
+pub use interval_rows::{a_stairway, the_parts_of_a_standing_interval};
+pub use loop_row::two_trains_pass_at_a_loop;
+pub use one_train_row::one_train_over_three_sections;
+pub use policies_row::policies_exchanged_and_retired;
+pub use stop_and_go_row::stop_then_go_at_one_instant;
+pub use turn_row::a_turn_that_waits_for_its_own_tail;
