@@ -49,7 +49,10 @@ no_text bs hours fits same Q R r cases err =
     elim r as (λ r. MatchResult r Q (λ e. ¬ (IsUtf8 bs) × R e) → false ≡ is_ok r → ⊥) [ Ok s ↦ λ q bad. cc | Err e ↦ λ q bad. q.0 (subst IsUtf8 (sym same) (hours_text-utf8 hours fits)) ] cases err
 
 -- what is read of the hours' text, as it was checked to be text
-pub read_hours : {E F : Type 0} (bs : List ℕ) (hours : ℕ) → hours < 2 ^ 64 → bs ≡ hours_text hours → (R : E → Type 0) (r : Result (Bor (List ℕ)) E) → MatchResult r (λ s. (s.now ≡ bs) × IsUtf8 bs) R → (s : Bor (List ℕ)) → Some s ≡ result_ok r → (p : Result ℕ F) → ParsesUnsigned 64 10 s.now p → p ≡ Ok hours
+pub read_hours : {E F : Type 0} (bs : List ℕ) (hours : ℕ) → hours < 2 ^ 64 → bs ≡ hours_text hours
+    → (R : E → Type 0) (r : Result (Bor (List ℕ)) E) → MatchResult r (λ s. (s.now ≡ bs) × IsUtf8 bs) R
+    → (s : Bor (List ℕ)) → Some s ≡ result_ok r → (p : Result ℕ F) → ParsesUnsigned 64 10 s.now p
+    → p ≡ Ok hours
 read_hours bs hours fits same R r cases s some p parsed =
     elim r as (λ r. MatchResult r (λ s. (s.now ≡ bs) × IsUtf8 bs) R → Some s ≡ result_ok r → p ≡ Ok hours) [
       | Ok t ↦ λ q is. let one : s ≡ t = cc is in parse_hours hours s.now p fits (ap (λ (v : Bor (List ℕ)). v.now) one ∙ q.0 ∙ same) parsed

@@ -11,7 +11,8 @@ hours_text hours = cond (nat_lt hours 10) (48 ∷ decimal hours) (decimal hours)
 
 -- the canonical form `H:MM:SS.T` of a time in tenths of a second
 abbrev pub time_text : ℕ → List ℕ
-time_text time = hours_text (time / 36000) ++ 58 ∷ two_digits (time / 600 % 60) ++ 58 ∷ two_digits (time / 10 % 60) ++ 46 ∷ (48 + time % 10) ∷ []
+time_text time = hours_text (time / 36000) ++ 58 ∷ two_digits (time / 600 % 60) ++ 58 ∷ two_digits (time / 10 % 60)
+    ++ 46 ∷ (48 + time % 10) ∷ []
 
 -- the form `H:MM:SS` of a time in whole seconds
 abbrev pub seconds_text : ℕ → List ℕ

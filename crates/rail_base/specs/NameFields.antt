@@ -17,8 +17,10 @@ pub record IsNameInside (a : Inside) : Type 0 where
   pub named : IsTrue (is_name (bytes_of a))
 
 -- the bytes of a name give its room back
-pub inverse_of-bytes_of : (a : Inside) → IsNameInside a → record { bytes = bytes_of a ++ replicate (16 - length (bytes_of a)) 0; len = length (bytes_of a) } ≡ a
+pub inverse_of-bytes_of : (a : Inside) → IsNameInside a
+    → record { bytes = bytes_of a ++ replicate (16 - length (bytes_of a)) 0; len = length (bytes_of a) } ≡ a
 inverse_of-bytes_of a h =
     let n = length-take-le a.len a.bytes (omega (arith, h.whole, h.short)) in
-    let same = ap (λ (k : ℕ). bytes_of a ++ replicate (16 - k) 0) n ∙ ap (λ (rest : List ℕ). bytes_of a ++ rest) (sym h.padded) ∙ take-append-drop a.len a.bytes in
+    let same = ap (λ (k : ℕ). bytes_of a ++ replicate (16 - k) 0) n
+    ∙ ap (λ (rest : List ℕ). bytes_of a ++ rest) (sym h.padded) ∙ take-append-drop a.len a.bytes in
     λ i. record { bytes = same i; len = n i }

@@ -17,8 +17,6 @@ mod orders;
 mod plant;
 mod refusals;
 mod sequence;
-#[cfg(test)]
-mod tests;
 mod text;
 
 pub use clock::{read_time, write_time};

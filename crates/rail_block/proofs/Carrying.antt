@@ -4,7 +4,7 @@ use Rattle.std.proofs.lemmas.Bool.{lt-ltb, cond-true}
 use Rattle.std.proofs.lemmas.List.{get_or_append_left}
 use Rattle.std.proofs.Math.Seq.{get_or-append_seam}
 use Rattle.rail_rules.specs.Plant.{Plant, moves, steps, is_forced}
-use Rattle.rail_rules.specs.Times.{admitted, previous, is_admitted, free_run, ready_time, does_pass, start_time, head_time}
+use Rattle.rail_rules.specs.Times.{previous, is_admitted, free_run, ready_time, does_pass, start_time, head_time}
 use Rattle.rail_block.specs.declared.times.MoveTimes.{MoveTimes}
 use Rattle.rail_block.specs.CarriedTimes.{times_at, ready_after}
 
@@ -15,9 +15,6 @@ moved plant t m is before at arrived =
     let begun : ℕ = start_time plant t m arrived at passing in
     let run : ℕ = head_time plant t m begun passing (steps plant t m) in
     record { admitted = at; passes = passing; go = begun; free_run = run; next_ready = ready_after plant t m at run }
-
-pub times_at-suc : (plant : Plant) (t : ℕ) (adms : List ℕ) (m : ℕ) → times_at plant t adms (suc m) ≡ moved plant t m (is_admitted adms m) (previous adms m) (admitted adms m) (free_run plant t adms m)
-times_at-suc plant t adms m = refl
 
 pub moved-same : (plant : Plant) (t m : ℕ) {is is' : Bool} {before before' at at' arrived arrived' : ℕ} → is ≡ is' → before ≡ before' → at ≡ at' → arrived ≡ arrived' → moved plant t m is before at arrived ≡ moved plant t m is' before' at' arrived'
 moved-same plant t m a b c d = λ k. moved plant t m (a k) (b k) (c k) (d k)

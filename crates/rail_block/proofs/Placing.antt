@@ -1,25 +1,20 @@
 -- Times of a move, whose places and steps the code counts from 1.
-use Rattle.std.proofs.Common.{◌≡◌, ℕ, zero, suc, ◌+◌, ◌-◌, ◌<◌, ◌≤◌, Bool, ltb, List, refl, sym, ap, ◌∙◌, arith}
-use Rattle.std.proofs.lemmas.Bool.{lt-ltb, le-ltb, cond-true, cond-false}
-use Rattle.rail_rules.specs.Plant.{Plant, moves}
-use Rattle.rail_rules.specs.Times.{ready_time, start_loss, head_time, enter}
+use Rattle.std.proofs.Common.{◌≡◌, ℕ, zero, suc, ◌+◌, ◌-◌, ◌≤◌, Bool, List, refl, ap, ◌∙◌, arith}
+use Rattle.rail_rules.specs.Plant.{Plant}
+use Rattle.rail_rules.specs.Times.{start_loss, head_time, enter}
+use Rattle.rail_block.specs.declared.moves.KnownMove.{KnownMove}
 use Rattle.rail_block.specs.declared.times.MoveTimes.{MoveTimes}
-use Rattle.rail_block.specs.CarriedTimes.{times_at, ready_after}
+use Rattle.rail_block.specs.CarriedTimes.{times_at}
+use Rattle.rail_block.specs.KnownMoves.{of_move}
 use Rattle.rail_block.specs.Steps.{step_time}
 
 -- the move that leads to a place
 pub before : (place : ℕ) → 1 ≤ place → place ≡ suc (place - 1)
 before place le = omega arith
 
-pub ready_after-next : (plant : Plant) (t place at run : ℕ) → 1 ≤ place → place < moves plant t → ready_time plant t (place + 1 - 1) at run ≡ ready_after plant t (place - 1) at run
-ready_after-next plant t place at run le lt =
-    let next : place + 1 - 1 ≡ suc (place - 1) = omega arith in
-    ap (λ i. ready_time plant t i at run) next
-    ∙ sym (cond-true (ltb (suc (place - 1)) (moves plant t)) (ready_time plant t (suc (place - 1)) at run) run (lt-ltb (suc (place - 1)) (moves plant t) (omega arith)))
-
-pub ready_after-last : (plant : Plant) (t place at run : ℕ) → 1 ≤ place → moves plant t ≤ place → run ≡ ready_after plant t (place - 1) at run
-ready_after-last plant t place at run le past =
-    sym (cond-false (ltb (suc (place - 1)) (moves plant t)) (ready_time plant t (suc (place - 1)) at run) run (le-ltb (suc (place - 1)) (moves plant t) (omega arith)))
+-- what holds of a move that was made for this plant, train and place
+pub of-same : {A : Type 0} (f : Plant → ℕ → ℕ → A) (own : KnownMove) (plant : Plant) (t place : ℕ) → own.plant.now ≡ plant → own.train ≡ t → own.place ≡ place → of_move f own ≡ f plant t (place - 1)
+of-same f own plant t place a b c = λ k. f (a k) (b k) (c k - 1)
 
 -- the times of a move, that leads to a place
 pub made_at : (plant : Plant) (t : ℕ) (adms : List ℕ) (place : ℕ) (times : MoveTimes) → 1 ≤ place → times ≡ times_at plant t adms place → times ≡ times_at plant t adms (suc (place - 1))

@@ -4,9 +4,17 @@ use Rattle.rail_rules.specs.Plant.{Plant, moves}
 use Rattle.rail_rules.specs.Times.{admitted, is_admitted, passes, go, free_run, ready, ready_time}
 use Rattle.rail_block.specs.declared.times.MoveTimes.{MoveTimes}
 
--- the times of a train's place, counted from 0, by its admissions: those of the move that leads there, and when it is ready for the next one
+-- the times of a train's place, counted from 0, by its admissions: those of the move that leads there, and when it is
+-- ready for the next one
 abbrev pub times_at : Plant → ℕ → List ℕ → ℕ → MoveTimes
-times_at plant t adms zero = record { admitted = 0; passes = false; go = 0; free_run = free_run plant t adms zero; next_ready = ready plant t adms zero }
+times_at plant t adms zero =
+    record {
+      admitted = 0;
+      passes = false;
+      go = 0;
+      free_run = free_run plant t adms zero;
+      next_ready = ready plant t adms zero;
+    }
 times_at plant t adms (suc m) = record {
   admitted = admitted adms m;
   passes = passes plant t adms m;

@@ -4,7 +4,8 @@
 //! definitions of `rail_rules`, which compute every time from the list of a train's admissions. Here
 //! five numbers of a move stand for that list: with them each time of the move and of the one after it
 //! is found without a look at earlier moves. The contracts say so for every list of admissions whose
-//! times they are; `specs/` says which numbers those are.
+//! times they are; `specs/` says which numbers those are. A move whose train and place the plant has is a
+//! `KnownMove`, and a step that it has is a `KnownStep`, so that no other call asks for that again.
 //!
 //! Bodies may be changed as long as the contracts hold. What may not change is that nothing here takes
 //! memory, and that the work of a call doesn't grow with the number of moves before.
@@ -13,19 +14,17 @@
 mod ends;
 mod intervals;
 mod laws;
+mod moves;
 mod running;
 mod signals;
 mod steps;
 mod times;
 
-pub use ends::{
-    arrive_time, cleared_from, does_stand, end_of, end_when_left, end_when_stood, leave_time,
-    out_time, stop_at,
-};
+pub use ends::cleared_from;
 pub use intervals::interval_of;
 pub use laws::later_admissions_change_no_earlier_times;
+pub use moves::{KnownMove, KnownStep};
 pub use rail_base::{Interval, Parts};
-pub use running::{clear_time_of, run_time_of_step, start_loss};
-pub use signals::is_forced;
-pub use steps::{enter_time, next_enter_time};
+pub use running::{clear_time_of, start_loss};
+pub use steps::enter_time;
 pub use times::{MoveTimes, entry_times, times_of};

@@ -1,14 +1,16 @@
-//! How long the train of a plant takes over a section, and to clear it.
+//! What the tables say of a move, and how long its train takes over a section and to clear it.
 
 ghost use Rattle.std.specs.Prelude.{◌≡◌, ◌+◌, ◌-◌, ◌<◌, ◌≤◌, ◌^◌, length, IsTrue};
-ghost use Rattle.rail_base.specs.declared.limits.TheConstants.{SECTION_LENGTH, SPEED, START, STOP, TRAIN_LENGTH};
-ghost use Rattle.rail_rules.specs.Accepted.{is_accepted, is_from_one};
+ghost use Rattle.rail_base.specs.declared.limits.TheConstants.{ROUTE_SECTIONS, SECTION_LENGTH, SPEED, START, STOP, TRAIN_LENGTH};
+ghost use Rattle.rail_rules.specs.Accepted.{is_accepted, is_from_one, is_move_in_range};
 ghost use Rattle.rail_rules.specs.Moves.{stand};
-ghost use Rattle.rail_rules.specs.Plant.{moves, moves_of, run_over, section, step_section, steps, train, trains};
+ghost use Rattle.rail_rules.specs.Plant.{move_row, moves, moves_of, run_over, section, step_section, steps, train, trains};
 ghost use Rattle.rail_rules.specs.Times.{clearing, start_loss};
-ghost use Rattle.rail_block.specs.Steps.{step_time};
+ghost use Rattle.rail_block.specs.KnownMoves.{of_move, of_step};
+ghost use Rattle.rail_block.specs.Steps.{step_clearing, step_time};
 
-use rail_base::{SectionNo, SectionRow, Time, TrainKind, TrainNo};
+use crate::moves::{KnownMove, KnownStep};
+use rail_base::{MoveRow, SectionNo, SectionRow, Time, TrainKind, TrainNo};
 use rail_plan::Plant;
 use rail_train::{clear_time, run_time};
 
@@ -17,24 +19,6 @@ pub fn may_be_run(plant: &Plant)
     ensures { IsTrue (is_accepted plant.now) }
 {
     plant.moves();
-}
-
-/// How many moves the train has: the number of its last place.
-pub fn last_place(plant: &Plant, train: TrainNo) -> u16
-    requires { train < trains plant.now }
-    ensures places { result ≡ moves plant.now train }
-    ensures some { 1 ≤ result }
-{
-    plant.moves().places(train)
-}
-
-/// The sections on which the train stands at this place.
-pub fn stand_at(plant: &Plant, train: TrainNo, place: u16) -> &[SectionNo]
-    requires train { train < trains plant.now }
-    requires last { place ≤ moves plant.now train }
-    ensures { result.now ≡ stand (moves_of plant.now) train place }
-{
-    plant.moves().stand(train, place)
 }
 
 /// The time so many tenths of a second after another.
@@ -76,64 +60,6 @@ fn section_row(plant: &Plant, number: SectionNo) -> &SectionRow
     plant.section(number)
 }
 
-/// The number of steps of the train's move that leads to this place.
-pub fn steps_of(plant: &Plant, train: TrainNo, place: u16) -> u16
-    requires train { train < trains plant.now }
-    requires first { 1 ≤ place }
-    requires last { place ≤ moves plant.now train }
-    ensures steps { result ≡ steps plant.now train (place - 1) }
-    ensures some { 1 ≤ result }
-    ensures few { result ≤ 32 }
-{
-    plant.move_row(train, place).sections.as_slice().len() as u16
-}
-
-/// The section of the step, counted from 1, of the train's move that leads to this place.
-pub fn section_of_step(plant: &Plant, train: TrainNo, place: u16, step: u16) -> SectionNo
-    requires train { train < trains plant.now }
-    requires first { 1 ≤ place }
-    requires last { place ≤ moves plant.now train }
-    requires first_step { 1 ≤ step }
-    requires last_step { step ≤ steps plant.now train (place - 1) }
-    ensures section { result ≡ step_section plant.now train (place - 1) (step - 1) }
-    ensures known { result < length plant.now.tables.sections }
-{
-    plant.move_row(train, place).sections.as_slice()[usize::from(step) - 1]
-}
-
-/// The time in tenths of a second that the head of the train takes over the section of the step,
-/// counted from 1, of its move that leads to this place. The start supplement is no part of it.
-pub fn run_time_of_step(plant: &Plant, train: TrainNo, place: u16, step: u16) -> u64
-    requires train { train < trains plant.now }
-    requires first { 1 ≤ place }
-    requires last { place ≤ moves plant.now train }
-    requires first_step { 1 ≤ step }
-    requires last_step { step ≤ steps plant.now train (place - 1) }
-    ensures time { result ≡ step_time plant.now train (place - 1) (step - 1) }
-    ensures short { result ≤ 2 ^ 22 }
-{
-    let row = section_row(plant, section_of_step(plant, train, place, step));
-    run_time(kind_of(plant, train), row.length, row.speed)
-}
-
-/// The time in tenths of a second over the first sections, so many, of the train's move that leads to
-/// this place.
-pub fn run_over(plant: &Plant, train: TrainNo, place: u16, count: u16) -> u64
-    requires train { train < trains plant.now }
-    requires first { 1 ≤ place }
-    requires last { place ≤ moves plant.now train }
-    requires within { count ≤ steps plant.now train (place - 1) }
-    ensures time { result ≡ run_over plant.now train (place - 1) count }
-    ensures short { result ≤ 2 ^ 27 }
-{
-    may_be_run(plant);
-    let mut time = 0;
-    for index in 0..count {
-        time += run_time_of_step(plant, train, place, index + 1);
-    }
-    time
-}
-
 /// The start supplement that a move begins with, in tenths of a second: none where the train passes.
 pub fn start_loss(plant: &Plant, train: TrainNo, passes: bool) -> u64
     requires { train < trains plant.now }
@@ -156,4 +82,79 @@ pub fn clear_time_of(plant: &Plant, train: TrainNo, section: SectionNo) -> u64
     ensures short { result ≤ 2 ^ 22 }
 {
     clear_time(kind_of(plant, train), section_row(plant, section).speed)
+}
+
+impl KnownMove<'_> {
+    /// What the plant's tables say of the move.
+    pub fn row(&self) -> &MoveRow
+        ensures row { result.now ≡ of_move move_row self.now }
+        ensures fine { IsTrue (is_move_in_range (length self.now.plant.now.tables.sections) result.now) }
+    {
+        self.plant.move_row(self.train, self.place)
+    }
+
+    /// How many moves the train has: the number of its last place.
+    pub fn last_place(&self) -> u16
+        ensures { result ≡ moves self.now.plant.now self.now.train }
+    {
+        self.plant.moves().places(self.train)
+    }
+
+    /// The sections on which the train stands at the place to which the move leads.
+    pub(crate) fn stand(&self) -> &[SectionNo]
+        ensures { result.now ≡ stand (moves_of self.now.plant.now) self.now.train self.now.place }
+    {
+        self.plant.moves().stand(self.train, self.place)
+    }
+
+    /// How many steps the move has.
+    pub fn steps(&self) -> u16
+        ensures steps { result ≡ of_move steps self.now }
+        ensures some { 1 ≤ result }
+        ensures few { result ≤ ROUTE_SECTIONS }
+    {
+        self.row().sections.as_slice().len() as u16
+    }
+
+    /// The time in tenths of a second over the first sections of the move, so many.
+    pub(crate) fn run_over(&self, count: u16) -> u64
+        requires { count ≤ of_move steps self.now }
+        ensures time { result ≡ of_move run_over self.now count }
+        ensures short { result ≤ 2 ^ 27 }
+    {
+        let mut time = 0;
+        for index in 0..count {
+            time += KnownStep::new(&*self, index + 1).run_time();
+        }
+        time
+    }
+}
+
+impl KnownStep<'_> {
+    /// The section of the step.
+    pub(crate) fn section(&self) -> SectionNo
+        ensures section { result ≡ of_step step_section self.now }
+        ensures known { result < length self.now.of.now.plant.now.tables.sections }
+    {
+        self.of.row().sections.as_slice()[usize::from(self.step) - 1]
+    }
+
+    /// The time in tenths of a second that the head of the train takes over the section of the step. The
+    /// start supplement is no part of it.
+    pub fn run_time(&self) -> u64
+        ensures time { result ≡ of_step step_time self.now }
+        ensures short { result ≤ 2 ^ 22 }
+    {
+        let row = section_row(self.of.plant, self.section());
+        run_time(kind_of(self.of.plant, self.of.train), row.length, row.speed)
+    }
+
+    /// The tenths of a second from the moment at which the train begins to clear the section of the step to
+    /// that at which its tail leaves it.
+    pub(crate) fn clear_time(&self) -> u64
+        ensures time { result ≡ of_step step_clearing self.now }
+        ensures short { result ≤ 2 ^ 22 }
+    {
+        clear_time_of(self.of.plant, self.of.train, self.section())
+    }
 }

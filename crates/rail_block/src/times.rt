@@ -3,10 +3,10 @@
 ghost use Rattle.std.specs.Prelude.{◌≡◌, ◌==◌, ◌&&◌, not, ℕ, ◌+◌, ◌-◌, ◌<◌, ◌≤◌, ◌^◌, ◌∷◌, ◌++◌, [], List, length, max};
 ghost use Rattle.rail_rules.specs.Plant.{is_forced, moves, trains};
 ghost use Rattle.rail_block.specs.CarriedTimes.{AreBelow, ready_after, times_at};
+ghost use Rattle.rail_block.specs.KnownMoves.{of_move};
 
-use crate::running::{last_place, may_be_run, steps_of};
-use crate::signals::{is_forced, ready_time, start_time};
-use crate::steps::head_time;
+use crate::moves::KnownMove;
+use crate::running::may_be_run;
 use rail_base::{Time, TrainNo};
 use rail_plan::Plant;
 
@@ -33,12 +33,13 @@ pub fn entry_times(plant: &Plant, train: TrainNo) -> MoveTimes
 {
     may_be_run(plant);
     let entry = plant.train(train).entry;
+    let first = KnownMove::new(plant, train, 1);
     MoveTimes {
         admitted: Time(0),
         passes: false,
         go: Time(0),
         free_run: entry,
-        next_ready: ready_time(plant, train, 1, Time(0), entry),
+        next_ready: first.ready_time(Time(0), entry),
     }
 }
 
@@ -62,43 +63,40 @@ pub fn times_of(
         → result ≡ times_at plant.now train (adms ++ admitted ∷ []) place }
     ensures soon { AreBelow (max admitted before.now.free_run + 2 ^ 28) result }
 {
-    let passes = does_pass(plant, train, place, admitted, before.next_ready);
-    let go = start_time(plant, train, place, before.free_run, admitted, passes);
-    let steps = steps_of(plant, train, place);
-    let free_run = head_time(plant, train, place, go, passes, steps);
+    let known = KnownMove::new(plant, train, place);
+    let passes = known.does_pass(admitted, before.next_ready);
+    let go = known.start_time(before.free_run, admitted, passes);
+    let free_run = known.head_time(go, passes, known.steps());
     MoveTimes {
         admitted,
         passes,
         go,
         free_run,
-        next_ready: next_ready(plant, train, place, admitted, free_run),
+        next_ready: known.next_ready(admitted, free_run),
     }
 }
 
-/// The train passes the beginning of its move to this place, for which it is ready at `ready`, if the
-/// move is admitted at `admitted`.
-fn does_pass(plant: &Plant, train: TrainNo, place: u16, admitted: Time, ready: Time) -> bool
-    requires train { train < trains plant.now }
-    requires first { 1 ≤ place }
-    requires last { place ≤ moves plant.now train }
-    ensures { result ≡ (not (is_forced plant.now train (place - 1)) && (admitted == ready)) }
-{
-    !is_forced(plant, train, place - 1) && admitted == ready
-}
+impl KnownMove<'_> {
+    /// The train passes the beginning of the move, for which it is ready at `ready`, if the move is admitted
+    /// at `admitted`.
+    fn does_pass(&self, admitted: Time, ready: Time) -> bool
+        ensures { result ≡ (not (of_move is_forced self.now) && (admitted == ready)) }
+    {
+        !self.begins_forced() && admitted == ready
+    }
 
-/// When the train is ready for the move after that to this place, which was admitted at `admitted`;
-/// after the last move it is the time at which the head reaches the end.
-fn next_ready(plant: &Plant, train: TrainNo, place: u16, admitted: Time, free_run: Time) -> Time
-    requires train { train < trains plant.now }
-    requires first { 1 ≤ place }
-    requires last { place ≤ moves plant.now train }
-    requires time { free_run < 2 ^ 52 }
-    ensures time { result ≡ ready_after plant.now train (place - 1) admitted free_run }
-    ensures soon { result ≤ max admitted (free_run + 2 ^ 25) }
-{
-    if place < last_place(plant, train) {
-        ready_time(plant, train, place + 1, admitted, free_run)
-    } else {
-        free_run
+    /// When the train is ready for the move after this one, which was admitted at `admitted`; after the last
+    /// move it is the time at which the head reaches the end.
+    fn next_ready(&self, admitted: Time, free_run: Time) -> Time
+        requires { free_run < 2 ^ 52 }
+        ensures time { result ≡ of_move ready_after self.now admitted free_run }
+        ensures soon { result ≤ max admitted (free_run + 2 ^ 25) }
+    {
+        if self.place < self.last_place() {
+            let next = KnownMove::new(self.plant, self.train, self.place + 1);
+            next.ready_time(admitted, free_run)
+        } else {
+            free_run
+        }
     }
 }

@@ -7,12 +7,15 @@ use Rattle.rail_track.specs.declared.section.Section.{Section}
 use Rattle.rail_routes.specs.declared.items.Route.{Route}
 use Rattle.rail_routes.specs.Net.{Net}
 use Rattle.rail_routes.specs.Sound.{IsSoundNetwork, is_sound_route}
-use Rattle.rail_laws_front.proofs.CallerLemmas.{list_all_get}
+use Rattle.rail_rules.proofs.CallerLemmas.{list_all_get}
 use Rattle.rail_scene.specs.declared.scene.Scene.{Scene}
 use Rattle.rail_history.specs.Lines.{behind}
 use Rattle.rail_cli.specs.Infra.{counts_line, route_line, route_lines, route_length, infra_text, section_and_post_counts, turn_and_route_counts, train_counts}
 
-pub counts_from : (scene : Scene) {whole l6 l5 l4 l3 l2 l1 : List ℕ} → whole ≡ l6 → l6 ≡ l5 ++ 10 ∷ [] → l5 ≡ l4 ++ behind (train_counts scene) → l4 ≡ l3 ++ behind (turn_and_route_counts scene.network) → l3 ≡ l2 ++ behind (section_and_post_counts scene.network) → l2 ≡ l1 ++ codes "infra" → l1 ≡ [] → whole ≡ counts_line scene
+pub counts_from : (scene : Scene) {whole l6 l5 l4 l3 l2 l1 : List ℕ} →
+    whole ≡ l6 → l6 ≡ l5 ++ 10 ∷ [] → l5 ≡ l4 ++ behind (train_counts scene) →
+    l4 ≡ l3 ++ behind (turn_and_route_counts scene.network) →
+    l3 ≡ l2 ++ behind (section_and_post_counts scene.network) → l2 ≡ l1 ++ codes "infra" → l1 ≡ [] → whole ≡ counts_line scene
 unfolding counts_line
 counts_from scene a b c d e f g = rw (a, b, c, d, e, f, g) refl
 
@@ -31,7 +34,10 @@ joined a n f t m c =
     ∙ ap (λ x. a ++ 32 ∷ (n ++ 32 ∷ (f ++ 32 ∷ (t ++ 32 ∷ (m ++ 32 ∷ x))))) (sym (append-nil c))
     )) refl
 
-pub route_from : (sections : List Section) (route : Route) {whole l8 l7 l6 l5 l4 l3 l2 l1 : List ℕ} {metres count : ℕ} → whole ≡ l8 → l8 ≡ l7 ++ 10 ∷ [] → l7 ≡ l6 ++ 32 ∷ decimal count → l6 ≡ l5 ++ 32 ∷ decimal metres → l5 ≡ l4 ++ 32 ∷ route.to → l4 ≡ l3 ++ 32 ∷ route.from → l3 ≡ l2 ++ 32 ∷ route.name → l2 ≡ l1 ++ codes "route" → l1 ≡ [] → metres ≡ route_length sections route → count ≡ length route.steps → whole ≡ route_line sections route
+pub route_from : (sections : List Section) (route : Route) {whole l8 l7 l6 l5 l4 l3 l2 l1 : List ℕ} {metres count : ℕ} →
+    whole ≡ l8 → l8 ≡ l7 ++ 10 ∷ [] → l7 ≡ l6 ++ 32 ∷ decimal count → l6 ≡ l5 ++ 32 ∷ decimal metres →
+    l5 ≡ l4 ++ 32 ∷ route.to → l4 ≡ l3 ++ 32 ∷ route.from → l3 ≡ l2 ++ 32 ∷ route.name → l2 ≡ l1 ++ codes "route" → l1 ≡ [] →
+    metres ≡ route_length sections route → count ≡ length route.steps → whole ≡ route_line sections route
 unfolding route_line
 route_from sections route a b c d e f g h i j k =
     rw (a, b, c, d, e, f, g, h, i, j, k) (joined (codes "route") route.name route.from route.to (decimal (route_length sections route)) (decimal (length route.steps)))

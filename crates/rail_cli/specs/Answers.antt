@@ -19,7 +19,8 @@ use Rattle.rail_cli.specs.declared.status.Status.TheVariants.{Done, Usage, Refus
 abbrev pub Told : Type 0
 Told = List ℕ → Option (List ℕ)
 
--- what a status says: a refusal is the first one; where nothing is refused all is written, or a first part of it where a write failed; a fault of reading and want of memory may stand in place of any answer
+-- what a status says: a refusal is the first one; where nothing is refused all is written, or a first part of it
+-- where a write failed; a fault of reading and want of memory may stand in place of any answer
 abbrev pub IsAnswer : Option Refusal → Type 0 → Type 0 → Status → Type 0
 IsAnswer first whole part Done = (first ≡ None) × whole
 IsAnswer first whole part Usage = ⊥

@@ -55,7 +55,8 @@ pub record KeepsPromise {S O : Type 0} (shelf : ShelfGhosts S) (sink : SinkGhost
   pub in_table : status ≢ Usage
 
 -- a text was added to the output, or a first part of it where a write failed
-pub record WritesText {O : Type 0} (sink : SinkGhosts O) (before now : O) (text : List ℕ) (result : Result (Unit {0}) Failed) : Type 0 where
+pub record WritesText {O : Type 0} (sink : SinkGhosts O) (before now : O) (text : List ℕ)
+    (result : Result (Unit {0}) Failed) : Type 0 where
   pub adds : OnOk result (Adds (sink.written before) (sink.written now) text)
   pub failed_adds_prefix : OnErr result (AddsPrefix (sink.written before) (sink.written now) text)
   pub failed_rose : OnErr result (Rose (sink.faults before) (sink.faults now))

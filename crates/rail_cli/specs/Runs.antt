@@ -36,7 +36,9 @@ is_first_come scene = same_name scene.policy (codes "fcfs")
 abbrev pub run_refusal : List ℕ → Option Refusal
 run_refusal bytes = or_else (plant_refusal bytes) (cond (is_first_come (spelled_scene bytes)) None (Some not_yet))
 
--- what a run keeps at each of its lines: blocking intervals of one section never overlap, the kept list always brings every train inside to its exit, each hold line names the true cause, a repaired list goes before a fresh one, and no line and no hold line of a train is more than the bound says
+-- what a run keeps at each of its lines: blocking intervals of one section never overlap, the kept list always
+-- brings every train inside to its exit, each hold line names the true cause, a repaired list goes before a fresh
+-- one, and no line and no hold line of a train is more than the bound says
 pub record IsSafe (plant : Plant) (front : Front) : Type 0 where
   pub apart : NeverOverlap plant front
   pub complete : (later before : Front) → front ≡ later ++ before
@@ -48,7 +50,8 @@ pub record IsSafe (plant : Plant) (front : Front) : Type 0 where
   pub few : lines_beside_holds front ≤ bound plant 0
   pub few_holds : (t : ℕ) → lines_that (holds_train t) front ≤ bound plant 0
 
--- the bytes added are the text of a run history, in which every event line is the due one; at its end every train has left, and it has exactly as many lines as the bound says, hold lines aside
+-- the bytes added are the text of a run history, in which every event line is the due one; at its end every train
+-- has left, and it has exactly as many lines as the bound says, hold lines aside
 pub record IsRun (plant : Plant) (before now : Option (List ℕ)) : Type 0 where
   pub front : Front
   pub history : IsTrue (is_run_history (run_input plant) seats front)

@@ -13,8 +13,6 @@ mod files;
 mod help;
 mod scenes;
 mod status;
-#[cfg(test)]
-mod tests;
 mod top;
 
 pub use help::{HELP, VERSION};

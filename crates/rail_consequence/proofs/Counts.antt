@@ -17,14 +17,6 @@ use Rattle.rail_consequence.proofs.Legs.{inside_parts, inside_listed}
 pub times-cons : (x y : ℕ) (ys : List ℕ) → times x (y ∷ ys) ≡ cond (eqb y x) 1 0 + times x ys
 times-cons x y ys = sum_by-cons (λ z. cond (eqb z x) 1 0) y ys
 
-pub times-one : (x y : ℕ) → times x (y ∷ []) ≡ cond (eqb y x) 1 0
-times-one x y = omega (arith, times-cons x y [])
-
-pub times_more : (x y : ℕ) (ys : List ℕ) (i : ℕ) → i < length ys → y ≡ get_or ys i y → times x (take (i + 1) ys) ≡ times x (take i ys) + times x (y ∷ [])
-times_more x y ys i lt is =
-    let f : ℕ → ℕ = λ z. cond (eqb z x) 1 0 in
-    omega (arith, sum_by_more f ys i y lt, ap f is, times-one x y)
-
 pub times_within : (y : ℕ) (ys : List ℕ) (i : ℕ) → i < length ys → y ≡ get_or ys i y → times y (take i ys) + 1 ≤ times y ys
 times_within y ys i lt is =
     let f : ℕ → ℕ = λ z. cond (eqb z y) 1 0 in
@@ -197,16 +189,6 @@ more_none a t f none = record {
     by true x = none x
     by false x = refl
 
-pub more_then : (a b c : Counts) (t : ℕ) (f g h : ℕ → ℕ) → IsMore a b t f → IsMore b c t g → ((x : ℕ) → x < SECTIONS → h x ≡ f x + g x) → IsMore a c t h
-more_then a b c t f g h first later sum = record {
-  own = λ u x lt. omega (arith, first.own u x lt, later.own u x lt, by (eqb u t) x lt);
-  trains = λ x lt. omega (arith, first.trains x lt, later.trains x lt);
-}
-  where
-    by : (e : Bool) (x : ℕ) → x < SECTIONS → cond e (h x) 0 ≡ cond e (f x) 0 + cond e (g x) 0
-    by true x lt = sum x lt
-    by false x lt = omega arith
-
 pub own_more : (a b : Counts) (t x : ℕ) (f : ℕ → ℕ) → IsMore a b t f → x < SECTIONS → own_of b t x ≡ own_of a t x + f x
 own_more a b t x f more lt = omega (arith, more.own t x lt, cond-true (eqb t t) (f x) 0 (eq-eqb t t refl))
 
@@ -235,7 +217,11 @@ module _ (plan : Moves) (s : List ℕ) (t : ℕ) (inside : is_inside plan s t �
   other_next : (u x : ℕ) → u ≢ t → needs_left plan u (place_of s u) x ≡ needs_left plan u (place_of (after s t) u) x
   other_next u x ne = ap (λ p. needs_left plan u p x) (sym (get_or-set_other s t u (suc (place_of s t)) 0 ne))
 
-  trains_next : (x : ℕ) → sum_below (λ u. present (needs_left plan u (place_of s u) x)) (length s) + present (needs_left plan t (place_of (after s t) t) x) ≡ sum_below (λ u. present (needs_left plan u (place_of (after s t) u) x)) (length (after s t)) + present (needs_left plan t (place_of s t) x)
+  trains_next : (x : ℕ)
+      → sum_below (λ u. present (needs_left plan u (place_of s u) x)) (length s)
+      + present (needs_left plan t (place_of (after s t) t) x)
+      ≡ sum_below (λ u. present (needs_left plan u (place_of (after s t) u) x)) (length (after s t))
+      + present (needs_left plan t (place_of s t) x)
   trains_next x =
       let f : ℕ → ℕ = λ u. present (needs_left plan u (place_of s u) x) in
       let g : ℕ → ℕ = λ u. present (needs_left plan u (place_of (after s t) u) x) in

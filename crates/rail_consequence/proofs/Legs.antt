@@ -85,7 +85,15 @@ clear_from plan s t sections none = λ u i ne inside from below.
     ⊎_elim
     (λ apart. apart)
     (λ meets.
-    let needs : any_below (needs_test plan s sections u) (plan.moves u) ≡ true = any_below_from (needs_test plan s sections u) (plan.moves u) i below (and_from (leb (place_of s u) i) (not (are_apart (plan.claim u i) sections)) (le-leb (place_of s u) i from) (not_from_false (are_apart (plan.claim u i) sections) meets)) in
+    let needs : any_below (needs_test plan s sections u) (plan.moves u) ≡ true =
+    any_below_from (needs_test plan s sections u)
+    (plan.moves u)
+    i below
+    (and_from (leb (place_of s u) i)
+    (not (are_apart (plan.claim u i) sections))
+    (le-leb (place_of s u) i from)
+    (not_from_false (are_apart (plan.claim u i) sections) meets))
+    in
     let later : needs_later plan s sections u ≡ true = and_from (is_inside plan s u) (any_below (needs_test plan s sections u) (plan.moves u)) inside needs in
     let found : test u ≡ true = and_from (not (eqb u t)) (needs_later plan s sections u) (not_from_false (eqb u t) (ne_eqb u t ne)) later in
     absurd (false≢true (sym none ∙ any_below_from test (length s) u (inside_listed plan s u inside) found)))
@@ -109,7 +117,10 @@ clear_to plan s t sections clear =
     (cases_Bool (not (eqb u t) && needs_later plan s sections u)))
 
 -- a move stays legal where no needed section gets a holder
-pub legal_kept : (plan : Moves) (s r : List ℕ) (t : ℕ) → length r ≡ length s → place_of r t ≡ place_of s t → ((u x : ℕ) → is_in x (plan.claim t (place_of s t)) ≡ true → holds plan s u x ≡ false → holds plan r u x ≡ false) → is_legal plan s t ≡ true → is_legal plan r t ≡ true
+pub legal_kept : (plan : Moves) (s r : List ℕ) (t : ℕ) → length r ≡ length s → place_of r t ≡ place_of s t
+    → ((u x : ℕ) → is_in x (plan.claim t (place_of s t)) ≡ true → holds plan s u x ≡ false
+    → holds plan r u x ≡ false)
+    → is_legal plan s t ≡ true → is_legal plan r t ≡ true
 legal_kept plan s r t long same kept h =
     let needed : List ℕ = plan.claim t (place_of s t) in
     let parts = and_parts (ltb (place_of s t) (plan.moves t)) (not (list_any (is_held plan s) needed)) h in

@@ -100,16 +100,6 @@ goes_further plan a b c first later = record {
 pub goes_step : (plan : Moves) (a b : Work) (t : ℕ) → is_inside plan a.places.positions t ≡ true → is_legal plan a.places.positions t ≡ true → b.places.positions ≡ after a.places.positions t → b.list ≡ a.list ++ t ∷ [] → GoesOn plan a b
 goes_step plan a b t inside legal positions list = record { more = t ∷ []; list = list; played = (inside, legal, sym positions) }
 
--- work that is back, then went on
-pub goes_after_back : (plan : Moves) (a b c : Work) → IsBack a b → GoesOn plan b c → GoesOn plan a c
-goes_after_back plan a b c back later =
-    let P : List ℕ → Type 0 = λ s. IsPlayed plan s later.more c.places.positions in
-    record {
-      more = later.more;
-      list = later.list ∙ ap (λ xs. xs ++ later.more) back.list;
-      played = subst P back.positions later.played;
-    }
-
 -- what takes all back that was made since
 pub back_by : (plan : Moves) (a b c : Work) (mark : ℕ) → GoesOn plan a b → mark ≡ length a.list → c.list ≡ take mark b.list → ((s : List ℕ) → IsPlayed plan s (drop mark b.list) b.places.positions → c.places.positions ≡ s) → IsBack a c
 back_by plan a b c mark goes at list positions =
@@ -120,11 +110,18 @@ back_by plan a b c mark goes at list positions =
       positions = positions a.places.positions (subst P (sym rest) goes.played);
     }
 
-pub ready_state : (table : List MoveLists) (w : Work) → IsReady table w → is_valid_state (moves_in table) w.places.positions ≡ true
-ready_state table w ready = ready.made.valid
-
 -- one move more
-pub ready_step : (table : List MoveLists) (w : Work) (t : ℕ) (places : State) (needs : Counts) (stops : List (Option ℕ)) (list : List ℕ) → IsReady table w → is_inside (moves_in table) w.places.positions t ≡ true → is_legal (moves_in table) w.places.positions t ≡ true → IsMadeFor table places → places.positions ≡ after w.places.positions t
+pub ready_step :
+    (table : List MoveLists)
+    (w : Work)
+    (t : ℕ)
+    (places : State)
+    (needs : Counts)
+    (stops : List (Option ℕ))
+    (list : List ℕ)
+    → IsReady table w → is_inside (moves_in table) w.places.positions t ≡ true
+    → is_legal (moves_in table) w.places.positions t ≡ true → IsMadeFor table places
+    → places.positions ≡ after w.places.positions t
     → IsMore needs w.needs t (λ x. times x ((moves_in table).claim t (place_of w.places.positions t))) → list ≡ w.list ++ t ∷ [] → IsReady table (record { places = places; needs = needs; stops = stops; list = list })
 ready_step table w t places needs stops list ready inside legal made next more at =
     let plan : Moves = moves_in table in
@@ -145,28 +142,6 @@ ready_few table w t ready inside legal =
     let plan : Moves = moves_in table in
     let few = played_few table ready.start (w.list ++ t ∷ []) (after w.places.positions t) ready.made.moves ready.valid (played_push plan ready.start w.list w.places.positions t ready.played inside legal) in
     omega (arith, few, length_push w.list t)
-
--- the moves back to a length of the list
-pub record IsSplit (table : List MoveLists) (w : Work) (mark : ℕ) : Type 0 where
-  pub start : List ℕ
-  pub valid_start : is_valid_state (moves_in table) start ≡ true
-  pub middle : List ℕ
-  pub valid : is_valid_state (moves_in table) middle ≡ true
-  pub first : IsPlayed (moves_in table) start (take mark w.list) middle
-  pub later : IsPlayed (moves_in table) middle (drop mark w.list) w.places.positions
-
-pub ready_split : (table : List MoveLists) (w : Work) (mark : ℕ) → IsReady table w → IsSplit table w mark
-ready_split table w mark ready =
-    let plan : Moves = moves_in table in
-    let split = played_split plan ready.start mark w.list w.places.positions ready.played in
-    record {
-      start = ready.start;
-      valid_start = ready.valid;
-      middle = split.0;
-      valid = played_valid plan ready.start (take mark w.list) split.0 ready.made.moves.valid ready.valid split.1;
-      first = split.1;
-      later = split.2;
-    }
 
 pub ready_as : (table : List MoveLists) (a b : Work) → a ≡ b → IsReady table b → IsReady table a
 ready_as table a b same ready = let P : Work → Type 0 = λ w. IsReady table w in subst P (sym same) ready

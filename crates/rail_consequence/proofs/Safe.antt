@@ -193,10 +193,6 @@ safe_kept : (plan : Moves) (t p : ℕ) (r q : List ℕ) (leg : Leg) → Leads pl
 safe_kept plan t p r q leg leads safe =
     safe_from_clear plan q leg (clear_kept plan t p r q leg.train (stand plan leg.train leg.place) leads (clear_from_safe plan r leg safe))
 
--- a leg in front of what is found after it
-pub found_more : (plan : Moves) (j k : ℕ) (s : List ℕ) → j ≤ k → Finds plan j s → Finds plan k s
-found_more plan j k s le found = (found.0, found.1, omega (arith, le, found.2))
-
 -- a leg that stays a leg, and is no dearer
 -- what a leg counts among the free ones
 pub cost : Moves → List ℕ → Leg → ℕ
@@ -218,7 +214,11 @@ free_legs-cons plan s leg legs = refl
 pub found_front : (plan : Moves) (k j : ℕ) (s : List ℕ) (leg : Leg) → is_leg plan s leg ≡ true → cost plan s leg + j ≤ k → Finds plan j (after_leg s leg) → Finds plan k s
 found_front plan k j s leg is enough rest = (leg ∷ rest.0, and_from (is_leg plan s leg) (clears plan (after_leg s leg) rest.0) is rest.1, rw free_legs-cons (omega (arith, enough, rest.2)))
 
-keep_leg : (plan : Moves) (k : ℕ) (r q : List ℕ) (leg : Leg) (legs : List Leg) → (is_safe plan r leg ≡ true → is_safe plan q leg ≡ true) → is_leg plan q leg ≡ true → free_legs plan r (leg ∷ legs) ≤ k → ((j : ℕ) → free_legs plan (after_leg r leg) legs ≤ j → Finds plan j (after_leg q leg)) → Finds plan k q
+keep_leg : (plan : Moves) (k : ℕ) (r q : List ℕ) (leg : Leg) (legs : List Leg)
+    → (is_safe plan r leg ≡ true → is_safe plan q leg ≡ true) → is_leg plan q leg ≡ true
+    → free_legs plan r (leg ∷ legs) ≤ k
+    → ((j : ℕ) → free_legs plan (after_leg r leg) legs ≤ j → Finds plan j (after_leg q leg))
+    → Finds plan k q
 keep_leg plan k r q leg legs kept is free later =
     let counted : cost plan r leg + free_legs plan (after_leg r leg) legs ≤ k = rw (← free_legs-cons plan r leg legs) free in
     let j : ℕ = free_legs plan (after_leg r leg) legs in

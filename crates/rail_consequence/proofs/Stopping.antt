@@ -58,35 +58,15 @@ free_legal plan s t (suc m) valid known listed low high free =
     (ap (λ k. ltb k (plan.moves t)) at ∙ lt-ltb i (plan.moves t) high)
     (not_from_false (list_any (is_held plan r) (plan.claim t (place_of r t))) (ap (λ k. list_any (is_held plan r) (plan.claim t k)) at ∙ none))
 
--- the owners tell of other holders
-pub held_from_owner : (table : List MoveLists) (state : State) (t x v : ℕ) → IsMadeFor table state → v ≢ t → get_or state.owners x None ≡ Some v → IsHeldByOther (moves_in table) state.positions t x
-held_from_owner table state t x v made ne is = record { holder = v; other = ne; held = (made.told x v).0 is }
-
-pub free_from_owner : (table : List MoveLists) (state : State) (t x : ℕ) → IsMadeFor table state → ((v : ℕ) → get_or state.owners x None ≡ Some v → v ≡ t) → IsHeldByOther (moves_in table) state.positions t x → ⊥
-free_from_owner table state t x made own held = held.other (own held.holder ((made.told x held.holder).1 held.held))
-
 -- the parts of a way on which no leg is safe so far
 pub record IsTried (plan : Moves) (s : List ℕ) (t made : ℕ) : Type 0 where
   pub free : (i : ℕ) → place_of s t ≤ i → i < made → (x : ℕ) → is_in x (plan.claim t i) ≡ true → IsHeldByOther plan s t x → ⊥
   pub unsafe : (p : ℕ) → place_of s t < p → p ≤ made → is_safe plan s (record { train = t; place = p }) ≡ false
 
-pub tried_nothing : (plan : Moves) (s : List ℕ) (t : ℕ) → IsTried plan s t (place_of s t)
-tried_nothing plan s t = record {
-  free = λ i from below. absurd (omega arith);
-  unsafe = λ p low high. absurd (omega arith);
-}
-
-pub tried_further : (plan : Moves) (s : List ℕ) (t made : ℕ) → IsTried plan s t made → ((x : ℕ) → is_in x (plan.claim t made) ≡ true → IsHeldByOther plan s t x → ⊥) → is_safe plan s (record { train = t; place = made + 1 }) ≡ false → IsTried plan s t (made + 1)
-tried_further plan s t made tried free unsafe = record {
-  free = λ i from below. ⊎_elim (λ lt. tried.free i from lt) (λ ge. let last : i ≡ made = omega arith in let P : ℕ → Type 0 = λ k. (x : ℕ) → is_in x (plan.claim t k) ≡ true → IsHeldByOther plan s t x → ⊥ in subst P (sym last) free) (cases_lt i made);
-  unsafe = λ p low high. ⊎_elim (λ lt. tried.unsafe p low (omega arith)) (λ ge. let last : p ≡ made + 1 = omega arith in let leg_at : ℕ → Leg = λ k. record { train = t; place = k } in ap (λ k. is_safe plan s (leg_at k)) last ∙ unsafe) (cases_lt p (made + 1));
-}
-
-pub tried_stops : (plan : Moves) (s : List ℕ) (t made x : ℕ) → IsTried plan s t made → 0 < place_of s t → place_of s t ≤ made → made < plan.moves t → is_in x (plan.claim t made) ≡ true → IsHeldByOther plan s t x → IsStopped plan s t x
-tried_stops plan s t made x tried low from below needed held = record { inside = inside_from plan s t low (omega (arith, from, below)); place = made; from = from; below = below; needed = needed; held = held; unsafe = tried.unsafe }
-
 -- a leg over moves that are free
-pub tried_leads : (plan : Moves) (s : List ℕ) (t made : ℕ) → is_valid plan ≡ true → t < plan.trains → t < length s → 0 < place_of s t → place_of s t ≤ made → made < plan.moves t → IsTried plan s t made → ((x : ℕ) → is_in x (plan.claim t made) ≡ true → IsHeldByOther plan s t x → ⊥)
+pub tried_leads : (plan : Moves) (s : List ℕ) (t made : ℕ) → is_valid plan ≡ true → t < plan.trains
+    → t < length s → 0 < place_of s t → place_of s t ≤ made → made < plan.moves t → IsTried plan s t made
+    → ((x : ℕ) → is_in x (plan.claim t made) ≡ true → IsHeldByOther plan s t x → ⊥)
     → is_leg plan s (record { train = t; place = made + 1 }) ≡ true
 tried_leads plan s t made valid known listed low from below tried free =
     leg_from plan s (record { train = t; place = made + 1 }) (record {
@@ -100,9 +80,6 @@ tried_leads plan s t made valid known listed low from below tried free =
           (λ ge. let last : i ≡ made = omega arith in let P : ℕ → Type 0 = λ k. (x : ℕ) → is_in x (plan.claim t k) ≡ true → IsHeldByOther plan s t x → ⊥ in subst P (sym last) free)
           (cases_lt i made));
     })
-
-pub out_safe : (plan : Moves) (s : List ℕ) (t p : ℕ) → p ≡ plan.moves t → is_safe plan s (record { train = t; place = p }) ≡ true
-out_safe plan s t p out = or_left (eqb p (plan.moves t)) _ (eq-eqb p (plan.moves t) out)
 
 -- a leg of another train: what is needed by a stop of u and was by the train that moved is needed by a third
 pub record IsPassed (plan : Moves) (r : List ℕ) (counts : Counts) (t u from : ℕ) : Type 0 where

@@ -22,15 +22,6 @@ pub record IsWalk (plan : Moves) (t : ℕ) (a b : Work) : Type 0 where
   pub inside : place_of a.places.positions t < place_of b.places.positions t → is_inside plan a.places.positions t ≡ true
   pub legal : (i : ℕ) → place_of a.places.positions t ≤ i → i < place_of b.places.positions t → is_legal plan (set a.places.positions t i) t ≡ true
 
-pub walk_start : (plan : Moves) (t : ℕ) (a : Work) → IsWalk plan t a a
-walk_start plan t a = record {
-  goes = goes_nowhere plan a;
-  same = sym (set-get_or a.places.positions t 0);
-  ahead = omega arith;
-  inside = λ lt. absurd (omega arith);
-  legal = λ i from below. absurd (omega arith);
-}
-
 pub walk_step : (plan : Moves) (t : ℕ) (a b c : Work) → IsWalk plan t a b → is_inside plan b.places.positions t ≡ true → is_legal plan b.places.positions t ≡ true → c.places.positions ≡ after b.places.positions t → c.list ≡ b.list ++ t ∷ [] → IsWalk plan t a c
 walk_step plan t a b c walk inside legal next list =
     let s : List ℕ = a.places.positions in
@@ -76,40 +67,8 @@ walk_end plan t a b walk stuck p is =
     (λ reached. reached)
     (cases_lt (place_of r t) p)
 
--- the train's own place doesn't matter to whether its leg is safe
-clear_apart : (plan : Moves) (s r : List ℕ) (t : ℕ) (xs : List ℕ) → ((u : ℕ) → u ≢ t → place_of r u ≡ place_of s u) → IsClear plan s t xs → IsClear plan r t xs
-clear_apart plan s r t xs same clear = λ u i ne inside from below.
-    clear u i ne (inside_same plan r s u (sym (same u ne)) inside) (omega (arith, same u ne)) below
-
-safe_apart : (plan : Moves) (s r : List ℕ) (t p : ℕ) → ((u : ℕ) → u ≢ t → place_of r u ≡ place_of s u) → is_safe plan s (record { train = t; place = p }) ≡ true → is_safe plan r (record { train = t; place = p }) ≡ true
-safe_apart plan s r t p same safe =
-    safe_from_clear plan r (record { train = t; place = p }) (clear_apart plan s r t (stand plan t p) same (clear_from_safe plan s (record { train = t; place = p }) safe))
-
-walk_others : (plan : Moves) (t : ℕ) (a b : Work) → IsWalk plan t a b → (u : ℕ) → u ≢ t → place_of b.places.positions u ≡ place_of a.places.positions u
-walk_others plan t a b walk u ne = ap (λ q. place_of q u) walk.same ∙ get_or-set_other a.places.positions t u (place_of b.places.positions t) 0 ne
-
-pub walk_safe : (plan : Moves) (t p : ℕ) (a b : Work) → IsWalk plan t a b → is_safe plan b.places.positions (record { train = t; place = p }) ≡ true → is_safe plan a.places.positions (record { train = t; place = p }) ≡ true
-walk_safe plan t p a b walk safe = safe_apart plan b.places.positions a.places.positions t p (λ u ne. sym (walk_others plan t a b walk u ne)) safe
-
-pub walk_unsafe : (plan : Moves) (t p : ℕ) (a b : Work) → IsWalk plan t a b → is_safe plan b.places.positions (record { train = t; place = p }) ≡ false → is_safe plan a.places.positions (record { train = t; place = p }) ≡ false
-walk_unsafe plan t p a b walk unsafe =
-    ⊎_elim
-    (λ safe. absurd (false≢true (sym unsafe ∙ safe_apart plan a.places.positions b.places.positions t p (walk_others plan t a b walk) safe)))
-    (λ out. out)
-    (cases_Bool (is_safe plan a.places.positions (record { train = t; place = p })))
-
 pub finds_at : (plan : Moves) (k : ℕ) (s r : List ℕ) → s ≡ r → Finds plan k s → Finds plan k r
 finds_at plan k s r same found = let P : List ℕ → Type 0 = λ q. Finds plan k q in subst P same found
-
--- a safe leg changes nothing of what can be found
-pub walk_finds : (plan : Moves) (t k : ℕ) (a b : Work) → IsWalk plan t a b → place_of a.places.positions t < place_of b.places.positions t → place_of b.places.positions t ≤ plan.moves t → is_safe plan b.places.positions (record { train = t; place = place_of b.places.positions t }) ≡ true → Finds plan k a.places.positions ↔ Finds plan k b.places.positions
-walk_finds plan t k a b walk ahead within safe =
-    let leg : Leg = record { train = t; place = place_of b.places.positions t } in
-    let is = walk_leg plan t a b walk ahead within in
-    let safe_a = walk_safe plan t (place_of b.places.positions t) a b walk safe in (
-      λ found. finds_at plan k (after_leg a.places.positions leg) b.places.positions (sym walk.same) (safe_leg_keeps plan k a.places.positions leg is safe_a found),
-      λ found. found_front plan k k a.places.positions leg is (omega (arith, cost-safe plan a.places.positions leg safe_a)) (finds_at plan k b.places.positions (after_leg a.places.positions leg) walk.same found),
-    )
 
 -- the same of a leg that was made at once
 pub leg_finds : (plan : Moves) (k : ℕ) (s r : List ℕ) (leg : Leg) → is_leg plan s leg ≡ true → is_safe plan s leg ≡ true → r ≡ after_leg s leg → Finds plan k s ↔ Finds plan k r
@@ -131,16 +90,8 @@ walk_found plan t k a b walk ahead within found =
     let leg : Leg = record { train = t; place = place_of b.places.positions t } in
     found_front plan (k + 1) k a.places.positions leg (walk_leg plan t a b walk ahead within) (omega (arith, cost_most plan a.places.positions leg)) (finds_at plan k b.places.positions (after_leg a.places.positions leg) walk.same found)
 
-pub walk_fewer : (plan : Moves) (t : ℕ) (a b : Work) → IsWalk plan t a b → place_of a.places.positions t < place_of b.places.positions t → place_of b.places.positions t ≤ plan.moves t → moves_left plan b.places.positions < moves_left plan a.places.positions
-walk_fewer plan t a b walk ahead within =
-    let lt = inside_listed plan a.places.positions t (walk.inside ahead) in
-    omega (arith, ap (moves_left plan) walk.same, fewer_at plan a.places.positions t (place_of b.places.positions t) lt ahead within)
-
 pub goes_back : (plan : Moves) (a c : Work) → IsBack a c → GoesOn plan a c
 goes_back plan a c back = record { more = []; list = back.list ∙ sym (append-nil a.list); played = sym back.positions }
-
-pub finds_back : (plan : Moves) (k : ℕ) (a c : Work) → IsBack a c → Finds plan k a.places.positions ↔ Finds plan k c.places.positions
-finds_back plan k a c back = (finds_at plan k a.places.positions c.places.positions (sym back.positions), finds_at plan k c.places.positions a.places.positions back.positions)
 
 pub within_at : (table : List MoveLists) (w : Work) (t : ℕ) → IsReady table w → place_of w.places.positions t ≤ (moves_in table).moves t
 within_at table w t ready =
@@ -149,7 +100,10 @@ within_at table w t ready =
     (λ past. omega (arith, get_or_past w.places.positions t 0 past))
     (cases_lt t (length w.places.positions))
 
-first_leg : (plan : Moves) (k : ℕ) (s : List ℕ) → nobody_inside plan s ≡ false → ((leg : Leg) → is_leg plan s leg ≡ true → is_safe plan s leg ≡ false) → (legs : List Leg) → clears plan s legs ≡ true → free_legs plan s legs ≤ k → (leg : Leg) × (is_leg plan s leg ≡ true) × (0 < k) × Finds plan (k - 1) (after_leg s leg)
+first_leg : (plan : Moves) (k : ℕ) (s : List ℕ) → nobody_inside plan s ≡ false
+    → ((leg : Leg) → is_leg plan s leg ≡ true → is_safe plan s leg ≡ false) → (legs : List Leg)
+    → clears plan s legs ≡ true → free_legs plan s legs ≤ k
+    → (leg : Leg) × (is_leg plan s leg ≡ true) × (0 < k) × Finds plan (k - 1) (after_leg s leg)
 first_leg plan k s inside unsafe [] clear free = absurd (false≢true (sym inside ∙ clear))
 first_leg plan k s inside unsafe (leg ∷ legs) clear free =
     let both = and_parts (is_leg plan s leg) (clears plan (after_leg s leg) legs) clear in
@@ -179,7 +133,10 @@ walk_next plan t a b c walk go next list =
     }
 
 -- a leg of a walk that ended was tried on the way
-pub leg_tried : (plan : Moves) (t : ℕ) (a b : Work) (p : ℕ) → IsWalk plan t a b → (is_inside plan b.places.positions t && is_legal plan b.places.positions t) ≡ false → is_leg plan a.places.positions (record { train = t; place = p }) ≡ true → (place_of a.places.positions t < p) × (p ≤ place_of b.places.positions t)
+pub leg_tried : (plan : Moves) (t : ℕ) (a b : Work) (p : ℕ) → IsWalk plan t a b
+    → (is_inside plan b.places.positions t && is_legal plan b.places.positions t) ≡ false
+    → is_leg plan a.places.positions (record { train = t; place = p }) ≡ true
+    → (place_of a.places.positions t < p) × (p ≤ place_of b.places.positions t)
 leg_tried plan t a b p walk stuck is =
     let goes = goes_parts plan a.places.positions (record { train = t; place = p }) is in
     (goes.ahead, walk_end plan t a b walk stuck p is)
@@ -212,7 +169,13 @@ pub found_nobody : (plan : Moves) (k : ℕ) (s : List ℕ) → nobody_inside pla
 found_nobody plan k s nobody = ([], nobody, omega arith)
 
 -- the legs of one train more were tried
-pub tried_more : (plan : Moves) (k : ℕ) (a b : List ℕ) (n i : ℕ) (trains : List ℕ) → i < length trains → n ≡ get_or trains i n → b ≡ a → ((u p : ℕ) → is_in u (take i trains) ≡ true → is_leg plan a (record { train = u; place = p }) ≡ true → Finds plan k (set a u p) → ⊥) → ((p : ℕ) → is_leg plan b (record { train = n; place = p }) ≡ true → Finds plan k (set b n p) → ⊥) → (u p : ℕ) → is_in u (take (i + 1) trains) ≡ true → is_leg plan a (record { train = u; place = p }) ≡ true → Finds plan k (set a u p) → ⊥
+pub tried_more : (plan : Moves) (k : ℕ) (a b : List ℕ) (n i : ℕ) (trains : List ℕ) → i < length trains
+    → n ≡ get_or trains i n → b ≡ a
+    → ((u p : ℕ) → is_in u (take i trains) ≡ true → is_leg plan a (record { train = u; place = p }) ≡ true
+    → Finds plan k (set a u p) → ⊥)
+    → ((p : ℕ) → is_leg plan b (record { train = n; place = p }) ≡ true → Finds plan k (set b n p) → ⊥)
+    → (u p : ℕ) → is_in u (take (i + 1) trains) ≡ true
+    → is_leg plan a (record { train = u; place = p }) ≡ true → Finds plan k (set a u p) → ⊥
 tried_more plan k a b n i trains lt at same before here u p listed is found =
     let leg_of : ℕ → Leg = λ v. record { train = v; place = p } in
     ⊎_elim

@@ -1,4 +1,5 @@
 -- What the analyst keeps between its steps.
 pub mod Workspace
+pub mod Searches
 pub mod Needs
 pub mod Stops

@@ -44,7 +44,8 @@ needs_left plan t place x = cond (nat_lt 0 place) (needs_between plan t place (p
 -- the counts are those of the moves that the trains have left in the state
 pub record IsCounted (plan : Moves) (s : List ℕ) (counts : Counts) : Type 0 where
   pub own : (t x : ℕ) → t < length s → x < SECTIONS → own_of counts t x ≡ needs_left plan t (place_of s t) x
-  pub trains : (x : ℕ) → x < SECTIONS → trains_of counts x ≡ sum_below (λ t. present (needs_left plan t (place_of s t) x)) (length s)
+  pub trains : (x : ℕ) → x < SECTIONS
+      → trains_of counts x ≡ sum_below (λ t. present (needs_left plan t (place_of s t) x)) (length s)
 
 -- for the train each section is counted more often by so many, and the train is counted where it needs the section
 pub record IsMore (old new : Counts) (t : ℕ) (more : ℕ → ℕ) : Type 0 where

@@ -12,13 +12,36 @@ use Rattle.rail_consequence.specs.declared.analyst.Look.TheVariants.{Idle, Leads
 abbrev pub stop_at : List (Option ℕ) → ℕ → ℕ → Option ℕ
 stop_at stops level u = get_or stops (level * TRAINS + u) None
 
+-- on each level but this one the same is noted as before
+abbrev pub KeepsOtherLevels : ℕ → List (Option ℕ) → List (Option ℕ) → Type 0
+KeepsOtherLevels level old new = (l u : ℕ) → l ≢ level → u < TRAINS → stop_at new l u ≡ stop_at old l u
+
+-- on each level above this one the same is noted as before
+abbrev pub KeepsLevelsAbove : ℕ → List (Option ℕ) → List (Option ℕ) → Type 0
+KeepsLevelsAbove level old new = (l u : ℕ) → level < l → u < TRAINS → stop_at new l u ≡ stop_at old l u
+
+-- but for the train on this level the same is noted as before
+abbrev pub KeepsOtherStops : ℕ → ℕ → List (Option ℕ) → List (Option ℕ) → Type 0
+KeepsOtherStops level t old new =
+    (l u : ℕ) → u < TRAINS → (l ≡ level → u ≡ t → ⊥) → stop_at new l u ≡ stop_at old l u
+
+-- on this level nothing is noted that was not noted before
+abbrev pub AddsNoStops : ℕ → List (Option ℕ) → List (Option ℕ) → Type 0
+AddsNoStops level old new = (u x : ℕ) → u < TRAINS → stop_at new level u ≡ Some x → stop_at old level u ≡ Some x
+
+-- the section was noted for the train, which is another than the one that moved, and is held still
+abbrev pub StillStops : List (Option ℕ) → List (Option ℕ) → ℕ → ℕ → ℕ → ℕ → Type 0
+StillStops owners stops level u moved x =
+    (u ≢ moved) × (stop_at stops level u ≡ Some x) × (get_or owners x None ≡ None → ⊥)
+
 -- another train holds the section
 pub record IsHeldByOther (plan : Moves) (s : List ℕ) (t x : ℕ) : Type 0 where
   pub holder : ℕ
   pub other : holder ≢ t
   pub held : IsTrue (holds plan s holder x)
 
--- the section stops the train, which is inside: another train holds it, the train needs it for a move that it has left, and no leg up to that move is safe
+-- the section stops the train, which is inside: another train holds it, the train needs it
+-- for a move that it has left, and no leg up to that move is safe
 pub record IsStopped (plan : Moves) (s : List ℕ) (u x : ℕ) : Type 0 where
   pub inside : IsTrue (is_inside plan s u)
   pub place : ℕ
@@ -35,5 +58,6 @@ IsSettled plan s stops level = (u x : ℕ) → IsTrue (is_inside plan s u) → s
 -- what looking at a train shows: it is not inside, a leg to the place is safe, or the section stops it
 abbrev pub Shows : Moves → List ℕ → ℕ → Look → Type 0
 Shows plan s t Idle = is_inside plan s t ≡ false
-Shows plan s t (Leads p) = IsTrue (is_leg plan s (record { train = t; place = p })) × IsTrue (is_safe plan s (record { train = t; place = p }))
+Shows plan s t (Leads p) = IsTrue (is_leg plan s (record { train = t; place = p }))
+    × IsTrue (is_safe plan s (record { train = t; place = p }))
 Shows plan s t (Stopped x) = IsStopped plan s t x

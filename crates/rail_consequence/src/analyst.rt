@@ -6,7 +6,8 @@ ghost use Rattle.rail_place.specs.Plays.{IsPlayed};
 ghost use Rattle.rail_place.specs.Tables.{moves_in};
 ghost use Rattle.rail_rules.specs.Numbers.{is_in};
 ghost use Rattle.rail_consequence.specs.Needs.{own_of, trains_of};
-ghost use Rattle.rail_consequence.specs.Stops.{IsHeldByOther, IsSettled, Shows, stop_at};
+ghost use Rattle.rail_consequence.specs.Searches.{FindsByNoLeg, FindsByNoLegOf, FindsSame, HasNoSafeLeg, HasNoSafeLegOf, IsCleared, leg_to};
+ghost use Rattle.rail_consequence.specs.Stops.{AddsNoStops, IsHeldByOther, IsSettled, KeepsLevelsAbove, KeepsOtherLevels, KeepsOtherStops, Shows, StillStops, stop_at};
 ghost use Rattle.rail_consequence.specs.Workspace.{GoesOn, IsBack, IsListing, IsReady, Work};
 
 use crate::needs::Needs;
@@ -178,9 +179,10 @@ impl Worksheet {
         requires listed { IsListing (moves_in moves.now) self.old.places.positions inside.now }
         requires settled { IsSettled (moves_in moves.now) self.old.places.positions self.old.stops depth }
         ensures ready { IsReady moves.now self.new }
-        ensures kept { (l u : ℕ) → depth < l → u < TRAINS → stop_at self.new.stops l u ≡ stop_at self.old.stops l u }
-        ensures found { IsTrue result → GoesOn (moves_in moves.now) self.old self.new × IsTrue (nobody_inside (moves_in moves.now) self.new.places.positions) × Finds (moves_in moves.now) depth self.old.places.positions }
-        ensures none { result ≡ false → IsBack self.old self.new × (Finds (moves_in moves.now) depth self.old.places.positions → ⊥) }
+        ensures kept { KeepsLevelsAbove depth self.old.stops self.new.stops }
+        ensures found { IsTrue result → IsCleared (moves_in moves.now) depth self.old self.new }
+        ensures none { result ≡ false
+            → IsBack self.old self.new × (Finds (moves_in moves.now) depth self.old.places.positions → ⊥) }
     {
         let mark = self.list.len();
         self.close(moves, inside, depth);
@@ -206,9 +208,9 @@ impl Worksheet {
         requires room { depth < 255 }
         requires settled { IsSettled (moves_in moves.now) self.old.places.positions self.old.stops (depth + 1) }
         ensures ready { IsReady moves.now self.new }
-        ensures kept { (l u : ℕ) → depth < l → u < TRAINS → stop_at self.new.stops l u ≡ stop_at self.old.stops l u }
-        ensures found { IsTrue result → GoesOn (moves_in moves.now) self.old self.new × IsTrue (nobody_inside (moves_in moves.now) self.new.places.positions) × Finds (moves_in moves.now) (depth + 1) self.old.places.positions }
-        ensures none { result ≡ false → IsBack self.old self.new × ((leg : Leg) → IsTrue (is_leg (moves_in moves.now) self.old.places.positions leg) → Finds (moves_in moves.now) depth (after_leg self.old.places.positions leg) → ⊥) }
+        ensures kept { KeepsLevelsAbove depth self.old.stops self.new.stops }
+        ensures found { IsTrue result → IsCleared (moves_in moves.now) (depth + 1) self.old self.new }
+        ensures none { result ≡ false → IsBack self.old self.new × FindsByNoLeg (moves_in moves.now) depth self.old.places.positions }
     {
         for train in inside {
             if self.try_legs_of(moves, inside, *train, depth) {
@@ -227,9 +229,10 @@ impl Worksheet {
         requires room { depth < 255 }
         requires settled { IsSettled (moves_in moves.now) self.old.places.positions self.old.stops (depth + 1) }
         ensures ready { IsReady moves.now self.new }
-        ensures kept { (l u : ℕ) → depth < l → u < TRAINS → stop_at self.new.stops l u ≡ stop_at self.old.stops l u }
-        ensures found { IsTrue result → GoesOn (moves_in moves.now) self.old self.new × IsTrue (nobody_inside (moves_in moves.now) self.new.places.positions) × Finds (moves_in moves.now) (depth + 1) self.old.places.positions }
-        ensures none { result ≡ false → IsBack self.old self.new × ((place : ℕ) → IsTrue (is_leg (moves_in moves.now) self.old.places.positions (record { train = train; place = place })) → Finds (moves_in moves.now) depth (set self.old.places.positions train place) → ⊥) }
+        ensures kept { KeepsLevelsAbove depth self.old.stops self.new.stops }
+        ensures found { IsTrue result → IsCleared (moves_in moves.now) (depth + 1) self.old self.new }
+        ensures none { result ≡ false
+            → IsBack self.old self.new × FindsByNoLegOf (moves_in moves.now) depth self.old.places.positions train }
     {
         let mark = self.list.len();
         let from = self.places.position(train);
@@ -260,13 +263,14 @@ impl Worksheet {
         requires inside { IsTrue (is_inside (moves_in moves.now) self.old.places.positions train) }
         requires legal { IsTrue (is_legal (moves_in moves.now) self.old.places.positions train) }
         requires valid { IsTrue (is_valid_state (moves_in moves.now) (set self.old.places.positions train from)) }
-        requires leg { IsTrue (is_leg (moves_in moves.now) (set self.old.places.positions train from) (record { train = train; place = place_of self.old.places.positions train + 1 })) }
+        requires leg { IsTrue (is_leg (moves_in moves.now) (set self.old.places.positions train from)
+            (leg_to train (place_of self.old.places.positions train + 1))) }
         requires settled { IsSettled (moves_in moves.now) (set self.old.places.positions train from) self.old.stops (depth + 1) }
         ensures ready { IsReady moves.now self.new }
         ensures positions { self.new.places.positions ≡ after self.old.places.positions train }
         ensures list { self.new.list ≡ self.old.list ++ train ∷ [] }
         ensures settled { IsSettled (moves_in moves.now) self.new.places.positions self.new.stops depth }
-        ensures kept { (l u : ℕ) → l ≢ depth → u < TRAINS → stop_at self.new.stops l u ≡ stop_at self.old.stops l u }
+        ensures kept { KeepsOtherLevels depth self.old.stops self.new.stops }
     {
         self.step(moves, train);
         self.settle(moves, inside, depth + 1, depth, train, from);
@@ -279,10 +283,10 @@ impl Worksheet {
         requires settled { IsSettled (moves_in moves.now) self.old.places.positions self.old.stops level }
         ensures ready { IsReady moves.now self.new }
         ensures moves { GoesOn (moves_in moves.now) self.old self.new }
-        ensures same { (k : ℕ) → Finds (moves_in moves.now) k self.old.places.positions ↔ Finds (moves_in moves.now) k self.new.places.positions }
-        ensures none { (leg : Leg) → IsTrue (is_leg (moves_in moves.now) self.new.places.positions leg) → is_safe (moves_in moves.now) self.new.places.positions leg ≡ false }
+        ensures same { FindsSame (moves_in moves.now) self.old.places.positions self.new.places.positions }
+        ensures none { HasNoSafeLeg (moves_in moves.now) self.new.places.positions }
         ensures settled { IsSettled (moves_in moves.now) self.new.places.positions self.new.stops level }
-        ensures kept { (l u : ℕ) → l ≢ level → u < TRAINS → stop_at self.new.stops l u ≡ stop_at self.old.stops l u }
+        ensures kept { KeepsOtherLevels level self.old.stops self.new.stops }
     {
         while self.make_safe_legs(moves, inside, level) {}
     }
@@ -294,11 +298,12 @@ impl Worksheet {
         requires settled { IsSettled (moves_in moves.now) self.old.places.positions self.old.stops level }
         ensures ready { IsReady moves.now self.new }
         ensures moves { GoesOn (moves_in moves.now) self.old self.new }
-        ensures same { (k : ℕ) → Finds (moves_in moves.now) k self.old.places.positions ↔ Finds (moves_in moves.now) k self.new.places.positions }
-        ensures fewer { IsTrue result → moves_left (moves_in moves.now) self.new.places.positions < moves_left (moves_in moves.now) self.old.places.positions }
-        ensures none { result ≡ false → (leg : Leg) → IsTrue (is_leg (moves_in moves.now) self.new.places.positions leg) → is_safe (moves_in moves.now) self.new.places.positions leg ≡ false }
+        ensures same { FindsSame (moves_in moves.now) self.old.places.positions self.new.places.positions }
+        ensures fewer { IsTrue result → moves_left (moves_in moves.now) self.new.places.positions
+            < moves_left (moves_in moves.now) self.old.places.positions }
+        ensures none { result ≡ false → HasNoSafeLeg (moves_in moves.now) self.new.places.positions }
         ensures settled { IsSettled (moves_in moves.now) self.new.places.positions self.new.stops level }
-        ensures kept { (l u : ℕ) → l ≢ level → u < TRAINS → stop_at self.new.stops l u ≡ stop_at self.old.stops l u }
+        ensures kept { KeepsOtherLevels level self.old.stops self.new.stops }
     {
         let mut moved = false;
         for train in inside {
@@ -324,11 +329,13 @@ impl Worksheet {
         requires settled { IsSettled (moves_in moves.now) self.old.places.positions self.old.stops level }
         ensures ready { IsReady moves.now self.new }
         ensures moves { GoesOn (moves_in moves.now) self.old self.new }
-        ensures same { (k : ℕ) → Finds (moves_in moves.now) k self.old.places.positions ↔ Finds (moves_in moves.now) k self.new.places.positions }
-        ensures fewer { IsTrue result → moves_left (moves_in moves.now) self.new.places.positions < moves_left (moves_in moves.now) self.old.places.positions }
-        ensures none { result ≡ false → IsBack self.old self.new × ((place : ℕ) → IsTrue (is_leg (moves_in moves.now) self.old.places.positions (record { train = train; place = place })) → is_safe (moves_in moves.now) self.old.places.positions (record { train = train; place = place }) ≡ false) }
+        ensures same { FindsSame (moves_in moves.now) self.old.places.positions self.new.places.positions }
+        ensures fewer { IsTrue result → moves_left (moves_in moves.now) self.new.places.positions
+            < moves_left (moves_in moves.now) self.old.places.positions }
+        ensures none { result ≡ false
+            → IsBack self.old self.new × HasNoSafeLegOf (moves_in moves.now) self.old.places.positions train }
         ensures settled { IsSettled (moves_in moves.now) self.new.places.positions self.new.stops level }
-        ensures kept { (l u : ℕ) → l ≢ level → u < TRAINS → stop_at self.new.stops l u ≡ stop_at self.old.stops l u }
+        ensures kept { KeepsOtherLevels level self.old.stops self.new.stops }
     {
         if self.stops.get(level, train).is_some() {
             return false;
@@ -377,7 +384,11 @@ impl Worksheet {
         requires ready { IsReady moves.now self.now }
         requires train { train < length moves.now }
         requires within { made < (moves_in moves.now).moves train }
-        ensures { MatchOption result ((x : ℕ) → IsTrue (is_in x ((moves_in moves.now).claim train made)) → IsHeldByOther (moves_in moves.now) self.now.places.positions train x → ⊥) (λ x. IsTrue (is_in x ((moves_in moves.now).claim train made)) × IsHeldByOther (moves_in moves.now) self.now.places.positions train x) }
+        ensures { MatchOption result
+            ((x : ℕ) → IsTrue (is_in x ((moves_in moves.now).claim train made))
+            → IsHeldByOther (moves_in moves.now) self.now.places.positions train x → ⊥)
+            (λ x. IsTrue (is_in x ((moves_in moves.now).claim train made))
+            × IsHeldByOther (moves_in moves.now) self.now.places.positions train x) }
     {
         let needed = moves.need(train, made + 1);
         for section in needed {
@@ -390,8 +401,10 @@ impl Worksheet {
 
     /// Another train holds the section.
     fn is_held_by_other(&self, train: TrainNo, section: SectionNo) -> bool
-        ensures held { IsTrue result → (holder : ℕ) × (holder ≢ train) × (get_or self.now.places.owners section None ≡ Some holder) }
-        ensures free { result ≡ false → (holder : ℕ) → get_or self.now.places.owners section None ≡ Some holder → holder ≡ train }
+        ensures held { IsTrue result
+            → (holder : ℕ) × (holder ≢ train) × (get_or self.now.places.owners section None ≡ Some holder) }
+        ensures free { result ≡ false → (holder : ℕ)
+            → get_or self.now.places.owners section None ≡ Some holder → holder ≡ train }
     {
         match self.places.holder(section) {
             Some(holder) => holder != train,
@@ -403,7 +416,7 @@ impl Worksheet {
     fn go_to(&mut self, moves: &Moves, train: TrainNo, place: u16)
         requires ready { IsReady moves.now self.old }
         requires train { train < length moves.now }
-        requires leg { IsTrue (is_leg (moves_in moves.now) self.old.places.positions (record { train = train; place = place })) }
+        requires leg { IsTrue (is_leg (moves_in moves.now) self.old.places.positions (leg_to train place)) }
         ensures ready { IsReady moves.now self.new }
         ensures moves { GoesOn (moves_in moves.now) self.old self.new }
         ensures positions { self.new.places.positions ≡ set self.old.places.positions train place }
@@ -430,10 +443,11 @@ impl Worksheet {
         requires listed { IsListing (moves_in moves.now) self.old.places.positions inside.now }
         requires train { train < length moves.now }
         requires valid { IsTrue (is_valid_state (moves_in moves.now) (set self.old.places.positions train from)) }
-        requires leg { IsTrue (is_leg (moves_in moves.now) (set self.old.places.positions train from) (record { train = train; place = place_of self.old.places.positions train })) }
+        requires leg { IsTrue (is_leg (moves_in moves.now) (set self.old.places.positions train from)
+            (leg_to train (place_of self.old.places.positions train))) }
         requires settled { IsSettled (moves_in moves.now) (set self.old.places.positions train from) self.old.stops above }
         ensures settled { IsSettled (moves_in moves.now) self.new.places.positions self.new.stops level }
-        ensures kept { (l u : ℕ) → l ≢ level → u < TRAINS → stop_at self.new.stops l u ≡ stop_at self.old.stops l u }
+        ensures kept { KeepsOtherLevels level self.old.stops self.new.stops }
         ensures rest { self.new ≡ record self.old { stops = self.new.stops } }
     {
         self.keep_stops(inside, above, level, train);
@@ -447,8 +461,9 @@ impl Worksheet {
     /// this train.
     fn keep_stops(&mut self, inside: &[TrainNo], above: u8, level: u8, train: TrainNo)
         requires { (u : ℕ) → IsTrue (is_in u inside.now) → u < TRAINS }
-        ensures held { (u x : ℕ) → IsTrue (is_in u inside.now) → stop_at self.new.stops level u ≡ Some x → (u ≢ train) × (stop_at self.old.stops above u ≡ Some x) × (get_or self.old.places.owners x None ≡ None → ⊥) }
-        ensures kept { (l u : ℕ) → l ≢ level → u < TRAINS → stop_at self.new.stops l u ≡ stop_at self.old.stops l u }
+        ensures held { (u x : ℕ) → IsTrue (is_in u inside.now) → stop_at self.new.stops level u ≡ Some x
+            → StillStops self.old.places.owners self.old.stops above u train x }
+        ensures kept { KeepsOtherLevels level self.old.stops self.new.stops }
         ensures rest { self.new ≡ record self.old { stops = self.new.stops } }
     {
         for other in inside {
@@ -459,8 +474,9 @@ impl Worksheet {
     /// The same of one train.
     fn keep_stop(&mut self, above: u8, level: u8, train: TrainNo, moved: TrainNo)
         requires { train < TRAINS }
-        ensures held { (x : ℕ) → stop_at self.new.stops level train ≡ Some x → (train ≢ moved) × (stop_at self.old.stops above train ≡ Some x) × (get_or self.old.places.owners x None ≡ None → ⊥) }
-        ensures others { (l u : ℕ) → u < TRAINS → (l ≡ level → u ≡ train → ⊥) → stop_at self.new.stops l u ≡ stop_at self.old.stops l u }
+        ensures held { (x : ℕ) → stop_at self.new.stops level train ≡ Some x
+            → StillStops self.old.places.owners self.old.stops above train moved x }
+        ensures others { KeepsOtherStops level train self.old.stops self.new.stops }
         ensures rest { self.new ≡ record self.old { stops = self.new.stops } }
     {
         let stop = self.still_stops(above, train, moved);
@@ -470,7 +486,7 @@ impl Worksheet {
     /// What was noted of the train, if it is another than the one that moved and the section is held.
     fn still_stops(&self, above: u8, train: TrainNo, moved: TrainNo) -> Option<SectionNo>
         requires { train < TRAINS }
-        ensures { IfSome result (λ x. (train ≢ moved) × (stop_at self.now.stops above train ≡ Some x) × (get_or self.now.places.owners x None ≡ None → ⊥)) }
+        ensures { IfSome result (λ x. StillStops self.now.places.owners self.now.stops above train moved x) }
     {
         let section = self.stops.get(above, train)?;
         if train == moved || self.places.holder(section).is_none() {
@@ -491,9 +507,11 @@ impl Worksheet {
         requires listed { (u : ℕ) → IsTrue (is_in u inside.now) → u < TRAINS }
         requires train { train < TRAINS }
         requires in_range { (x : ℕ) → IsTrue (is_in x sections.now) → x < SECTIONS }
-        ensures freed { (x u y : ℕ) → IsTrue (is_in x sections.now) → own_of self.old.needs train x ≡ 0 → trains_of self.old.needs x ≡ 1 → IsTrue (is_in u inside.now) → stop_at self.new.stops level u ≡ Some y → own_of self.old.needs u x ≡ 0 }
-        ensures fewer { (u y : ℕ) → u < TRAINS → stop_at self.new.stops level u ≡ Some y → stop_at self.old.stops level u ≡ Some y }
-        ensures kept { (l u : ℕ) → l ≢ level → u < TRAINS → stop_at self.new.stops l u ≡ stop_at self.old.stops l u }
+        ensures freed { (x u y : ℕ) → IsTrue (is_in x sections.now) → own_of self.old.needs train x ≡ 0
+            → trains_of self.old.needs x ≡ 1 → IsTrue (is_in u inside.now)
+            → stop_at self.new.stops level u ≡ Some y → own_of self.old.needs u x ≡ 0 }
+        ensures fewer { AddsNoStops level self.old.stops self.new.stops }
+        ensures kept { KeepsOtherLevels level self.old.stops self.new.stops }
         ensures rest { self.new ≡ record self.old { stops = self.new.stops } }
     {
         for section in sections {
@@ -506,9 +524,11 @@ impl Worksheet {
         requires listed { (u : ℕ) → IsTrue (is_in u inside.now) → u < TRAINS }
         requires train { train < TRAINS }
         requires section { section < SECTIONS }
-        ensures freed { own_of self.old.needs train section ≡ 0 → trains_of self.old.needs section ≡ 1 → (u y : ℕ) → IsTrue (is_in u inside.now) → stop_at self.new.stops level u ≡ Some y → own_of self.old.needs u section ≡ 0 }
-        ensures fewer { (u y : ℕ) → u < TRAINS → stop_at self.new.stops level u ≡ Some y → stop_at self.old.stops level u ≡ Some y }
-        ensures kept { (l u : ℕ) → l ≢ level → u < TRAINS → stop_at self.new.stops l u ≡ stop_at self.old.stops l u }
+        ensures freed { own_of self.old.needs train section ≡ 0 → trains_of self.old.needs section ≡ 1
+            → (u y : ℕ) → IsTrue (is_in u inside.now) → stop_at self.new.stops level u ≡ Some y
+            → own_of self.old.needs u section ≡ 0 }
+        ensures fewer { AddsNoStops level self.old.stops self.new.stops }
+        ensures kept { KeepsOtherLevels level self.old.stops self.new.stops }
         ensures rest { self.new ≡ record self.old { stops = self.new.stops } }
     {
         if self.needs.has(train, section) || !self.needs.is_for_one(section) {
@@ -524,8 +544,8 @@ impl Worksheet {
         requires train { train < TRAINS }
         requires section { section < SECTIONS }
         ensures freed { (y : ℕ) → stop_at self.new.stops level train ≡ Some y → own_of self.old.needs train section ≡ 0 }
-        ensures fewer { (u y : ℕ) → u < TRAINS → stop_at self.new.stops level u ≡ Some y → stop_at self.old.stops level u ≡ Some y }
-        ensures kept { (l u : ℕ) → l ≢ level → u < TRAINS → stop_at self.new.stops l u ≡ stop_at self.old.stops l u }
+        ensures fewer { AddsNoStops level self.old.stops self.new.stops }
+        ensures kept { KeepsOtherLevels level self.old.stops self.new.stops }
         ensures rest { self.new ≡ record self.old { stops = self.new.stops } }
     {
         if self.needs.has(train, section) {
@@ -551,7 +571,8 @@ impl Worksheet {
     fn can_go_on(&self, moves: &Moves, train: TrainNo) -> bool
         requires ready { IsReady moves.now self.now }
         requires train { train < length moves.now }
-        ensures { IsTrue result ↔ IsTrue (is_inside (moves_in moves.now) self.now.places.positions train && is_legal (moves_in moves.now) self.now.places.positions train) }
+        ensures { IsTrue result ↔ IsTrue (is_inside (moves_in moves.now) self.now.places.positions train
+            && is_legal (moves_in moves.now) self.now.places.positions train) }
     {
         self.places.position(train) > 0 && self.places.legal(moves, train).is_ok()
     }
@@ -562,7 +583,7 @@ impl Worksheet {
         requires ready { IsReady moves.now self.now }
         requires train { train < length moves.now }
         requires within { place ≤ (moves_in moves.now).moves train }
-        ensures { result ≡ is_safe (moves_in moves.now) self.now.places.positions (record { train = train; place = place }) }
+        ensures { result ≡ is_safe (moves_in moves.now) self.now.places.positions (leg_to train place) }
     {
         place == moves.places(train) || self.needs.are_own(train, moves.stand(train, place))
     }
@@ -591,7 +612,9 @@ impl Worksheet {
         ensures ready { IsReady moves.now self.new }
         ensures list { self.new.list ≡ take mark self.old.list }
         ensures stops { self.new.stops ≡ self.old.stops }
-        ensures positions { (s : List ℕ) → IsPlayed (moves_in moves.now) s (drop mark self.old.list) self.old.places.positions → self.new.places.positions ≡ s }
+        ensures positions { (s : List ℕ)
+            → IsPlayed (moves_in moves.now) s (drop mark self.old.list) self.old.places.positions
+            → self.new.places.positions ≡ s }
     {
         while self.list.len() > mark {
             self.step_back(moves);
@@ -604,7 +627,9 @@ impl Worksheet {
         ensures ready { IsReady moves.now self.new }
         ensures list { self.new.list ≡ take (length self.old.list - 1) self.old.list }
         ensures stops { self.new.stops ≡ self.old.stops }
-        ensures positions { (s : List ℕ) (n : ℕ) → n < length self.old.list → IsPlayed (moves_in moves.now) s (drop n self.old.list) self.old.places.positions → IsPlayed (moves_in moves.now) s (drop n self.new.list) self.new.places.positions }
+        ensures positions { (s : List ℕ) (n : ℕ) → n < length self.old.list
+            → IsPlayed (moves_in moves.now) s (drop n self.old.list) self.old.places.positions
+            → IsPlayed (moves_in moves.now) s (drop n self.new.list) self.new.places.positions }
     {
         let Some(train) = self.list.pop() else {
             return;

@@ -16,8 +16,6 @@ mod analyst;
 mod laws;
 mod needs;
 mod stops;
-#[cfg(test)]
-mod tests;
 
 pub use analyst::Analyst;
 pub use laws::a_safe_leg_keeps_what_can_be_found;

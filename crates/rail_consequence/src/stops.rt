@@ -2,7 +2,7 @@
 
 ghost use Rattle.std.specs.Prelude.{◌≡◌, ◌≢◌, ℕ, ◌+◌, ◌*◌, ◌<◌, ◌&&◌, ◌==◌, cond, length, get_or, set, None, Some, IsTrue};
 ghost use Rattle.rail_rules.specs.Numbers.{is_in};
-ghost use Rattle.rail_consequence.specs.Stops.{stop_at};
+ghost use Rattle.rail_consequence.specs.Stops.{KeepsOtherStops, stop_at};
 
 use rail_base::limits::TRAINS;
 use rail_base::{OutOfMemory, SectionNo, TrainNo};
@@ -50,7 +50,7 @@ impl Stops {
     pub fn set(&mut self, level: u8, train: TrainNo, stop: Option<SectionNo>)
         requires { train < TRAINS }
         ensures here { stop_at self.new level train ≡ stop }
-        ensures others { (l u : ℕ) → u < TRAINS → (l ≡ level → u ≡ train → ⊥) → stop_at self.new l u ≡ stop_at self.old l u }
+        ensures others { KeepsOtherStops level train self.old self.new }
     {
         self.sections[slot(level, train)] = stop;
     }

@@ -49,7 +49,8 @@ impl Engine {
         ensures ended { IsNone result → (front : Front) → StandsFor front self.old → has_ended front ≡ true }
         ensures stays { IsNone result → self.new ≡ self.old }
         ensures going { IfSome result (λ entry. (front : Front) → StandsFor front self.old → has_ended front ≡ false) }
-        ensures line { IfSome result (λ entry. (front : Front) → StandsFor front self.old → StandsFor (line_in self.new entry ∷ front) self.new) }
+        ensures line { IfSome result (λ entry. (front : Front) → StandsFor front self.old
+            → StandsFor (line_in self.new entry ∷ front) self.new) }
     {
         next_line(&mut self.ledger)
     }

@@ -70,50 +70,8 @@ text_together plant names named entry kept {said} {begun} {empty} a b c =
     ∙ sym (ap (λ (xs : List ℕ). (time ++ xs) ++ 10 ∷ []) e)
     ∙ sym (spaced-behind time words)
 
-bare_what : (plant : Plant) (at : ℕ) (kept : List ℕ) (what : What) → is_writable_what plant (line_of (record { at = at; what = what }) kept) what ≡ true → is_writable_what plant (bare (record { at = at; what = what })) what ≡ true
-bare_what plant at kept (Free x t) h = h
-bare_what plant at kept (Arrive t m) h = h
-bare_what plant at kept (Enter t m x) h = h
-bare_what plant at kept (Out t) h = h
-bare_what plant at kept (Ready t m) h = h
-bare_what plant at kept (Told k) h = h
-bare_what plant at kept (Untold k) h = h
-bare_what plant at kept (Admit t m Pulled) h = h
-bare_what plant at kept (Admit t m Appended) h = h
-bare_what plant at kept (Admit t m Fresh) h = and_from (is_known_move plant t m) true (and_parts (is_known_move plant t m) _ h).0 refl
-bare_what plant at kept (Hold t m cause) h = h
-bare_what plant at kept End h = refl
-
--- what a line says can be written without its trains too
-pub bare_writable : (plant : Plant) (entry : Entry) (kept : List ℕ) → is_writable_what plant (line_of entry kept) entry.what ≡ true → is_writable_what plant (bare entry) entry.what ≡ true
-bare_writable plant entry kept h = bare_what plant entry.at kept entry.what h
-
 known_each : (plant : Plant) (count : ℕ) → count ≡ trains plant → (kept : List ℕ) → list_all (is_known_train plant) kept ≡ true → AllByRecursion (λ t. t < count) kept
 known_each plant count e [] h = tt
 known_each plant count e (t ∷ kept) h =
     let both = and_parts (is_known_train plant t) (list_all (is_known_train plant) kept) h in
     (omega (arith, e, ltb-true t (trains plant) both.0), known_each plant count e kept both.1)
-
--- trains of the plant have names
-pub all_named : (plant : Plant) (names : Names) → HasNames plant names → (kept : List ℕ) → list_all (is_known_train plant) kept ≡ true → All (λ t. t < length names.trains.keys) kept
-all_named plant names named kept h =
-    let count : length names.trains.keys ≡ trains plant = ap length named.trains ∙ length-map plant.tables.trains (λ (row : TrainRow). row.name) in
-    All-from_recursion (λ t. t < length names.trains.keys) kept (known_each plant (length names.trains.keys) count kept h)
-
-none_brought : (what : What) → brought what [] ≡ []
-none_brought (Free x t) = refl
-none_brought (Arrive t m) = refl
-none_brought (Enter t m x) = refl
-none_brought (Out t) = refl
-none_brought (Ready t m) = refl
-none_brought (Told k) = refl
-none_brought (Untold k) = refl
-none_brought (Admit t m Pulled) = refl
-none_brought (Admit t m Appended) = refl
-none_brought (Admit t m Fresh) = refl
-none_brought (Hold t m cause) = refl
-none_brought End = refl
-
--- without trains every line is a bare one
-pub line_of_none : (entry : Entry) → line_of entry [] ≡ bare entry
-line_of_none entry = λ i. record { entry = entry; trains = none_brought entry.what i }

@@ -30,7 +30,9 @@ long_map f [] = refl
 long_map f (x ∷ xs) = ap suc (long_map f xs)
 
 -- the number of a name among distinct ones
-number_found : {X : Type 0} (f : X → List ℕ) (rows : List X) (d : X) (t : ℕ) → t < length rows → ((u : ℕ) → u < length rows → f (get_or rows u d) ≡ f (get_or rows t d) → u ≡ t) → (word : List ℕ) → word ≡ f (get_or rows t d) → position (same_name word) (map f rows) ≡ Some t
+number_found : {X : Type 0} (f : X → List ℕ) (rows : List X) (d : X) (t : ℕ) → t < length rows
+    → ((u : ℕ) → u < length rows → f (get_or rows u d) ≡ f (get_or rows t d) → u ≡ t)
+    → (word : List ℕ) → word ≡ f (get_or rows t d) → position (same_name word) (map f rows) ≡ Some t
 number_found f rows d t lt only word is =
     let long = long_map f rows in
     let here : same_name word (get_or (map f rows) t (f d)) ≡ true = (bytes_decides word (get_or (map f rows) t (f d))).1 (is ∙ sym (get_map f rows t d)) in

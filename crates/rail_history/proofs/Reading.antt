@@ -29,7 +29,10 @@ no_text bs n fits same Q R r cases err =
     elim r as (λ r. MatchResult r Q (λ e. ¬ (IsUtf8 bs) × R e) → false ≡ is_ok r → ⊥) [ Ok s ↦ λ q bad. cc | Err e ↦ λ q bad. q.0 (subst IsUtf8 (sym same) (decimal-utf8 n fits)) ] cases err
 
 -- what is read of a number's digits, as they were checked to be text
-pub read_digits : {E F : Type 0} (bs : List ℕ) (n : ℕ) → n < 65536 → bs ≡ decimal n → (R : E → Type 0) (r : Result (Bor (List ℕ)) E) → MatchResult r (λ s. (s.now ≡ bs) × IsUtf8 bs) R → (s : Bor (List ℕ)) → Some s ≡ result_ok r → (p : Result ℕ F) → ParsesUnsigned 16 10 s.now p → p ≡ Ok n
+pub read_digits : {E F : Type 0} (bs : List ℕ) (n : ℕ) → n < 65536 → bs ≡ decimal n
+    → (R : E → Type 0) (r : Result (Bor (List ℕ)) E) → MatchResult r (λ s. (s.now ≡ bs) × IsUtf8 bs) R
+    → (s : Bor (List ℕ)) → Some s ≡ result_ok r → (p : Result ℕ F) → ParsesUnsigned 16 10 s.now p
+    → p ≡ Ok n
 read_digits bs n fits same R r cases s some p parsed =
     elim r as (λ r. MatchResult r (λ s. (s.now ≡ bs) × IsUtf8 bs) R → Some s ≡ result_ok r → p ≡ Ok n) [
       | Ok t ↦ λ q is. let one : s ≡ t = cc is in parse_digits n s.now p fits (ap (λ (v : Bor (List ℕ)). v.now) one ∙ q.0 ∙ same) parsed

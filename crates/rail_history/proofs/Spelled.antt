@@ -55,7 +55,10 @@ Spells plant first second third rest what verb.Ready = (t m : ℕ) × (what ≡ 
 Spells plant first second third rest what verb.Told = (k : ℕ) × (what ≡ Told k) × (k < 65536) × (first ≡ decimal k)
 Spells plant first second third rest what verb.Untold = (k : ℕ) × (what ≡ Untold k) × (k < 65536) × (first ≡ decimal k)
 Spells plant first second third rest what verb.Admit = (t m : ℕ) × (note : Note) × (what ≡ Admit t m note) × (t < trains plant) × (m < 65536) × (first ≡ train_word plant t) × (second ≡ decimal m) × (note_of third ≡ Some note)
-Spells plant first second third rest what verb.Hold = (t m : ℕ) × (why : Cause) × (what ≡ Hold t m why) × (t < trains plant) × (m < 65536) × (is_writable_cause plant why ≡ true) × (first ≡ train_word plant t) × (second ≡ decimal m) × (third ≡ get_or (cause_words plant why) 0 []) × (rest ≡ joined (drop 1 (cause_words plant why)))
+Spells plant first second third rest what verb.Hold = (t m : ℕ) × (why : Cause) × (what ≡ Hold t m why)
+    × (t < trains plant) × (m < 65536) × (is_writable_cause plant why ≡ true) × (first ≡ train_word plant t)
+    × (second ≡ decimal m) × (third ≡ get_or (cause_words plant why) 0 [])
+    × (rest ≡ joined (drop 1 (cause_words plant why)))
 Spells plant first second third rest what verb.End = what ≡ End
 Spells plant first second third rest what verb.Other = ⊥
 

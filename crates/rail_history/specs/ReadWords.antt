@@ -56,7 +56,10 @@ verb_of word =
 
 -- the note that a word tells
 abbrev pub note_of : List ℕ → Option Note
-note_of word = cond (same_numbers word (codes "pulled")) (Some Pulled) (cond (same_numbers word (codes "appended")) (Some Appended) (cond (same_numbers word (codes "fresh")) (Some Fresh) None))
+note_of word =
+    cond (same_numbers word (codes "pulled")) (Some Pulled)
+    (cond (same_numbers word (codes "appended")) (Some Appended)
+    (cond (same_numbers word (codes "fresh")) (Some Fresh) None))
 
 -- what the first word of a cause tells
 abbrev pub reason_of : List ℕ → Reason

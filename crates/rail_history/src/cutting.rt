@@ -6,7 +6,8 @@ ghost use Rattle.rail_history.specs.ReadWords.{is_spaceless, joined};
 
 /// The word before the first space, and what stands behind that space.
 pub(crate) fn cut(text: &[u8]) -> (&[u8], &[u8])
-    ensures { (words : List (List ℕ)) → list_all is_spaceless words ≡ true → text.now ≡ joined words → (result.0.now ≡ get_or words 0 []) × (result.1.now ≡ joined (drop 1 words)) }
+    ensures { (words : List (List ℕ)) → list_all is_spaceless words ≡ true → text.now ≡ joined words
+        → (result.0.now ≡ get_or words 0 []) × (result.1.now ≡ joined (drop 1 words)) }
 {
     match space(text) {
         Some(end) => (&text[..end], &text[end + 1..]),

@@ -13,8 +13,6 @@ mod cutting;
 mod line;
 mod read_what;
 mod read_words;
-#[cfg(test)]
-mod tests;
 mod trains;
 mod words;
 mod writing;

@@ -47,7 +47,9 @@ pub fn likely_what(names: &Names, text: &[u8]) -> Option<What>
 fn read_free(names: &Names, first: &[u8], second: &[u8]) -> Option<What>
     requires trains { length names.now.trains.keys ≤ 2 ^ 16 }
     requires sections { length names.now.sections.keys ≤ 2 ^ 16 }
-    ensures { (plant : Plant) → HasNames plant names.now → IsNamed plant → (x t : ℕ) → x < length plant.tables.sections → t < trains plant → first.now ≡ section_word plant x → second.now ≡ train_word plant t → result ≡ Some (Free x t) }
+    ensures { (plant : Plant) → HasNames plant names.now → IsNamed plant
+        → (x t : ℕ) → x < length plant.tables.sections → t < trains plant
+        → first.now ≡ section_word plant x → second.now ≡ train_word plant t → result ≡ Some (Free x t) }
 {
     Some(What::Free {
         section: section_of(names, first)?,
@@ -58,7 +60,9 @@ fn read_free(names: &Names, first: &[u8], second: &[u8]) -> Option<What>
 /// An arrival.
 fn read_arrive(names: &Names, first: &[u8], second: &[u8]) -> Option<What>
     requires trains { length names.now.trains.keys ≤ 2 ^ 16 }
-    ensures { (plant : Plant) → HasNames plant names.now → IsNamed plant → (t m : ℕ) → t < trains plant → m < 65536 → first.now ≡ train_word plant t → second.now ≡ decimal m → result ≡ Some (Arrive t m) }
+    ensures { (plant : Plant) → HasNames plant names.now → IsNamed plant
+        → (t m : ℕ) → t < trains plant → m < 65536
+        → first.now ≡ train_word plant t → second.now ≡ decimal m → result ≡ Some (Arrive t m) }
 {
     Some(What::Arrive {
         train: train_of(names, first)?,
@@ -69,7 +73,9 @@ fn read_arrive(names: &Names, first: &[u8], second: &[u8]) -> Option<What>
 /// A move that is ready.
 fn read_ready(names: &Names, first: &[u8], second: &[u8]) -> Option<What>
     requires trains { length names.now.trains.keys ≤ 2 ^ 16 }
-    ensures { (plant : Plant) → HasNames plant names.now → IsNamed plant → (t m : ℕ) → t < trains plant → m < 65536 → first.now ≡ train_word plant t → second.now ≡ decimal m → result ≡ Some (Ready t m) }
+    ensures { (plant : Plant) → HasNames plant names.now → IsNamed plant
+        → (t m : ℕ) → t < trains plant → m < 65536
+        → first.now ≡ train_word plant t → second.now ≡ decimal m → result ≡ Some (Ready t m) }
 {
     Some(What::Ready {
         train: train_of(names, first)?,
@@ -81,7 +87,10 @@ fn read_ready(names: &Names, first: &[u8], second: &[u8]) -> Option<What>
 fn read_enter(names: &Names, first: &[u8], second: &[u8], third: &[u8]) -> Option<What>
     requires trains { length names.now.trains.keys ≤ 2 ^ 16 }
     requires sections { length names.now.sections.keys ≤ 2 ^ 16 }
-    ensures { (plant : Plant) → HasNames plant names.now → IsNamed plant → (t m x : ℕ) → t < trains plant → m < 65536 → x < length plant.tables.sections → first.now ≡ train_word plant t → second.now ≡ decimal m → third.now ≡ section_word plant x → result ≡ Some (Enter t m x) }
+    ensures { (plant : Plant) → HasNames plant names.now → IsNamed plant
+        → (t m x : ℕ) → t < trains plant → m < 65536 → x < length plant.tables.sections
+        → first.now ≡ train_word plant t → second.now ≡ decimal m → third.now ≡ section_word plant x
+        → result ≡ Some (Enter t m x) }
 {
     Some(What::Enter {
         train: train_of(names, first)?,
@@ -93,7 +102,9 @@ fn read_enter(names: &Names, first: &[u8], second: &[u8], third: &[u8]) -> Optio
 /// A train that is out.
 fn read_out(names: &Names, first: &[u8]) -> Option<What>
     requires trains { length names.now.trains.keys ≤ 2 ^ 16 }
-    ensures { (plant : Plant) → HasNames plant names.now → IsNamed plant → (t : ℕ) → t < trains plant → first.now ≡ train_word plant t → result ≡ Some (Out t) }
+    ensures { (plant : Plant) → HasNames plant names.now → IsNamed plant
+        → (t : ℕ) → t < trains plant
+        → first.now ≡ train_word plant t → result ≡ Some (Out t) }
 {
     Some(What::Out {
         train: train_of(names, first)?,
@@ -121,7 +132,10 @@ fn read_untold(first: &[u8]) -> Option<What>
 /// An admission.
 fn read_admit(names: &Names, first: &[u8], second: &[u8], third: &[u8]) -> Option<What>
     requires trains { length names.now.trains.keys ≤ 2 ^ 16 }
-    ensures { (plant : Plant) → HasNames plant names.now → IsNamed plant → (t m : ℕ) (note : Said_note) → t < trains plant → m < 65536 → first.now ≡ train_word plant t → second.now ≡ decimal m → note_of third.now ≡ Some note → result ≡ Some (Admit t m note) }
+    ensures { (plant : Plant) → HasNames plant names.now → IsNamed plant
+        → (t m : ℕ) (note : Said_note) → t < trains plant → m < 65536
+        → first.now ≡ train_word plant t → second.now ≡ decimal m → note_of third.now ≡ Some note
+        → result ≡ Some (Admit t m note) }
 {
     Some(What::Admit {
         train: train_of(names, first)?,
@@ -134,7 +148,11 @@ fn read_admit(names: &Names, first: &[u8], second: &[u8], third: &[u8]) -> Optio
 fn read_hold(names: &Names, first: &[u8], second: &[u8], third: &[u8], rest: &[u8]) -> Option<What>
     requires trains { length names.now.trains.keys ≤ 2 ^ 16 }
     requires sections { length names.now.sections.keys ≤ 2 ^ 16 }
-    ensures { (plant : Plant) → HasNames plant names.now → IsNamed plant → (t m : ℕ) (why : Why) → t < trains plant → m < 65536 → is_writable_cause plant why ≡ true → first.now ≡ train_word plant t → second.now ≡ decimal m → third.now ≡ get_or (cause_words plant why) 0 [] → rest.now ≡ joined (drop 1 (cause_words plant why)) → result ≡ Some (Hold t m why) }
+    ensures { (plant : Plant) → HasNames plant names.now → IsNamed plant
+        → (t m : ℕ) (why : Why) → t < trains plant → m < 65536 → is_writable_cause plant why ≡ true
+        → first.now ≡ train_word plant t → second.now ≡ decimal m
+        → third.now ≡ get_or (cause_words plant why) 0 [] → rest.now ≡ joined (drop 1 (cause_words plant why))
+        → result ≡ Some (Hold t m why) }
 {
     Some(What::Hold {
         train: train_of(names, first)?,

@@ -81,7 +81,9 @@ fn rare_verb_of(word: &[u8]) -> Verb
 /// The train of this name.
 pub(crate) fn train_of(names: &Names, word: &[u8]) -> Option<TrainNo>
     requires { length names.now.trains.keys ≤ 2 ^ 16 }
-    ensures { (plant : Plant) → HasNames plant names.now → IsNamed plant → (t : ℕ) → t < trains plant → word.now ≡ train_word plant t → result ≡ Some t }
+    ensures { (plant : Plant) → HasNames plant names.now → IsNamed plant
+        → (t : ℕ) → t < trains plant
+        → word.now ≡ train_word plant t → result ≡ Some t }
 {
     train_named(names, word)
 }
@@ -89,7 +91,9 @@ pub(crate) fn train_of(names: &Names, word: &[u8]) -> Option<TrainNo>
 /// The section of this name.
 pub(crate) fn section_of(names: &Names, word: &[u8]) -> Option<SectionNo>
     requires { length names.now.sections.keys ≤ 2 ^ 16 }
-    ensures { (plant : Plant) → HasNames plant names.now → IsNamed plant → (x : ℕ) → x < length plant.tables.sections → word.now ≡ section_word plant x → result ≡ Some x }
+    ensures { (plant : Plant) → HasNames plant names.now → IsNamed plant
+        → (x : ℕ) → x < length plant.tables.sections
+        → word.now ≡ section_word plant x → result ≡ Some x }
 {
     section_named(names, word)
 }
@@ -137,8 +141,10 @@ pub(crate) fn reason_of(word: &[u8]) -> Reason
 pub(crate) fn cause_of(names: &Names, word: &[u8], rest: &[u8]) -> Option<Cause>
     requires trains { length names.now.trains.keys ≤ 2 ^ 16 }
     requires sections { length names.now.sections.keys ≤ 2 ^ 16 }
-    ensures { (plant : Plant) → HasNames plant names.now → IsNamed plant → (why : Why)
-        → is_writable_cause plant why ≡ true → word.now ≡ get_or (cause_words plant why) 0 [] → rest.now ≡ joined (drop 1 (cause_words plant why)) → result ≡ Some why }
+    ensures { (plant : Plant) → HasNames plant names.now → IsNamed plant
+        → (why : Why) → is_writable_cause plant why ≡ true
+        → word.now ≡ get_or (cause_words plant why) 0 [] → rest.now ≡ joined (drop 1 (cause_words plant why))
+        → result ≡ Some why }
 {
     let (first, rest) = cut(rest);
     let (second, _) = cut(rest);
@@ -156,10 +162,8 @@ fn train_named(names: &Names, word: &[u8]) -> Option<TrainNo>
     requires { length names.now.trains.keys ≤ 2 ^ 16 }
     ensures { is_name word.now ≡ true → result ≡ position (same_name word.now) names.now.trains.keys }
 {
-    match Name::read(word) {
-        Some(name) => names.train(name),
-        None => None,
-    }
+    let name = Name::read(word)?;
+    names.train(name)
 }
 
 /// The section whose name is this word.
@@ -167,16 +171,16 @@ fn section_named(names: &Names, word: &[u8]) -> Option<SectionNo>
     requires { length names.now.sections.keys ≤ 2 ^ 16 }
     ensures { is_name word.now ≡ true → result ≡ position (same_name word.now) names.now.sections.keys }
 {
-    match Name::read(word) {
-        Some(name) => names.section(name),
-        None => None,
-    }
+    let name = Name::read(word)?;
+    names.section(name)
 }
 
 /// A closed section.
 fn read_closed(names: &Names, first: &[u8]) -> Option<Cause>
     requires { length names.now.sections.keys ≤ 2 ^ 16 }
-    ensures { (plant : Plant) → HasNames plant names.now → IsNamed plant → (x : ℕ) → x < length plant.tables.sections → first.now ≡ section_word plant x → result ≡ Some (Closed x) }
+    ensures { (plant : Plant) → HasNames plant names.now → IsNamed plant
+        → (x : ℕ) → x < length plant.tables.sections
+        → first.now ≡ section_word plant x → result ≡ Some (Closed x) }
 {
     Some(Cause::Closed {
         section: section_of(names, first)?,
@@ -187,7 +191,9 @@ fn read_closed(names: &Names, first: &[u8]) -> Option<Cause>
 fn read_blocked(names: &Names, first: &[u8], second: &[u8]) -> Option<Cause>
     requires trains { length names.now.trains.keys ≤ 2 ^ 16 }
     requires sections { length names.now.sections.keys ≤ 2 ^ 16 }
-    ensures { (plant : Plant) → HasNames plant names.now → IsNamed plant → (x u : ℕ) → x < length plant.tables.sections → u < trains plant → first.now ≡ section_word plant x → second.now ≡ train_word plant u → result ≡ Some (Blocked x u) }
+    ensures { (plant : Plant) → HasNames plant names.now → IsNamed plant
+        → (x u : ℕ) → x < length plant.tables.sections → u < trains plant
+        → first.now ≡ section_word plant x → second.now ≡ train_word plant u → result ≡ Some (Blocked x u) }
 {
     Some(Cause::Blocked {
         section: section_of(names, first)?,

@@ -29,10 +29,13 @@ pub(crate) fn put_brought<O: Sink>(
     out: &mut O,
 ) -> Result<(), Failed>
     requires room { length line.old < ROOM }
-    requires known { (plant : Plant) × HasNames plant names.now × IsTrue (is_writable_what plant (line_of entry.now kept.now) entry.now.what) }
-    ensures adds { OnOk result (IsHandedOn (O.written out.old) (O.written out.new) line.new (line.old ++ behind (brought_words names.now entry.now.what kept.now))) }
+    requires known { (plant : Plant) × HasNames plant names.now
+        × IsTrue (is_writable_what plant (line_of entry.now kept.now) entry.now.what) }
+    ensures adds { OnOk result (IsHandedOn (O.written out.old) (O.written out.new) line.new
+        (line.old ++ behind (brought_words names.now entry.now.what kept.now))) }
     ensures room { OnOk result (length line.new < ROOM) }
-    ensures failed_adds_prefix { OnErr result (AddsPrefix (O.written out.old) (O.written out.new) (line.old ++ behind (brought_words names.now entry.now.what kept.now))) }
+    ensures failed_adds_prefix { OnErr result (AddsPrefix (O.written out.old) (O.written out.new)
+        (line.old ++ behind (brought_words names.now entry.now.what kept.now))) }
     ensures failed_rose { OnErr result (Rose (O.faults out.old) (O.faults out.new)) }
     ensures faults_never_fall { O.faults out.old ≤ O.faults out.new }
 {
@@ -55,9 +58,11 @@ fn put_items<O: Sink>(
 ) -> Result<(), Failed>
     requires room { length line.old < ROOM }
     requires known { All (λ t. t < length names.now.trains.keys) list.now }
-    ensures adds { OnOk result (IsHandedOn (O.written out.old) (O.written out.new) line.new (line.old ++ behind (map (item_text names.now) (items_of list.now)))) }
+    ensures adds { OnOk result (IsHandedOn (O.written out.old) (O.written out.new) line.new
+        (line.old ++ behind (map (item_text names.now) (items_of list.now)))) }
     ensures room { OnOk result (length line.new < ROOM) }
-    ensures failed_adds_prefix { OnErr result (AddsPrefix (O.written out.old) (O.written out.new) (line.old ++ behind (map (item_text names.now) (items_of list.now)))) }
+    ensures failed_adds_prefix { OnErr result (AddsPrefix (O.written out.old) (O.written out.new)
+        (line.old ++ behind (map (item_text names.now) (items_of list.now)))) }
     ensures failed_rose { OnErr result (Rose (O.faults out.old) (O.faults out.new)) }
     ensures faults_never_fall { O.faults out.old ≤ O.faults out.new }
 {
@@ -79,9 +84,11 @@ fn put_trains<O: Sink>(
 ) -> Result<(), Failed>
     requires room { length line.old < ROOM }
     requires known { All (λ t. t < length names.now.trains.keys) list.now }
-    ensures adds { OnOk result (IsHandedOn (O.written out.old) (O.written out.new) line.new (line.old ++ behind (map (train_name names.now) list.now))) }
+    ensures adds { OnOk result (IsHandedOn (O.written out.old) (O.written out.new) line.new
+        (line.old ++ behind (map (train_name names.now) list.now))) }
     ensures room { OnOk result (length line.new < ROOM) }
-    ensures failed_adds_prefix { OnErr result (AddsPrefix (O.written out.old) (O.written out.new) (line.old ++ behind (map (train_name names.now) list.now))) }
+    ensures failed_adds_prefix { OnErr result (AddsPrefix (O.written out.old) (O.written out.new)
+        (line.old ++ behind (map (train_name names.now) list.now))) }
     ensures failed_rose { OnErr result (Rose (O.faults out.old) (O.faults out.new)) }
     ensures faults_never_fall { O.faults out.old ≤ O.faults out.new }
 {
@@ -111,9 +118,11 @@ fn put_item<O: Sink>(
 ) -> Result<(), Failed>
     requires room { length line.old < ROOM }
     requires known { train < length names.now.trains.keys }
-    ensures adds { OnOk result (IsHandedOn (O.written out.old) (O.written out.new) line.new (line.old ++ 32 ∷ item_text names.now (record { train = train; count = count }))) }
+    ensures adds { OnOk result (IsHandedOn (O.written out.old) (O.written out.new) line.new
+        (line.old ++ 32 ∷ item_text names.now (record { train = train; count = count }))) }
     ensures room { OnOk result (length line.new < ROOM) }
-    ensures failed_adds_prefix { OnErr result (AddsPrefix (O.written out.old) (O.written out.new) (line.old ++ 32 ∷ item_text names.now (record { train = train; count = count }))) }
+    ensures failed_adds_prefix { OnErr result (AddsPrefix (O.written out.old) (O.written out.new)
+        (line.old ++ 32 ∷ item_text names.now (record { train = train; count = count }))) }
     ensures failed_rose { OnErr result (Rose (O.faults out.old) (O.faults out.new)) }
     ensures faults_never_fall { O.faults out.old ≤ O.faults out.new }
 {

@@ -47,7 +47,8 @@ fn put_section(line: &mut Line, names: &Names, section: SectionNo)
 pub(crate) fn put_what(line: &mut Line, names: &Names, entry: &Entry)
     requires room { length line.old + 128 ≤ ROOM }
     requires known { (plant : Plant) × HasNames plant names.now × IsTrue (is_writable_what plant (bare entry.now) entry.now.what) }
-    ensures text { (plant : Plant) → HasNames plant names.now → line.new ≡ line.old ++ behind (what_words plant (bare entry.now) entry.now.what) }
+    ensures text { (plant : Plant) → HasNames plant names.now
+        → line.new ≡ line.old ++ behind (what_words plant (bare entry.now) entry.now.what) }
     ensures short { length line.new ≤ length line.old + 128 }
 {
     match entry.what {
@@ -107,7 +108,8 @@ pub(crate) fn put_what(line: &mut Line, names: &Names, entry: &Entry)
 fn put_move(line: &mut Line, names: &Names, train: TrainNo, place: u16)
     requires room { length line.old + 58 ≤ ROOM }
     requires known { train < length names.now.trains.keys }
-    ensures text { (plant : Plant) → HasNames plant names.now → line.new ≡ line.old ++ behind (train_word plant train ∷ decimal place ∷ []) }
+    ensures text { (plant : Plant) → HasNames plant names.now
+        → line.new ≡ line.old ++ behind (train_word plant train ∷ decimal place ∷ []) }
     ensures short { length line.new ≤ length line.old + 58 }
 {
     put_train(line, names, train);

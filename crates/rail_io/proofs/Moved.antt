@@ -21,6 +21,9 @@ front_and_moved front into post rest filled count len is_front is_within fits =
     rw (take-take, append_assoc, ← is_front, take-append-add, append_assoc, take-append-le) refl
 
 -- the bytes read before, those moved now, and those left are those that were left at first
-pub read_more : (first left now : Option (List ℕ)) (bytes front into post rest : List ℕ) (filled count len : ℕ) → first ≡ prepend_known (take filled bytes) left → front ≡ take filled bytes → length front ≡ filled → left ≡ prepend_known (take count into) now → count ≤ length into → filled + count ≤ len → first ≡ prepend_known (take (filled + count) (take len (front ++ (into ++ post) ++ rest))) now
+pub read_more : (first left now : Option (List ℕ)) (bytes front into post rest : List ℕ) (filled count len : ℕ)
+    → first ≡ prepend_known (take filled bytes) left → front ≡ take filled bytes → length front ≡ filled
+    → left ≡ prepend_known (take count into) now → count ≤ length into → filled + count ≤ len
+    → first ≡ prepend_known (take (filled + count) (take len (front ++ (into ++ post) ++ rest))) now
 read_more first left now bytes front into post rest filled count len before same is_front moved is_within fits =
     rw (front_and_moved front into post rest filled count len is_front is_within fits, prepend_known_twice front (take count into) now, ← moved, same) before

@@ -26,7 +26,8 @@ after_begin reading name = record reading { name = Some name; is_begun = true; h
 
 -- the file of this name could not be begun
 abbrev pub after_refusal : Reading → List ℕ → Reading
-after_refusal reading name = record reading { name = Some name; is_begun = false; has_failed = true; moved = 0; faults = raised reading.faults }
+after_refusal reading name =
+    record reading { name = Some name; is_begun = false; has_failed = true; moved = 0; faults = raised reading.faults }
 
 -- a read of the begun file failed
 abbrev pub after_failure : Reading → Reading

@@ -135,7 +135,14 @@ module _ (input : Input) (front : Front) (timely : IsTimely input front) (going 
           let r = and_parts (eqb line.entry.at (instant front) && eqb (length (due_lines input front)) 0) (same_numbers line.trains (remaining input front)) (unnot _ q.0) in
           let v = and_parts (eqb line.entry.at (instant front)) (eqb (length (due_lines input front)) 0) r.0 in
           let settled = quiet_cases front going (none_quiet (due_lines input front) (instant front) v.1) q.1 in
-          and_from ((eqb line.entry.at (instant front) && is_settled input front) && eqb (length (due_lines input front)) 0) (same_numbers line.trains (remaining input front)) (and_from (eqb line.entry.at (instant front) && is_settled input front) (eqb (length (due_lines input front)) 0) (and_from (eqb line.entry.at (instant front)) (is_settled input front) v.0 settled) v.1) r.1
+          and_from
+          ((eqb line.entry.at (instant front) && is_settled input front) && eqb (length (due_lines input front)) 0)
+          (same_numbers line.trains (remaining input front))
+          (and_from (eqb line.entry.at (instant front) && is_settled input front)
+          (eqb (length (due_lines input front)) 0)
+          (and_from (eqb line.entry.at (instant front)) (is_settled input front) v.0 settled)
+          v.1)
+          r.1
 
   -- the least due line is not before the instant
   not_past : is_least (due_lines input front) line.entry ≡ true → instant front ≤ line.entry.at
@@ -271,7 +278,15 @@ module _ (input : Input) (front : Front) (timely : IsTimely input front) (going 
   by_what (Admit t m note) own =
       let bars = no_bar (stop t) (closed t) (blocked t) in
       (λ i. (((((eqb line.entry.at (instant front) && waits input front t) && not (bars i)) && eqb m (suc (place front t))) && not (has_held front)) && note_fits line (place front t) note) && completes (moves_of input.plant) (places_after input front t) (kept input.plant (line ∷ front)))
-      ∙ admit_is (eqb line.entry.at (instant front)) (waits input front t) (eqb m (suc (place front t))) (has_held front) (note_fits line (place front t) note) (completes (moves_of input.plant) (places_after input front t) (kept input.plant (line ∷ front))) (is_some (stop t)) (is_some (closed t)) (is_some (blocked t))
+      ∙ admit_is (eqb line.entry.at (instant front))
+      (waits input front t)
+      (eqb m (suc (place front t)))
+      (has_held front)
+      (note_fits line (place front t) note)
+      (completes (moves_of input.plant) (places_after input front t) (kept input.plant (line ∷ front)))
+      (is_some (stop t))
+      (is_some (closed t))
+      (is_some (blocked t))
   by_what (Hold t m why) own = hold_is t m why own
   by_what End own = end_is ∙ sym (ap not (five (not ((eqb line.entry.at (instant front) && eqb (length (due_lines input front)) 0) && same_numbers line.trains (remaining input front))) (is_undecided input front)))
   by_what (Free x t) own = event own
@@ -282,7 +297,10 @@ module _ (input : Input) (front : Front) (timely : IsTimely input front) (going 
   by_what (Told k) own = event own
   by_what (Untold k) own = event own
 
-pub exactly : (input : Input) → is_accepted input.plant ≡ true → (front : Front) → is_lawful input front ≡ true → has_ended front ≡ false → (line : Line) → brings_its_own line line.entry.what ≡ true → may_follow input front line ≡ not (does_break input front line line.entry.what)
+pub exactly : (input : Input) → is_accepted input.plant ≡ true → (front : Front)
+    → is_lawful input front ≡ true → has_ended front ≡ false → (line : Line)
+    → brings_its_own line line.entry.what ≡ true
+    → may_follow input front line ≡ not (does_break input front line line.entry.what)
 exactly input accepted front lawful going line own =
     ap (λ b. not b && may_follow_as input front line line.entry.what) going
     ∙ by_what input front (timely input (well_formed_from_accepted input.plant accepted) front lawful) going line line.entry.what own

@@ -11,7 +11,8 @@ use Rattle.rail_base.specs.declared.history.What.TheVariants.{Free, Arrive, Ente
 use Rattle.rail_rules.specs.Lawful.{is_complete, is_lawful, may_follow}
 use Rattle.rail_rules.specs.Orders.{Input}
 use Rattle.rail_rules.specs.RunHistories.{is_run_line}
-use Rattle.rail_laws_front.proofs.CallerLemmas.{accepted_parts, well_formed_from_accepted, viewed, not_ended, deciding_quiet}
+use Rattle.rail_laws_front.proofs.CallerLemmas.{well_formed_from_accepted, viewed, not_ended, deciding_quiet}
+use Rattle.rail_rules.proofs.CallerLemmas.{accepted_parts}
 use Rattle.rail_laws_front.specs.Premises.{IsWellFormed}
 use Rattle.rail_laws_front.specs.Views.{Follows, Holds, is_event}
 use Rattle.rail_base.specs.declared.history.Cause.{Cause}
@@ -38,7 +39,10 @@ no_run_line input front line none = of line.entry.what none
     of (Hold t m c) h = refl
     of End h = refl
 
-pub one_other : (input : Input) → is_accepted input.plant ≡ true → (front : Front) → is_lawful input front ≡ true → (a b : Line) → may_follow input front a ≡ true → may_follow input front b ≡ true → is_admission a.entry.what ≡ false → is_admission b.entry.what ≡ false → a ≡ b
+pub one_other : (input : Input) → is_accepted input.plant ≡ true → (front : Front)
+    → is_lawful input front ≡ true → (a b : Line) → may_follow input front a ≡ true
+    → may_follow input front b ≡ true → is_admission a.entry.what ≡ false
+    → is_admission b.entry.what ≡ false → a ≡ b
 one_other input accepted front lawful a b ma mb na nb =
     ⊎_elim
     (λ same. same)
@@ -48,7 +52,10 @@ one_other input accepted front lawful a b ma mb na nb =
     few : trains input.plant ≤ TRAINS
     few = (accepted_parts input.plant accepted).few_trains
 
-pub only_admissions : (input : Input) → is_accepted input.plant ≡ true → (front : Front) → is_lawful input front ≡ true → (line : Line) (t : ℕ) → is_deciding input front ≡ true → could_go input front t ≡ true → is_admission line.entry.what ≡ false → may_follow input front line ≡ false
+pub only_admissions : (input : Input) → is_accepted input.plant ≡ true → (front : Front)
+    → is_lawful input front ≡ true → (line : Line) (t : ℕ) → is_deciding input front ≡ true
+    → could_go input front t ≡ true → is_admission line.entry.what ≡ false
+    → may_follow input front line ≡ false
 only_admissions input accepted front lawful line t deciding goes none =
     false_from_ne_true (may_follow input front line) (λ may. of (viewed input front line may))
   where

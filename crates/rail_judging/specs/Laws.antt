@@ -18,7 +18,9 @@ use Rattle.rail_judging.specs.Verdicts.{is_forbidden, is_misplaced, is_occupied,
 abbrev pub is_not_due : Input → Front → Line → What → Bool
 is_not_due input front line (Admit t m note) = false
 is_not_due input front line (Hold t m why) = false
-is_not_due input front line End = not ((line.entry.at == instant front) && (length (due_lines input front) == 0) && same_numbers line.trains (remaining input front))
+is_not_due input front line End =
+    not ((line.entry.at == instant front) && (length (due_lines input front) == 0)
+    && same_numbers line.trains (remaining input front))
 is_not_due input front line _ = not (is_least (due_lines input front) line.entry)
 
 -- law 2: an admission of a train that isn't waiting at this instant, or of another move, or after a hold line of the round
@@ -38,10 +40,13 @@ is_over_occupied input front _ = false
 
 -- law 5: an admission after which the kept list doesn't complete, or whose note doesn't fit
 abbrev pub is_without_list : Input → Front → Line → What → Bool
-is_without_list input front line (Admit t m note) = not (note_fits line (place front t) note && completes (moves_of input.plant) (places_after input front t) (kept input.plant (line ∷ front)))
+is_without_list input front line (Admit t m note) =
+    not (note_fits line (place front t) note
+    && completes (moves_of input.plant) (places_after input front t) (kept input.plant (line ∷ front)))
 is_without_list input front line _ = false
 
--- law 6 of a hold line: its train isn't waiting at this instant, or another move is named; its cause isn't true, or was named by the last one; an earlier train has a hold line due; or some train could be admitted
+-- law 6 of a hold line: its train isn't waiting at this instant, or another move is named; its cause isn't true, or was
+-- named by the last one; an earlier train has a hold line due; or some train could be admitted
 abbrev pub is_wrong_hold : Input → Front → Line → ℕ → ℕ → Cause → Bool
 is_wrong_hold input front line t m why = not ((line.entry.at == instant front) && waits input front t && (m == suc (place front t)))
     || not (same_cause (Some why) (cause input front t)) || same_cause (last_hold front t m) (Some why)
@@ -56,7 +61,8 @@ is_untimely input front line _ = is_undecided input front
 
 -- some law applies to the line
 abbrev pub does_break : Input → Front → Line → What → Bool
-does_break input front line what = is_not_due input front line what || is_out_of_place input front line what || is_against_orders input front what
+does_break input front line what = is_not_due input front line what || is_out_of_place input front line what
+    || is_against_orders input front what
     || is_over_occupied input front what || is_without_list input front line what || is_untimely input front line what
 
 -- only a fresh admission and an end line bring trains
@@ -68,4 +74,5 @@ brings_its_own line _ = is_bare line
 -- the least law that applies to a line, but the sixth before the first
 abbrev pub least_law : Input → Front → Line → What → ℕ
 least_law input front line what = cond (is_untimely input front line what) 6 (cond (is_not_due input front line what) 1
-    (cond (is_out_of_place input front line what) 2 (cond (is_against_orders input front what) 3 (cond (is_over_occupied input front what) 4 5))))
+    (cond (is_out_of_place input front line what) 2
+    (cond (is_against_orders input front what) 3 (cond (is_over_occupied input front what) 4 5))))

@@ -14,11 +14,13 @@ is_undecided input front = is_deciding input front && not (is_settled input fron
 
 -- the train isn't waiting at this instant, or another move is named, or a hold line stands before it in the round
 abbrev pub is_misplaced : Input → Front → Line → ℕ → ℕ → Bool
-is_misplaced input front line t m = not ((line.entry.at == instant front) && waits input front t && (m == suc (place front t)) && not (has_held front))
+is_misplaced input front line t m =
+    not ((line.entry.at == instant front) && waits input front t && (m == suc (place front t)) && not (has_held front))
 
 -- the train is stopped, or a needed section of its next move is closed
 abbrev pub is_forbidden : Input → Front → ℕ → Bool
-is_forbidden input front t = is_some (stop_cause t (told input.commands front)) || is_some (closed_cause (claimed input.plant t (place front t)) (told input.commands front))
+is_forbidden input front t = is_some (stop_cause t (told input.commands front))
+    || is_some (closed_cause (claimed input.plant t (place front t)) (told input.commands front))
 
 -- a needed section of its next move has an interval that contains the instant
 abbrev pub is_occupied : Input → Front → ℕ → Bool
@@ -26,7 +28,8 @@ is_occupied input front t = is_some (blocked_cause input front (claimed input.pl
 
 -- the law that a line breaks which may not follow, by its kind
 abbrev pub law_of : Input → Front → Line → What → ℕ
-law_of input front line (Admit t m note) = cond (is_misplaced input front line t m) 2 (cond (is_forbidden input front t) 3 (cond (is_occupied input front t) 4 5))
+law_of input front line (Admit t m note) = cond (is_misplaced input front line t m) 2
+    (cond (is_forbidden input front t) 3 (cond (is_occupied input front t) 4 5))
 law_of input front line (Hold t m why) = 6
 law_of input front line _ = cond (is_undecided input front) 6 1
 
@@ -46,7 +49,9 @@ pub data Verdict : Type 0 where
 -- the verdict on the lines behind a front, the first of which is counted n
 abbrev pub verdict_behind : Input → Front → ℕ → List Line → Verdict
 verdict_behind input front n [] = cond (has_ended front) yes (no n (missing_law input front))
-verdict_behind input front n (line ∷ lines) = cond (may_follow input front line) (verdict_behind input (line ∷ front) (suc n) lines) (no n (broken_law input front line))
+verdict_behind input front n (line ∷ lines) = cond (may_follow input front line)
+    (verdict_behind input (line ∷ front) (suc n) lines)
+    (no n (broken_law input front line))
 
 -- the verdict on a history, whose lines are given from the oldest on
 abbrev pub verdict : Input → List Line → Verdict

@@ -17,7 +17,8 @@ pub fn one_line_beside_admissions_may_follow()
 
 /// Where nothing is due at the instant and a train could be admitted, only admissions may follow.
 pub fn where_a_train_could_go_only_admissions_follow()
-    ensures { (input : Input) → IsTrue (is_accepted input.plant) → (front : Front) → IsTrue (is_lawful input front) → (line : Line) (t : ℕ)
+    ensures { (input : Input) → IsTrue (is_accepted input.plant) → (front : Front)
+        → IsTrue (is_lawful input front) → (line : Line) (t : ℕ)
         → is_deciding input front ≡ true → could_go input front t ≡ true
         → is_admission line.entry.what ≡ false → may_follow input front line ≡ false }
 {}
@@ -35,12 +36,14 @@ pub fn a_history_is_judged()
 /// An event line or the end line may follow only where nothing is left to decide.
 pub fn where_another_line_follows_nothing_is_left_to_decide()
     ensures { (input : Input) → IsTrue (is_accepted input.plant) → (front : Front) → IsTrue (is_lawful input front) → (line : Line)
-        → IsTrue (may_follow input front line) → is_admission line.entry.what ≡ false → is_hold line.entry.what ≡ false → is_undecided input front ≡ false }
+        → IsTrue (may_follow input front line) → is_admission line.entry.what ≡ false
+        → is_hold line.entry.what ≡ false → is_undecided input front ≡ false }
 {}
 
 /// A line may follow a lawful front that has not ended exactly where no law applies to it.
 pub fn a_line_may_follow_where_no_law_applies()
-    ensures { (input : Input) → IsTrue (is_accepted input.plant) → (front : Front) → IsTrue (is_lawful input front) → has_ended front ≡ false
+    ensures { (input : Input) → IsTrue (is_accepted input.plant) → (front : Front)
+        → IsTrue (is_lawful input front) → has_ended front ≡ false
         → (line : Line) → IsTrue (brings_its_own line line.entry.what)
         → may_follow input front line ≡ not (does_break input front line line.entry.what) }
 {}
@@ -48,5 +51,6 @@ pub fn a_line_may_follow_where_no_law_applies()
 /// The law that is named is the least that applies, but the sixth before the first.
 pub fn the_law_that_is_named_is_the_least()
     ensures { (input : Input) (front : Front) → has_ended front ≡ false → (line : Line)
-        → IsTrue (does_break input front line line.entry.what) → broken_law input front line ≡ least_law input front line line.entry.what }
+        → IsTrue (does_break input front line line.entry.what)
+        → broken_law input front line ≡ least_law input front line line.entry.what }
 {}

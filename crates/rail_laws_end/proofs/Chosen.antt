@@ -49,7 +49,10 @@ mark_below input seats name (line ∷ before) h =
     (λ _. earlier)
 
 -- keys of a built-in kind tell trains
-key_tells : (input : Input) (seats : List Seat) (front : Front) (t u : ℕ) (kind : PolicyKind) → is_built_in kind ≡ true → are_marks seats ≡ true → t < 128 → u < 128 → comes_before (key input seats front t kind) (key input seats front u kind) ≡ false → comes_before (key input seats front u kind) (key input seats front t kind) ≡ false → t ≡ u
+key_tells : (input : Input) (seats : List Seat) (front : Front) (t u : ℕ) (kind : PolicyKind)
+    → is_built_in kind ≡ true → are_marks seats ≡ true → t < 128 → u < 128
+    → comes_before (key input seats front t kind) (key input seats front u kind) ≡ false
+    → comes_before (key input seats front u kind) (key input seats front t kind) ≡ false → t ≡ u
 key_tells input seats front t u Priority built marks lt lu first second = ap (λ k. get_or k 2 0) (neither_before (key input seats front t Priority) (key input seats front u Priority) refl first second)
 key_tells input seats front t u Timetable built marks lt lu first second = ap (λ k. get_or k 1 0) (neither_before (key input seats front t Timetable) (key input seats front u Timetable) refl first second)
 key_tells input seats front t u Fcfs built marks lt lu first second = ap (λ k. get_or k 1 0) (neither_before (key input seats front t Fcfs) (key input seats front u Fcfs) refl first second)
@@ -58,7 +61,11 @@ key_tells input seats front t u Rotating built marks lt lu first second =
 key_tells input seats front t u Custom built marks lt lu first second = absurd (false≢true built)
 
 -- two trains that are both chosen are one
-pub one_chosen : (input : Input) (seats : List Seat) (front : Front) (t u : ℕ) → is_built_in (kind_in_force input seats front) ≡ true → are_marks seats ≡ true → trains input.plant ≤ 128 → t < trains input.plant → u < trains input.plant → could_go input front t ≡ true → could_go input front u ≡ true → is_chosen input seats front t ≡ true → is_chosen input seats front u ≡ true → t ≡ u
+pub one_chosen : (input : Input) (seats : List Seat) (front : Front) (t u : ℕ)
+    → is_built_in (kind_in_force input seats front) ≡ true → are_marks seats ≡ true
+    → trains input.plant ≤ 128 → t < trains input.plant → u < trains input.plant
+    → could_go input front t ≡ true → could_go input front u ≡ true → is_chosen input seats front t ≡ true
+    → is_chosen input seats front u ≡ true → t ≡ u
 one_chosen input seats front t u built marks few lt lu goes_t goes_u chosen_t chosen_u =
     key_tells input seats front t u (kind_in_force input seats front) built marks (omega (arith, lt, few)) (omega (arith, lu, few)) (not_before u t goes_t chosen_u lt) (not_before t u goes_u chosen_t lu)
   where
@@ -67,6 +74,14 @@ one_chosen input seats front t u built marks few lt lu goes_t goes_u chosen_t ch
         let kind : PolicyKind = kind_in_force input seats front in
         let test : ℕ → Bool = λ v. not (could_go input front v && comes_before (key input seats front v kind) (key input seats front a kind)) in
         ⊎_elim
-        (λ is. absurd (false≢true (sym (not-true (could_go input front b && comes_before (key input seats front b kind) (key input seats front a kind)) (all_below_at test (trains input.plant) b chosen lb)) ∙ and_from (could_go input front b) (comes_before (key input seats front b kind) (key input seats front a kind)) goes is)))
+        (λ is. absurd
+        (false≢true
+        (sym (not-true
+        (could_go input front b
+        && comes_before (key input seats front b kind) (key input seats front a kind))
+        (all_below_at test (trains input.plant) b chosen lb))
+        ∙ and_from (could_go input front b)
+        (comes_before (key input seats front b kind) (key input seats front a kind))
+        goes is)))
         (λ none. none)
         (cases_Bool (comes_before (key input seats front b kind) (key input seats front a kind)))

@@ -10,7 +10,8 @@ use Rattle.rail_rules.specs.Lawful.{is_lawful, may_follow}
 use Rattle.rail_rules.specs.RunHistories.{Seat, is_run_line, is_run, is_run_history}
 use Rattle.rail_rules.specs.Accepted.{is_accepted}
 use Rattle.rail_laws_front.specs.Premises.{IsWellFormed}
-use Rattle.rail_laws_front.proofs.CallerLemmas.{viewed, not_ended, accepted_parts, well_formed_from_accepted}
+use Rattle.rail_laws_front.proofs.CallerLemmas.{viewed, not_ended, well_formed_from_accepted}
+use Rattle.rail_rules.proofs.CallerLemmas.{accepted_parts}
 use Rattle.rail_laws_end.specs.Forks.{is_built_in, kind_in_force, is_built_in_throughout, are_marks, IsFork}
 use Rattle.rail_laws_end.proofs.Steps.{next_lines}
 

@@ -44,7 +44,12 @@ all_counted input (line ∷ front) lawful = step (all_counted input front (lawfu
     count : ℕ → ℕ
     count t = lines_that (holds_train t) front
 
-    longer : length front ≤ lines_beside_holds front + sum_below (λ t. lines_that (holds_train t) front) (trains input.plant) → is_hold line.entry.what ≡ false → length (line ∷ front) ≤ lines_beside_holds (line ∷ front) + sum_below (λ t. lines_that (holds_train t) (line ∷ front)) (trains input.plant)
+    longer : length front
+        ≤ lines_beside_holds front + sum_below (λ t. lines_that (holds_train t) front) (trains input.plant)
+        → is_hold line.entry.what ≡ false
+        → length (line ∷ front)
+        ≤ lines_beside_holds (line ∷ front)
+        + sum_below (λ t. lines_that (holds_train t) (line ∷ front)) (trains input.plant)
     longer before none =
         omega (
           arith,
@@ -54,7 +59,12 @@ all_counted input (line ∷ front) lawful = step (all_counted input front (lawfu
               (λ t _. omega (arith, cond-false {A = ℕ} (holds_train t line.entry.what) 1 0 (no_hold_no_train line.entry.what t none))),
         )
 
-    held : length front ≤ lines_beside_holds front + sum_below (λ t. lines_that (holds_train t) front) (trains input.plant) → (u m : ℕ) (why : Cause) → Holds input front line u m why → length (line ∷ front) ≤ lines_beside_holds (line ∷ front) + sum_below (λ t. lines_that (holds_train t) (line ∷ front)) (trains input.plant)
+    held : length front
+        ≤ lines_beside_holds front + sum_below (λ t. lines_that (holds_train t) front) (trains input.plant)
+        → (u m : ℕ) (why : Cause) → Holds input front line u m why
+        → length (line ∷ front)
+        ≤ lines_beside_holds (line ∷ front)
+        + sum_below (λ t. lines_that (holds_train t) (line ∷ front)) (trains input.plant)
     held before u m why holds =
         let known : u < trains input.plant =
         ⊎_elim
@@ -70,7 +80,12 @@ all_counted input (line ∷ front) lawful = step (all_counted input front (lawfu
               (λ t _ other. omega (arith, cond-false {A = ℕ} (holds_train t line.entry.what) 1 0 (ap (holds_train t) holds.what ∙ ne_eqb u t (λ e. other (sym e))))),
         )
 
-    step : length front ≤ lines_beside_holds front + sum_below (λ t. lines_that (holds_train t) front) (trains input.plant) → Follows input front line → length (line ∷ front) ≤ lines_beside_holds (line ∷ front) + sum_below (λ t. lines_that (holds_train t) (line ∷ front)) (trains input.plant)
+    step : length front
+        ≤ lines_beside_holds front + sum_below (λ t. lines_that (holds_train t) front) (trains input.plant)
+        → Follows input front line
+        → length (line ∷ front)
+        ≤ lines_beside_holds (line ∷ front)
+        + sum_below (λ t. lines_that (holds_train t) (line ∷ front)) (trains input.plant)
     step before (by_event happens) = longer before (event_no_hold line.entry.what happens.event)
     step before (by_admission u m note admits) = longer before (ap is_hold admits.what)
     step before (by_hold u m why holds) = held before u m why holds

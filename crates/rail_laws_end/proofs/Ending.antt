@@ -28,7 +28,7 @@ use Rattle.rail_laws_front.proofs.CallerLemmas.{lawful_before, lawful_last, told
 use Rattle.rail_laws_events.specs.Accounts.{tally, is_train_event, written, all_events, to_come}
 use Rattle.rail_laws_events.proofs.CallerLemmas.{one_entry, account, few_admissions, tally_all, all_written, few_written, written_no_less, met}
 use Rattle.rail_laws_end.specs.Remaining.{NothingIsBarred, NobodyIsCancelled}
-use Rattle.rail_laws_end.proofs.Telling.{cancelled_never_goes}
+use Rattle.rail_laws_events.proofs.CallerLemmas.{cancelled_never_goes}
 use Rattle.rail_laws_end.proofs.Quiet.{none_due, all_stand, legal_unbarred, no_cause}
 use Rattle.rail_laws_end.proofs.Alone.{nobody_there, nothing_held, enters_alone}
 
@@ -265,7 +265,9 @@ free_before input line front h free =
     }
 
 -- at the end each train is out or was cancelled
-pub all_out : (input : Input) → IsWellFormed input.plant → (front : Front) → is_lawful input front ≡ true → has_ended front ≡ true → NothingIsBarred input front → (t : ℕ) → t < trains input.plant → (is_out front t ≡ true) ⊎ (is_cancelled t (told input.commands front) ≡ true)
+pub all_out : (input : Input) → IsWellFormed input.plant → (front : Front) → is_lawful input front ≡ true
+    → has_ended front ≡ true → NothingIsBarred input front → (t : ℕ) → t < trains input.plant
+    → (is_out front t ≡ true) ⊎ (is_cancelled t (told input.commands front) ≡ true)
 all_out input fine [] lawful ended free t known = absurd (false≢true ended)
 all_out input fine (line ∷ front) lawful ended free t known =
     let h = at_end input line front lawful ended in

@@ -1,7 +1,6 @@
 -- The lemmas of this crate; those for the crates above stand in CallerLemmas.
 pub mod CallerLemmas
 -- Lemmas on the end of a history, which the laws above cite.
-mod Telling
 mod Quiet
 mod Alone
 mod Ending

@@ -99,7 +99,11 @@ no_closed orders [] h = refl
 no_closed orders (x ∷ sections) h = cond-false (is_closed x orders) (Some x) (find (λ y. is_closed y orders) sections) (h x) ∙ no_closed orders sections h
 
 -- a legal next move of a train isn't barred where nothing is due and no closure and no stop remains
-pub legal_unbarred : (input : Input) → IsWellFormed input.plant → (front : Front) → is_lawful input front ≡ true → length (due_lines input front) ≡ 0 → NothingIsBarred input front → (t : ℕ) → ((x : ℕ) → is_in x (needed input.plant t (place front t)) ≡ true → is_held (moves_of input.plant) (places input.plant front) x ≡ false) → is_some (bar input front t) ≡ false
+pub legal_unbarred : (input : Input) → IsWellFormed input.plant → (front : Front) → is_lawful input front ≡ true
+    → length (due_lines input front) ≡ 0 → NothingIsBarred input front → (t : ℕ)
+    → ((x : ℕ) → is_in x (needed input.plant t (place front t)) ≡ true
+    → is_held (moves_of input.plant) (places input.plant front) x ≡ false)
+    → is_some (bar input front t) ≡ false
 legal_unbarred input fine front lawful nothing free t unheld =
     let orders : List Order = told input.commands front in
     let sections : List ℕ = needed input.plant t (place front t) in

@@ -90,7 +90,14 @@ module _ (input : Input) (fine : IsWellFormed input.plant) (front : Front) (lawf
       nobody_at : (u : ℕ) → is_inside (moves_of input.plant) (after (places input.plant front) t) u ≡ false
       nobody_at u =
           ⊎_elim
-          (λ lt. any_below_at (is_inside (moves_of input.plant) (after (places input.plant front) t)) (length (after (places input.plant front) t)) u (not-true (any_below (is_inside (moves_of input.plant) (after (places input.plant front) t)) (length (after (places input.plant front) t))) nobody) lt)
+          (λ lt. any_below_at (is_inside (moves_of input.plant) (after (places input.plant front) t))
+          (length (after (places input.plant front) t))
+          u
+          (not-true
+          (any_below (is_inside (moves_of input.plant) (after (places input.plant front) t))
+          (length (after (places input.plant front) t)))
+          nobody)
+          lt)
           (λ past.
           let P : ℕ → Type 0 = λ p. (ltb 0 p && ltb p (moves input.plant u)) ≡ false in
           subst P (sym (get_or_past (after (places input.plant front) t) u 0 past)) refl)
@@ -143,7 +150,13 @@ pub record CanAdmit (input : Input) (front : Front) (t : ℕ) : Type 0 where
   pub list : List ℕ
   pub may : may_admit input front (admit_line input front t note list) t (suc (place front t)) note ≡ true
 
-may_from : (input : Input) (front : Front) (t : ℕ) (note : Note) (list : List ℕ) → waits input front t ≡ true → is_some (bar input front t) ≡ false → has_held front ≡ false → note_fits (admit_line input front t note list) (place front t) note ≡ true → completes (moves_of input.plant) (places_after input front t) (kept input.plant (admit_line input front t note list ∷ front)) ≡ true → may_admit input front (admit_line input front t note list) t (suc (place front t)) note ≡ true
+may_from : (input : Input) (front : Front) (t : ℕ) (note : Note) (list : List ℕ) → waits input front t ≡ true
+    → is_some (bar input front t) ≡ false → has_held front ≡ false
+    → note_fits (admit_line input front t note list) (place front t) note ≡ true
+    → completes (moves_of input.plant)
+    (places_after input front t)
+    (kept input.plant (admit_line input front t note list ∷ front))
+    ≡ true → may_admit input front (admit_line input front t note list) t (suc (place front t)) note ≡ true
 unfolding admit_line
 may_from input front t note list waiting unbarred no_hold fits complete =
     let line : Line = record { entry = at_time (instant front) (Admit t (suc (place front t)) note); trains = list } in
@@ -161,13 +174,24 @@ list_known : (b : Bool) → is_some (cond b None (Some NoList)) ≡ false → b 
 list_known true h = refl
 list_known false h = absurd (false≢true (sym h))
 
-pub can_admit : (input : Input) → IsWellFormed input.plant → (front : Front) → is_lawful input front ≡ true → (t : ℕ) → t < trains input.plant → place front t < moves input.plant t → waits input front t ≡ true → has_held front ≡ false → is_some (cause input front t) ≡ false → CanAdmit input front t
+pub can_admit : (input : Input) → IsWellFormed input.plant → (front : Front) → is_lawful input front ≡ true
+    → (t : ℕ) → t < trains input.plant → place front t < moves input.plant t → waits input front t ≡ true
+    → has_held front ≡ false → is_some (cause input front t) ≡ false → CanAdmit input front t
 unfolding admit_line now plan
 can_admit input fine front lawful t known room waiting no_hold none =
     ⊎_elim
     (λ repairs. ⊎_elim
     (λ inside. record { note = Pulled; list = []; may = may_from input front t Pulled [] waiting clear.0 no_hold (lt-ltb 0 (place front t) inside) (ap (completes (moves_of input.plant) (places_after input front t)) (sym (repaired_inside input fine front lawful t known room inside)) ∙ repairs) })
-    (λ outside. record { note = Appended; list = []; may = may_from input front t Appended [] waiting clear.0 no_hold (eq-eqb (place front t) 0 (omega (arith, outside))) (ap (completes (moves_of input.plant) (places_after input front t)) (sym (repaired_outside input fine front lawful t known room (omega (arith, outside)))) ∙ repairs) })
+    (λ outside.
+    record {
+      note = Appended;
+      list = [];
+      may = may_from input front t Appended [] waiting clear.0 no_hold
+          (eq-eqb (place front t) 0 (omega (arith, outside)))
+          (ap (completes (moves_of input.plant) (places_after input front t))
+          (sym (repaired_outside input fine front lawful t known room (omega (arith, outside))))
+          ∙ repairs);
+    })
     (cases_lt 0 (place front t)))
     (λ broken.
     let found : finds (moves_of input.plant) input.plant.tables.depth (places_after input front t) ≡ true =

@@ -222,7 +222,11 @@ module _ (input : Input) (fine : IsWellFormed input.plant) (few : trains input.p
       same_train a b t m n first second ha (subst P (sym one) hb) ra.repairs (subst Q (sym one) rb.repairs)
 
   -- two next lines of a run
-  pub next_lines : (a b : Line) → Follows input front a → Follows input front b → is_run_line input seats front a.entry.what ≡ true → is_run_line input seats front b.entry.what ≡ true → (is_admission a.entry.what ≡ true → is_admission b.entry.what ≡ true → is_built_in (kind_in_force input seats front) ≡ true) → (a ≡ b) ⊎ AreForked a b
+  pub next_lines : (a b : Line) → Follows input front a → Follows input front b
+      → is_run_line input seats front a.entry.what ≡ true → is_run_line input seats front b.entry.what ≡ true
+      → (is_admission a.entry.what ≡ true → is_admission b.entry.what ≡ true
+      → is_built_in (kind_in_force input seats front) ≡ true)
+      → (a ≡ b) ⊎ AreForked a b
   next_lines a b (by_event ha) (by_event hb) ra rb built = inl (event_event a b ha hb)
   next_lines a b (by_event ha) (by_admission u n note hb) ra rb built = absurd (event_alone a ha (waiting_parts input front u hb.waiting).deciding (admission_unsettles b u note (runs_from b u n note hb rb)))
   next_lines a b (by_event ha) (by_hold u n why hb) ra rb built = absurd (event_alone a ha hb.deciding (hold_unsettles b u n why hb))

@@ -9,7 +9,9 @@ use Rattle.rail_rules.specs.Analysis.{Leg, is_leg, after_leg, clears}
 use Rattle.rail_rules.proofs.CallerLemmas.{all_below_at, leg_parts}
 
 -- the moves of a leg, one after another
-along_leg : (plan : Moves) (s : List ℕ) (leg : Leg) (rest : List ℕ) → is_leg plan s leg ≡ true → completes plan (after_leg s leg) rest ≡ true → (n i : ℕ) → i + n ≡ leg.place → place_of s leg.train ≤ i → completes plan (set s leg.train i) (replicate n leg.train ++ rest) ≡ true
+along_leg : (plan : Moves) (s : List ℕ) (leg : Leg) (rest : List ℕ) → is_leg plan s leg ≡ true
+    → completes plan (after_leg s leg) rest ≡ true → (n i : ℕ) → i + n ≡ leg.place
+    → place_of s leg.train ≤ i → completes plan (set s leg.train i) (replicate n leg.train ++ rest) ≡ true
 along_leg plan s leg rest is on zero i at from =
     let P : ℕ → Type 0 = λ p. completes plan (set s leg.train p) rest ≡ true in
     let same : leg.place ≡ i = omega (arith, at) in

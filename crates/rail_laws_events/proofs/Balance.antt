@@ -74,7 +74,12 @@ count_none p front w L none =
     omega (arith, bound, tally-none (same_entry w) L none)
 
 -- the account of a list that has each written line once, and event lines of trains alone
-balance : (input : Input) → IsWellFormed input.plant → (p : Entry → Bool) (L : List Entry) (front : Front) → is_lawful input front ≡ true → ((e : Entry) → tally (same_entry e) L ≤ 1) → ((e : Entry) → stands front e ≡ true → is_train_event e.what ≡ true → list_any (same_entry e) L ≡ true) → ((e : Entry) → list_any (same_entry e) L ≡ true → is_train_event e.what ≡ true) → tally p (written front) + tally (λ e. not (stands front e) && p e) L ≡ tally p L
+balance : (input : Input) → IsWellFormed input.plant → (p : Entry → Bool) (L : List Entry) (front : Front)
+    → is_lawful input front ≡ true → ((e : Entry) → tally (same_entry e) L ≤ 1)
+    → ((e : Entry) → stands front e ≡ true → is_train_event e.what ≡ true
+    → list_any (same_entry e) L ≡ true)
+    → ((e : Entry) → list_any (same_entry e) L ≡ true → is_train_event e.what ≡ true)
+    → tally p (written front) + tally (λ e. not (stands front e) && p e) L ≡ tally p L
 balance input fine p L [] lawful once has kinds = omega (arith, tally-same (λ e. not (stands [] e) && p e) p L (λ e. refl))
 balance input fine p L (line ∷ front) lawful once has kinds =
     let before = balance input fine p L front (lawful_before input line front lawful) once (λ e stood kind. has e (stands_on line front e stood) kind) kinds in

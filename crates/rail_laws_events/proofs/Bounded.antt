@@ -72,7 +72,11 @@ bounded input fine front lawful =
     )
 
 -- where nothing is to come, every train has made its moves, every command is written and the end line stands, the bound is met
-pub met : (input : Input) → IsWellFormed input.plant → (front : Front) → is_lawful input front ≡ true → has_ended front ≡ true → tally (λ _. true) (to_come input.plant front) ≡ 0 → commands_written input front ≡ length input.commands → ((t : ℕ) → t < trains input.plant → (place front t ≡ moves input.plant t) × (0 < moves input.plant t)) → lines_beside_holds front ≡ bound input.plant (length input.commands)
+pub met : (input : Input) → IsWellFormed input.plant → (front : Front) → is_lawful input front ≡ true
+    → has_ended front ≡ true → tally (λ _. true) (to_come input.plant front) ≡ 0
+    → commands_written input front ≡ length input.commands
+    → ((t : ℕ) → t < trains input.plant → (place front t ≡ moves input.plant t) × (0 < moves input.plant t))
+    → lines_beside_holds front ≡ bound input.plant (length input.commands)
 met input fine front lawful ended nothing all_commands whole =
     omega (
       arith,

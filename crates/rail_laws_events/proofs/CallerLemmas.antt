@@ -44,6 +44,10 @@ pub use Rattle.rail_laws_events.proofs.Bounded.{bounded}
 pub use Rattle.rail_laws_events.proofs.Bounded.{events_and_admissions}
 -- where nothing is to come, every train has made its moves, every command is written and the end line stands, the bound is met
 pub use Rattle.rail_laws_events.proofs.Bounded.{met}
+-- Cancelled: a cancelled train is never admitted.
+
+-- a cancelled train has no admission
+pub use Rattle.rail_laws_events.proofs.Cancelled.{cancelled_never_goes}
 -- SameCauses: the cause of a train's waiting comes from the orders, the admissions, the instant and the kept list alone.
 pub use Rattle.rail_laws_events.proofs.SameCauses.{cause_same, place_same}
 -- two fronts with the same orders, admissions, instant and kept list

@@ -72,7 +72,13 @@ module _ (plant : Plant) (fine : IsWellFormed plant) (t : ℕ) (adms : List ℕ)
       λ i. enters i ++ at_time (arrives i) (Arrive t (suc m)) ∷ [] ++ frees i ++ cond (eqb (suc m) (moves plant t)) (at_time (arrives i + clearing plant t (step_section plant t m (steps plant t m - 1))) (Out t) ∷ []) []
 
   -- the free line of one step of the move before
-  free_change : (m j : ℕ) → suc m ≡ length adms → suc m < moves plant t → j < steps plant t m → tally p (free_lines t (step_section plant t m j) (end_of plant t more m j)) ≡ tally p (free_lines t (step_section plant t m j) (end_of plant t adms m j)) + tally p (cond (does_stand plant t m j) (at_time (end_time plant t more m j) (Free (step_section plant t m j) t) ∷ []) [])
+  free_change : (m j : ℕ) → suc m ≡ length adms → suc m < moves plant t → j < steps plant t m
+      → tally p (free_lines t (step_section plant t m j) (end_of plant t more m j))
+      ≡ tally p (free_lines t (step_section plant t m j) (end_of plant t adms m j))
+      + tally p
+      (cond (does_stand plant t m j)
+      (at_time (end_time plant t more m j) (Free (step_section plant t m j) t) ∷ [])
+      [])
   free_change m j last room lt =
       let one : List Entry = at_time (end_time plant t (adms ++ a ∷ []) m j) (Free (step_section plant t m j) t) ∷ [] in
       let lines : Option ℕ → List Entry = free_lines t (step_section plant t m j) in
@@ -198,7 +204,10 @@ events_same plant line front idle =
     (λ t _. ap (λ adms. train_events plant t adms false) (admissions_kept line front t idle))
 
 -- what is to come before and after a line of an event of a train, and after any other that admits nothing
-pub event_change : (input : Input) → IsWellFormed input.plant → (line : Line) (front : Front) → is_lawful input (line ∷ front) ≡ true → is_admission line.entry.what ≡ false → (p : Entry → Bool) → tally p (to_come input.plant (line ∷ front)) + tally p (cond (is_train_event line.entry.what) (line.entry ∷ []) []) ≡ tally p (to_come input.plant front)
+pub event_change : (input : Input) → IsWellFormed input.plant → (line : Line) (front : Front)
+    → is_lawful input (line ∷ front) ≡ true → is_admission line.entry.what ≡ false → (p : Entry → Bool)
+    → tally p (to_come input.plant (line ∷ front))
+    + tally p (cond (is_train_event line.entry.what) (line.entry ∷ []) []) ≡ tally p (to_come input.plant front)
 event_change input fine line front lawful idle p =
     omega (
       arith,
@@ -209,7 +218,13 @@ event_change input fine line front lawful idle p =
     )
 
 -- an admission exchanges the arrival before it and adds the lines of its move
-pub admission_change : (input : Input) → IsWellFormed input.plant → (line : Line) (front : Front) → is_lawful input (line ∷ front) ≡ true → (t m : ℕ) (note : Note) → Admits input front line t m note → (p : Entry → Bool) → tally p (to_come input.plant (line ∷ front)) + tally p (taken_back input.plant t (admissions front t) (place front t)) ≡ tally p (to_come input.plant front) + tally p (gained input.plant t (admissions (line ∷ front) t) (place front t))
+pub admission_change : (input : Input) → IsWellFormed input.plant → (line : Line) (front : Front)
+    → is_lawful input (line ∷ front) ≡ true → (t m : ℕ) (note : Note) → Admits input front line t m note
+    → (p : Entry → Bool)
+    → tally p (to_come input.plant (line ∷ front))
+    + tally p (taken_back input.plant t (admissions front t) (place front t))
+    ≡ tally p (to_come input.plant front)
+    + tally p (gained input.plant t (admissions (line ∷ front) t) (place front t))
 admission_change input fine line front lawful t m note admits p =
     let room = (waiting_parts input front t admits.waiting).room in
     let known = waiting_known input.plant t (place front t) room in
@@ -243,10 +258,16 @@ train_event_idle (Untold k) kind = refl
 train_event_idle (Hold t m why) kind = refl
 train_event_idle End kind = refl
 
-pub train_event_change : (input : Input) → IsWellFormed input.plant → (line : Line) (front : Front) → is_lawful input (line ∷ front) ≡ true → is_train_event line.entry.what ≡ true → (p : Entry → Bool) → tally p (to_come input.plant (line ∷ front)) + tally p (line.entry ∷ []) ≡ tally p (to_come input.plant front)
+pub train_event_change : (input : Input) → IsWellFormed input.plant → (line : Line) (front : Front)
+    → is_lawful input (line ∷ front) ≡ true → is_train_event line.entry.what ≡ true → (p : Entry → Bool)
+    → tally p (to_come input.plant (line ∷ front)) + tally p (line.entry ∷ [])
+    ≡ tally p (to_come input.plant front)
 train_event_change input fine line front lawful kind p =
     omega (arith, event_change input fine line front lawful (train_event_idle line.entry.what kind) p, ap (tally p) (cond-true (is_train_event line.entry.what) (line.entry ∷ []) [] kind))
 
-pub other_change : (input : Input) → IsWellFormed input.plant → (line : Line) (front : Front) → is_lawful input (line ∷ front) ≡ true → is_train_event line.entry.what ≡ false → is_admission line.entry.what ≡ false → (p : Entry → Bool) → tally p (to_come input.plant (line ∷ front)) ≡ tally p (to_come input.plant front)
+pub other_change : (input : Input) → IsWellFormed input.plant → (line : Line) (front : Front)
+    → is_lawful input (line ∷ front) ≡ true → is_train_event line.entry.what ≡ false
+    → is_admission line.entry.what ≡ false → (p : Entry → Bool)
+    → tally p (to_come input.plant (line ∷ front)) ≡ tally p (to_come input.plant front)
 other_change input fine line front lawful kind idle p =
     omega (arith, event_change input fine line front lawful idle p, ap (tally p) (cond-false (is_train_event line.entry.what) (line.entry ∷ []) [] kind))

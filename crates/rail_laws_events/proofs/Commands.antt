@@ -236,7 +236,11 @@ stands_by line front k (Some command) =
     (cases_Bool (same_entry told_line line.entry)))
     (cases_Bool (is_written front command k))
   where
-    named_now : (what : What) → line.entry.what ≡ what → is_command what ≡ true → eqb (suc k) (named what) ≡ true → cond (is_written (line ∷ front) command k) 1 0 ≤ cond (is_written front command k) 1 0 + cond (is_command line.entry.what) (cond (eqb (suc k) (named line.entry.what)) 1 0) 0
+    named_now : (what : What) → line.entry.what ≡ what → is_command what ≡ true
+        → eqb (suc k) (named what) ≡ true
+        → cond (is_written (line ∷ front) command k) 1 0
+        ≤ cond (is_written front command k) 1 0
+        + cond (is_command line.entry.what) (cond (eqb (suc k) (named line.entry.what)) 1 0) 0
     named_now what is kind number =
         let P : What → Type 0 = λ w. cond (is_written (line ∷ front) command k) 1 0 ≤ cond (is_written front command k) 1 0 + cond (is_command w) (cond (eqb (suc k) (named w)) 1 0) 0 in
         subst P (sym is) (omega (

@@ -12,6 +12,7 @@ mod Sums
 mod Lines
 mod Shares
 mod Commands
+mod Cancelled
 mod Bounded
 mod SameCauses
 mod HoldLines

@@ -70,48 +70,61 @@ number : Entry → ℕ
 number e = get_or (rank e) 2 0
 
 -- lines of one train
-module _ (input : Input) (fine : IsWellFormed input.plant) (front : Front) (lawful : is_lawful input front ≡ true) (t : ℕ) (known : t < trains input.plant) (c : Bool) (d e : Entry) (new_d : stands front d ≡ false) (new_e : stands front e ≡ false) (time : d.at ≡ e.at) (kind : class d ≡ class e) (no_free : class d ≡ 0 → ⊥) where
-  few : length (admissions front t) ≤ moves input.plant t
-  few = few_admissions input fine front lawful t known
+module _ (input : Input)
+    (fine : IsWellFormed input.plant)
+    (front : Front)
+    (lawful : is_lawful input front ≡ true)
+    (t : ℕ)
+    (known : t < trains input.plant)
+    (c : Bool)
+    (d e : Entry)
+    (new_d : stands front d ≡ false)
+    (new_e : stands front e ≡ false)
+    (time : d.at ≡ e.at)
+    (kind : class d ≡ class e)
+    (no_free : class d ≡ 0 → ⊥)
+  where
+    few : length (admissions front t) ≤ moves input.plant t
+    few = few_admissions input fine front lawful t known
 
-  unready : (m : ℕ) (x : Entry) → stands front x ≡ false → m ≤ place front t → x ≡ ready_line input.plant t (admissions front t) m → m ≡ place front t
-  unready m x new le is =
-      ⊎_elim
-      (λ below. absurd (false≢true (sym new ∙ ap (stands front) is ∙ ready_stood input front lawful t m below)))
-      (λ above. omega (arith, le, above))
-      (cases_lt m (place front t))
+    unready : (m : ℕ) (x : Entry) → stands front x ≡ false → m ≤ place front t → x ≡ ready_line input.plant t (admissions front t) m → m ≡ place front t
+    unready m x new le is =
+        ⊎_elim
+        (λ below. absurd (false≢true (sym new ∙ ap (stands front) is ∙ ready_stood input front lawful t m below)))
+        (λ above. omega (arith, le, above))
+        (cases_lt m (place front t))
 
-  classes : (x y : Entry) → d ≡ x → e ≡ y → class x ≡ class y
-  classes x y dx ey = sym (ap class dx) ∙ kind ∙ ap class ey
+    classes : (x y : Entry) → d ≡ x → e ≡ y → class x ≡ class y
+    classes x y dx ey = sym (ap class dx) ∙ kind ∙ ap class ey
 
-  same_train : IsEvent input.plant t (admissions front t) c d → IsEvent input.plant t (admissions front t) c e → d ≡ e
-  unfolding class
-  same_train (entering m j lm lj is) (entering n i ln li is2) =
-      let same = one_enter input.plant fine t (admissions front t) m j n i (omega (arith, lm, few)) (omega (arith, ln, few)) lj li (sym (ap (λ (x : Entry). x.at) is) ∙ time ∙ ap (λ (x : Entry). x.at) is2) in
-      is ∙ (λ k. enter_line input.plant t (admissions front t) (same.0 k) (same.1 k)) ∙ sym is2
-  same_train (arriving m lm is) (arriving n ln is2) =
-      let same = one_arrival input.plant fine t (admissions front t) m n (omega (arith, lm, few)) (omega (arith, ln, few)) (sym (ap (λ (x : Entry). x.at) is) ∙ time ∙ ap (λ (x : Entry). x.at) is2) in
-      is ∙ ap (arrive_line input.plant t (admissions front t)) same ∙ sym is2
-  same_train (leaving m lm last is) (leaving n ln last2 is2) =
-      let same : m ≡ n = omega (arith, last, last2) in
-      is ∙ ap (λ k. at_time (out input.plant t (admissions front t) k) (Out t)) same ∙ sym is2
-  same_train (readying m lm lmoves runs is) (readying n ln lnmoves runs2 is2) =
-      let same : m ≡ n = omega (arith, unready m d new_d lm is, unready n e new_e ln is2) in
-      is ∙ ap (ready_line input.plant t (admissions front t)) same ∙ sym is2
-  same_train (freeing m j lm lj closed is) event = absurd (no_free (ap class is))
-  same_train event (freeing n i ln li closed is2) = absurd (no_free (kind ∙ ap class is2))
-  same_train (entering m j lm lj is) (arriving n ln is2) = absurd (omega (arith, classes (enter_line input.plant t (admissions front t) m j) (arrive_line input.plant t (admissions front t) n) is is2))
-  same_train (entering m j lm lj is) (leaving n ln last2 is2) = absurd (omega (arith, classes (enter_line input.plant t (admissions front t) m j) (at_time (out input.plant t (admissions front t) n) (Out t)) is is2))
-  same_train (entering m j lm lj is) (readying n ln lnmoves runs2 is2) = absurd (omega (arith, classes (enter_line input.plant t (admissions front t) m j) (ready_line input.plant t (admissions front t) n) is is2))
-  same_train (arriving m lm is) (entering n i ln li is2) = absurd (omega (arith, classes (arrive_line input.plant t (admissions front t) m) (enter_line input.plant t (admissions front t) n i) is is2))
-  same_train (arriving m lm is) (leaving n ln last2 is2) = absurd (omega (arith, classes (arrive_line input.plant t (admissions front t) m) (at_time (out input.plant t (admissions front t) n) (Out t)) is is2))
-  same_train (arriving m lm is) (readying n ln lnmoves runs2 is2) = absurd (omega (arith, classes (arrive_line input.plant t (admissions front t) m) (ready_line input.plant t (admissions front t) n) is is2))
-  same_train (leaving m lm last is) (entering n i ln li is2) = absurd (omega (arith, classes (at_time (out input.plant t (admissions front t) m) (Out t)) (enter_line input.plant t (admissions front t) n i) is is2))
-  same_train (leaving m lm last is) (arriving n ln is2) = absurd (omega (arith, classes (at_time (out input.plant t (admissions front t) m) (Out t)) (arrive_line input.plant t (admissions front t) n) is is2))
-  same_train (leaving m lm last is) (readying n ln lnmoves runs2 is2) = absurd (omega (arith, classes (at_time (out input.plant t (admissions front t) m) (Out t)) (ready_line input.plant t (admissions front t) n) is is2))
-  same_train (readying m lm lmoves runs is) (entering n i ln li is2) = absurd (omega (arith, classes (ready_line input.plant t (admissions front t) m) (enter_line input.plant t (admissions front t) n i) is is2))
-  same_train (readying m lm lmoves runs is) (arriving n ln is2) = absurd (omega (arith, classes (ready_line input.plant t (admissions front t) m) (arrive_line input.plant t (admissions front t) n) is is2))
-  same_train (readying m lm lmoves runs is) (leaving n ln last2 is2) = absurd (omega (arith, classes (ready_line input.plant t (admissions front t) m) (at_time (out input.plant t (admissions front t) n) (Out t)) is is2))
+    same_train : IsEvent input.plant t (admissions front t) c d → IsEvent input.plant t (admissions front t) c e → d ≡ e
+    unfolding class
+    same_train (entering m j lm lj is) (entering n i ln li is2) =
+        let same = one_enter input.plant fine t (admissions front t) m j n i (omega (arith, lm, few)) (omega (arith, ln, few)) lj li (sym (ap (λ (x : Entry). x.at) is) ∙ time ∙ ap (λ (x : Entry). x.at) is2) in
+        is ∙ (λ k. enter_line input.plant t (admissions front t) (same.0 k) (same.1 k)) ∙ sym is2
+    same_train (arriving m lm is) (arriving n ln is2) =
+        let same = one_arrival input.plant fine t (admissions front t) m n (omega (arith, lm, few)) (omega (arith, ln, few)) (sym (ap (λ (x : Entry). x.at) is) ∙ time ∙ ap (λ (x : Entry). x.at) is2) in
+        is ∙ ap (arrive_line input.plant t (admissions front t)) same ∙ sym is2
+    same_train (leaving m lm last is) (leaving n ln last2 is2) =
+        let same : m ≡ n = omega (arith, last, last2) in
+        is ∙ ap (λ k. at_time (out input.plant t (admissions front t) k) (Out t)) same ∙ sym is2
+    same_train (readying m lm lmoves runs is) (readying n ln lnmoves runs2 is2) =
+        let same : m ≡ n = omega (arith, unready m d new_d lm is, unready n e new_e ln is2) in
+        is ∙ ap (ready_line input.plant t (admissions front t)) same ∙ sym is2
+    same_train (freeing m j lm lj closed is) event = absurd (no_free (ap class is))
+    same_train event (freeing n i ln li closed is2) = absurd (no_free (kind ∙ ap class is2))
+    same_train (entering m j lm lj is) (arriving n ln is2) = absurd (omega (arith, classes (enter_line input.plant t (admissions front t) m j) (arrive_line input.plant t (admissions front t) n) is is2))
+    same_train (entering m j lm lj is) (leaving n ln last2 is2) = absurd (omega (arith, classes (enter_line input.plant t (admissions front t) m j) (at_time (out input.plant t (admissions front t) n) (Out t)) is is2))
+    same_train (entering m j lm lj is) (readying n ln lnmoves runs2 is2) = absurd (omega (arith, classes (enter_line input.plant t (admissions front t) m j) (ready_line input.plant t (admissions front t) n) is is2))
+    same_train (arriving m lm is) (entering n i ln li is2) = absurd (omega (arith, classes (arrive_line input.plant t (admissions front t) m) (enter_line input.plant t (admissions front t) n i) is is2))
+    same_train (arriving m lm is) (leaving n ln last2 is2) = absurd (omega (arith, classes (arrive_line input.plant t (admissions front t) m) (at_time (out input.plant t (admissions front t) n) (Out t)) is is2))
+    same_train (arriving m lm is) (readying n ln lnmoves runs2 is2) = absurd (omega (arith, classes (arrive_line input.plant t (admissions front t) m) (ready_line input.plant t (admissions front t) n) is is2))
+    same_train (leaving m lm last is) (entering n i ln li is2) = absurd (omega (arith, classes (at_time (out input.plant t (admissions front t) m) (Out t)) (enter_line input.plant t (admissions front t) n i) is is2))
+    same_train (leaving m lm last is) (arriving n ln is2) = absurd (omega (arith, classes (at_time (out input.plant t (admissions front t) m) (Out t)) (arrive_line input.plant t (admissions front t) n) is is2))
+    same_train (leaving m lm last is) (readying n ln lnmoves runs2 is2) = absurd (omega (arith, classes (at_time (out input.plant t (admissions front t) m) (Out t)) (ready_line input.plant t (admissions front t) n) is is2))
+    same_train (readying m lm lmoves runs is) (entering n i ln li is2) = absurd (omega (arith, classes (ready_line input.plant t (admissions front t) m) (enter_line input.plant t (admissions front t) n i) is is2))
+    same_train (readying m lm lmoves runs is) (arriving n ln is2) = absurd (omega (arith, classes (ready_line input.plant t (admissions front t) m) (arrive_line input.plant t (admissions front t) n) is is2))
+    same_train (readying m lm lmoves runs is) (leaving n ln last2 is2) = absurd (omega (arith, classes (ready_line input.plant t (admissions front t) m) (at_time (out input.plant t (admissions front t) n) (Out t)) is is2))
 
 -- a line that frees no section has its train as its number
 train_is : (plant : Plant) (t : ℕ) (adms : List ℕ) (c : Bool) (e : Entry) → IsEvent plant t adms c e → (class e ≡ 0 → ⊥) → number e ≡ t
@@ -140,7 +153,11 @@ frees_is plant t adms c e (leaving m lm last is) h = absurd (omega (arith, h, ap
 frees_is plant t adms c e (readying m lm lmoves runs is) h = absurd (omega (arith, h, ap class is))
 
 -- two due event lines of trains with one rank are one
-pub one_rank : (input : Input) → IsWellFormed input.plant → (front : Front) → is_lawful input front ≡ true → (t u : ℕ) (d e : Entry) → t < trains input.plant → u < trains input.plant → IsEvent input.plant t (admissions front t) (is_cancelled t (told input.commands front)) d → IsEvent input.plant u (admissions front u) (is_cancelled u (told input.commands front)) e → stands front d ≡ false → stands front e ≡ false → rank d ≡ rank e → d ≡ e
+pub one_rank : (input : Input) → IsWellFormed input.plant → (front : Front) → is_lawful input front ≡ true
+    → (t u : ℕ) (d e : Entry) → t < trains input.plant → u < trains input.plant
+    → IsEvent input.plant t (admissions front t) (is_cancelled t (told input.commands front)) d
+    → IsEvent input.plant u (admissions front u) (is_cancelled u (told input.commands front)) e
+    → stands front d ≡ false → stands front e ≡ false → rank d ≡ rank e → d ≡ e
 unfolding class number
 one_rank input fine front lawful t u d e lt lu event_d event_e new_d new_e same =
     let plant : Plant = input.plant in
@@ -163,7 +180,11 @@ one_rank input fine front lawful t u d e lt lu event_d event_e new_d new_e same 
     same_train input fine front lawful t lt (c t) d e new_d new_e time kind no_free event_d (subst P trains_same event_e))
     (cases_eq (class d) 0)
   where
-    decide : (fd : Frees input.plant t (admissions front t) d) (fe : Frees input.plant u (admissions front u) e) → end_time input.plant t (admissions front t) fd.move fd.step ≡ end_time input.plant u (admissions front u) fe.move fe.step → step_section input.plant t fd.move fd.step ≡ step_section input.plant u fe.move fe.step → AreApart input.plant front t fd.move fd.step u fe.move fe.step → d ≡ e
+    decide : (fd : Frees input.plant t (admissions front t) d) (fe : Frees input.plant u (admissions front u) e)
+        → end_time input.plant t (admissions front t) fd.move fd.step
+        ≡ end_time input.plant u (admissions front u) fe.move fe.step
+        → step_section input.plant t fd.move fd.step ≡ step_section input.plant u fe.move fe.step
+        → AreApart input.plant front t fd.move fd.step u fe.move fe.step → d ≡ e
     decide fd fe ends section (one a b x) = fd.is ∙ (λ i. at_time (ends i) (Free (section i) (a i))) ∙ sym fe.is
     decide fd fe ends section (first h) = absurd (omega (arith, h.by, ends, end_after_begin input.plant u fine (admissions front u) fe.move fe.step (omega (arith, fe.is_admitted_move, few_admissions input fine front lawful u lu)) fe.is_step))
     decide fd fe ends section (second h) = absurd (omega (arith, h.by, ends, end_after_begin input.plant t fine (admissions front t) fd.move fd.step (omega (arith, fd.is_admitted_move, few_admissions input fine front lawful t lt)) fd.is_step))

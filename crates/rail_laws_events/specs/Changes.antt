@@ -16,12 +16,16 @@ taken_back plant t adms (suc m) = arrive_line plant t adms m ∷ []
 -- the free lines of the sections on which the train stands before this move
 abbrev pub freed_before : Plant → ℕ → List ℕ → ℕ → List Entry
 freed_before plant t adms zero = []
-freed_before plant t adms (suc m) = gather (λ j. cond (does_stand plant t m j) (at_time (end_time plant t adms m j) (Free (step_section plant t m j) t) ∷ []) []) (steps plant t m)
+freed_before plant t adms (suc m) = gather
+    (λ j. cond (does_stand plant t m j) (at_time (end_time plant t adms m j) (Free (step_section plant t m j) t) ∷ []) [])
+    (steps plant t m)
 
 -- the ready line of the move after this one, where there is one
 abbrev pub ready_after : Plant → ℕ → List ℕ → ℕ → List Entry
 ready_after plant t adms m = cond (nat_lt (suc m) (moves plant t)) (ready_line plant t adms (suc m) ∷ []) []
 
--- the event lines that come with the admission of this move, the last of these admissions: the arrival before it, which may now be a passing one; the free lines of the sections on which the train stood; those of the move; and the next ready line
+-- the event lines that come with the admission of this move, the last of these admissions: the
+-- arrival before it, which may now be a passing one; the free lines of the sections on which
+-- the train stood; those of the move; and the next ready line
 abbrev pub gained : Plant → ℕ → List ℕ → ℕ → List Entry
 gained plant t adms m = taken_back plant t adms m ++ freed_before plant t adms m ++ move_events plant t adms m ++ ready_after plant t adms m

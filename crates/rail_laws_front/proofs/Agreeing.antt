@@ -18,9 +18,6 @@ agree_added adms a = record {
   known = λ i lt. lt-ltb i (length (adms ++ a ∷ [])) (omega (arith, length-append adms (a ∷ []))) ∙ sym (lt-ltb i (length adms) lt);
 }
 
-pub agree_less : (adms other : List ℕ) (j k : ℕ) → j ≤ k → Agree adms other k → Agree adms other j
-agree_less adms other j k le h = record { same = λ i lt. h.same i (omega arith); known = λ i lt. h.known i (omega arith) }
-
 -- the admission that was added
 pub admitted_added : (adms : List ℕ) (a : ℕ) → admitted (adms ++ a ∷ []) (length adms) ≡ a
 admitted_added adms a = get_or_push adms a 0 (length adms) refl

@@ -96,7 +96,11 @@ module _ (input : Input) (fine : IsWellFormed input.plant) (line : Line) (front 
       ∙ admitted_added (admissions front t0) line.entry.at
 
   -- an old interval on a section of the admitted move ended before the admission
-  ended_for_new : (u n i j : ℕ) → IsStep input.plant front u n i → j < steps input.plant t0 (place front t0) → step_section input.plant u n i ≡ step_section input.plant t0 (place front t0) j → HasEnded input.plant u (admissions (line ∷ front) u) n i (admitted (admissions (line ∷ front) t0) (place front t0))
+  ended_for_new : (u n i j : ℕ) → IsStep input.plant front u n i → j < steps input.plant t0 (place front t0)
+      → step_section input.plant u n i ≡ step_section input.plant t0 (place front t0) j
+      → HasEnded input.plant u (admissions (line ∷ front) u)
+      n i
+      (admitted (admissions (line ∷ front) t0) (place front t0))
   ended_for_new u n i j step lj same =
       let P : ℕ → Type 0 = λ x. is_in x (needed input.plant t0 (place front t0)) ≡ true in
       let need = subst P (sym same) (step_needed input.plant t0 (place front t0) j lj) in

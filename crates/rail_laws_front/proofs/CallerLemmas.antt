@@ -93,12 +93,6 @@ pub use Rattle.rail_laws_front.proofs.Agreeing.{agree_added}
 -- Adding: what one more admission of a train adds to its event lines and leaves of its intervals.
 pub use Rattle.rail_laws_front.proofs.Adding.{arrives_passing, arrives_stopping, end_after_begin, end_kept, go_after_admission, last_does_stand, not_admitted, passes_unadmitted, run_after_go}
 -- Accepting: a plant that may be run is fine.
-pub use Rattle.rail_laws_front.proofs.Accepting.{IsAccepted, IsKindInRange, accepted_parts, well_formed_from_accepted, kind_in_range, move_in_range, row_in_range, section_in_range, list_all_get}
--- what a fine move says
-pub use Rattle.rail_laws_front.proofs.Accepting.{IsMoveInRange}
--- what an accepted plant says of a train
-pub use Rattle.rail_laws_front.proofs.Accepting.{IsRowInRange}
--- what a fine section and a fine kind say
-pub use Rattle.rail_laws_front.proofs.Accepting.{IsSectionInRange}
+pub use Rattle.rail_laws_front.proofs.Accepting.{well_formed_from_accepted}
 -- a train with a move is one of the plant's
 pub use Rattle.rail_laws_front.proofs.Accepting.{known_train}

@@ -39,7 +39,14 @@ stands_or_due input front t e lt event =
     (cases_Bool (stands front e))
 
 -- the free line of an interval that ends after the instant is due
-pub free_due : (input : Input) (front : Front) (t m j : ℕ) → IsTimely input front → IsStep input.plant front t m j → is_open input.plant t (admissions front t) m j ≡ false → instant front < end_time input.plant t (admissions front t) m j → list_any (same_entry (at_time (end_time input.plant t (admissions front t) m j) (Free (step_section input.plant t m j) t))) (due_lines input front) ≡ true
+pub free_due : (input : Input) (front : Front) (t m j : ℕ) → IsTimely input front → IsStep input.plant front t m j
+    → is_open input.plant t (admissions front t) m j ≡ false
+    → instant front < end_time input.plant t (admissions front t) m j
+    → list_any
+    (same_entry
+    (at_time (end_time input.plant t (admissions front t) m j) (Free (step_section input.plant t m j) t)))
+    (due_lines input front)
+    ≡ true
 free_due input front t m j h step closed later =
     let line : Entry = at_time (end_time input.plant t (admissions front t) m j) (Free (step_section input.plant t m j) t) in
     ⊎_elim
@@ -48,7 +55,11 @@ free_due input front t m j h step closed later =
     (stands_or_due input front t line step.known (freeing m j step.admitted_move step.step closed refl))
 
 -- the ready line of the next move of a train that isn't cancelled stands or is due
-pub ready_stands_or_due : (input : Input) (front : Front) (t : ℕ) → t < trains input.plant → place front t < moves input.plant t → is_cancelled t (told input.commands front) ≡ false → (stands front (ready_line input.plant t (admissions front t) (place front t)) ≡ true) ⊎ (list_any (same_entry (ready_line input.plant t (admissions front t) (place front t))) (due_lines input front) ≡ true)
+pub ready_stands_or_due : (input : Input) (front : Front) (t : ℕ) → t < trains input.plant
+    → place front t < moves input.plant t → is_cancelled t (told input.commands front) ≡ false
+    → (stands front (ready_line input.plant t (admissions front t) (place front t)) ≡ true)
+    ⊎ (list_any (same_entry (ready_line input.plant t (admissions front t) (place front t))) (due_lines input front)
+    ≡ true)
 ready_stands_or_due input front t lt room runs = stands_or_due input front t (ready_line input.plant t (admissions front t) (place front t)) lt (readying (place front t) (omega arith) room runs refl)
 
 -- the open intervals are those of the standing sets
@@ -97,7 +108,13 @@ deciding_quiet input [] h = absurd (false≢true h)
 deciding_quiet input (line ∷ before) h = (and_parts (not (has_ended (line ∷ before))) (is_quiet (due_lines input (line ∷ before)) line.entry.at) h).1
 
 -- an admission makes no line due at its instant but its train's next ready line
-pub admission_adds : (input : Input) → IsWellFormed input.plant → (line : Line) (front : Front) (t m : ℕ) (note : Note) → Admits input front line t m note → list_any (λ d. eqb d.at line.entry.at && not (same_entry d (ready_line input.plant t (admissions (line ∷ front) t) (place (line ∷ front) t)))) (due_lines input (line ∷ front)) ≡ false
+pub admission_adds : (input : Input) → IsWellFormed input.plant
+    → (line : Line) (front : Front) (t m : ℕ) (note : Note) → Admits input front line t m note
+    → list_any
+    (λ d. eqb d.at line.entry.at
+    && not (same_entry d (ready_line input.plant t (admissions (line ∷ front) t) (place (line ∷ front) t))))
+    (due_lines input (line ∷ front))
+    ≡ false
 admission_adds input fine line front t m note admits =
     ⊎_elim
     (λ some. absurd (found (due_found input (line ∷ front) other some)))

@@ -76,7 +76,17 @@ command_found input front p first (command ∷ commands) h =
     })
     (append_cases p (cond (is_written front command first) [] (line ∷ [])) rest h)
 
-command_at : (input : Input) (front : Front) (p : Entry → Bool) (first : ℕ) (commands : List Command) (i : ℕ) (due : Command) → slice_get commands i ≡ Some due → is_written front due (first + i) ≡ false → p (command_line input front due (first + i)) ≡ true → list_any p (commands_due input front first commands) ≡ true
+command_at :
+    (input : Input)
+    (front : Front)
+    (p : Entry → Bool)
+    (first : ℕ)
+    (commands : List Command)
+    (i : ℕ)
+    (due : Command)
+    → slice_get commands i ≡ Some due → is_written front due (first + i) ≡ false
+    → p (command_line input front due (first + i)) ≡ true
+    → list_any p (commands_due input front first commands) ≡ true
 command_at input front p first [] i due listed unwritten passing = cc
 command_at input front p first (command ∷ commands) zero due listed unwritten passing =
     let line : Entry = command_line input front command first in
@@ -123,7 +133,10 @@ due_found input front p h =
     (λ later. inr (command_found input front p 0 input.commands later))
     (append_cases p (filter (λ e. not (stands front e)) (events input front)) (commands_due input front 0 input.commands) h)
 
-pub due_from_event : (input : Input) (front : Front) (p : Entry → Bool) (t : ℕ) (e : Entry) → t < trains input.plant → IsEvent input.plant t (admissions front t) (is_cancelled t (told input.commands front)) e → stands front e ≡ false → p e ≡ true → list_any p (due_lines input front) ≡ true
+pub due_from_event : (input : Input) (front : Front) (p : Entry → Bool) (t : ℕ) (e : Entry)
+    → t < trains input.plant
+    → IsEvent input.plant t (admissions front t) (is_cancelled t (told input.commands front)) e
+    → stands front e ≡ false → p e ≡ true → list_any p (due_lines input front) ≡ true
 due_from_event input front p t e lt event unwritten passing =
     let open_event : Entry → Bool = λ x. not (stands front x) && p x in
     append_left p (filter (λ x. not (stands front x)) (events input front)) (commands_due input front 0 input.commands)

@@ -82,7 +82,10 @@ pub waiting_known : (plant : Plant) (t p : ℕ) → p < moves plant t → t < tr
 waiting_known plant t p lt = ⊎_elim (λ known. known) (λ past. absurd (omega (arith, no_moves plant t past))) (cases_lt t (trains plant))
 
 -- a section on which a train stands has an open interval of its last move
-pub standing_is_open : (input : Input) → IsWellFormed input.plant → (front : Front) (t x : ℕ) → t < trains input.plant → is_in x (stand (moves_of input.plant) t (place front t)) ≡ true → (m : ℕ) × (j : ℕ) × IsStep input.plant front t m j × (suc m ≡ place front t) × (step_section input.plant t m j ≡ x) × (is_open input.plant t (admissions front t) m j ≡ true)
+pub standing_is_open : (input : Input) → IsWellFormed input.plant → (front : Front) (t x : ℕ)
+    → t < trains input.plant → is_in x (stand (moves_of input.plant) t (place front t)) ≡ true
+    → (m : ℕ) × (j : ℕ) × IsStep input.plant front t m j × (suc m ≡ place front t)
+    × (step_section input.plant t m j ≡ x) × (is_open input.plant t (admissions front t) m j ≡ true)
 standing_is_open input fine front t x lt is = at_place (place front t) refl is
   where
     at_place : (p : ℕ) → place front t ≡ p → is_in x (stand (moves_of input.plant) t p) ≡ true → (m : ℕ) × (j : ℕ) × IsStep input.plant front t m j × (suc m ≡ place front t) × (step_section input.plant t m j ≡ x) × (is_open input.plant t (admissions front t) m j ≡ true)

@@ -47,7 +47,10 @@ running_event plant t adms now before e h (leaving m lm last is) = leaving m lm 
 running_event plant t adms now before e h (readying m lm lmoves runs is) = readying m lm lmoves (h runs) is
 
 -- an event line after a line that is no admission was one before it
-pub event_before : (input : Input) (line : Line) (front : Front) (t : ℕ) (e : Entry) → is_admission line.entry.what ≡ false → IsEvent input.plant t (admissions (line ∷ front) t) (is_cancelled t (told input.commands (line ∷ front))) e → IsEvent input.plant t (admissions front t) (is_cancelled t (told input.commands front)) e
+pub event_before : (input : Input) (line : Line) (front : Front) (t : ℕ) (e : Entry)
+    → is_admission line.entry.what ≡ false
+    → IsEvent input.plant t (admissions (line ∷ front) t) (is_cancelled t (told input.commands (line ∷ front))) e
+    → IsEvent input.plant t (admissions front t) (is_cancelled t (told input.commands front)) e
 event_before input line front t e idle event =
     let now : Bool = is_cancelled t (told input.commands (line ∷ front)) in
     let before : Bool = is_cancelled t (told input.commands front) in

@@ -23,10 +23,6 @@ is_some-map : {X Y : Type 0} (f : X → Y) (o : Option X) → is_some (option_ma
 is_some-map f None = refl
 is_some-map f (Some x) = refl
 
-is_some-or : {X : Type 0} (a b : Option X) → is_some (or_else a b) ≡ (is_some a || is_some b)
-is_some-or (Some x) b = refl
-is_some-or None b = refl
-
 pub first_none : (f : ℕ → Bool) (n i : ℕ) → is_some (first_below f n) ≡ false → i < n → f i ≡ false
 first_none f zero i h lt = absurd (omega arith)
 first_none f (suc n) i h lt =
@@ -85,7 +81,11 @@ ended_there plant t adms x now m j h lm lj is begun =
     record { closed = parts.0; by = ltb-false now (end_time plant t adms m j) parts.1 }
 
 -- a needed section of a train that nothing bars: each interval on it has ended by the instant
-pub ended_on_needed : (input : Input) (front : Front) (t u m j : ℕ) → is_some (bar input front t) ≡ false → IsStep input.plant front u m j → is_in (step_section input.plant u m j) (needed input.plant t (place front t)) ≡ true → admitted (admissions front u) m ≤ instant front → HasEnded input.plant u (admissions front u) m j (instant front)
+pub ended_on_needed : (input : Input) (front : Front) (t u m j : ℕ) → is_some (bar input front t) ≡ false
+    → IsStep input.plant front u m j
+    → is_in (step_section input.plant u m j) (needed input.plant t (place front t)) ≡ true
+    → admitted (admissions front u) m ≤ instant front
+    → HasEnded input.plant u (admissions front u) m j (instant front)
 ended_on_needed input front t u m j unbarred step is begun =
     let x : ℕ = step_section input.plant u m j in
     let free = free_parts input front t unbarred in

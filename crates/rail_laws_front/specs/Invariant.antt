@@ -21,8 +21,11 @@ IsOpenOrWritten front e = (stands front e ≡ true) ⊎ (instant front ≤ e.at)
 -- what stands is past, and what doesn't stand is to come: no line is ever late
 pub record IsTimely (input : Input) (front : Front) : Type 0 where
   pub past : (e : Entry) → stands front e ≡ true → e.at ≤ instant front
-  pub events : (t : ℕ) (e : Entry) → t < trains input.plant → IsEvent input.plant t (admissions front t) (is_cancelled t (told input.commands front)) e → IsOpenOrWritten front e
-  pub commands : (k : ℕ) (command : Command) → slice_get input.commands k ≡ Some command → (is_written front command k ≡ true) ⊎ (instant front ≤ command.at)
+  pub events : (t : ℕ) (e : Entry) → t < trains input.plant
+      → IsEvent input.plant t (admissions front t) (is_cancelled t (told input.commands front)) e
+      → IsOpenOrWritten front e
+  pub commands : (k : ℕ) (command : Command) → slice_get input.commands k ≡ Some command
+      → (is_written front command k ≡ true) ⊎ (instant front ≤ command.at)
   pub admitted_by : (t m : ℕ) → m < length (admissions front t) → admitted (admissions front t) m ≤ instant front
 
 -- a train has an open interval on a section
@@ -36,5 +39,8 @@ pub record HasOpen (plant : Plant) (front : Front) (t x : ℕ) : Type 0 where
 -- the open intervals are exactly one for each section of each train's standing set
 pub record AreStanding (plant : Plant) (front : Front) : Type 0 where
   pub each : (t x : ℕ) → t < trains plant → is_in x (stand (moves_of plant) t (place front t)) ≡ true → HasOpen plant front t x
-  pub only : (t m j : ℕ) → IsStep plant front t m j → is_open plant t (admissions front t) m j ≡ true → is_in (step_section plant t m j) (stand (moves_of plant) t (place front t)) ≡ true
-  pub one : (t m j n i : ℕ) → IsStep plant front t m j → IsStep plant front t n i → is_open plant t (admissions front t) m j ≡ true → is_open plant t (admissions front t) n i ≡ true → step_section plant t m j ≡ step_section plant t n i → (m ≡ n) × (j ≡ i)
+  pub only : (t m j : ℕ) → IsStep plant front t m j → is_open plant t (admissions front t) m j ≡ true
+      → is_in (step_section plant t m j) (stand (moves_of plant) t (place front t)) ≡ true
+  pub one : (t m j n i : ℕ) → IsStep plant front t m j → IsStep plant front t n i
+      → is_open plant t (admissions front t) m j ≡ true → is_open plant t (admissions front t) n i ≡ true
+      → step_section plant t m j ≡ step_section plant t n i → (m ≡ n) × (j ≡ i)

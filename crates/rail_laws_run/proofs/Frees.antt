@@ -67,7 +67,12 @@ of_move plant x t by u adms m =
     )
 
 -- of all moves of a train
-of_train_events : (plant : Plant) (x t : ℕ) (by : ℕ → Bool) (u : ℕ) (adms : List ℕ) → tally (frees_by x t by) (train_events plant u adms false) ≡ sum_below (λ m. tally (frees_by x t by) (gather (λ j. free_lines u (step_section plant u m j) (end_of plant u adms m j)) (steps plant u m))) (length adms)
+of_train_events : (plant : Plant) (x t : ℕ) (by : ℕ → Bool) (u : ℕ) (adms : List ℕ)
+    → tally (frees_by x t by) (train_events plant u adms false)
+    ≡ sum_below
+    (λ m. tally (frees_by x t by)
+    (gather (λ j. free_lines u (step_section plant u m j) (end_of plant u adms m j)) (steps plant u m)))
+    (length adms)
 of_train_events plant x t by u adms =
     let p : Entry → Bool = frees_by x t by in
     omega (

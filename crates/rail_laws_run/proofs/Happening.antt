@@ -17,7 +17,10 @@ use Rattle.rail_laws_run.proofs.Split.{due_split}
 use Rattle.rail_laws_run.proofs.Sorts.{follows_event, line_stays, one_stays, tells_none, train_event_no_command}
 
 -- the due lines after an event line
-pub event_left : (input : Input) → IsWellFormed input.plant → (line : Line) (front : Front) → is_lawful input (line ∷ front) ≡ true → is_train_event line.entry.what ≡ true → (p : Entry → Bool) → IsBlind p → tally p (due_lines input (line ∷ front)) + tally p (line.entry ∷ []) ≡ tally p (due_lines input front)
+pub event_left : (input : Input) → IsWellFormed input.plant → (line : Line) (front : Front)
+    → is_lawful input (line ∷ front) ≡ true → is_train_event line.entry.what ≡ true → (p : Entry → Bool)
+    → IsBlind p
+    → tally p (due_lines input (line ∷ front)) + tally p (line.entry ∷ []) ≡ tally p (due_lines input front)
 event_left input fine line front lawful kind p blind =
     let idle = train_event_no_command line.entry.what kind in
     let orders : List Order = told input.commands front in
@@ -34,7 +37,10 @@ event_left input fine line front lawful kind p blind =
     )
 
 -- the due lines after a hold line or the end line
-pub other_left : (input : Input) → IsWellFormed input.plant → (line : Line) (front : Front) → is_lawful input (line ∷ front) ≡ true → is_train_event line.entry.what ≡ false → is_admission line.entry.what ≡ false → is_command line.entry.what ≡ false → (p : Entry → Bool) → IsBlind p → tally p (due_lines input (line ∷ front)) ≡ tally p (due_lines input front)
+pub other_left : (input : Input) → IsWellFormed input.plant → (line : Line) (front : Front)
+    → is_lawful input (line ∷ front) ≡ true → is_train_event line.entry.what ≡ false
+    → is_admission line.entry.what ≡ false → is_command line.entry.what ≡ false → (p : Entry → Bool)
+    → IsBlind p → tally p (due_lines input (line ∷ front)) ≡ tally p (due_lines input front)
 other_left input fine line front lawful kind idle no_command p blind =
     let orders : List Order = told input.commands front in
     omega (

@@ -163,7 +163,11 @@ before_other plant t n i m j lj other =
     under same le = ⊎_elim (λ lt. lt) (λ ge. absurd (other same (omega (arith, le, ge)))) (cases_lt j i)
 
 -- a head by the admissions of its train
-head_from : (plant : Plant) (front : Front) (t n i : ℕ) (adms : List ℕ) → admissions front t ≡ adms → n ≤ length adms → (n < moves plant t → i < steps plant t n) → (n ≡ length adms → i ≡ 0) → ((m j : ℕ) → m < length adms → j < steps plant t m → stands front (enter_line plant t adms m j) ≡ is_before m j n i) → IsHead plant front t n i
+head_from : (plant : Plant) (front : Front) (t n i : ℕ) (adms : List ℕ) → admissions front t ≡ adms
+    → n ≤ length adms → (n < moves plant t → i < steps plant t n) → (n ≡ length adms → i ≡ 0)
+    → ((m j : ℕ) → m < length adms → j < steps plant t m
+    → stands front (enter_line plant t adms m j) ≡ is_before m j n i)
+    → IsHead plant front t n i
 head_from plant front t n i adms same reached within first entered =
     let P : List ℕ → Type 0 = λ list. (m j : ℕ) → m < length list → j < steps plant t m → stands front (enter_line plant t list m j) ≡ is_before m j n i in
     record {
@@ -174,7 +178,10 @@ head_from plant front t n i adms same reached within first entered =
     }
 
 -- the line by which the head enters its step
-pub head_enters : (input : Input) → IsWellFormed input.plant → (line : Line) (front : Front) → is_lawful input (line ∷ front) ≡ true → (t n i : ℕ) → n < place front t → line.entry ≡ enter_line input.plant t (admissions front t) n i → IsHead input.plant front t n i → IsHead input.plant (line ∷ front) t (next_move input.plant t n i) (next_step input.plant t n i)
+pub head_enters : (input : Input) → IsWellFormed input.plant → (line : Line) (front : Front)
+    → is_lawful input (line ∷ front) ≡ true → (t n i : ℕ) → n < place front t
+    → line.entry ≡ enter_line input.plant t (admissions front t) n i → IsHead input.plant front t n i
+    → IsHead input.plant (line ∷ front) t (next_move input.plant t n i) (next_step input.plant t n i)
 head_enters input fine line front lawful t n i lt same head =
     let lawful_front = lawful_before input line front lawful in
     let li : i < steps plant t n = head.within (within_moves input fine front lawful_front t n lt) in

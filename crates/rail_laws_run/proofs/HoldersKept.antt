@@ -16,10 +16,10 @@ use Rattle.rail_rules.specs.Fronts.{Front, Line, admissions, is_admission, same_
 use Rattle.rail_rules.specs.Intervals.{end_time, is_open}
 use Rattle.rail_rules.specs.Causes.{place}
 use Rattle.rail_rules.specs.Lawful.{is_lawful}
-use Rattle.rail_rules.proofs.CallerLemmas.{admissions_kept}
+use Rattle.rail_rules.proofs.CallerLemmas.{admissions_kept, accepted_parts, move_in_range, row_in_range}
 use Rattle.rail_laws_front.specs.Premises.{IsWellFormed}
 use Rattle.rail_laws_front.specs.Views.{Admits}
-use Rattle.rail_laws_front.proofs.CallerLemmas.{accepted_parts, well_formed_from_accepted, move_in_range, row_in_range, length_added, lawful_before, admission_added, admission_of_other, waiting_parts, waiting_known, needed_step, step_needed, same_entry_refl}
+use Rattle.rail_laws_front.proofs.CallerLemmas.{well_formed_from_accepted, length_added, lawful_before, admission_added, admission_of_other, waiting_parts, waiting_known, needed_step, step_needed, same_entry_refl}
 use Rattle.rail_laws_events.specs.Accounts.{all_events, is_train_event, tally, written}
 use Rattle.rail_laws_events.proofs.CallerLemmas.{account, one_entry, train_event_change, tally-append, tally-same}
 use Rattle.rail_laws_front.specs.EventLines.{IsEvent}
@@ -130,7 +130,10 @@ freed_known input fine line front lawful x t what =
     of e u known (leaving m lm last is) free = absurd (false≢true (ap (frees_for x t) (sym (ap (λ (d : Entry). d.what) is) ∙ free) ∙ frees_self x t))
     of e u known (readying m lm left runs is) free = absurd (false≢true (ap (frees_for x t) (sym (ap (λ (d : Entry). d.what) is) ∙ free) ∙ frees_self x t))
 
-pub frees_one : (input : Input) → is_accepted input.plant ≡ true → (line : Line) (front : Front) → is_lawful input (line ∷ front) ≡ true → (x t : ℕ) → line.entry.what ≡ Free x t → (h : List (Option ℕ)) → AreHolders input.plant front h → (get_or h x None ≡ Some t) × AreHolders input.plant (line ∷ front) (set h x None)
+pub frees_one : (input : Input) → is_accepted input.plant ≡ true → (line : Line) (front : Front)
+    → is_lawful input (line ∷ front) ≡ true → (x t : ℕ) → line.entry.what ≡ Free x t
+    → (h : List (Option ℕ)) → AreHolders input.plant front h
+    → (get_or h x None ≡ Some t) × AreHolders input.plant (line ∷ front) (set h x None)
 frees_one input accepted line front lawful x t what h are = (
   holder,
   record {
@@ -260,11 +263,15 @@ all_of p (z ∷ zs) y all there =
 -- the needed sections are known
 in_range : (plant : Plant) → is_accepted plant ≡ true → (t m : ℕ) → m < moves plant t → t < trains plant → (x : ℕ) → is_in x (needed plant t m) ≡ true → x < length plant.tables.sections
 in_range plant accepted t m lt known x there =
-    let row = row_in_range plant (accepted_parts plant accepted) t known in
+    let row = row_in_range plant (accepted_parts plant accepted).trains_in_range t known in
     let move = move_in_range (length plant.tables.sections) (move_row plant t m) (row.each_move m lt) in
     ltb-true x (length plant.tables.sections) (all_of (λ y. ltb y (length plant.tables.sections)) (needed plant t m) x move.known there)
 
-pub takes : (input : Input) → is_accepted input.plant ≡ true → (line : Line) (front : Front) → (t m : ℕ) (note : Note) → Admits input front line t m note → (h : List (Option ℕ)) → ((x : ℕ) → is_in x (needed input.plant t (place front t)) ≡ true → get_or h x None ≡ None) → AreHolders input.plant front h → AreHolders input.plant (line ∷ front) (taken_by h (needed input.plant t (place front t)) t)
+pub takes : (input : Input) → is_accepted input.plant ≡ true → (line : Line) (front : Front)
+    → (t m : ℕ) (note : Note) → Admits input front line t m note → (h : List (Option ℕ))
+    → ((x : ℕ) → is_in x (needed input.plant t (place front t)) ≡ true → get_or h x None ≡ None)
+    → AreHolders input.plant front h
+    → AreHolders input.plant (line ∷ front) (taken_by h (needed input.plant t (place front t)) t)
 takes input accepted line front t m note admits h free are = record {
   long = taken_long h (needed plant t (place front t)) t ∙ are.long;
   each = λ u x lt.
@@ -306,7 +313,10 @@ takes input accepted line front t m note admits h free are = record {
         ∙ ap (λ n. sum_below (λ k. sum_below (λ j. cond (eqb (step_section input.plant t k j) x) 1 0) (steps input.plant t k)) n) (length_added (admissions front t) line.entry.at)
         ∙ ap (λ n. taken input.plant t (admissions front t) x + n) (move_takes input.plant fine t (place front t) left x)
 
-    taken_each : (u x : ℕ) → u < trains input.plant → is_in x (needed input.plant t (place front t)) ≡ true → (b : Bool) → eqb u t ≡ b → cond (is_train u (get_or (taken_by h (needed input.plant t (place front t)) t) x None)) 1 0 + tally (frees x u) (written (line ∷ front)) ≡ taken input.plant u (admissions (line ∷ front) u) x
+    taken_each : (u x : ℕ) → u < trains input.plant → is_in x (needed input.plant t (place front t)) ≡ true
+        → (b : Bool) → eqb u t ≡ b
+        → cond (is_train u (get_or (taken_by h (needed input.plant t (place front t)) t) x None)) 1 0
+        + tally (frees x u) (written (line ∷ front)) ≡ taken input.plant u (admissions (line ∷ front) u) x
     taken_each u x lt there true same =
         let e : t ≡ u = sym (eqb-true u t same) in
         subst (λ v. cond (is_train v (get_or (taken_by h (needed input.plant t (place front t)) t) x None)) 1 0 + tally (frees x v) (written (line ∷ front)) ≡ taken input.plant v (admissions (line ∷ front) v) x) e
@@ -332,7 +342,10 @@ takes input accepted line front t m note admits h free are = record {
           cond-false {A = ℕ} (eqb t u) 1 0 (ne_eqb t u (λ e. apart (sym e))),
         )
 
-    untaken_each : (u x : ℕ) → u < trains input.plant → is_in x (needed input.plant t (place front t)) ≡ false → (b : Bool) → eqb u t ≡ b → cond (is_train u (get_or (taken_by h (needed input.plant t (place front t)) t) x None)) 1 0 + tally (frees x u) (written (line ∷ front)) ≡ taken input.plant u (admissions (line ∷ front) u) x
+    untaken_each : (u x : ℕ) → u < trains input.plant → is_in x (needed input.plant t (place front t)) ≡ false
+        → (b : Bool) → eqb u t ≡ b
+        → cond (is_train u (get_or (taken_by h (needed input.plant t (place front t)) t) x None)) 1 0
+        + tally (frees x u) (written (line ∷ front)) ≡ taken input.plant u (admissions (line ∷ front) u) x
     untaken_each u x lt not_there true same =
         let e : t ≡ u = sym (eqb-true u t same) in
         subst (λ v. cond (is_train v (get_or (taken_by h (needed input.plant t (place front t)) t) x None)) 1 0 + tally (frees x v) (written (line ∷ front)) ≡ taken input.plant v (admissions (line ∷ front) v) x) e

@@ -1,7 +1,7 @@
 -- What hold lines say, and when everything is settled.
-use Rattle.std.proofs.Common.{◌≡◌, ℕ, suc, ◌<◌, Bool, true, false, not, ◌&&◌, ◌||◌, cond, eqb, List, [], ◌∷◌, length, is_some, Option, Some, None, refl, sym, ap, ◌∙◌, subst, ⊎_elim, arith}
+use Rattle.std.proofs.Common.{◌≡◌, ℕ, suc, ◌<◌, Bool, true, false, not, ◌&&◌, ◌||◌, cond, eqb, List, [], ◌∷◌, length, is_some, Option, Some, None, refl, sym, ap, ◌∙◌, ⊎_elim, arith}
 use Rattle.std.specs.Cmp.Lexicographic.{bytes_decides}
-use Rattle.std.proofs.lemmas.Bool.{cases_Bool, cases_eq, cases_lt, false≢true, and_parts, and_from, and_left, and_right, or_left, or_right, cond-true, cond-false, eqb-true, eq-eqb, not_from_false, not_from_true, false_from_ne_true}
+use Rattle.std.proofs.lemmas.Bool.{cases_Bool, cases_lt, false≢true, and_parts, and_from, and_left, and_right, or_left, or_right, cond-true, cond-false, eqb-true, eq-eqb, not_from_false, not_from_true, false_from_ne_true}
 use Rattle.rail_base.specs.declared.history.What.{What}
 use Rattle.rail_base.specs.declared.history.What.TheVariants.{Free, Arrive, Enter, Out, Ready, Told, Untold, Admit, Hold, End}
 use Rattle.rail_base.specs.declared.history.Cause.{Cause}
@@ -10,19 +10,21 @@ use Rattle.rail_rules.specs.Numbers.{all_below, or_else}
 use Rattle.rail_rules.specs.Places.{after, completes}
 use Rattle.rail_rules.specs.Analysis.{finds}
 use Rattle.rail_rules.specs.Plant.{trains, moves_of}
-use Rattle.rail_rules.specs.Fronts.{Line, Front, instant, is_hold, is_admission, admissions, places, kept, without_first, with_rest_of, option_code, same_cause, hold_of}
+use Rattle.rail_rules.specs.Fronts.{Line, Front, instant, is_hold, is_admission, places, kept, without_first, with_rest_of, option_code, same_cause, hold_of}
 use Rattle.rail_rules.specs.Orders.{Input}
 use Rattle.rail_rules.specs.Causes.{place, is_ready, is_deciding, is_repairable, list_cause, cause, last_hold, is_told_so, is_settled}
 use Rattle.rail_rules.specs.Lawful.{is_lawful}
 use Rattle.rail_rules.proofs.CallerLemmas.{all_below_from, admissions_kept}
 use Rattle.rail_laws_front.specs.Views.{Holds, Follows, is_event}
 use Rattle.rail_laws_front.specs.Views.Follows.{by_event, by_admission, by_hold, by_end}
-use Rattle.rail_laws_front.proofs.CallerLemmas.{never_goes, lawful_before, lawful_last, length_added, admission_added, admission_of_other, event_admits_nothing, places_idle, kept_idle}
+use Rattle.rail_laws_front.proofs.CallerLemmas.{never_goes, lawful_before, lawful_last, places_idle, kept_idle}
 use Rattle.rail_laws_run.proofs.ReadyLines.{place_grows}
-use Rattle.rail_laws_run.proofs.Readiness.{still_ready}
 
 -- a line that is no admission
-pub list_cause_kept : (input : Input) (line : Line) (front : Front) (t : ℕ) → is_admission line.entry.what ≡ false → (list_cause input (line ∷ front) t ≡ list_cause input front t) × (place (line ∷ front) t ≡ place front t) × (is_repairable input (line ∷ front) t ≡ is_repairable input front t)
+pub list_cause_kept : (input : Input) (line : Line) (front : Front) (t : ℕ) → is_admission line.entry.what ≡ false
+    → (list_cause input (line ∷ front) t ≡ list_cause input front t)
+    × (place (line ∷ front) t ≡ place front t)
+    × (is_repairable input (line ∷ front) t ≡ is_repairable input front t)
 list_cause_kept input line front t idle =
     let at : place (line ∷ front) t ≡ place front t = ap length (admissions_kept line front t idle) in
     let all : places input.plant (line ∷ front) ≡ places input.plant front = places_idle input.plant line front idle in
@@ -90,47 +92,16 @@ no_later_hold input (line ∷ front) t m lawful later =
         held_other line front t (suc m) u n why holds.what other ∙ before
     step earlier before (by_end ends) = unheld line front t (suc m) (ap is_hold ends.what) ∙ before
 
--- a move that isn't ready has no hold line
-pub no_early_hold : (input : Input) → input.commands ≡ [] → (front : Front) (t : ℕ) → is_lawful input front ≡ true → is_ready input front t ≡ false → last_hold front t (suc (place front t)) ≡ None
-no_early_hold input none [] t lawful unready = refl
-no_early_hold input none (line ∷ front) t lawful unready =
-    step (no_early_hold input none front t (lawful_before input line front lawful)) (lawful_last input line front lawful)
-  where
-    unready_before : admissions (line ∷ front) t ≡ admissions front t → is_ready input front t ≡ false
-    unready_before adms = false_from_ne_true (is_ready input front t) (λ is. false≢true (sym unready ∙ still_ready input none line front t adms is))
-
-    -- where the line leaves the train's admissions and the hold lines of its next move
-    same_move : (is_ready input front t ≡ false → last_hold front t (suc (place front t)) ≡ None) → admissions (line ∷ front) t ≡ admissions front t → last_hold (line ∷ front) t (suc (place front t)) ≡ last_hold front t (suc (place front t)) → last_hold (line ∷ front) t (suc (place (line ∷ front) t)) ≡ None
-    same_move before adms last = ap (λ (list : List ℕ). last_hold (line ∷ front) t (suc (length list))) adms ∙ last ∙ before (unready_before adms)
-
-    step : (is_ready input front t ≡ false → last_hold front t (suc (place front t)) ≡ None) → Follows input front line → last_hold (line ∷ front) t (suc (place (line ∷ front) t)) ≡ None
-    step before (by_event happens) =
-        same_move before (admissions_kept line front t (event_admits_nothing line.entry.what happens.event)) (unheld line front t (suc (place front t)) (event_holds_nothing line.entry.what happens.event))
-    step before (by_end ends) =
-        same_move before (admissions_kept line front t (ap is_admission ends.what)) (unheld line front t (suc (place front t)) (ap is_hold ends.what))
-    step before (by_admission u m note admits) =
-        ⊎_elim
-        (λ mine.
-        let P : ℕ → Type 0 = λ v. place (line ∷ front) v ≡ suc (place front v) in
-        let raised : place (line ∷ front) t ≡ suc (place front t) = subst P (sym mine) (ap length (admission_added line front u m note admits.what) ∙ length_added (admissions front u) line.entry.at) in
-        unheld line front t (suc (place (line ∷ front) t)) (ap is_hold admits.what)
-        ∙ no_later_hold input front t (place (line ∷ front) t) (lawful_before input line front lawful) (omega (arith, raised)))
-        (λ other. same_move before (admission_of_other line front u m note t admits.what other) (unheld line front t (suc (place front t)) (ap is_hold admits.what)))
-        (cases_eq t u)
-    step before (by_hold u m why holds) =
-        let adms : admissions (line ∷ front) t ≡ admissions front t = admissions_kept line front t (ap is_admission holds.what) in
-        let other : u ≡ t → m ≡ suc (place front t) → ⊥ = λ mine here.
-        let P : ℕ → Type 0 = λ v. is_ready input front v ≡ true in
-        let was : is_ready input front t ≡ true = subst P mine (and_parts (is_ready input front u) (not (is_told_so input front u)) holds.due).0 in
-        false≢true (sym (unready_before adms) ∙ was) in
-        same_move before adms (held_other line front t (suc (place front t)) u m why holds.what other)
-
 -- one cause is itself
 same_cause_refl : (o : Option Cause) → same_cause o o ≡ true
 same_cause_refl o = (bytes_decides (option_code o) (option_code o)).1 refl
 
 -- where each ready train has a cause and was told so
-pub settled_where_told : (input : Input) (front : Front) → is_deciding input front ≡ true → ((t : ℕ) → t < trains input.plant → is_ready input front t ≡ true → (why : Cause) × (cause input front t ≡ Some why) × (last_hold front t (suc (place front t)) ≡ Some why)) → is_settled input front ≡ true
+pub settled_where_told : (input : Input) (front : Front) → is_deciding input front ≡ true
+    → ((t : ℕ) → t < trains input.plant → is_ready input front t ≡ true
+    → (why : Cause) × (cause input front t ≡ Some why)
+    × (last_hold front t (suc (place front t)) ≡ Some why))
+    → is_settled input front ≡ true
 settled_where_told input [] deciding told_all = refl
 settled_where_told input (line ∷ before) deciding told_all =
     let front : Front = line ∷ before in
@@ -146,7 +117,16 @@ settled_where_told input (line ∷ before) deciding told_all =
     (cases_Bool (is_ready input front t))))
 
 -- the hold line of the first ready train whose cause wasn't named
-pub hold_due : (input : Input) (line : Line) (front : Front) (t : ℕ) (why : Cause) → line.entry.what ≡ Hold t (suc (place front t)) why → line.entry.at ≡ instant front → line.trains ≡ [] → is_deciding input front ≡ true → ((u : ℕ) → u < trains input.plant → is_ready input front u ≡ true → is_some (cause input front u) ≡ true) → t < trains input.plant → is_ready input front t ≡ true → cause input front t ≡ Some why → same_cause (last_hold front t (suc (place front t))) (Some why) ≡ false → ((u : ℕ) → u < t → is_ready input front u ≡ true → last_hold front u (suc (place front u)) ≡ cause input front u) → Holds input front line t (suc (place front t)) why
+pub hold_due : (input : Input) (line : Line) (front : Front) (t : ℕ) (why : Cause)
+    → line.entry.what ≡ Hold t (suc (place front t)) why → line.entry.at ≡ instant front → line.trains ≡ []
+    → is_deciding input front ≡ true
+    → ((u : ℕ) → u < trains input.plant → is_ready input front u ≡ true
+    → is_some (cause input front u) ≡ true)
+    → t < trains input.plant → is_ready input front t ≡ true → cause input front t ≡ Some why
+    → same_cause (last_hold front t (suc (place front t))) (Some why) ≡ false
+    → ((u : ℕ) → u < t → is_ready input front u ≡ true
+    → last_hold front u (suc (place front u)) ≡ cause input front u)
+    → Holds input front line t (suc (place front t)) why
 hold_due input line front t why what now nobody_named deciding each known ready is unnamed earlier = record {
   what = what;
   bare = ap (λ (list : List ℕ). eqb (length list) 0) nobody_named;

@@ -16,7 +16,7 @@ use Rattle.rail_rules.specs.Lawful.{is_lawful}
 use Rattle.rail_rules.proofs.CallerLemmas.{admissions_kept}
 use Rattle.rail_laws_front.specs.Premises.{IsWellFormed}
 use Rattle.rail_laws_front.specs.Views.{Admits}
-use Rattle.rail_laws_front.proofs.CallerLemmas.{lawful_before, lawful_last, length_added, admission_added, admission_of_other, told_kept, stands_on, timely, same_entry_refl}
+use Rattle.rail_laws_front.proofs.CallerLemmas.{lawful_before, lawful_last, length_added, admission_added, admission_of_other, told_kept, timely, same_entry_refl}
 use Rattle.rail_laws_events.proofs.CallerLemmas.{one_entry}
 use Rattle.rail_laws_run.specs.LineKinds.{is_ready_line}
 use Rattle.rail_laws_run.proofs.ReadyLines.{names_train, IsReadyDue, ready_followed, next_is_ready, ready_reached}
@@ -41,15 +41,15 @@ none_told (line ∷ front) = λ i. none_of line.entry.what i ++ none_told front 
 pub nothing_told : (input : Input) → input.commands ≡ [] → (front : Front) → told input.commands front ≡ []
 nothing_told input none front = ap (λ commands. told commands front) none ∙ none_told front
 
-pub told_alike : (input : Input) → input.commands ≡ [] → (line : Line) (front : Front) → told input.commands (line ∷ front) ≡ told input.commands front
-told_alike input none line front = nothing_told input none (line ∷ front) ∙ sym (nothing_told input none front)
-
 -- whether a train is ready, where its admissions and the orders are these
 readies : Input → Front → ℕ → List ℕ → List Order → Bool
 readies input front t adms orders = ltb (length adms) (moves input.plant t) && not (is_cancelled t orders) && stands front (ready_line input.plant t adms (length adms))
 
 -- a line that leaves the admissions and the orders, and is no ready line of the train
-pub ready_same : (input : Input) (line : Line) (front : Front) (t : ℕ) → admissions (line ∷ front) t ≡ admissions front t → told input.commands (line ∷ front) ≡ told input.commands front → is_ready_line t line.entry.what ≡ false → is_ready input (line ∷ front) t ≡ is_ready input front t
+pub ready_same : (input : Input) (line : Line) (front : Front) (t : ℕ)
+    → admissions (line ∷ front) t ≡ admissions front t
+    → told input.commands (line ∷ front) ≡ told input.commands front → is_ready_line t line.entry.what ≡ false
+    → is_ready input (line ∷ front) t ≡ is_ready input front t
 unfolding readies
 ready_same input line front t adms orders other =
     let next : Entry = ready_line input.plant t (admissions front t) (place front t) in
@@ -59,24 +59,16 @@ ready_same input line front t adms orders other =
     λ i. readies input (line ∷ front) t (adms i) (orders i) in
     first ∙ ap (λ b. ltb (place front t) (moves input.plant t) && not (is_cancelled t (told input.commands front)) && (b || stands front next)) no_match
 
--- a train that is ready stays so until it is admitted
-pub still_ready : (input : Input) → input.commands ≡ [] → (line : Line) (front : Front) (t : ℕ) → admissions (line ∷ front) t ≡ admissions front t → is_ready input front t ≡ true → is_ready input (line ∷ front) t ≡ true
-unfolding readies
-still_ready input none line front t adms is =
-    let next : Entry = ready_line input.plant t (admissions front t) (place front t) in
-    let first : Bool = ltb (place front t) (moves input.plant t) && not (is_cancelled t (told input.commands front)) in
-    let both = and_parts first (stands front next) is in
-    let orders = told_alike input none line front in
-    let same : readies input (line ∷ front) t (admissions (line ∷ front) t) (told input.commands (line ∷ front)) ≡ readies input (line ∷ front) t (admissions front t) (told input.commands front) =
-    λ i. readies input (line ∷ front) t (adms i) (orders i) in
-    same ∙ and_from first (stands (line ∷ front) next) both.0 (stands_on line front next both.1)
-
 -- nobody is ready before the first line
 pub nobody_ready : (input : Input) (t : ℕ) → is_ready input [] t ≡ false
 nobody_ready input t = and_right (ltb 0 (moves input.plant t) && not (is_cancelled t [])) false refl
 
 -- a ready line
-pub ready_by_line : (input : Input) (line : Line) (front : Front) (t m : ℕ) → is_lawful input (line ∷ front) ≡ true → line.entry.what ≡ Ready t m → (m ≡ suc (place front t)) × (is_ready input front t ≡ false) × (is_ready input (line ∷ front) t ≡ true) × (line.entry.at ≡ ready input.plant t (admissions front t) (place front t))
+pub ready_by_line : (input : Input) (line : Line) (front : Front) (t m : ℕ)
+    → is_lawful input (line ∷ front) ≡ true → line.entry.what ≡ Ready t m
+    → (m ≡ suc (place front t)) × (is_ready input front t ≡ false)
+    × (is_ready input (line ∷ front) t ≡ true)
+    × (line.entry.at ≡ ready input.plant t (admissions front t) (place front t))
 unfolding readies
 ready_by_line input line front t m lawful what =
     let due : IsReadyDue input front line.entry t m = ready_followed input front line t m what (lawful_last input line front lawful) in
@@ -102,7 +94,10 @@ ready_by_line input line front t m lawful what =
     clash k e = cc
 
 -- an admission
-pub unready_by_admission : (input : Input) (line : Line) (front : Front) (t m : ℕ) (note : Note) → is_lawful input (line ∷ front) ≡ true → Admits input front line t m note → (is_ready input (line ∷ front) t ≡ false) × ((u : ℕ) → (u ≡ t → ⊥) → is_ready input (line ∷ front) u ≡ is_ready input front u)
+pub unready_by_admission : (input : Input) (line : Line) (front : Front) (t m : ℕ) (note : Note)
+    → is_lawful input (line ∷ front) ≡ true → Admits input front line t m note
+    → (is_ready input (line ∷ front) t ≡ false)
+    × ((u : ℕ) → (u ≡ t → ⊥) → is_ready input (line ∷ front) u ≡ is_ready input front u)
 unready_by_admission input line front t m note lawful admits =
     let adms : List ℕ = admissions (line ∷ front) t in
     let next : Entry = ready_line input.plant t adms (length adms) in

@@ -5,16 +5,14 @@ use Rattle.rail_base.specs.declared.orders.PolicyKind.{PolicyKind}
 use Rattle.rail_base.specs.declared.orders.PolicyKind.TheVariants.{Fcfs}
 use Rattle.rail_base.specs.declared.history.What.{What}
 use Rattle.rail_base.specs.declared.history.What.TheVariants.{Free, Arrive, Enter, Out, Ready, Told, Untold, Admit, Hold, End}
-use Rattle.rail_base.specs.declared.history.Note.{Note}
-use Rattle.rail_base.specs.declared.history.Note.TheVariants.{Pulled, Appended, Fresh}
 use Rattle.rail_rules.specs.Numbers.{all_below, comes_before}
 use Rattle.rail_rules.specs.Plant.{trains}
 use Rattle.rail_rules.specs.Fronts.{Line, Front, is_admission, admissions}
 use Rattle.rail_rules.specs.Orders.{Input}
 use Rattle.rail_rules.specs.Times.{ready}
-use Rattle.rail_rules.specs.Causes.{place, could_go, is_repairable}
+use Rattle.rail_rules.specs.Causes.{place, could_go}
 use Rattle.rail_rules.specs.Lawful.{may_follow, is_lawful}
-use Rattle.rail_rules.specs.RunHistories.{Seat, seat_of, force_of, key, is_chosen, repairs_first, is_run_line, is_run}
+use Rattle.rail_rules.specs.RunHistories.{Seat, seat_of, force_of, key, is_chosen, is_run_line, is_run}
 use Rattle.rail_rules.proofs.CallerLemmas.{all_below_from}
 
 -- a run front is lawful
@@ -46,7 +44,13 @@ pub run_idle : (input : Input) (seats : List Seat) (line : Line) (front : Front)
 run_idle input seats line front run may idle = run_continued input seats line front run may (idle_of_run input seats front line.entry.what idle)
 
 -- the train that was ready first is chosen
-chosen : (input : Input) (seats : List Seat) (front : Front) (t : ℕ) → (seat_of seats (force_of input front)).kind ≡ Fcfs → ((u : ℕ) → u < trains input.plant → could_go input front u ≡ true → comes_before (ready input.plant u (admissions front u) (place front u) ∷ u ∷ []) (ready input.plant t (admissions front t) (place front t) ∷ t ∷ []) ≡ false) → is_chosen input seats front t ≡ true
+chosen : (input : Input) (seats : List Seat) (front : Front) (t : ℕ)
+    → (seat_of seats (force_of input front)).kind ≡ Fcfs
+    → ((u : ℕ) → u < trains input.plant → could_go input front u ≡ true
+    → comes_before (ready input.plant u (admissions front u) (place front u) ∷ u ∷ [])
+    (ready input.plant t (admissions front t) (place front t) ∷ t ∷ [])
+    ≡ false)
+    → is_chosen input seats front t ≡ true
 chosen input seats front t kind first =
     let test : PolicyKind → ℕ → Bool = λ k u. could_go input front u && comes_before (key input seats front u k) (key input seats front t k) in
     let P : PolicyKind → Type 0 = λ k. all_below (λ u. not (test k u)) (trains input.plant) ≡ true in
@@ -56,9 +60,3 @@ chosen input seats front t kind first =
     (λ goes. and_right (could_go input front u) (comes_before (key input seats front u Fcfs) (key input seats front t Fcfs)) (first u lt goes))
     (λ stays. and_left (could_go input front u) (comes_before (key input seats front u Fcfs) (key input seats front t Fcfs)) stays)
     (cases_Bool (could_go input front u)))))
-
--- repair goes first
-repaired_first : (input : Input) (front : Front) (t : ℕ) (note : Note) → (note ≡ Fresh → is_repairable input front t ≡ false) → repairs_first input front t note ≡ true
-repaired_first input front t Pulled h = refl
-repaired_first input front t Appended h = refl
-repaired_first input front t Fresh h = not_from_false (is_repairable input front t) (h refl)

@@ -86,7 +86,9 @@ train_kept plant t adms orders p =
     (cases_Bool (is_cancelled t orders))
 
 -- so the event lines of all trains that don't stand are the lines to come that stay
-gather_kept : (plant : Plant) (front : Front) (orders : List Order) (p : Entry → Bool) (n : ℕ) → tally p (gather (λ t. train_events plant t (admissions front t) (is_cancelled t orders)) n) ≡ tally (λ e. is_kept orders e.what && p e) (gather (λ t. train_events plant t (admissions front t) false) n)
+gather_kept : (plant : Plant) (front : Front) (orders : List Order) (p : Entry → Bool) (n : ℕ)
+    → tally p (gather (λ t. train_events plant t (admissions front t) (is_cancelled t orders)) n)
+    ≡ tally (λ e. is_kept orders e.what && p e) (gather (λ t. train_events plant t (admissions front t) false) n)
 gather_kept plant front orders p zero = refl
 gather_kept plant front orders p (suc n) =
     omega (

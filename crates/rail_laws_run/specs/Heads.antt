@@ -26,7 +26,8 @@ pub record IsHead (plant : Plant) (front : Front) (t n i : ℕ) : Type 0 where
   pub reached : n ≤ place front t
   pub within : n < moves plant t → i < steps plant t n
   pub first : n ≡ place front t → i ≡ 0
-  pub entered : (m j : ℕ) → m < place front t → j < steps plant t m → stands front (enter_line plant t (admissions front t) m j) ≡ is_before m j n i
+  pub entered : (m j : ℕ) → m < place front t → j < steps plant t m
+      → stands front (enter_line plant t (admissions front t) m j) ≡ is_before m j n i
 
 -- the line is an enter line of the train
 abbrev pub enters : ℕ → What → Bool

@@ -32,7 +32,9 @@ frees x t e = frees_for x t e.what
 -- the table names the train as the holder of a section exactly where the train took it once more than it freed it
 pub record AreHolders (plant : Plant) (front : Front) (holders : List (Option ℕ)) : Type 0 where
   pub long : length holders ≡ length plant.tables.sections
-  pub each : (t x : ℕ) → t < trains plant → cond (is_train t (get_or holders x None)) 1 0 + tally (frees x t) (written front) ≡ taken plant t (admissions front t) x
+  pub each : (t x : ℕ) → t < trains plant
+      → cond (is_train t (get_or holders x None)) 1 0 + tally (frees x t) (written front)
+      ≡ taken plant t (admissions front t) x
   pub known : (t x : ℕ) → get_or holders x None ≡ Some t → t < trains plant
 
 -- the train takes the sections

@@ -14,5 +14,6 @@ pub record StaysBelow (limit : ℕ) (plant : Plant) (t : ℕ) (adms : List ℕ) 
   pub enters : (m j : ℕ) → m < length adms → j ≤ steps plant t m → enter plant t adms m j < limit
   pub stops : (m : ℕ) → m < length adms → stop_at plant t adms m < limit
   pub arrives : (m : ℕ) → m < length adms → arrive plant t adms m < limit
-  pub ends : (m j : ℕ) → m < length adms → j < steps plant t m → is_open plant t adms m j ≡ false → end_time plant t adms m j < limit
+  pub ends : (m j : ℕ) → m < length adms → j < steps plant t m → is_open plant t adms m j ≡ false
+      → end_time plant t adms m j < limit
   pub leaves : (m : ℕ) → m < length adms → out plant t adms m < limit

@@ -11,7 +11,7 @@ use Rattle.rail_rules.specs.Fronts.{Front}
 use Rattle.rail_rules.specs.Orders.{Input, told, is_cancelled}
 use Rattle.rail_rules.specs.Lawful.{is_out, remaining}
 use Rattle.rail_rules.specs.Writable.{does_fit_counter, is_known_train}
-use Rattle.rail_laws_front.proofs.CallerLemmas.{accepted_parts, row_in_range}
+use Rattle.rail_rules.proofs.CallerLemmas.{accepted_parts, row_in_range}
 use Rattle.rail_laws_events.proofs.CallerLemmas.{sum-limited}
 use Rattle.rail_list.proofs.CallerLemmas.{completing_fits, completing_listed}
 use Rattle.rail_laws_text.proofs.Known.{fits_counter}
@@ -28,7 +28,7 @@ all_known plant (t ∷ list) all =
 few_moves : (plant : Plant) → is_accepted plant ≡ true → sum_below (moves plant) (trains plant) ≤ LIST_TRAINS
 few_moves plant ok =
     let accepted = accepted_parts plant ok in
-    omega (arith, sum-limited (moves plant) ITINERARY_ROUTES (trains plant) (λ t lt. (row_in_range plant accepted t lt).few_moves), accepted.few_trains)
+    omega (arith, sum-limited (moves plant) ITINERARY_ROUTES (trains plant) (λ t lt. (row_in_range plant accepted.trains_in_range t lt).few_moves), accepted.few_trains)
 
 -- the trains of a list that completes
 pub list_known : (plant : Plant) → is_accepted plant ≡ true → (s list : List ℕ) → length s ≡ trains plant → completes (moves_of plant) s list ≡ true → (list_all (is_known_train plant) list && does_fit_counter (length list)) ≡ true

@@ -1,17 +1,15 @@
 -- The names of an accepted plant are names, and distinct.
-use Rattle.std.proofs.Common.{◌≡◌, ℕ, zero, suc, ◌<◌, Bool, true, not, ◌&&◌, leb, List, [], ◌∷◌, length, get_or, map, refl, sym, ap, ◌∙◌, arith}
-use Rattle.std.specs.List.{list_any, list_all}
+use Rattle.std.proofs.Common.{◌≡◌, ℕ, zero, suc, ◌<◌, true, not, List, [], ◌∷◌, length, get_or, map, refl, sym, ap, ◌∙◌, arith}
+use Rattle.std.specs.List.{list_any}
 use Rattle.std.specs.Cmp.Lexicographic.{bytes_decides}
 use Rattle.std.proofs.lemmas.Bool.{false≢true, and_parts, or_left, or_right, not-true}
 use Rattle.std.proofs.lemmas.List.{get_or-map, length-map}
-use Rattle.rail_base.specs.NameForms.{is_name}
-use Rattle.rail_base.specs.declared.limits.TheConstants.{INPUT_TIME, SECTION_LENGTH, ITINERARY_ROUTES}
 use Rattle.rail_base.specs.declared.plant.SectionRow.{SectionRow}
 use Rattle.rail_base.specs.declared.plant.TrainRow.{TrainRow}
 use Rattle.rail_rules.specs.Numbers.{same_numbers}
-use Rattle.rail_rules.specs.Plant.{Plant, section, train, trains, moves, no_section, no_train}
-use Rattle.rail_rules.specs.Accepted.{is_accepted, is_from_one, is_section_in_range, is_kind_in_range, is_move_in_range, are_distinct_names}
-use Rattle.rail_laws_front.proofs.CallerLemmas.{IsAccepted, accepted_parts, list_all_get}
+use Rattle.rail_rules.specs.Plant.{Plant, section, train, trains, no_section, no_train}
+use Rattle.rail_rules.specs.Accepted.{is_accepted, are_distinct_names}
+use Rattle.rail_rules.proofs.CallerLemmas.{accepted_parts, row_in_range, section_in_range}
 use Rattle.rail_rules.specs.Writable.{IsNamed}
 
 listed_name : (names : List (List ℕ)) (i : ℕ) (name : List ℕ) → i < length names → name ≡ get_or names i [] → list_any (same_numbers name) names ≡ true
@@ -29,29 +27,6 @@ distinct_names (x ∷ names) (suc i) zero h li lj e =
 distinct_names (x ∷ names) (suc i) (suc j) h li lj e =
     ap suc (distinct_names names i j (and_parts (not (list_any (same_numbers x) names)) (are_distinct_names names) h).1 (omega (arith, li)) (omega (arith, lj)) e)
 
--- a train of an accepted plant has a name
-train_named : (plant : Plant) → IsAccepted plant → (t : ℕ) → t < trains plant → is_name (train plant t).name ≡ true
-train_named plant h t lt =
-    let b1 : Bool = is_name (train plant t).name in
-    let b2 : Bool = is_kind_in_range (train plant t).kind in
-    let b3 : Bool = leb (train plant t).entry INPUT_TIME in
-    let b4 : Bool = leb (train plant t).priority 255 in
-    let b5 : Bool = is_from_one ITINERARY_ROUTES (moves plant t) in
-    let b6 : Bool = list_all (is_move_in_range (length plant.tables.sections)) (train plant t).moves in
-    let p6 = and_parts (b1 && b2 && b3 && b4 && b5 && b6) _ (h.each_train t lt) in
-    let p5 = and_parts (b1 && b2 && b3 && b4 && b5) b6 p6.0 in
-    let p4 = and_parts (b1 && b2 && b3 && b4) b5 p5.0 in
-    let p3 = and_parts (b1 && b2 && b3) b4 p4.0 in
-    let p2 = and_parts (b1 && b2) b3 p3.0 in
-    (and_parts b1 b2 p2.0).0
-
-section_named : (plant : Plant) → IsAccepted plant → (x : ℕ) → x < length plant.tables.sections → is_name (section plant x).name ≡ true
-section_named plant h x lt =
-    let b1 : Bool = is_name (section plant x).name in
-    let b2 : Bool = is_from_one SECTION_LENGTH (section plant x).length in
-    let p2 = and_parts (b1 && b2) _ (list_all_get is_section_in_range plant.tables.sections x no_section h.sections lt) in
-    (and_parts b1 b2 p2.0).0
-
 pub accepted_named : (plant : Plant) → is_accepted plant ≡ true → IsNamed plant
 accepted_named plant accepted =
     let h = accepted_parts plant accepted in
@@ -60,8 +35,12 @@ accepted_named plant accepted =
     let train_at : (t : ℕ) → t < trains plant → get_or train_names t [] ≡ (train plant t).name = λ t lt. get_or-map (λ (row : TrainRow). row.name) plant.tables.trains t no_train [] lt in
     let section_at : (x : ℕ) → x < length plant.tables.sections → get_or section_names x [] ≡ (section plant x).name = λ x lt. get_or-map (λ (row : SectionRow). row.name) plant.tables.sections x no_section [] lt in
     record {
-      train_name = train_named plant h;
-      section_name = section_named plant h;
+      train_name = λ t lt. (row_in_range plant h.trains_in_range t lt).named;
+      section_name = λ x lt. (section_in_range plant h.sections x lt).named;
       train_of = λ t u lt lu e. distinct_names train_names t u h.train_names (omega (arith, lt, length-map plant.tables.trains (λ (row : TrainRow). row.name))) (omega (arith, lu, length-map plant.tables.trains (λ (row : TrainRow). row.name))) (train_at t lt ∙ e ∙ sym (train_at u lu));
-      section_of = λ x y lx ly e. distinct_names section_names x y h.section_names (omega (arith, lx, length-map plant.tables.sections (λ (row : SectionRow). row.name))) (omega (arith, ly, length-map plant.tables.sections (λ (row : SectionRow). row.name))) (section_at x lx ∙ e ∙ sym (section_at y ly));
+      section_of = λ x y lx ly e.
+          distinct_names section_names x y h.section_names
+          (omega (arith, lx, length-map plant.tables.sections (λ (row : SectionRow). row.name)))
+          (omega (arith, ly, length-map plant.tables.sections (λ (row : SectionRow). row.name)))
+          (section_at x lx ∙ e ∙ sym (section_at y ly));
     }

@@ -45,7 +45,10 @@ ready_known input ok front t h =
     move_known input.plant ok t (suc (place front t)) (known_train input.plant t (place front t) lt) (omega arith)
 
 -- what an event line of a train says
-event_known : (plant : Plant) → is_accepted plant ≡ true → (t : ℕ) (adms : List ℕ) (cancelled : Bool) (line : Line) → t < trains plant → length adms ≤ moves plant t → is_bare line ≡ true → (e : Entry) → IsEvent plant t adms cancelled e → is_writable_what plant line e.what ≡ true
+event_known : (plant : Plant) → is_accepted plant ≡ true
+    → (t : ℕ) (adms : List ℕ) (cancelled : Bool) (line : Line) → t < trains plant
+    → length adms ≤ moves plant t → is_bare line ≡ true → (e : Entry) → IsEvent plant t adms cancelled e
+    → is_writable_what plant line e.what ≡ true
 event_known plant ok t adms cancelled line lt few bare e (entering m j lm step is) =
     let P : Entry → Type 0 = λ e. is_writable_what plant line e.what ≡ true in
     subst P (sym is) (and_from _ _ (and_from _ _ (move_known plant ok t (suc m) lt (omega arith)) (step_known plant ok t m j (omega arith) step)) bare)

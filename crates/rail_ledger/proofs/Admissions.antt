@@ -30,7 +30,6 @@ use Rattle.rail_state.specs.Representation.{IsAdmissible, MayKeep, admit_line, i
 use Rattle.rail_state.proofs.CallerLemmas.{well_formed_plant, holders_block, judged, waits_is, admitted_line, kept_is, left_of_ready, bar_seen}
 use Rattle.rail_state.specs.Representation.{IsAdmitLine}
 use Rattle.rail_block.specs.declared.times.MoveTimes.{MoveTimes}
-use Rattle.rail_queue.specs.Queue.{Queue}
 use Rattle.rail_state.specs.declared.train.TrainState.{TrainState}
 use Rattle.rail_rules.specs.FcfsAlone.{fcfs_alone}
 use Rattle.rail_ledger.specs.Ledgers.{list_with}
@@ -56,17 +55,23 @@ left_of front ledger at t waits_it =
     let ready : is_ready (input_of fcfs_alone ledger.plant) front t ≡ true = sym (at.rep.waiting.ready t (known_of front ledger at t waits_it)) ∙ waits_it in
     left_of_ready fcfs_alone ledger.plant front t ready
 
-pub legal_admissible : (table : List MoveLists) (front : Front) (ledger : Ledger) → moves_in table ≡ moves_of ledger.plant → IsAt front ledger → is_deciding (input_of fcfs_alone ledger.plant) front ≡ true → (t : ℕ) → IsAdmissible fcfs_alone ledger.plant front ledger.state.holders ledger.state.trains t → is_legal (moves_in table) ledger.places.positions t ≡ true
+pub legal_admissible : (table : List MoveLists) (front : Front) (ledger : Ledger) → moves_in table ≡ moves_of ledger.plant → IsAt front ledger
+    → is_deciding (input_of fcfs_alone ledger.plant) front ≡ true → (t : ℕ) → IsAdmissible fcfs_alone ledger.plant front ledger.state.holders ledger.state.trains t
+    → is_legal (moves_in table) ledger.places.positions t ≡ true
 legal_admissible table front ledger same at deciding t next =
     ap (λ plan. is_legal plan ledger.places.positions t) same
     ∙ ap (λ s. is_legal (moves_of ledger.plant) s t) at.placed.positions
     ∙ unbarred_legal (input_of fcfs_alone ledger.plant) (well_formed_plant ledger.plant at.rep.accepted) front t (timely (input_of fcfs_alone ledger.plant) (well_formed_plant ledger.plant at.rep.accepted) front at.rep.lawful)
     (ap is_some (bar_seen fcfs_alone ledger.plant front ledger.state at.rep deciding t ∙ next.free)) (left_of front ledger at t next.waits)
 
-pub given_exact : (table : List MoveLists) (front : Front) (ledger : Ledger) → moves_in table ≡ moves_of ledger.plant → IsAt front ledger → (t : ℕ) (note : Note) (list : List ℕ) → may_be_given (moves_in table) ledger.places.positions ledger.kept.trains t note list ≡ may_be_given (moves_of ledger.plant) (places ledger.plant front) (kept ledger.plant front) t note list
+pub given_exact : (table : List MoveLists) (front : Front) (ledger : Ledger) → moves_in table ≡ moves_of ledger.plant → IsAt front ledger → (t : ℕ) (note : Note) (list : List ℕ)
+    → may_be_given (moves_in table) ledger.places.positions ledger.kept.trains t note list
+    ≡ may_be_given (moves_of ledger.plant) (places ledger.plant front) (kept ledger.plant front) t note list
 given_exact table front ledger same at t note list = λ i. may_be_given (same i) (at.placed.positions i) (at.keeps.is_list i) t note list
 
-pub has_given : (table : List MoveLists) (front : Front) (old new : Ledger) → moves_in table ≡ moves_of old.plant → IsAt front old → (t : ℕ) (note : Note) (list : List ℕ) → IsMadeFor table new.places → new.kept.room ≡ old.kept.room → new.places.positions ≡ after old.places.positions t → new.kept.trains ≡ given_list (moves_in table) old.kept.trains t note list → HasGiven front old new t note list
+pub has_given : (table : List MoveLists) (front : Front) (old new : Ledger) → moves_in table ≡ moves_of old.plant → IsAt front old → (t : ℕ) (note : Note) (list : List ℕ)
+    → IsMadeFor table new.places → new.kept.room ≡ old.kept.room → new.places.positions ≡ after old.places.positions t
+    → new.kept.trains ≡ given_list (moves_in table) old.kept.trains t note list → HasGiven front old new t note list
 has_given table front old new same at t note list made room moved is = record {
   list_is = is ∙ (λ i. given_list (same i) (at.keeps.is_list i) t note list);
   positions = moved ∙ ap (λ s. after s t) at.placed.positions;
@@ -110,7 +115,8 @@ module _ (front : Front) (ledger : Ledger) (at : IsAt front ledger) (going : led
       let a = eqb when ledger.state.instant in
       let b = not (is_due_now ledger.state) in
       let c = is_next_move ledger.state.trains t m in
-      and_from (a && b && c) (not held) (and_from (a && b) c (and_from a b (eq-eqb when ledger.state.instant f.now) (not_from_false (is_due_now ledger.state) f.not_due)) (and_from train_state.waits (eqb m (suc train_state.place)) f.waits_it (eq-eqb m (suc train_state.place) f.next))) (not_from_false held f.unheld)
+      and_from (a && b && c) (not held) (and_from (a && b) c (and_from a b (eq-eqb when ledger.state.instant f.now) (not_from_false (is_due_now ledger.state) f.not_due))
+      (and_from train_state.waits (eqb m (suc train_state.place)) f.waits_it (eq-eqb m (suc train_state.place) f.next))) (not_from_false held f.unheld)
 
   module _ (f : InPlace) where
     waits_now : waits (input_of fcfs_alone ledger.plant) front t ≡ true
@@ -161,14 +167,25 @@ module _ (front : Front) (ledger : Ledger) (at : IsAt front ledger) (going : led
       let p1 = and_parts (eqb when ledger.state.instant) (not (is_due_now ledger.state) && train_state.waits) p2.0 in
       let q = and_parts (not (is_due_now ledger.state)) train_state.waits p1.1 in
       let f : InPlace = record { now = eqb-true when ledger.state.instant p1.0; not_due = not-true (is_due_now ledger.state) q.0; waits_it = q.1; next = eqb-true m (suc train_state.place) p3.1; unheld = not-true held p4.1 } in
-      record { place_fits = f; free = ap is_some (sym (bar_held ledger.plant front ledger.state.holders t (needed ledger.plant t train_state.place))) ∙ not-true (is_some (seen_bar (told [] front) ledger.state.holders t (needed ledger.plant t train_state.place))) p2.1; given = by_note f note p5.1 p6.1 }
+      record {
+        place_fits = f;
+        free = ap is_some (sym (bar_held ledger.plant front ledger.state.holders t (needed ledger.plant t train_state.place)))
+            ∙ not-true (is_some (seen_bar (told [] front) ledger.state.holders t (needed ledger.plant t train_state.place))) p2.1;
+        given = by_note f note p5.1 p6.1;
+      }
     where
-      by_note : InPlace → (n : Note) → note_fits (admission when t m n list) train_state.place n ≡ true → completes (moves_of ledger.plant) (after (places ledger.plant front) t) (kept_after ledger.plant (kept ledger.plant front) (admission when t m n list) (Admit t m n)) ≡ true → may_be_given (moves_of ledger.plant) (places ledger.plant front) (kept ledger.plant front) t n list ≡ true
-      by_note f Pulled fit done = and_from (nat_lt 0 (place_of (places ledger.plant front) t)) (completes (moves_of ledger.plant) (after (places ledger.plant front) t) (without_first t (kept ledger.plant front))) (ap (nat_lt 0) (at_place f) ∙ (and_parts (is_bare (admission when t m Pulled list)) (nat_lt 0 train_state.place) fit).1) done
+      by_note : InPlace → (n : Note) → note_fits (admission when t m n list) train_state.place n ≡ true
+          → completes (moves_of ledger.plant) (after (places ledger.plant front) t) (kept_after ledger.plant (kept ledger.plant front) (admission when t m n list) (Admit t m n))
+          ≡ true → may_be_given (moves_of ledger.plant) (places ledger.plant front) (kept ledger.plant front) t n list ≡ true
+      by_note f Pulled fit done = and_from (nat_lt 0 (place_of (places ledger.plant front) t))
+          (completes (moves_of ledger.plant) (after (places ledger.plant front) t) (without_first t (kept ledger.plant front)))
+          (ap (nat_lt 0) (at_place f) ∙ (and_parts (is_bare (admission when t m Pulled list)) (nat_lt 0 train_state.place) fit).1) done
         where
           at_place : InPlace → place_of (places ledger.plant front) t ≡ train_state.place
           at_place g = place_in ledger.plant front t (known_of front ledger at t g.waits_it) ∙ sym (place_same g)
-      by_note f Appended fit done = and_from (eqb (place_of (places ledger.plant front) t) 0) (completes (moves_of ledger.plant) (after (places ledger.plant front) t) (with_rest_of ledger.plant t (kept ledger.plant front))) (ap (λ p. eqb p 0) (at_place f) ∙ (and_parts (is_bare (admission when t m Appended list)) (eqb train_state.place 0) fit).1) done
+      by_note f Appended fit done = and_from (eqb (place_of (places ledger.plant front) t) 0)
+          (completes (moves_of ledger.plant) (after (places ledger.plant front) t) (with_rest_of ledger.plant t (kept ledger.plant front)))
+          (ap (λ p. eqb p 0) (at_place f) ∙ (and_parts (is_bare (admission when t m Appended list)) (eqb train_state.place 0) fit).1) done
         where
           at_place : InPlace → place_of (places ledger.plant front) t ≡ train_state.place
           at_place g = place_in ledger.plant front t (known_of front ledger at t g.waits_it) ∙ sym (place_same g)
@@ -201,7 +218,9 @@ module _ (front : Front) (ledger : Ledger) (at : IsAt front ledger) (going : led
         law_is ∙ cond-false (is_misplaced (input_of fcfs_alone ledger.plant) front line t m) 2 _ (placed f) ∙ cond-false (is_forbidden (input_of fcfs_alone ledger.plant) front t) 3 _ (unforbidden f) ∙ cond-true (is_occupied (input_of fcfs_alone ledger.plant) front t) 4 5 (occupied_is f ∙ taken),
       )
 
-  pub refused_list : is_in_place ledger when t m held ≡ true → is_some (held_cause ledger.state.holders (needed ledger.plant t train_state.place)) ≡ false → may_be_given (moves_of ledger.plant) (places ledger.plant front) (kept ledger.plant front) t note list ≡ false → (may_follow (input_of fcfs_alone ledger.plant) front line ≡ false) × (broken_law (input_of fcfs_alone ledger.plant) front line ≡ 5)
+  pub refused_list : is_in_place ledger when t m held ≡ true → is_some (held_cause ledger.state.holders (needed ledger.plant t train_state.place)) ≡ false
+      → may_be_given (moves_of ledger.plant) (places ledger.plant front) (kept ledger.plant front) t note list ≡ false
+      → (may_follow (input_of fcfs_alone ledger.plant) front line ≡ false) × (broken_law (input_of fcfs_alone ledger.plant) front line ≡ 5)
   refused_list here free none =
       let f = in_place here in (
         false_from_ne_true (may_follow (input_of fcfs_alone ledger.plant) front line) (λ may. false≢true (sym none ∙ (fits may).given)),
@@ -211,10 +230,21 @@ module _ (front : Front) (ledger : Ledger) (at : IsAt front ledger) (going : led
   pub waits_in_place : is_in_place ledger when t m held ≡ true → train_state.waits ≡ true
   waits_in_place here = (in_place here).waits_it
 
-  pub admissible_in_place : is_in_place ledger when t m held ≡ true → is_some (held_cause ledger.state.holders (needed ledger.plant t train_state.place)) ≡ false → (is_deciding (input_of fcfs_alone ledger.plant) front ≡ true) × IsAdmissible fcfs_alone ledger.plant front ledger.state.holders ledger.state.trains t
+  pub admissible_in_place : is_in_place ledger when t m held ≡ true → is_some (held_cause ledger.state.holders (needed ledger.plant t train_state.place)) ≡ false
+      → (is_deciding (input_of fcfs_alone ledger.plant) front ≡ true) × IsAdmissible fcfs_alone ledger.plant front ledger.state.holders ledger.state.trains t
   admissible_in_place here free =
-      let f = in_place here in
-      (decides f, record { known_train = known_of front ledger at t f.waits_it; waits = f.waits_it; unheld = sym held_is ∙ f.unheld; free = bar_held ledger.plant front ledger.state.holders t (needed ledger.plant t (place front t)) ∙ none_of (held_cause ledger.state.holders (needed ledger.plant t (place front t))) (ap (λ p. is_some (held_cause ledger.state.holders (needed ledger.plant t p))) (sym (place_same f)) ∙ free) })
+      let f = in_place here in (
+        decides f,
+        record {
+          known_train = known_of front ledger at t f.waits_it;
+          waits = f.waits_it;
+          unheld = sym held_is
+              ∙ f.unheld;
+          free = bar_held ledger.plant front ledger.state.holders t (needed ledger.plant t (place front t))
+              ∙ none_of (held_cause ledger.state.holders (needed ledger.plant t (place front t)))
+              (ap (λ p. is_some (held_cause ledger.state.holders (needed ledger.plant t p))) (sym (place_same f)) ∙ free);
+        },
+      )
     where
       none_of : (o : Option Cause) → is_some o ≡ false → o ≡ None
       none_of None h = refl

@@ -1,5 +1,5 @@
 -- What no commands bring.
-use Rattle.std.proofs.Common.{◌≡◌, ℕ, false, List, [], ◌∷◌, Option, Some, None, refl, sym, ap, ◌∙◌, subst}
+use Rattle.std.proofs.Common.{◌≡◌, ℕ, false, List, [], ◌∷◌, Option, None, refl, ap, ◌∙◌}
 use Rattle.std.specs.Prelude.{find}
 use Rattle.std.specs.List.{list_any}
 use Rattle.std.specs.Option.{option_map}
@@ -8,7 +8,7 @@ use Rattle.rail_base.specs.declared.history.Cause.TheVariants.{Closed}
 use Rattle.rail_rules.specs.Numbers.{or_else}
 use Rattle.rail_rules.specs.Plant.{Plant}
 use Rattle.rail_rules.specs.Fronts.{Front}
-use Rattle.rail_rules.specs.Orders.{first_force, in_force, is_cancelled, is_closed, told, input_of}
+use Rattle.rail_rules.specs.Orders.{is_cancelled, is_closed, told, input_of}
 use Rattle.rail_laws_run.proofs.CallerLemmas.{nothing_told}
 use Rattle.rail_laws_run.specs.HolderTables.{held_cause}
 use Rattle.rail_state.specs.SeenCauses.{seen_bar}

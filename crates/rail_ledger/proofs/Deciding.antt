@@ -10,6 +10,8 @@ use Rattle.rail_ledger.specs.declared.ledger.Ledger.{Ledger}
 use Rattle.rail_ledger.specs.Ledgers.{IsAt}
 use Rattle.rail_rules.specs.Orders.{input_of}
 
-pub deciding_at : (front : Front) (ledger : Ledger) → IsAt front ledger → ledger.state.has_ended ≡ false → ledger.state.is_settled ≡ false → (first_time_of ledger.state.queue.events ≡ Some ledger.state.instant → ⊥) → is_sorted ledger.state.queue.events ≡ true → is_deciding (input_of fcfs_alone ledger.plant) front ≡ true
+pub deciding_at : (front : Front) (ledger : Ledger) → IsAt front ledger → ledger.state.has_ended ≡ false → ledger.state.is_settled ≡ false
+    → (first_time_of ledger.state.queue.events ≡ Some ledger.state.instant → ⊥) → is_sorted ledger.state.queue.events ≡ true
+    → is_deciding (input_of fcfs_alone ledger.plant) front ≡ true
 deciding_at front ledger at going unsettled none_due sorted =
     deciding fcfs_alone ledger.plant front ledger.state at.rep (sym at.rep.ended ∙ going) sorted none_due (λ empty. false≢true (sym unsettled ∙ at.rep.begun empty))

@@ -54,7 +54,9 @@ left_of_next front ledger at t next =
     let ready : is_ready (input_of fcfs_alone ledger.plant) front t ≡ true = sym (at.rep.waiting.ready t next.known_train) ∙ waits in
     left_of_ready fcfs_alone ledger.plant front t ready
 
-pub legal_next : (table : List MoveLists) (front : Front) (ledger : Ledger) → moves_in table ≡ moves_of ledger.plant → IsAt front ledger → is_deciding (input_of fcfs_alone ledger.plant) front ≡ true → (t : ℕ) → IsNext fcfs_alone ledger.plant front ledger.state.holders ledger.state.trains t → is_legal (moves_in table) ledger.places.positions t ≡ true
+pub legal_next : (table : List MoveLists) (front : Front) (ledger : Ledger) → moves_in table ≡ moves_of ledger.plant → IsAt front ledger
+    → is_deciding (input_of fcfs_alone ledger.plant) front ≡ true → (t : ℕ) → IsNext fcfs_alone ledger.plant front ledger.state.holders ledger.state.trains t
+    → is_legal (moves_in table) ledger.places.positions t ≡ true
 legal_next table front ledger same at deciding t next =
     ap (λ plan. is_legal plan ledger.places.positions t) same
     ∙ ap (λ s. is_legal (moves_of ledger.plant) s t) at.placed.positions

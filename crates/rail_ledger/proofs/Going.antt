@@ -1,5 +1,5 @@
 -- The next event happens, or the ledger ends.
-use Rattle.std.proofs.Common.{◌≡◌, ℕ, ◌+◌, Bool, true, false, not, ◌||◌, List, [], ◌∷◌, length, Option, Some, refl, sym, ap, ◌∙◌, subst, ◌⊎◌, inl, inr, ⊎_elim, arith}
+use Rattle.std.proofs.Common.{◌≡◌, ℕ, ◌+◌, Bool, true, false, not, ◌||◌, List, [], ◌∷◌, length, Some, refl, sym, ap, ◌∙◌, subst, ◌⊎◌, inl, inr, ⊎_elim, arith}
 use Rattle.std.specs.List.{filter, list_any}
 use Rattle.std.specs.Option.{option_map_or}
 use Rattle.std.specs.Global.{Vec}
@@ -45,7 +45,8 @@ kept_stays plant line front list idle is = record {
   room = is.room;
 }
 
-module _ (front : Front) (ledger : Ledger) (at : IsAt front ledger) (going : ledger.state.has_ended ≡ false) (may : MayGoOn ledger) (event : Event) (rest : List Event) (first : ledger.state.queue.events ≡ event ∷ rest) (least : list_any (λ other. goes_before other event) ledger.state.queue.events ≡ false) where
+module _ (front : Front) (ledger : Ledger) (at : IsAt front ledger) (going : ledger.state.has_ended ≡ false) (may : MayGoOn ledger) (event : Event) (rest : List Event)
+    (first : ledger.state.queue.events ≡ event ∷ rest) (least : list_any (λ other. goes_before other event) ledger.state.queue.events ≡ false) where
   still : has_ended front ≡ false
   still = sym at.rep.ended ∙ going
 
@@ -108,11 +109,14 @@ filter_same_at front plant states list = ap (λ (f : ℕ → Bool). filter f lis
     or_false false b none = sym none
 
 -- the end line names the trains that are left
-pub ended_at : (front : Front) (ledger : Ledger) → IsAt front ledger → ledger.state.has_ended ≡ false → ledger.state.is_settled ≡ true → ledger.state.queue.events ≡ [] → (remaining : Vec ℕ) → remaining.items ≡ filter (λ t. not (state_of ledger.state.trains t).is_out) (listed (λ t. t) (length ledger.state.trains))
+pub ended_at : (front : Front) (ledger : Ledger) → IsAt front ledger → ledger.state.has_ended ≡ false → ledger.state.is_settled ≡ true → ledger.state.queue.events ≡ []
+    → (remaining : Vec ℕ) → remaining.items ≡ filter (λ t. not (state_of ledger.state.trains t).is_out) (listed (λ t. t) (length ledger.state.trains))
     → IsAt (record { entry = at_time ledger.state.instant End; trains = remaining.items } ∷ front) (record ledger { remaining = remaining; listed = listed.Remaining; state = record ledger.state { has_ended = true } })
 ended_at front ledger at going settled empty remaining is =
     let still : has_ended front ≡ false = sym at.rep.ended ∙ going in
-    let left : remaining.items ≡ left_of fcfs_alone ledger.plant front ledger.state.trains = is ∙ ap (λ n. filter (λ t. not (state_of ledger.state.trains t).is_out) (listed (λ t. t) n)) at.rep.times.many ∙ filter_same_at front ledger.plant ledger.state.trains (listed (λ t. t) (trains ledger.plant)) in
+    let left : remaining.items ≡ left_of fcfs_alone ledger.plant front ledger.state.trains = is
+    ∙ ap (λ n. filter (λ t. not (state_of ledger.state.trains t).is_out) (listed (λ t. t) n)) at.rep.times.many
+    ∙ filter_same_at front ledger.plant ledger.state.trains (listed (λ t. t) (trains ledger.plant)) in
     let after : RunState = record ledger.state { has_ended = true } in
     let line : Line = record { entry = at_time ledger.state.instant End; trains = remaining.items } in
     record {

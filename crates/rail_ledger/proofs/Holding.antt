@@ -1,17 +1,12 @@
 -- Hold lines of a ledger.
-use Rattle.std.proofs.Common.{◌≡◌, ℕ, suc, ◌+◌, ◌<◌, Bool, true, false, ◌&&◌, not, List, ◌∷◌, length, set, Option, Some, None, is_some, refl, sym, ◌∙◌, subst, arith}
-use Rattle.std.specs.Prelude.{count_by}
-use Rattle.std.proofs.lemmas.Bool.{and_parts, false≢true}
+use Rattle.std.proofs.Common.{◌≡◌, ℕ, suc, ◌+◌, ◌<◌, true, false, ◌∷◌, length, Option, Some, None, is_some, refl, sym, ◌∙◌, subst, arith}
+use Rattle.std.proofs.lemmas.Bool.{false≢true}
 use Rattle.rail_base.specs.declared.history.Cause.{Cause}
 use Rattle.rail_base.specs.declared.history.What.TheVariants.{Hold}
 use Rattle.rail_rules.specs.Plant.{trains}
-use Rattle.rail_rules.specs.Fronts.{Front, Line, has_ended, same_cause}
+use Rattle.rail_rules.specs.Fronts.{Front, Line, has_ended}
 use Rattle.rail_rules.specs.Causes.{is_deciding, place}
-use Rattle.rail_queue.specs.declared.event.Event.{Event}
-use Rattle.rail_queue.specs.Queue.{Queue}
-use Rattle.rail_state.specs.Events.{deferred_event}
-use Rattle.rail_state.specs.declared.train.TrainState.{TrainState}
-use Rattle.rail_state.specs.TrainStates.{lacks_hold_line, state_of, after_hold_line}
+use Rattle.rail_state.specs.TrainStates.{lacks_hold_line, state_of}
 use Rattle.rail_state.specs.Representation.{AreAllKnown, IsHoldLine, bare_at}
 use Rattle.rail_state.proofs.CallerLemmas.{all_told, held, settled_stands}
 use Rattle.rail_rules.specs.FcfsAlone.{fcfs_alone}

@@ -17,7 +17,9 @@ use Rattle.rail_ledger.specs.declared.ledger.Ledger.{Ledger}
 use Rattle.rail_ledger.specs.Ledgers.{IsAt, untried}
 use Rattle.rail_ledger.proofs.Alone.{bar_held}
 
-pub looked : (front : Front) (ledger : Ledger) → IsAt front ledger → (states : List TrainState) → length states ≡ length ledger.state.trains → ((t : ℕ) → t < length ledger.state.trains → state_of states t ≡ looked_at ledger.plant ledger.state.holders t (state_of ledger.state.trains t)) → IsAt front (record ledger { state = record ledger.state { trains = states } })
+pub looked : (front : Front) (ledger : Ledger) → IsAt front ledger → (states : List TrainState) → length states ≡ length ledger.state.trains
+    → ((t : ℕ) → t < length ledger.state.trains → state_of states t ≡ looked_at ledger.plant ledger.state.holders t (state_of ledger.state.trains t))
+    → IsAt front (record ledger { state = record ledger.state { trains = states } })
 looked front ledger at states many each = record {
   rep = looked_stands fcfs_alone ledger.plant front ledger.state at.rep states many (λ t lt.
       each t (omega (arith, lt, at.rep.times.many))

@@ -19,8 +19,6 @@ use Rattle.rail_block.specs.CarriedTimes.{AreBelow, times_at}
 use Rattle.rail_consequence.specs.Workspace.{Work}
 use Rattle.rail_list.specs.KeptLists.{Kept}
 use Rattle.rail_place.specs.Made.{State}
-use Rattle.rail_queue.specs.Queue.{Queue}
-use Rattle.rail_state.specs.declared.train.TrainState.{TrainState}
 use Rattle.rail_state.specs.Representation.{IsAdmissible, IsAdmitLine, MayKeep, admit_line, list_for}
 use Rattle.rail_state.proofs.CallerLemmas.{admitted_line, kept_is, lawful_line, left_of_ready, ready_it, well_formed_plant, carried_ready}
 use Rattle.rail_rules.specs.FcfsAlone.{fcfs_alone}
@@ -56,7 +54,9 @@ instant_small : (plant : Plant) (front : Front) → is_accepted plant ≡ true �
 instant_small plant [] accepted lawful deciding = absurd (false≢true deciding)
 instant_small plant (line ∷ before) accepted lawful deciding = times_below (input_of fcfs_alone plant) (accepted_run plant accepted) line before lawful
 
-module _ (front : Front) (ledger : Ledger) (at : IsAt front ledger) (going : ledger.state.has_ended ≡ false) (deciding : is_deciding (input_of fcfs_alone ledger.plant) front ≡ true) (t : ℕ) (next : IsAdmissible fcfs_alone ledger.plant front ledger.state.holders ledger.state.trains t) (note : Note) (list : List ℕ) (noted : MayKeep (moves_of ledger.plant) (places ledger.plant front) (kept ledger.plant front) t note list) where
+module _ (front : Front) (ledger : Ledger) (at : IsAt front ledger) (going : ledger.state.has_ended ≡ false)
+    (deciding : is_deciding (input_of fcfs_alone ledger.plant) front ≡ true) (t : ℕ) (next : IsAdmissible fcfs_alone ledger.plant front ledger.state.holders ledger.state.trains t)
+    (note : Note) (list : List ℕ) (noted : MayKeep (moves_of ledger.plant) (places ledger.plant front) (kept ledger.plant front) t note list) where
   still : has_ended front ≡ false
   still = sym at.rep.ended ∙ going
 

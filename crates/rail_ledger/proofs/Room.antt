@@ -1,13 +1,11 @@
 -- Room in the queue, and numbers that fit.
-use Rattle.std.proofs.Common.{◌≡◌, ℕ, ◌<◌, ◌≤◌, true, List, [], ◌∷◌, length, refl, arith}
-use Rattle.std.specs.Prelude.{count_by}
+use Rattle.std.proofs.Common.{◌≡◌, ℕ, ◌<◌, ◌≤◌, true, arith}
 use Rattle.rail_rules.specs.Plant.{Plant, moves, trains}
 use Rattle.rail_rules.specs.Fronts.{Front}
 use Rattle.rail_rules.specs.Accepted.{is_accepted}
-use Rattle.rail_laws_front.proofs.CallerLemmas.{accepted_parts, row_in_range}
+use Rattle.rail_rules.proofs.CallerLemmas.{accepted_parts, row_in_range}
 use Rattle.rail_laws_events.proofs.CallerLemmas.{few_admissions}
 use Rattle.rail_laws_run.proofs.CallerLemmas.{due_bound}
-use Rattle.rail_queue.specs.declared.event.Event.{Event}
 use Rattle.rail_state.specs.TrainStates.{state_of}
 use Rattle.rail_state.proofs.CallerLemmas.{well_formed_plant, count-all}
 use Rattle.rail_rules.specs.FcfsAlone.{fcfs_alone}
@@ -30,7 +28,7 @@ room_left front ledger at =
 
 -- the moves of a train fit a 16-bit counter
 pub moves_fit : (plant : Plant) → is_accepted plant ≡ true → (t : ℕ) → t < trains plant → moves plant t ≤ ITINERARY_ROUTES
-moves_fit plant accepted t known = (row_in_range plant (accepted_parts plant accepted) t known).few_moves
+moves_fit plant accepted t known = (row_in_range plant (accepted_parts plant accepted).trains_in_range t known).few_moves
 
 pub place_fits : (front : Front) (ledger : Ledger) → IsAt front ledger → (t : ℕ) → t < trains ledger.plant → (state_of ledger.state.trains t).place ≤ ITINERARY_ROUTES
 place_fits front ledger at t known =

@@ -1,22 +1,16 @@
 -- A ledger before its first line.
-use Rattle.std.proofs.Common.{◌≡◌, ℕ, zero, suc, ◌+◌, ◌≤◌, Bool, true, false, List, [], ◌∷◌, ◌++◌, length, get_or, replicate, Some, None, refl, ap, ◌∙◌, subst, arith}
-use Rattle.std.specs.Prelude.{◌↔◌, count_by, map, vec_capacity}
+use Rattle.std.proofs.Common.{◌≡◌, ℕ, zero, suc, ◌+◌, ◌≤◌, true, List, [], ◌∷◌, ◌++◌, length, get_or, replicate, Some, None, refl, ap, ◌∙◌, subst, arith}
+use Rattle.std.specs.Prelude.{◌↔◌, vec_capacity}
 use Rattle.std.proofs.lemmas.Grind.{replicate_next}
-use Rattle.std.proofs.lemmas.List.{length-map}
 use Rattle.rail_base.specs.declared.limits.TheConstants.{TRAINS}
-use Rattle.rail_base.specs.declared.plant.SectionRow.{SectionRow}
 use Rattle.rail_rules.specs.Accepted.{is_accepted}
 use Rattle.rail_rules.specs.Moves.{Moves}
-use Rattle.rail_rules.specs.Numbers.{gather, listed, sum_below}
+use Rattle.rail_rules.specs.Numbers.{listed, sum_below}
 use Rattle.rail_rules.specs.Places.{holds}
-use Rattle.rail_rules.specs.Plant.{Plant, bound, moves_of, trains}
+use Rattle.rail_rules.specs.Plant.{bound, moves_of, trains}
 use Rattle.rail_list.specs.KeptLists.{HasRoomFor}
 use Rattle.rail_place.specs.Made.{IsMadeFor}
 use Rattle.rail_place.specs.Tables.{moves_in, MoveLists}
-use Rattle.rail_queue.specs.declared.event.Event.{Event}
-use Rattle.rail_queue.specs.declared.event.Class.TheVariants.{Ready}
-use Rattle.rail_state.specs.Events.{train_event}
-use Rattle.rail_state.specs.TrainStates.{outside, state_of}
 use Rattle.rail_state.proofs.CallerLemmas.{begins}
 use Rattle.rail_rules.specs.FcfsAlone.{fcfs_alone}
 use Rattle.rail_ledger.specs.declared.ledger.Ledger.{Ledger}

@@ -1,5 +1,5 @@
 -- The front that a ledger stands for.
-use Rattle.std.specs.Prelude.{suc, ◌==◌, ◌&&◌, not, Bool, ◌≡◌, ◌↔◌, ◌⊎◌, ℕ, ◌+◌, ◌<◌, ◌≤◌, ◌^◌, cond, true, false, List, [], ◌∷◌, length, get_or, Option, Some, None, IsTrue, vec_capacity}
+use Rattle.std.specs.Prelude.{suc, ◌==◌, ◌&&◌, not, Bool, ◌≡◌, ◌↔◌, ◌⊎◌, ℕ, ◌+◌, ◌<◌, ◌≤◌, ◌^◌, cond, true, false, List, [], ◌∷◌, length, get_or, Some, None, IsTrue, vec_capacity}
 use Rattle.rail_base.specs.declared.history.Entry.{Entry}
 use Rattle.rail_base.specs.declared.limits.TheConstants.{SECTIONS, TRAINS}
 use Rattle.rail_rules.specs.Numbers.{sum_below}
@@ -26,7 +26,6 @@ use Rattle.rail_ledger.specs.declared.ledger.Listed.{Listed}
 use Rattle.rail_ledger.specs.declared.ledger.Listed.TheVariants as listed
 use Rattle.rail_rules.specs.Orders.{input_of}
 use Rattle.rail_state.specs.declared.pushes.TheConstants.{MOVE_EVENTS}
-use Rattle.rail_state.specs.declared.run_state.RunState.{RunState}
 
 -- the places are those of the front, with the trains that hold the sections
 pub record ArePlaces (plant : Plant) (front : Front) (state : State) : Type 0 where
@@ -169,7 +168,8 @@ is_next_move states t m = (state_of states t).waits && (m == suc (state_of state
 
 -- the train waits at this instant, this is its next move, and no hold line stands before in the round
 abbrev pub is_in_place : Ledger → ℕ → ℕ → ℕ → Bool → Bool
-is_in_place ledger at t m held = (at == ledger.state.instant) && not (is_due_now ledger.state) && is_next_move ledger.state.trains t m && not held
+is_in_place ledger at t m held = (at == ledger.state.instant) && not (is_due_now ledger.state)
+    && is_next_move ledger.state.trains t m && not held
 
 -- places and kept list are those after an admission of the train with this note and list
 pub record HasGiven (front : Front) (old new : Ledger) (t : ℕ) (note : Note) (list : List ℕ) : Type 0 where

@@ -44,7 +44,8 @@ impl Ledger {
         requires unlisted { self.old.listed ≡ which.Nothing }
         ensures admission { result ≡ Admission → CouldGo self.old }
         ensures hold { (entry : Entry) → result ≡ HoldLine entry
-            → (is_hold entry.what ≡ true) × (self.new.plant ≡ self.old.plant) × GivesEntry self.old self.new entry × (list_in self.new ≡ []) }
+            → (is_hold entry.what ≡ true) × (self.new.plant ≡ self.old.plant) × GivesEntry self.old self.new entry
+            × (list_in self.new ≡ []) }
         ensures nothing { result ≡ Nothing → (self.new.plant ≡ self.old.plant) × IsSettled self.old self.new }
     {
         while let Some(train) = self.look() {
@@ -168,7 +169,8 @@ impl Ledger {
     fn is_occupied(&self, train: TrainNo) -> bool
         requires running { IsSomewhere self.now }
         requires waits { (state_of self.now.state.trains train).waits ≡ true }
-        ensures { result ≡ is_some (held_cause self.now.state.holders (needed self.now.plant train (state_of self.now.state.trains train).place)) }
+        ensures { result ≡ is_some (held_cause self.now.state.holders
+            (needed self.now.plant train (state_of self.now.state.trains train).place)) }
     {
         let place = self.state.trains.get(train).place;
         let row = self.plant.move_row(train, place + 1);
@@ -180,9 +182,12 @@ impl Ledger {
     fn keep_given(&mut self, train: TrainNo, note: Note, list: &[TrainNo]) -> bool
         requires running { IsSomewhere self.old }
         requires going { self.old.state.has_ended ≡ false }
-        requires next { (front : Front) → IsAt front self.old → (is_deciding (input_of fcfs_alone self.old.plant) front ≡ true) × IsAdmissible fcfs_alone self.old.plant front self.old.state.holders self.old.state.trains train }
+        requires next { (front : Front) → IsAt front self.old
+            → (is_deciding (input_of fcfs_alone self.old.plant) front ≡ true)
+            × IsAdmissible fcfs_alone self.old.plant front self.old.state.holders self.old.state.trains train }
         ensures lists { self.new ≡ record self.old { places = self.new.places; kept = self.new.kept } }
-        ensures exact { (front : Front) → IsAt front self.old → result ≡ may_be_given (moves_of self.old.plant) (places self.old.plant front) (kept self.old.plant front) train note list.now }
+        ensures exact { (front : Front) → IsAt front self.old → result
+            ≡ may_be_given (moves_of self.old.plant) (places self.old.plant front) (kept self.old.plant front) train note list.now }
         ensures given { IsTrue result → (front : Front) → IsAt front self.old → HasGiven front self.old self.new train note list.now }
     {
         let moves = self.plant.moves();

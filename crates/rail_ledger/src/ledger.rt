@@ -123,7 +123,8 @@ impl Ledger {
         requires deciding { IsDeciding self.old }
         requires next { IsNextTrain self.old train }
         ensures alike { AreAlike self.old self.new }
-        ensures found { IfSome result (λ note. (self.new.state.trains ≡ self.old.state.trains) × ((front : Front) → IsAt front self.old → HasList front self.old self.new train note)) }
+        ensures found { IfSome result (λ note. (self.new.state.trains ≡ self.old.state.trains)
+            × ((front : Front) → IsAt front self.old → HasList front self.old self.new train note)) }
         ensures none { IsNone result → HasTried self.old self.new }
     {
         let moves = self.plant.moves();

@@ -79,7 +79,9 @@ inside_other plan s t u out inside same =
     omega (arith, out, some, ap (place_of s) same)
 
 -- once the train has made its first move, the list with its other moves at the end completes exactly where the old list plays
-pub appended_completes : (plan : Moves) (s list : List ℕ) (t : ℕ) → is_valid plan ≡ true → t < plan.trains → t < length s → 0 < plan.moves t → place_of s t ≡ 0 → completes plan s list ≡ true → plays plan (after s t) list ≡ completes plan (after s t) (list ++ replicate (plan.moves t - 1) t)
+pub appended_completes : (plan : Moves) (s list : List ℕ) (t : ℕ) → is_valid plan ≡ true → t < plan.trains
+    → t < length s → 0 < plan.moves t → place_of s t ≡ 0 → completes plan s list ≡ true
+    → plays plan (after s t) list ≡ completes plan (after s t) (list ++ replicate (plan.moves t - 1) t)
 appended_completes plan s [] t valid lt listed some out done =
     let here : place_of (after s t) t ≡ suc (place_of s t) = get_or-set_same s t (suc (place_of s t)) 0 listed in
     sym (alone_completes plan (after s t) t (plan.moves t - 1) valid lt (omega (arith, listed, length-set s t (suc (place_of s t)))) (omega (arith, here)) (omega (arith, here, out, some)) (λ u ne. inside_kept plan s u t ne ∙ nobody_at plan s u done))

@@ -1,6 +1,7 @@
 -- The kept list and its room.
-use Rattle.std.specs.Prelude.{ℕ, ◌==◌, cond, ◌≤◌, List, [], ◌∷◌, length}
+use Rattle.std.specs.Prelude.{ℕ, ◌-◌, ◌==◌, cond, ◌≤◌, List, [], ◌∷◌, ◌++◌, length, replicate}
 use Rattle.rail_rules.specs.Numbers.{sum_below}
+use Rattle.rail_rules.specs.Moves.{Moves}
 use Rattle.rail_place.specs.Tables.{moves_in, MoveLists}
 
 -- the trains that move, in this order, and for how many entries memory was taken
@@ -16,3 +17,7 @@ HasRoomFor table kept = sum_below (moves_in table).moves (length table) ≤ kept
 abbrev pub before_first : ℕ → List ℕ → List ℕ
 before_first t [] = []
 before_first t (u ∷ rest) = cond (u == t) [] (u ∷ before_first t rest)
+
+-- the list with the moves that an entering train has left after its first one at the end
+abbrev pub with_moves_left : Moves → ℕ → List ℕ → List ℕ
+with_moves_left plan t list = list ++ replicate (plan.moves t - 1) t

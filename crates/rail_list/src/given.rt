@@ -32,7 +32,8 @@ pub fn admit_given(
     ensures made { IsMadeFor moves.now places.new }
     ensures room { kept.new.room ≡ kept.old.room }
     ensures exact { result ≡ may_be_given (moves_in moves.now) places.old.positions kept.old.trains train note list.now }
-    ensures given { IsTrue result → (places.new.positions ≡ after places.old.positions train) × (kept.new.trains ≡ given_list (moves_in moves.now) kept.old.trains train note list.now) }
+    ensures given { IsTrue result → (places.new.positions ≡ after places.old.positions train)
+        × (kept.new.trains ≡ given_list (moves_in moves.now) kept.old.trains train note list.now) }
     ensures none { result ≡ false → (places.new.positions ≡ places.old.positions) × (kept.new.trains ≡ kept.old.trains) }
 {
     match note {
@@ -52,7 +53,8 @@ fn admit_pulled(moves: &Moves, places: &mut Places, kept: &mut KeptList, train: 
     ensures made { IsMadeFor moves.now places.new }
     ensures room { kept.new.room ≡ kept.old.room }
     ensures exact { result ≡ may_be_given (moves_in moves.now) places.old.positions kept.old.trains train Pulled [] }
-    ensures given { IsTrue result → (places.new.positions ≡ after places.old.positions train) × (kept.new.trains ≡ given_list (moves_in moves.now) kept.old.trains train Pulled []) }
+    ensures given { IsTrue result → (places.new.positions ≡ after places.old.positions train)
+        × (kept.new.trains ≡ given_list (moves_in moves.now) kept.old.trains train Pulled []) }
     ensures none { result ≡ false → (places.new.positions ≡ places.old.positions) × (kept.new.trains ≡ kept.old.trains) }
 {
     if places.position(train) == 0 || !kept.pull(moves, places, train) {
@@ -72,7 +74,8 @@ fn admit_appended(moves: &Moves, places: &mut Places, kept: &mut KeptList, train
     ensures made { IsMadeFor moves.now places.new }
     ensures room { kept.new.room ≡ kept.old.room }
     ensures exact { result ≡ may_be_given (moves_in moves.now) places.old.positions kept.old.trains train Appended [] }
-    ensures given { IsTrue result → (places.new.positions ≡ after places.old.positions train) × (kept.new.trains ≡ given_list (moves_in moves.now) kept.old.trains train Appended []) }
+    ensures given { IsTrue result → (places.new.positions ≡ after places.old.positions train)
+        × (kept.new.trains ≡ given_list (moves_in moves.now) kept.old.trains train Appended []) }
     ensures none { result ≡ false → (places.new.positions ≡ places.old.positions) × (kept.new.trains ≡ kept.old.trains) }
 {
     if places.position(train) > 0 || !kept.append(moves, places, train) {

@@ -6,7 +6,7 @@ ghost use Rattle.rail_rules.specs.Places.{after, completes, is_inside, is_legal,
 ghost use Rattle.rail_place.specs.Made.{IsMadeFor};
 ghost use Rattle.rail_place.specs.Plays.{plays};
 ghost use Rattle.rail_place.specs.Tables.{moves_in};
-ghost use Rattle.rail_list.specs.KeptLists.{HasRoomFor, before_first};
+ghost use Rattle.rail_list.specs.KeptLists.{HasRoomFor, before_first, with_moves_left};
 
 use rail_base::{OutOfMemory, TrainNo};
 use rail_place::{Moves, Places};
@@ -79,8 +79,11 @@ impl KeptList {
         requires train { train < length moves.now }
         requires outside { place_of places.old.positions train ≡ 0 }
         requires legal { IsTrue (is_legal (moves_in moves.now) places.old.positions train) }
-        ensures exact { result ≡ completes (moves_in moves.now) (after places.old.positions train) (self.old.trains ++ replicate ((moves_in moves.now).moves train - 1) train) }
-        ensures trains { self.new.trains ≡ (if result then self.old.trains ++ replicate ((moves_in moves.now).moves train - 1) train else self.old.trains) }
+        ensures exact { result ≡ completes (moves_in moves.now) (after places.old.positions train)
+            (with_moves_left (moves_in moves.now) train self.old.trains) }
+        ensures trains { self.new.trains ≡ (if result
+            then with_moves_left (moves_in moves.now) train self.old.trains
+            else self.old.trains) }
         ensures room { self.new.room ≡ self.old.room }
         ensures made { IsMadeFor moves.now places.new }
         ensures positions { places.new.positions ≡ places.old.positions }

@@ -19,8 +19,6 @@ mod kept;
 mod laws;
 mod notes;
 mod repair;
-#[cfg(test)]
-mod tests;
 
 pub use given::admit_given;
 pub use kept::KeptList;

@@ -29,9 +29,11 @@ pub fn admit_by_list(
     requires legal { IsTrue (is_legal (moves_in moves.now) places.old.positions train) }
     ensures made { IsMadeFor moves.now places.new }
     ensures room { kept.new.room ≡ kept.old.room }
-    ensures none { IsNone result → (places.new.positions ≡ places.old.positions) × (kept.new ≡ kept.old) × (is_known (moves_in moves.now) depth places.old.positions kept.old.trains train ≡ false) }
+    ensures none { IsNone result → (places.new.positions ≡ places.old.positions) × (kept.new ≡ kept.old)
+        × (is_known (moves_in moves.now) depth places.old.positions kept.old.trains train ≡ false) }
     ensures moved { IsSome result → places.new.positions ≡ after places.old.positions train }
-    ensures note { IfSome result (λ note. IsNoted (moves_in moves.now) depth places.old.positions kept.old.trains train note kept.new.trains) }
+    ensures note { IfSome result (λ note.
+        IsNoted (moves_in moves.now) depth places.old.positions kept.old.trains train note kept.new.trains) }
     ensures completes { IsTrue (completes (moves_in moves.now) places.new.positions kept.new.trains) }
 {
     if let Some(note) = repair(moves, places, kept, train) {
@@ -56,8 +58,10 @@ fn repair(moves: &Moves, places: &mut Places, kept: &mut KeptList, train: TrainN
     ensures made { IsMadeFor moves.now places.new }
     ensures room { kept.new.room ≡ kept.old.room }
     ensures positions { places.new.positions ≡ places.old.positions }
-    ensures none { IsNone result → (kept.new.trains ≡ kept.old.trains) × (is_repairable_for (moves_in moves.now) places.old.positions kept.old.trains train ≡ false) }
-    ensures note { IfSome result (λ note. (depth : ℕ) → IsNoted (moves_in moves.now) depth places.old.positions kept.old.trains train note kept.new.trains) }
+    ensures none { IsNone result → (kept.new.trains ≡ kept.old.trains)
+        × (is_repairable_for (moves_in moves.now) places.old.positions kept.old.trains train ≡ false) }
+    ensures note { IfSome result (λ note. (depth : ℕ)
+        → IsNoted (moves_in moves.now) depth places.old.positions kept.old.trains train note kept.new.trains) }
 {
     if places.position(train) > 0 {
         if kept.pull(moves, places, train) {

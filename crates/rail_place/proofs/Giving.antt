@@ -42,15 +42,6 @@ is_in-get_or [] i d lt = absurd (omega arith)
 is_in-get_or (x ∷ xs) zero d lt = is_in-head x xs
 is_in-get_or (x ∷ xs) (suc i) d lt = or_right (eqb x (get_or xs i d)) (is_in (get_or xs i d) xs) (is_in-get_or xs i d (omega arith))
 
--- one section more, in a loop over what is left of the list
-pub given-more : (owners : List (Option ℕ)) (xs : List ℕ) (i x : ℕ) (owner : Option ℕ) → i < length xs → x ≡ get_or xs i x → given (set owners x owner) (drop (i + 1) xs) owner ≡ given owners (drop i xs) owner
-given-more owners xs i x owner lt is =
-    let step : drop i xs ≡ get_or xs i x ∷ drop (i + 1) xs = drop_more xs i x lt in
-    ap (λ y. given (set owners y owner) (drop (i + 1) xs) owner) is ∙ sym (ap (λ ys. given owners ys owner) step)
-
-pub given-all : (owners : List (Option ℕ)) (xs : List ℕ) (i : ℕ) (owner : Option ℕ) → length xs ≤ i → given owners (drop i xs) owner ≡ owners
-given-all owners xs i owner past = ap (λ ys. given owners ys owner) (drop_all i xs past)
-
 pub range_at : (xs : List ℕ) (i x n : ℕ) → ((y : ℕ) → is_in y xs ≡ true → y < n) → i < length xs → x ≡ get_or xs i x → x < n
 range_at xs i x n h lt is = h x (ap (λ y. is_in y xs) is ∙ is_in-get_or xs i x lt)
 

@@ -117,7 +117,10 @@ legal_apart plan s t u valid lt legal =
 abbrev pub owners_moved : Moves → List ℕ → List (Option ℕ) → ℕ → ℕ → List (Option ℕ)
 owners_moved plan s owners t p = given (given owners (stand plan t (place_of s t)) None) (stand plan t p) (Some t)
 
-told_moved : (plan : Moves) (s : List ℕ) (owners : List (Option ℕ)) (t p n : ℕ) → Told plan s owners → t < length s → n ≡ length owners → ((q x : ℕ) → is_in x (stand plan t q) ≡ true → x < n) → ((u x : ℕ) → u ≢ t → is_in x (stand plan t p) ≡ true → holds plan s u x ≡ false) → Told plan (set s t p) (owners_moved plan s owners t p)
+told_moved : (plan : Moves) (s : List ℕ) (owners : List (Option ℕ)) (t p n : ℕ) → Told plan s owners
+    → t < length s → n ≡ length owners → ((q x : ℕ) → is_in x (stand plan t q) ≡ true → x < n)
+    → ((u x : ℕ) → u ≢ t → is_in x (stand plan t p) ≡ true → holds plan s u x ≡ false)
+    → Told plan (set s t p) (owners_moved plan s owners t p)
 told_moved plan s owners t p n told lt size range free =
     λ x u.
     let old : List ℕ = stand plan t (place_of s t) in
@@ -189,7 +192,16 @@ made_within table s t made =
     (cases_lt t (length s.positions))
 
 -- a train goes to a place where its standing set is apart from all others
-pub made_moved : (table : List MoveLists) (s : State) (t p n : ℕ) → n < 2 ^ 64 → IsMadeFor table s → t < length table → p ≤ (moves_in table).moves t → ((u : ℕ) → u ≢ t → are_apart (stand (moves_in table) t p) (stand (moves_in table) u (place_of s.positions u)) ≡ true) → IsMadeFor table (record { positions = set s.positions t p; owners = owners_moved (moves_in table) s.positions s.owners t p; played = n })
+pub made_moved : (table : List MoveLists) (s : State) (t p n : ℕ) → n < 2 ^ 64 → IsMadeFor table s
+    → t < length table → p ≤ (moves_in table).moves t
+    → ((u : ℕ) → u ≢ t
+    → are_apart (stand (moves_in table) t p) (stand (moves_in table) u (place_of s.positions u)) ≡ true)
+    → IsMadeFor table
+    (record {
+      positions = set s.positions t p;
+      owners = owners_moved (moves_in table) s.positions s.owners t p;
+      played = n;
+    })
 made_moved table s t p n counted made lt high apart =
     let plan : Moves = moves_in table in
     let parts = state_parts plan s.positions made.valid in
@@ -223,7 +235,20 @@ pub made_as : (table : List MoveLists) (s now : State) → s ≡ now → IsMadeF
 made_as table s now same made = let P : State → Type 0 = λ r. IsMadeFor table r in subst P (sym same) made
 
 -- the same move, as the code makes it
-pub made_stepped : (table : List MoveLists) (s : State) (t p n : ℕ) (positions : List ℕ) (owners1 owners2 : List (Option ℕ)) (old new : List ℕ) → n < 2 ^ 64 → IsMadeFor table s → t < length table → p ≤ (moves_in table).moves t → ((u : ℕ) → u ≢ t → are_apart (stand (moves_in table) t p) (stand (moves_in table) u (place_of s.positions u)) ≡ true) → positions ≡ set s.positions t p → old ≡ stand (moves_in table) t (place_of s.positions t) → owners1 ≡ given s.owners old None → new ≡ stand (moves_in table) t p → owners2 ≡ given owners1 new (Some t) → IsMadeFor table (record { positions = positions; owners = owners2; played = n })
+pub made_stepped :
+    (table : List MoveLists)
+    (s : State)
+    (t p n : ℕ)
+    (positions : List ℕ)
+    (owners1 owners2 : List (Option ℕ))
+    (old new : List ℕ)
+    → n < 2 ^ 64 → IsMadeFor table s → t < length table → p ≤ (moves_in table).moves t
+    → ((u : ℕ) → u ≢ t
+    → are_apart (stand (moves_in table) t p) (stand (moves_in table) u (place_of s.positions u)) ≡ true)
+    → positions ≡ set s.positions t p → old ≡ stand (moves_in table) t (place_of s.positions t)
+    → owners1 ≡ given s.owners old None → new ≡ stand (moves_in table) t p
+    → owners2 ≡ given owners1 new (Some t)
+    → IsMadeFor table (record { positions = positions; owners = owners2; played = n })
 made_stepped table s t p n positions owners1 owners2 old new counted made lt high apart at was freed next held =
     let plan : Moves = moves_in table in
     let owners : owners2 ≡ owners_moved plan s.positions s.owners t p =

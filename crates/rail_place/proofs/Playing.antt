@@ -184,7 +184,10 @@ apart_answers u h = cc
 barred_answers : (n : ℕ) (why : Barred) → ◌≡◌ {A = Played} (Illegal n why) Completes → ⊥
 barred_answers n why h = cc
 
-completes_step : (plan : Moves) (s : List ℕ) (n t : ℕ) (rest : List ℕ) (o : Option Barred) → bar_in_list plan s t ≡ o → unless_barred n o (outcome plan (after s t) (n + 1) rest) ≡ Completes → (outcome plan (after s t) (n + 1) rest ≡ Completes → completes plan (after s t) rest ≡ true) → completes plan s (t ∷ rest) ≡ true
+completes_step : (plan : Moves) (s : List ℕ) (n t : ℕ) (rest : List ℕ) (o : Option Barred)
+    → bar_in_list plan s t ≡ o → unless_barred n o (outcome plan (after s t) (n + 1) rest) ≡ Completes
+    → (outcome plan (after s t) (n + 1) rest ≡ Completes → completes plan (after s t) rest ≡ true)
+    → completes plan s (t ∷ rest) ≡ true
 completes_step plan s n t rest None e h later =
     let both = move_from_bar plan s t e in
     and_from (is_inside plan s t && is_legal plan s t) (completes plan (after s t) rest) (and_from (is_inside plan s t) (is_legal plan s t) both.0 both.1) (later h)
@@ -211,7 +214,10 @@ ending_not_barred : (o : Option ℕ) (k : ℕ) (why : Barred) → ending o ≡ I
 ending_not_barred None k why h = cc
 ending_not_barred (Some u) k why h = cc
 
-plays_step : (plan : Moves) (s : List ℕ) (n t : ℕ) (rest : List ℕ) (o : Option ℕ) (bar : Option Barred) → bar_in_list plan s t ≡ bar → unless_barred n bar (outcome plan (after s t) (n + 1) rest) ≡ ending o → (outcome plan (after s t) (n + 1) rest ≡ ending o → plays plan (after s t) rest ≡ true) → plays plan s (t ∷ rest) ≡ true
+plays_step : (plan : Moves) (s : List ℕ) (n t : ℕ) (rest : List ℕ) (o : Option ℕ) (bar : Option Barred)
+    → bar_in_list plan s t ≡ bar → unless_barred n bar (outcome plan (after s t) (n + 1) rest) ≡ ending o
+    → (outcome plan (after s t) (n + 1) rest ≡ ending o → plays plan (after s t) rest ≡ true)
+    → plays plan s (t ∷ rest) ≡ true
 plays_step plan s n t rest o None e h later =
     let both = move_from_bar plan s t e in
     and_from (is_inside plan s t && is_legal plan s t) (plays plan (after s t) rest) (and_from (is_inside plan s t) (is_legal plan s t) both.0 both.1) (later h)
@@ -221,7 +227,10 @@ pub plays_to_end : (plan : Moves) (s : List ℕ) (n : ℕ) (xs : List ℕ) (o : 
 plays_to_end plan s n [] o h = refl
 plays_to_end plan s n (t ∷ rest) o h = plays_step plan s n t rest o (bar_in_list plan s t) refl h (plays_to_end plan (after s t) (n + 1) rest o)
 
-stops_step : (plan : Moves) (s : List ℕ) (n t k : ℕ) (rest : List ℕ) (why : Barred) (bar : Option Barred) → bar_in_list plan s t ≡ bar → unless_barred n bar (outcome plan (after s t) (n + 1) rest) ≡ Illegal k why → (outcome plan (after s t) (n + 1) rest ≡ Illegal k why → plays plan (after s t) rest ≡ false) → plays plan s (t ∷ rest) ≡ false
+stops_step : (plan : Moves) (s : List ℕ) (n t k : ℕ) (rest : List ℕ) (why : Barred) (bar : Option Barred)
+    → bar_in_list plan s t ≡ bar → unless_barred n bar (outcome plan (after s t) (n + 1) rest) ≡ Illegal k why
+    → (outcome plan (after s t) (n + 1) rest ≡ Illegal k why → plays plan (after s t) rest ≡ false)
+    → plays plan s (t ∷ rest) ≡ false
 stops_step plan s n t k rest why None e h later = and_right (is_inside plan s t && is_legal plan s t) (plays plan (after s t) rest) (later h)
 stops_step plan s n t k rest why (Some first) e h later = and_left (is_inside plan s t && is_legal plan s t) (plays plan (after s t) rest) (barred_stops plan s t first e)
 

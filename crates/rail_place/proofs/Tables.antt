@@ -24,13 +24,6 @@ stand-inner plan t (suc m) low high =
     let same : suc m - 1 ≡ m = omega arith in
     cond-true (ltb (suc m) (plan.moves t)) (plan.standing t m) [] (lt-ltb (suc m) (plan.moves t) high) ∙ ap (plan.standing t) (sym same)
 
-pub stand-start : (plan : Moves) (t p : ℕ) → p ≡ 0 → stand plan t p ≡ []
-stand-start plan t p e = ap (λ k. stand plan t k) e
-
-pub stand-out : (plan : Moves) (t p : ℕ) → plan.moves t ≤ p → stand plan t p ≡ []
-stand-out plan t zero high = refl
-stand-out plan t (suc m) high = cond-false (ltb (suc m) (plan.moves t)) (plan.standing t m) [] (le-ltb (suc m) (plan.moves t) high)
-
 -- what a valid plan says of a move that isn't the train's last
 pub move_valid : (plan : Moves) (t m : ℕ) → is_valid plan ≡ true → t < plan.trains → suc m < plan.moves t → is_valid_move plan t m ≡ true
 move_valid plan t m valid lt more =
@@ -76,7 +69,10 @@ unfolding row_test move_test
 valid_by_rows table = refl
 
 -- a train added last
-pub table_pushed : (table : List MoveLists) (row : MoveLists) → IsTable table → length table < TRAINS → length row.needs ≤ ITINERARY_ROUTES → ((m : ℕ) → length (get_or row.needs m []) ≤ ROUTE_SECTIONS) → ((m x : ℕ) → is_in x (get_or row.needs m []) ≡ true → x < SECTIONS) → is_valid (moves_in (row ∷ [])) ≡ true → IsTable (table ++ row ∷ [])
+pub table_pushed : (table : List MoveLists) (row : MoveLists) → IsTable table → length table < TRAINS
+    → length row.needs ≤ ITINERARY_ROUTES → ((m : ℕ) → length (get_or row.needs m []) ≤ ROUTE_SECTIONS)
+    → ((m x : ℕ) → is_in x (get_or row.needs m []) ≡ true → x < SECTIONS)
+    → is_valid (moves_in (row ∷ [])) ≡ true → IsTable (table ++ row ∷ [])
 table_pushed table row h room short narrow in_range valid =
     let whole : List MoveLists = table ++ row ∷ [] in
     let size : length whole ≡ length table + 1 = length_push table row in
@@ -153,7 +149,10 @@ pub need_range : (now : List MoveLists) (t m : ℕ) (row : Row) (sections : List
 need_range now t m row sections h at lt is x stands = h.in_range t m x (ap (is_in x) (sym (need_at now t m row sections at lt is)) ∙ stands)
 
 -- the standing set at a place inside, as the train's row tells it
-pub stand_at : (now : List MoveLists) (t p : ℕ) (row : Row) (sections : List ℕ) → get_or now t no_lists ≡ row_of row → 0 < p → p < length row.needs.items → p - 1 < length row.stands.items → sections ≡ get_or row.stands.items (p - 1) sections → sections ≡ stand (moves_in now) t p
+pub stand_at : (now : List MoveLists) (t p : ℕ) (row : Row) (sections : List ℕ)
+    → get_or now t no_lists ≡ row_of row → 0 < p → p < length row.needs.items
+    → p - 1 < length row.stands.items → sections ≡ get_or row.stands.items (p - 1) sections
+    → sections ≡ stand (moves_in now) t p
 stand_at now t p row sections at low high lt is =
     get_or_read row.stands.items (p - 1) sections lt is []
     ∙ ap (λ (r : MoveLists). get_or r.stands (p - 1) []) (sym at)

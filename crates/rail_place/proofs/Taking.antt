@@ -60,11 +60,6 @@ taken_up-named hs (y ∷ ys) t x is lt =
     (or_cases (eqb y x) (is_in x ys) is))
     (cases_Bool (is_in x ys))
 
-pub taken_up-more : (hs : List Holding) (xs : List ℕ) (i x t : ℕ) → i < length xs → x ≡ get_or xs i x → taken_up (set hs x (with_train (get_or hs x Free) t)) (drop (i + 1) xs) t ≡ taken_up hs (drop i xs) t
-taken_up-more hs xs i x t lt is =
-    let step : drop i xs ≡ x ∷ drop (i + 1) xs = drop_more xs i x lt ∙ ap (λ y. y ∷ drop (i + 1) xs) (sym is) in
-    sym (ap (λ ys. taken_up hs ys t) step)
-
 tells_same : (plan : Moves) (s : List ℕ) (x n : ℕ) (h : Holding) → holds plan s n x ≡ false → TellsBelow plan s x n h → TellsBelow plan s x (n + 1) h
 tells_same plan s x n Free out told = λ u lt.
     ⊎_elim
@@ -124,7 +119,10 @@ owner_told plan s x u (One a) told single = (
 owner_told plan s x u (Two a b) told single = absurd (single tt)
 
 -- so the owners tell the holders
-pub owners_told : (table : List MoveLists) (s : List ℕ) (hs : List Holding) (owners : List (Option ℕ)) → IsTable table → length s ≡ length table → length hs ≡ SECTIONS → owners ≡ map owner_in hs → ((x : ℕ) → x < SECTIONS → TellsBelow (moves_in table) s x (length s) (get_or hs x Free)) → ((x : ℕ) → x < length hs → IsShared (get_or hs x Free) → ⊥) → Told (moves_in table) s owners
+pub owners_told : (table : List MoveLists) (s : List ℕ) (hs : List Holding) (owners : List (Option ℕ))
+    → IsTable table → length s ≡ length table → length hs ≡ SECTIONS → owners ≡ map owner_in hs
+    → ((x : ℕ) → x < SECTIONS → TellsBelow (moves_in table) s x (length s) (get_or hs x Free))
+    → ((x : ℕ) → x < length hs → IsShared (get_or hs x Free) → ⊥) → Told (moves_in table) s owners
 owners_told table s hs owners h long room at told single =
     λ x u.
     ⊎_elim
@@ -139,7 +137,13 @@ owners_told table s hs owners h long room at told single =
     ))
     (cases_lt x (length hs))
 
-pub made_new : (table : List MoveLists) (s : List ℕ) (hs : List Holding) (owners : List (Option ℕ)) → IsTable table → length s ≡ length table → ((t : ℕ) → t < length table → place_of s t ≤ (moves_in table).moves t) → length hs ≡ SECTIONS → owners ≡ map owner_in hs → ((x : ℕ) → x < SECTIONS → TellsBelow (moves_in table) s x (length s) (get_or hs x Free)) → ((x : ℕ) → x < length hs → IsShared (get_or hs x Free) → ⊥) → IsMadeFor table (record { positions = s; owners = owners; played = 0 })
+pub made_new : (table : List MoveLists) (s : List ℕ) (hs : List Holding) (owners : List (Option ℕ))
+    → IsTable table → length s ≡ length table
+    → ((t : ℕ) → t < length table → place_of s t ≤ (moves_in table).moves t) → length hs ≡ SECTIONS
+    → owners ≡ map owner_in hs
+    → ((x : ℕ) → x < SECTIONS → TellsBelow (moves_in table) s x (length s) (get_or hs x Free))
+    → ((x : ℕ) → x < length hs → IsShared (get_or hs x Free) → ⊥)
+    → IsMadeFor table (record { positions = s; owners = owners; played = 0 })
 made_new table s hs owners h long within room at told single =
     let all = owners_told table s hs owners h long room at told single in
     record {

@@ -22,7 +22,8 @@ taken_up holdings (x ∷ xs) t = taken_up (set holdings x (with_train (get_or ho
 abbrev pub TellsBelow : Moves → List ℕ → ℕ → ℕ → Holding → Type 0
 TellsBelow plan s x n Free = (u : ℕ) → u < n → holds plan s u x ≡ false
 TellsBelow plan s x n (One a) = (a < n) × (holds plan s a x ≡ true) × ((u : ℕ) → u < n → holds plan s u x ≡ true → u ≡ a)
-TellsBelow plan s x n (Two a b) = (a < b) × (b < n) × (holds plan s a x ≡ true) × (holds plan s b x ≡ true) × ((u : ℕ) → u < b → holds plan s u x ≡ true → u ≡ a)
+TellsBelow plan s x n (Two a b) = (a < b) × (b < n) × (holds plan s a x ≡ true) × (holds plan s b x ≡ true)
+    × ((u : ℕ) → u < b → holds plan s u x ≡ true → u ≡ a)
 
 -- the owner of a section that no two trains hold
 abbrev pub owner_in : Holding → Option ℕ
@@ -39,4 +40,5 @@ IsShared (Two a b) = Unit {0}
 -- the fault names the first section that two trains hold
 abbrev pub IsFirstShared : List Holding → PlacesFault → Type 0
 IsFirstShared holdings OutOfMemory = Unit {0}
-IsFirstShared holdings (Overlap x a b) = (x < length holdings) × (get_or holdings x Free ≡ Two a b) × ((y : ℕ) → y < x → IsShared (get_or holdings y Free) → ⊥)
+IsFirstShared holdings (Overlap x a b) = (x < length holdings) × (get_or holdings x Free ≡ Two a b)
+    × ((y : ℕ) → y < x → IsShared (get_or holdings y Free) → ⊥)

@@ -50,7 +50,8 @@ pub fn holdings_of(
     requires long { length positions.now ≡ length moves.now }
     requires within { (t : ℕ) → t < length moves.now → slice_index positions.now t ≤ (moves_in moves.now).moves t }
     ensures room { IfOk result (λ holdings. length holdings.items ≡ SECTIONS) }
-    ensures told { IfOk result (λ holdings. (x : ℕ) → x < SECTIONS → TellsBelow (moves_in moves.now) positions.now x (length positions.now) (get_or holdings.items x Holding.Free)) }
+    ensures told { IfOk result (λ holdings. (x : ℕ) → x < SECTIONS
+        → TellsBelow (moves_in moves.now) positions.now x (length positions.now) (get_or holdings.items x Holding.Free)) }
 {
     let mut holdings = vec![in alloc; Holding::Free; SECTIONS]?;
     for (number, place) in positions.iter().enumerate() {

@@ -81,10 +81,7 @@ impl Places {
     pub fn holder(&self, section: SectionNo) -> Option<TrainNo>
         ensures { result ≡ get_or self.now.owners section None }
     {
-        match self.owners.get(usize::from(section.0)) {
-            Some(owner) => *owner,
-            None => None,
-        }
+        *self.owners.get(usize::from(section.0))?
     }
 
     /// Whether the train's next move is legal, and else why not: `Out` where the train has made all its
@@ -92,7 +89,9 @@ impl Places {
     pub fn legal(&self, moves: &Moves, train: TrainNo) -> Result<(), Barred>
         requires made { IsMadeFor moves.now self.now }
         requires train { train < length moves.now }
-        ensures exact { MatchResult result (λ _. bar_of (moves_in moves.now) self.now.positions train ≡ None) (λ why. bar_of (moves_in moves.now) self.now.positions train ≡ Some why) }
+        ensures exact { MatchResult result
+            (λ _. bar_of (moves_in moves.now) self.now.positions train ≡ None)
+            (λ why. bar_of (moves_in moves.now) self.now.positions train ≡ Some why) }
         ensures legal { IsOk result ↔ IsTrue (is_legal (moves_in moves.now) self.now.positions train) }
     {
         let place = self.positions[usize::from(train.0)];
@@ -127,7 +126,9 @@ impl Places {
         requires made { IsMadeFor moves.now self.old }
         requires train { train < length moves.now }
         requires moved { 0 < place_of self.old.positions train }
-        requires free { (u : ℕ) → u ≢ train → IsTrue (are_apart (stand (moves_in moves.now) train (place_of self.old.positions train - 1)) (stand (moves_in moves.now) u (place_of self.old.positions u))) }
+        requires free { (u : ℕ) → u ≢ train → IsTrue (are_apart
+            (stand (moves_in moves.now) train (place_of self.old.positions train - 1))
+            (stand (moves_in moves.now) u (place_of self.old.positions u))) }
         ensures made { IsMadeFor moves.now self.new }
         ensures positions { self.new.positions ≡ set self.old.positions train (place_of self.old.positions train - 1) }
         ensures played { self.new.played ≡ self.old.played }

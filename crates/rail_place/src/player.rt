@@ -27,7 +27,8 @@ impl Places {
         ensures positions { self.new.positions ≡ self.old.positions }
         ensures exact { result ≡ outcome (moves_in moves.now) self.old.positions 1 list.now }
         ensures completes { (result ≡ Played.Completes) ↔ IsTrue (completes (moves_in moves.now) self.old.positions list.now) }
-        ensures played { self.new.played ≡ min (self.old.played + moves_made (moves_in moves.now) self.old.positions list.now) (2 ^ 64 - 1) }
+        ensures played { self.new.played
+            ≡ min (self.old.played + moves_made (moves_in moves.now) self.old.positions list.now) (2 ^ 64 - 1) }
     {
         let (made, barred) = play_on(self, moves, list);
         let played = match barred {
@@ -50,7 +51,8 @@ impl Places {
         ensures made { IsMadeFor moves.now self.new }
         ensures positions { self.new.positions ≡ self.old.positions }
         ensures exact { result ≡ plays (moves_in moves.now) self.old.positions list.now }
-        ensures played { self.new.played ≡ min (self.old.played + moves_made (moves_in moves.now) self.old.positions list.now) (2 ^ 64 - 1) }
+        ensures played { self.new.played
+            ≡ min (self.old.played + moves_made (moves_in moves.now) self.old.positions list.now) (2 ^ 64 - 1) }
     {
         let (made, barred) = play_on(self, moves, list);
         let front = &list[..made];
@@ -63,7 +65,8 @@ impl Places {
     pub fn take_back(&mut self, moves: &Moves, list: &[TrainNo])
         requires made { IsMadeFor moves.now self.old }
         requires trains { All (λ t. t < length moves.now) list.now }
-        requires moves { (s : List ℕ) × IsTrue (is_valid_state (moves_in moves.now) s) × IsPlayed (moves_in moves.now) s list.now self.old.positions }
+        requires moves { (s : List ℕ) × IsTrue (is_valid_state (moves_in moves.now) s)
+            × IsPlayed (moves_in moves.now) s list.now self.old.positions }
         ensures made { IsMadeFor moves.now self.new }
         ensures positions { (s : List ℕ) → IsPlayed (moves_in moves.now) s list.now self.old.positions → self.new.positions ≡ s }
         ensures played { self.new.played ≡ self.old.played }
@@ -80,7 +83,9 @@ impl Places {
 fn may_play(places: &Places, moves: &Moves, train: TrainNo) -> Result<(), Barred>
     requires made { IsMadeFor moves.now places.now }
     requires train { train < length moves.now }
-    ensures exact { MatchResult result (λ _. bar_in_list (moves_in moves.now) places.now.positions train ≡ None) (λ why. bar_in_list (moves_in moves.now) places.now.positions train ≡ Some why) }
+    ensures exact { MatchResult result
+        (λ _. bar_in_list (moves_in moves.now) places.now.positions train ≡ None)
+        (λ why. bar_in_list (moves_in moves.now) places.now.positions train ≡ Some why) }
     ensures inside { OnOk result (IsTrue (is_inside (moves_in moves.now) places.now.positions train)) }
     ensures legal { OnOk result (IsTrue (is_legal (moves_in moves.now) places.now.positions train)) }
 {
@@ -101,7 +106,10 @@ fn play_on(places: &mut Places, moves: &Moves, list: &[TrainNo]) -> (usize, Opti
     ensures moves { IsPlayed (moves_in moves.now) places.old.positions (take result.0 list.now) places.new.positions }
     ensures count { result.0 ≡ moves_made (moves_in moves.now) places.old.positions list.now }
     ensures played { places.new.played ≡ min (places.old.played + result.0) (2 ^ 64 - 1) }
-    ensures answer { MatchOption result.1 (outcome (moves_in moves.now) places.old.positions 1 list.now ≡ ending (first_below (is_inside (moves_in moves.now) places.new.positions) (length places.new.positions))) (λ why. outcome (moves_in moves.now) places.old.positions 1 list.now ≡ Played.Illegal (result.0 + 1) why) }
+    ensures answer { MatchOption result.1
+        (outcome (moves_in moves.now) places.old.positions 1 list.now
+        ≡ ending (first_below (is_inside (moves_in moves.now) places.new.positions) (length places.new.positions)))
+        (λ why. outcome (moves_in moves.now) places.old.positions 1 list.now ≡ Played.Illegal (result.0 + 1) why) }
 {
     for (made, train) in list.iter().enumerate() {
         if let Err(why) = may_play(places, moves, *train) {

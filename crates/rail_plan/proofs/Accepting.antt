@@ -1,7 +1,7 @@
 -- Which plants may be run, by their tables and by their calls.
 use Rattle.std.proofs.Common.{◌≡◌, ℕ, Bool, true, ◌&&◌, leb, List, [], length, map, Option, None, refl}
 use Rattle.std.specs.List.{list_all}
-use Rattle.std.proofs.lemmas.Bool.{and_parts, and_from, leb-true, le-leb}
+use Rattle.std.proofs.lemmas.Bool.{and_from, le-leb}
 use Rattle.rail_base.specs.declared.limits.TheConstants.{SECTIONS, TRAINS, RELEASE, DEPTH}
 use Rattle.rail_base.specs.declared.plant.Call.{Call}
 use Rattle.rail_base.specs.declared.plant.Tables.{Tables}
@@ -11,7 +11,7 @@ use Rattle.rail_rules.specs.Numbers.{all_below}
 use Rattle.rail_rules.specs.Moves.{is_valid}
 use Rattle.rail_rules.specs.Plant.{Plant, moves, moves_of}
 use Rattle.rail_rules.specs.Accepted.{are_distinct_names, is_section_in_range, is_train_in_range, does_fit, are_calls_in_range, is_accepted}
-use Rattle.rail_rules.proofs.CallerLemmas.{all_below_from}
+use Rattle.rail_rules.proofs.CallerLemmas.{accepted_parts, all_below_from}
 use Rattle.rail_plan.specs.PlanFaults.{IsPlannable, bare, fault_of}
 use Rattle.rail_plan.specs.CallTables.{AreCallsFor, with_calls}
 use Rattle.rail_plan.proofs.Valid.{each_fits, valid}
@@ -47,51 +47,30 @@ accepted_from tables calls h f =
     let p10 = and_from (b1 && b2 && b3 && b4 && b5 && b6 && b7 && b8 && b9) b10 p9 f.calls in
     and_from (b1 && b2 && b3 && b4 && b5 && b6 && b7 && b8 && b9 && b10) (is_valid (moves_of plant)) p10 f.valid
 
-pub accepted_parts : (tables : Tables) (calls : List (List (Option Call))) → is_accepted (with_calls tables calls) ≡ true → IsPlannable tables × IsFaultless (with_calls tables calls)
-accepted_parts tables calls accepted =
-    let plant : Plant = with_calls tables calls in
-    let n : ℕ = length tables.trains in
-    let b1 : Bool = leb (length tables.sections) SECTIONS in
-    let b2 : Bool = leb n TRAINS in
-    let b3 : Bool = leb tables.release RELEASE in
-    let b4 : Bool = leb tables.depth DEPTH in
-    let b5 : Bool = list_all is_section_in_range tables.sections in
-    let b6 : Bool = are_distinct_names (map (λ (row : SectionRow). row.name) tables.sections) in
-    let b7 : Bool = are_distinct_names (map (λ (row : TrainRow). row.name) tables.trains) in
-    let b8 : Bool = all_below (is_train_in_range plant) n in
-    let b9 : Bool = all_below (does_fit plant) n in
-    let b10 : Bool = all_below (are_calls_in_range plant) n in
-    let p10 = and_parts (b1 && b2 && b3 && b4 && b5 && b6 && b7 && b8 && b9 && b10) (is_valid (moves_of plant)) accepted in
-    let p9 = and_parts (b1 && b2 && b3 && b4 && b5 && b6 && b7 && b8 && b9) b10 p10.0 in
-    let p8 = and_parts (b1 && b2 && b3 && b4 && b5 && b6 && b7 && b8) b9 p9.0 in
-    let p7 = and_parts (b1 && b2 && b3 && b4 && b5 && b6 && b7) b8 p8.0 in
-    let p6 = and_parts (b1 && b2 && b3 && b4 && b5 && b6) b7 p7.0 in
-    let p5 = and_parts (b1 && b2 && b3 && b4 && b5) b6 p6.0 in
-    let p4 = and_parts (b1 && b2 && b3 && b4) b5 p5.0 in
-    let p3 = and_parts (b1 && b2 && b3) b4 p4.0 in
-    let p2 = and_parts (b1 && b2) b3 p3.0 in
-    let p1 = and_parts b1 b2 p2.0 in (
+parts : (tables : Tables) (calls : List (List (Option Call))) → is_accepted (with_calls tables calls) ≡ true → IsPlannable tables × IsFaultless (with_calls tables calls)
+parts tables calls accepted =
+    let h = accepted_parts (with_calls tables calls) accepted in (
       record {
-        few_sections = leb-true (length tables.sections) SECTIONS p1.0;
-        few_trains = leb-true n TRAINS p1.1;
-        release = leb-true tables.release RELEASE p2.1;
-        depth = leb-true tables.depth DEPTH p3.1;
-        sections = p4.1;
-        section_names = p5.1;
-        train_names = p6.1;
-        trains = p7.1;
+        few_sections = h.few_sections;
+        few_trains = h.few_trains;
+        release = h.release;
+        depth = h.depth;
+        sections = h.sections;
+        section_names = h.section_names;
+        train_names = h.train_names;
+        trains = h.trains_in_range;
       },
-      record { fits = p8.1; calls = p9.1; valid = p10.1 },
+      record { fits = h.fitting; calls = h.calls; valid = h.valid },
     )
 
 pub plannable : (tables : Tables) (calls : List (List (Option Call))) → is_accepted (with_calls tables calls) ≡ true → IsPlannable tables
-plannable tables calls accepted = (accepted_parts tables calls accepted).0
+plannable tables calls accepted = (parts tables calls accepted).0
 
 -- other calls that were made for the tables
 pub recalled : (tables : Tables) (old new : List (List (Option Call))) → is_accepted (with_calls tables old) ≡ true → AreCallsFor tables new → is_accepted (with_calls tables new) ≡ true
 recalled tables old new accepted made =
-    let parts = accepted_parts tables old accepted in
-    accepted_from tables new parts.0 (record { fits = parts.1.fits; calls = all_below_from (are_calls_in_range (with_calls tables new)) (length tables.trains) made.fine; valid = parts.1.valid })
+    let made_before = parts tables old accepted in
+    accepted_from tables new made_before.0 (record { fits = made_before.1.fits; calls = all_below_from (are_calls_in_range (with_calls tables new)) (length tables.trains) made.fine; valid = made_before.1.valid })
 
 -- tables without a fault are a plant without calls
 pub bare_accepted : (tables : Tables) → IsPlannable tables → fault_of tables ≡ None → is_accepted (with_calls tables []) ≡ true

@@ -22,7 +22,9 @@ abbrev pub calls_in : Vec (Option Call) → List (Option Call)
 calls_in row = row.items
 
 -- the table after a call is written
-pub set_view : (rows : List (Vec (Option Call))) (k t : ℕ) (row : Vec (Option Call)) (q place : ℕ) (call : Call) → k ≡ t → k < length rows → row ≡ get_or rows k row → q ≡ place → map calls_in (set rows k (with_item row (q - 1) (Some call))) ≡ with_call (map calls_in rows) t place call
+pub set_view : (rows : List (Vec (Option Call))) (k t : ℕ) (row : Vec (Option Call)) (q place : ℕ) (call : Call)
+    → k ≡ t → k < length rows → row ≡ get_or rows k row → q ≡ place
+    → map calls_in (set rows k (with_item row (q - 1) (Some call))) ≡ with_call (map calls_in rows) t place call
 set_view rows k t row q place call same lt is at =
     let row_is : calls_in row ≡ get_or (map calls_in rows) t [] =
     ap calls_in is ∙ sym (get_or-map calls_in rows k row [] lt) ∙ ap (λ i. get_or (map calls_in rows) i []) same in
@@ -32,7 +34,12 @@ set_view rows k t row q place call same lt is at =
     ∙ ap (λ i. set (map calls_in rows) t (set (get_or (map calls_in rows) t []) (i - 1) (Some call))) at
 
 -- calls made for tables stay so where one more may stand at its place
-pub set_made : (tables : Tables) (calls : List (List (Option Call))) (t place : ℕ) (call : Call) → AreCallsFor tables calls → t < length calls → 1 ≤ place → place ≤ length (get_or calls t []) → is_call_in_range (eqb place (moves (bare tables) t)) (is_some (move_row (bare tables) t (place - 1)).turn) (Some call) ≡ true → AreCallsFor tables (with_call calls t place call)
+pub set_made : (tables : Tables) (calls : List (List (Option Call))) (t place : ℕ) (call : Call)
+    → AreCallsFor tables calls → t < length calls → 1 ≤ place → place ≤ length (get_or calls t [])
+    → is_call_in_range (eqb place (moves (bare tables) t))
+    (is_some (move_row (bare tables) t (place - 1)).turn)
+    (Some call)
+    ≡ true → AreCallsFor tables (with_call calls t place call)
 set_made tables calls t place call h lt first last fine =
     let row : List (Option Call) = set (get_or calls t []) (place - 1) (Some call) in
     let after : List (List (Option Call)) = with_call calls t place call in
@@ -108,21 +115,14 @@ departure_step calls t place to first lt =
     ap (departure_within calls t (place - 1)) count
     ∙ ap (λ m. or_else (call_departure (call_at calls t place)) (departure_within calls t m (to - (place + 1)))) next
 
-or_else-is_some : (o other : Option ℕ) → is_some o ≡ true → or_else o other ≡ o
-or_else-is_some None other some = absurd (cc)
-or_else-is_some (Some x) other some = refl
-
 or_else-no : (o other : Option ℕ) → is_some o ≡ false → or_else o other ≡ other
 or_else-no None other none = refl
 or_else-no (Some x) other none = absurd (cc)
 
-pub departure_here : (calls : List (List (Option Call))) (t place to : ℕ) (o : Option ℕ) → 1 ≤ place → place < to → o ≡ call_departure (call_at calls t place) → is_some o ≡ true → departure_within calls t (place - 1) (to - place) ≡ o
-departure_here calls t place to o first lt is some =
-    departure_step calls t place to first lt
-    ∙ ap (λ d. or_else d (departure_within calls t (place + 1 - 1) (to - (place + 1)))) (sym is)
-    ∙ or_else-is_some o (departure_within calls t (place + 1 - 1) (to - (place + 1))) some
-
-pub departure_later : (calls : List (List (Option Call))) (t place to : ℕ) (o : Option ℕ) → 1 ≤ place → place < to → o ≡ call_departure (call_at calls t place) → is_some o ≡ false → departure_within calls t (place - 1) (to - place) ≡ departure_within calls t (place + 1 - 1) (to - (place + 1))
+pub departure_later : (calls : List (List (Option Call))) (t place to : ℕ) (o : Option ℕ) → 1 ≤ place
+    → place < to → o ≡ call_departure (call_at calls t place) → is_some o ≡ false
+    → departure_within calls t (place - 1) (to - place)
+    ≡ departure_within calls t (place + 1 - 1) (to - (place + 1))
 departure_later calls t place to o first lt is none =
     departure_step calls t place to first lt
     ∙ ap (λ d. or_else d (departure_within calls t (place + 1 - 1) (to - (place + 1)))) (sym is)
@@ -140,7 +140,13 @@ or_is_else None (Some x) d = refl
 or_is_else (Some x) other d = refl
 
 -- when a move after the first is due
-pub due_later : (tables : Tables) (calls : List (List (Option Call))) (t place last entry : ℕ) → 2 ≤ place → last ≡ moves (bare tables) t → entry ≡ (train (bare tables) t).entry → unwrap_or (option_or (departure_within calls t (place - 1 - 1) (last - (place - 1))) (call_arrival (call_at calls t last))) entry ≡ due (with_calls tables calls) t (place - 1)
+pub due_later : (tables : Tables) (calls : List (List (Option Call))) (t place last entry : ℕ) → 2 ≤ place
+    → last ≡ moves (bare tables) t → entry ≡ (train (bare tables) t).entry
+    → unwrap_or
+    (option_or (departure_within calls t (place - 1 - 1) (last - (place - 1)))
+    (call_arrival (call_at calls t last)))
+    entry
+    ≡ due (with_calls tables calls) t (place - 1)
 due_later tables calls t place last entry second same at =
     let plant : Plant = with_calls tables calls in
     let before : place - 1 ≡ suc (place - 2) = omega arith in

@@ -32,7 +32,10 @@ new_at (name ∷ names) (suc i) d distinct lt =
     (new_at names i d parts.1 (omega arith))
 
 -- a set of the names before an index, with the name at the index
-pub inserted : {X : Type 0} (f : X → List ℕ) (rows : List X) (i : ℕ) (row : X) (before after : List (List ℕ)) → are_distinct_names (map f rows) ≡ true → i < length rows → row ≡ get_or rows i row → before ≡ map f (take i rows) → after ≡ insert_key same_name before (f row) → after ≡ map f (take (i + 1) rows)
+pub inserted : {X : Type 0} (f : X → List ℕ) (rows : List X) (i : ℕ) (row : X) (before after : List (List ℕ))
+    → are_distinct_names (map f rows) ≡ true → i < length rows → row ≡ get_or rows i row
+    → before ≡ map f (take i rows) → after ≡ insert_key same_name before (f row)
+    → after ≡ map f (take (i + 1) rows)
 inserted f rows i row before after distinct lt is at now =
     let name : get_or (map f rows) i (f row) ≡ f row = get_or-map f rows i row (f row) lt ∙ ap f (sym is) in
     let within : i < length (map f rows) = omega (arith, length-map rows f) in

@@ -10,10 +10,9 @@ use Rattle.rail_base.specs.declared.plant.MoveRow.{MoveRow}
 use Rattle.rail_rules.specs.Numbers.{is_in, are_apart}
 use Rattle.rail_rules.specs.Moves.{Moves, is_valid_move, is_valid}
 use Rattle.rail_rules.specs.Plant.{Plant, no_train, no_move, train, moves, move_row, moves_of, needed, standing_after}
-use Rattle.rail_rules.proofs.CallerLemmas.{all_below_from, list_all_at}
+use Rattle.rail_rules.proofs.CallerLemmas.{all_below_from, list_all_at, move_in_range, row_in_range}
 use Rattle.rail_place.specs.Tables.{moves_in, MoveLists, no_lists, lists_of}
 use Rattle.rail_plan.specs.PlanFaults.{IsPlannable, bare, standing_of, fault_of}
-use Rattle.rail_plan.proofs.Fine.{move_in_range, row_in_range}
 use Rattle.rail_plan.proofs.Valid.{valid_move}
 
 pub get_or-map_all : {X Y : Type 0} (f : X → Y) (xs : List X) (i : ℕ) (d : X) → get_or (map f xs) i (f d) ≡ f (get_or xs i d)
@@ -75,7 +74,7 @@ pub spelled_row : (tables : Tables) → IsPlannable tables → fault_of tables �
 spelled_row tables h none t lt =
     let plant : Plant = bare tables in
     let row : TrainRow = train plant t in
-    let facts = row_in_range tables h t lt in
+    let facts = row_in_range (bare tables) h.trains t lt in
     let need : List (List ℕ) = map needs row.moves in
     let alone : List MoveLists = spelled plant row ∷ [] in
     let count : length need ≡ moves plant t = length-map row.moves needs in

@@ -10,11 +10,10 @@ use Rattle.rail_rules.specs.Numbers.{all_below, is_in, are_apart}
 use Rattle.rail_rules.specs.Moves.{Moves, stand, is_valid_move, is_valid}
 use Rattle.rail_rules.specs.Plant.{Plant, train, moves, move_row, moves_of, needed, standing_after, shortest_end, from_turn, longer}
 use Rattle.rail_rules.specs.Accepted.{does_fit}
-use Rattle.rail_rules.proofs.CallerLemmas.{all_below_from, is_in-head}
+use Rattle.rail_rules.proofs.CallerLemmas.{all_below_from, is_in-head, move_in_range, row_in_range}
 use Rattle.rail_plan.specs.declared.faults.PlanFault.{PlanFault}
 use Rattle.rail_plan.specs.declared.faults.PlanFault.TheVariants.{TooLong}
 use Rattle.rail_plan.specs.PlanFaults.{IsPlannable, bare, metres_of, standing_of, is_too_long, blocking, blocked_by, fault_at, fault_of_train, fault_of}
-use Rattle.rail_plan.proofs.Fine.{move_in_range, row_in_range}
 use Rattle.rail_plan.proofs.Firsts.{none_at, parts_none}
 use Rattle.rail_plan.proofs.Standings.{longer-drops, longer-none}
 
@@ -95,9 +94,9 @@ each_fits tables none =
 pub valid_move : (tables : Tables) → IsPlannable tables → fault_of tables ≡ None → (t m : ℕ) → t < length tables.trains → m < moves (bare tables) t - 1 → is_valid_move (moves_of (bare tables)) t m ≡ true
 valid_move tables h none t m lt more =
     let plant : Plant = bare tables in
-    let row = row_in_range tables h t lt in
+    let row = row_in_range (bare tables) h.trains t lt in
     let fine = move_in_range (length tables.sections) (move_row plant t m) (row.each_move m (omega arith)) in
-    let end = standing_is_drop plant (train plant t).kind.length (move_row plant t m) row.some_length fine.some_step in
+    let end = standing_is_drop plant (train plant t).kind.length (move_row plant t m) row.kind.some_length fine.some_step in
     let stands : List ℕ = standing_after plant t m in
     let some : 0 < length stands = omega (arith, ap length end.2, length-drop end.0 (needed plant t m), end.1) in
     let inner : (x : ℕ) → is_in x stands ≡ true → is_in x (needed plant t m) ≡ true = λ x is. is_in-drop x (needed plant t m) end.0 (ap (is_in x) (sym end.2) ∙ is) in

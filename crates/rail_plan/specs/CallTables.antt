@@ -24,7 +24,8 @@ call_at calls t place = get_or (get_or calls t []) (place - 1) None
 -- the first departure of the calls at so many places, the first of which is at the end of move m
 abbrev pub departure_within : List (List (Option Call)) → ℕ → ℕ → ℕ → Option ℕ
 departure_within calls t m zero = None
-departure_within calls t m (suc places) = or_else (call_departure (get_or (get_or calls t []) m None)) (departure_within calls t (suc m) places)
+departure_within calls t m (suc places) = or_else (call_departure (get_or (get_or calls t []) m None))
+    (departure_within calls t (suc m) places)
 
 -- one call more
 abbrev pub with_call : List (List (Option Call)) → ℕ → ℕ → Call → List (List (Option Call))

@@ -16,7 +16,8 @@ use Rattle.rail_plan.specs.declared.faults.PlanFault.TheVariants.{TooLong, SelfB
 abbrev pub bare : Tables → Plant
 bare tables = record { tables = tables; calls = [] }
 
--- tables within the limits and ranges, with distinct names of sections and of trains; each move runs over known sections and none twice, each turn is at a step of its move, and none is after a train's last move
+-- tables within the limits and ranges, with distinct names of sections and of trains; each move runs over known
+-- sections and none twice, each turn is at a step of its move, and none is after a train's last move
 pub record IsPlannable (tables : Tables) : Type 0 where
   pub few_sections : length tables.sections ≤ SECTIONS
   pub few_trains : length tables.trains ≤ TRAINS

@@ -10,7 +10,8 @@ use Rattle.rail_place.specs.Tables.{moves_in, MoveLists}
 use Rattle.rail_plan.specs.CallTables.{with_calls}
 
 -- a plant that may be run; beside its tables and calls it keeps the names and the moves that they spell
-pub record IsPlantInside (section_names train_names : List (List ℕ)) (table : List MoveLists) (tables : Tables) (calls : List (List (Option Call))) : Type 0 where
+pub record IsPlantInside (section_names train_names : List (List ℕ)) (table : List MoveLists) (tables : Tables)
+    (calls : List (List (Option Call))) : Type 0 where
   pub accepted : IsTrue (is_accepted (with_calls tables calls))
   pub sections : section_names ≡ map (λ (row : SectionRow). row.name) tables.sections
   pub trains : train_names ≡ map (λ (row : TrainRow). row.name) tables.trains

@@ -63,7 +63,8 @@ impl Calls {
         requires free { call_at self.old train place ≡ None }
         ensures set { self.new ≡ with_call self.old train place call }
         ensures made { (tables : Tables) → AreCallsFor tables self.old
-            → IsTrue (is_call_in_range (place == moves (bare tables) train) (is_some (move_row (bare tables) train (place - 1)).turn) (Some call))
+            → IsTrue (is_call_in_range (place == moves (bare tables) train)
+            (is_some (move_row (bare tables) train (place - 1)).turn) (Some call))
             → AreCallsFor tables self.new }
     {
         let row = &mut self.rows[usize::from(train.0)];
@@ -113,7 +114,8 @@ impl Calls {
 
 /// Room for a call at each place of each train.
 fn rooms_of(alloc: Global, trains: &[TrainRow]) -> Result<Vec<Vec<Option<Call>>>, AllocError>
-    ensures { IfOk result (λ rooms. map (λ (room : Vec (Option Call)). room.items) rooms.items ≡ map (λ (row : TrainRow). replicate (length row.moves) None) trains.now) }
+    ensures { IfOk result (λ rooms. map (λ (room : Vec (Option Call)). room.items) rooms.items
+        ≡ map (λ (row : TrainRow). replicate (length row.moves) None) trains.now) }
 {
     let mut rooms = Vec::new(alloc);
     for train in trains {

@@ -52,7 +52,9 @@ fn stands_of(
 ) -> Result<Vec<Seq<SectionNo>>, AllocError>
     requires tables { IsPlannable tables.now }
     requires train { number < length tables.now.trains }
-    ensures { IfOk result (λ stands. stands.items ≡ map (standing_of (bare tables.now) (train (bare tables.now) number).kind.length) (train (bare tables.now) number).moves) }
+    ensures { IfOk result (λ stands. stands.items
+        ≡ map (standing_of (bare tables.now) (train (bare tables.now) number).kind.length)
+        (train (bare tables.now) number).moves) }
 {
     let train = train_row(tables, number);
     let mut stands = Vec::new(alloc);

@@ -28,8 +28,14 @@ module _ (test : Event → Bool) where
   filter-reverse [] = refl
   filter-reverse (x ∷ xs) =
       ⊎_elim
-      (λ is. ap reverse (cond-true (test x) (x ∷ filter test xs) (filter test xs) is) ∙ back x (filter test xs) ∙ ap (λ (zs : List Event). zs ++ x ∷ []) (filter-reverse xs) ∙ ap (λ (zs : List Event). filter test (reverse xs) ++ zs) (sym (cond-true (test x) (x ∷ []) [] is)) ∙ sym (filter-append (reverse xs) (x ∷ [])) ∙ ap (filter test) (sym (back x xs)))
-      (λ isnt. ap reverse (cond-false (test x) (x ∷ filter test xs) (filter test xs) isnt) ∙ filter-reverse xs ∙ sym (nil_last (filter test (reverse xs))) ∙ ap (λ (zs : List Event). filter test (reverse xs) ++ zs) (sym (cond-false (test x) (x ∷ []) [] isnt)) ∙ sym (filter-append (reverse xs) (x ∷ [])) ∙ ap (filter test) (sym (back x xs)))
+      (λ is. ap reverse (cond-true (test x) (x ∷ filter test xs) (filter test xs) is) ∙ back x (filter test xs)
+      ∙ ap (λ (zs : List Event). zs ++ x ∷ []) (filter-reverse xs)
+      ∙ ap (λ (zs : List Event). filter test (reverse xs) ++ zs) (sym (cond-true (test x) (x ∷ []) [] is))
+      ∙ sym (filter-append (reverse xs) (x ∷ [])) ∙ ap (filter test) (sym (back x xs)))
+      (λ isnt. ap reverse (cond-false (test x) (x ∷ filter test xs) (filter test xs) isnt) ∙ filter-reverse xs
+      ∙ sym (nil_last (filter test (reverse xs)))
+      ∙ ap (λ (zs : List Event). filter test (reverse xs) ++ zs) (sym (cond-false (test x) (x ∷ []) [] isnt))
+      ∙ sym (filter-append (reverse xs) (x ∷ [])) ∙ ap (filter test) (sym (back x xs)))
       (cases_Bool (test x))
 
   none_left : (p : Event → Bool) (xs : List Event) → list_any p xs ≡ false → list_any p (filter test xs) ≡ false

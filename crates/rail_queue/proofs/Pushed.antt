@@ -55,7 +55,10 @@ inserted_ahead event last (next ∷ rest) goes =
     (cases_Bool (goes_before event next))
 
 -- an insert behind the events that the new one goes before is the insert of the order
-pub placed : (event : Event) (pending : List Event) (i : ℕ) → i ≤ length pending → ((k : ℕ) (d : Event) → k < i → goes_before event (get_or pending k d) ≡ true) → ((k : ℕ) (d : Event) → i ≤ k → k < length pending → goes_before event (get_or pending k d) ≡ false) → reverse (insert pending i event) ≡ inserted event (reverse pending)
+pub placed : (event : Event) (pending : List Event) (i : ℕ) → i ≤ length pending
+    → ((k : ℕ) (d : Event) → k < i → goes_before event (get_or pending k d) ≡ true)
+    → ((k : ℕ) (d : Event) → i ≤ k → k < length pending → goes_before event (get_or pending k d) ≡ false)
+    → reverse (insert pending i event) ≡ inserted event (reverse pending)
 placed event pending zero within front back =
     let none : list_any (goes_before event) pending ≡ false = or_from_places (list_any (goes_before event)) (goes_before event) refl (λ _ _. refl) pending event (λ k h. back k event (omega arith) h) in
     reverse-append (event ∷ []) pending ∙ sym (inserted_last event (reverse pending) (sym (list_any-IsPermutation (goes_before event) pending (reverse pending) (IsPermutation-reverse pending)) ∙ none))
@@ -111,7 +114,9 @@ counted test event pending i =
     ∙ ap (λ n. sum_by one (event ∷ []) + n) (sym (sum_by-IsPermutation one pending (reverse pending) (IsPermutation-reverse pending)))
 
 -- the event is put where the search says
-pub found : (event : Event) (shown pending items : List Event) (i : ℕ) → shown ≡ pending → i ≤ length shown → IsPartitionPoint (λ x. goes_before event x ≡ true) (λ x. goes_before event x ≡ false) shown i → items ≡ insert pending i event → reverse items ≡ inserted event (reverse pending)
+pub found : (event : Event) (shown pending items : List Event) (i : ℕ) → shown ≡ pending → i ≤ length shown
+    → IsPartitionPoint (λ x. goes_before event x ≡ true) (λ x. goes_before event x ≡ false) shown i
+    → items ≡ insert pending i event → reverse items ≡ inserted event (reverse pending)
 found event shown pending items i same within point put =
     ap (λ (xs : List Event). reverse xs) (put ∙ ap (λ (xs : List Event). insert xs i event) (sym same))
     ∙ placed event shown i within (λ k d h. point.0 k d (omega arith) h) (λ k d low high. point.1 k d low high)

@@ -12,8 +12,6 @@
 mod event;
 mod laws;
 mod queue;
-#[cfg(test)]
-mod tests;
 
 pub use event::{Class, Event};
 pub use laws::{

@@ -64,7 +64,8 @@ impl EventQueue {
         ensures next { MatchOption result (self.new ≡ self.old) (λ event. self.old.events ≡ event ∷ self.new.events) }
         ensures spare { MatchOption result (self.new.spare ≡ self.old.spare) (λ _. self.new.spare ≡ self.old.spare + 1) }
         ensures least { IfSome result (λ event. list_any (λ other. goes_before other event) self.old.events ≡ false) }
-        ensures counted { IfSome result (λ event. (p : Event → Bool) → count_by p self.old.events ≡ count_by p (event ∷ []) + count_by p self.new.events) }
+        ensures counted { IfSome result (λ event. (p : Event → Bool)
+            → count_by p self.old.events ≡ count_by p (event ∷ []) + count_by p self.new.events) }
     {
         self.pending.pop()
     }
@@ -72,7 +73,8 @@ impl EventQueue {
     /// Takes out what would make the train ready. The others stay in their order.
     pub fn forget_ready(&mut self, train: TrainNo)
         ensures events { self.new.events ≡ filter (λ event. not (is_ready_of train event)) self.old.events }
-        ensures counted { (p : Event → Bool) → count_by p self.new.events ≡ count_by (λ event. not (is_ready_of train event) && p event) self.old.events }
+        ensures counted { (p : Event → Bool)
+            → count_by p self.new.events ≡ count_by (λ event. not (is_ready_of train event) && p event) self.old.events }
         ensures room { length self.new.events + self.new.spare ≡ length self.old.events + self.old.spare }
     {
         keep_others(&mut self.pending, train);

@@ -8,7 +8,5 @@
 #![tactic(auto)]
 
 mod holders;
-#[cfg(test)]
-mod tests;
 
 pub use holders::Holders;

@@ -1,5 +1,5 @@
 -- What holds on some sections holds on others that have those in question.
-use Rattle.std.proofs.Common.{◌≡◌, ℕ, Bool, true, false, not, ◌&&◌, ◌||◌, ◌==◌, List, [], ◌∷◌, Option, Some, None, refl, sym, ap, ◌∙◌}
+use Rattle.std.proofs.Common.{◌≡◌, ℕ, Bool, true, false, ◌&&◌, ◌||◌, ◌==◌, List, [], ◌∷◌, Option, Some, None, refl, ap, ◌∙◌}
 use Rattle.std.specs.List.{list_any}
 use Rattle.std.specs.Option.{option_map_or}
 use Rattle.rail_base.specs.NameForms.{same_name}
@@ -13,7 +13,7 @@ use Rattle.rail_routes.specs.declared.items.Step.{Step}
 use Rattle.rail_routes.specs.PostRules.{stands_as, has_joint_ahead}
 use Rattle.rail_routes.specs.RouteRules.{is_ahead_of, begins, goes_on, ends, leads_on}
 use Rattle.rail_routes.specs.Sound.{lead_to, lead_between}
-use Rattle.rail_routes.proofs.Lists.{both_true, both_false, last_kept}
+use Rattle.rail_routes.proofs.Lists.{both_false}
 
 -- a section of this name is still there
 abbrev pub Keeps : List Section → List Section → List ℕ → Type 0

@@ -7,7 +7,7 @@ use Rattle.rail_base.specs.NameForms.{same_name}
 use Rattle.rail_base.specs.declared.limits.TheConstants.{SETTING, WATCHING, APPROACH, TURN_TIME, ROUTE_SECTIONS}
 use Rattle.rail_track.specs.declared.section.Section.{Section}
 use Rattle.rail_track.specs.SectionRules.{is_within}
-use Rattle.rail_track.specs.Lists.{without, are_apart}
+use Rattle.rail_track.specs.Lists.{are_apart}
 use Rattle.rail_track.proofs.CallerLemmas.{all_passed, same_name-comm, same_from_name, list_all-without}
 use Rattle.rail_routes.specs.declared.items.Post.{Post}
 use Rattle.rail_routes.specs.declared.items.Role.{Role}

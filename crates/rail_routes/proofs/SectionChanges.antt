@@ -1,6 +1,6 @@
 -- A sound network stays sound with a section more, and without one that is not in use.
 use Rattle.std.proofs.Common.{◌≡◌, ℕ, ◌+◌, ◌≤◌, Bool, true, false, cond, ◌&&◌, ◌||◌, ◌==◌, List, [], ◌∷◌, ◌++◌, Some, None, Result, Ok, Err, refl, sym, ap, subst, ◌∙◌, arith}
-use Rattle.std.specs.List.{list_any, list_all, find}
+use Rattle.std.specs.List.{list_any}
 use Rattle.std.specs.Option.{option_map_or}
 use Rattle.std.specs.Result.{OnOk, OnErr, IfOk}
 use Rattle.std.proofs.lemmas.Bool.Decides.{nat_tests}
@@ -64,7 +64,8 @@ module _ (net : Net) (section : Section) (is : IsSoundNetwork net) (accepted : I
       let at_portal = λ (joint : List ℕ). list_any (stands_at joint) net.portals in
       let none : list_any at_portal section.joints ≡ false = (both_false (list_any (is_full net.sections) section.joints) (list_any at_portal section.joints) (sym (any_or (is_full net.sections) at_portal section.joints) ∙ accepted.roomy)).1 in
       sym (any_swap (λ (joint : List ℕ) (post : Post). same_name joint post.joint) section.joints net.portals
-      ∙ any_agree (λ (post : Post). list_any (λ joint. same_name joint post.joint) section.joints) (λ (post : Post). has_joint post.joint section) (λ post. any_agree (λ joint. same_name joint post.joint) (same_name post.joint) (λ joint. same_name-comm joint post.joint) section.joints) net.portals)
+      ∙ any_agree (λ (post : Post). list_any (λ joint. same_name joint post.joint) section.joints) (λ (post : Post). has_joint post.joint section)
+      (λ post. any_agree (λ joint. same_name joint post.joint) (same_name post.joint) (λ joint. same_name-comm joint post.joint) section.joints) net.portals)
       ∙ none
 
   few_there : (joint : List ℕ) → has_joint joint section ≡ true → sections_at net.sections joint ≤ 1

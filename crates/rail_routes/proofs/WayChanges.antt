@@ -1,13 +1,9 @@
 -- A sound network stays sound with a turn or route more or less.
-use Rattle.std.proofs.Common.{◌≡◌, ℕ, ◌+◌, ◌-◌, Bool, true, false, not, ◌&&◌, ◌||◌, List, [], ◌∷◌, ◌++◌, Option, Some, None, is_some, length, take, nat_le, refl, sym, ap, ◌∙◌, arith, append_assoc}
+use Rattle.std.proofs.Common.{◌≡◌, ℕ, ◌+◌, ◌-◌, Bool, true, false, ◌&&◌, List, [], ◌∷◌, ◌++◌, Option, Some, None, is_some, length, take, nat_le, refl, sym, ap, ◌∙◌, arith, append_assoc}
 use Rattle.std.specs.List.{list_any, list_all}
 use Rattle.std.proofs.lemmas.List.{length_push}
-use Rattle.std.proofs.lemmas.List.Folds.{list_all-append}
-use Rattle.std.proofs.Math.Seq.{take-length}
-use Rattle.rail_base.specs.NameForms.{same_name}
 use Rattle.rail_base.specs.declared.limits.TheConstants.{TURN_TIME, ROUTE_SECTIONS}
 use Rattle.rail_base.specs.declared.refusals.Reason.TheVariants.{RouteRepeat}
-use Rattle.rail_track.specs.declared.section.NetFault.{NetFault}
 use Rattle.rail_track.specs.declared.section.Section.{Section}
 use Rattle.rail_track.specs.SectionRules.{is_within}
 use Rattle.rail_track.specs.Lists.{without, are_apart}
@@ -133,4 +129,8 @@ sound_empty net sound p s b t r = record {
 
 -- the routes of a sound network are short
 pub sound_short : (net : Net) → IsSoundNetwork net → list_all is_short net.routes ≡ true
-sound_short net is = all_more is_short (is_sound_route net) (λ route h. (both_true (nat_le 1 (length route.steps)) (is_short route) (both_true (is_within ROUTE_SECTIONS (length route.steps)) (are_apart have_one_section route.steps) (both_true (is_within ROUTE_SECTIONS (length route.steps) && are_apart have_one_section route.steps) (lead_between net.sections (post_named route.from net) (post_named route.to net) route.steps) h).0).0).1) net.routes is.routes
+sound_short net is =
+    all_more is_short (is_sound_route net)
+    (λ route h. (both_true (nat_le 1 (length route.steps)) (is_short route)
+    (both_true (is_within ROUTE_SECTIONS (length route.steps)) (are_apart have_one_section route.steps)
+    (both_true (is_within ROUTE_SECTIONS (length route.steps) && are_apart have_one_section route.steps) (lead_between net.sections (post_named route.from net) (post_named route.to net) route.steps) h).0).0).1) net.routes is.routes

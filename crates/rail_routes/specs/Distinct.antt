@@ -10,7 +10,8 @@ pub record IsDistinctNetwork (net : Net) : Type 0 where
   pub few_posts : length net.portals + length net.signals + length net.boards ≤ POSTS
   pub few_turns : length net.turns ≤ TURNS
   pub few_routes : length net.routes ≤ ROUTES
-  pub posts_by_name : (name : List ℕ) → count_by (is_post name) net.portals + count_by (is_post name) net.signals + count_by (is_post name) net.boards ≤ 1
+  pub posts_by_name : (name : List ℕ) →
+      count_by (is_post name) net.portals + count_by (is_post name) net.signals + count_by (is_post name) net.boards ≤ 1
   pub ends_by_joint : (joint : List ℕ) → count_by (stands_at joint) net.portals + count_by (stands_at joint) net.boards ≤ 1
   pub signals_by_place : (joint ahead : List ℕ) → count_by (guards_at joint ahead) net.signals ≤ 1
   pub turns_by_posts : (arriving leaving : List ℕ) → count_by (is_turn arriving leaving) net.turns ≤ 1

@@ -13,7 +13,14 @@ use Rattle.rail_routes.specs.Uses.{sections_of}
 
 -- the six lists of the network
 abbrev pub lists_of : Inside → Net
-lists_of a = record { sections = a.track; portals = a.portals; signals = a.signals; boards = a.boards; turns = a.turns; routes = a.routes }
+lists_of a = record {
+  sections = a.track;
+  portals = a.portals;
+  signals = a.signals;
+  boards = a.boards;
+  turns = a.turns;
+  routes = a.routes;
+}
 
 -- how often the routes run over a section
 abbrev pub runs_of : List Route → List ℕ → ℕ

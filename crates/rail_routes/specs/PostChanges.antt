@@ -18,4 +18,8 @@ with_post post net = with_post_as post.role post net
 
 -- a post is taken out of the list that has it
 abbrev pub without_post : List ℕ → Net → Net
-without_post name net = record net { portals = without (is_post name) net.portals; signals = without (is_post name) net.signals; boards = without (is_post name) net.boards }
+without_post name net = record net {
+  portals = without (is_post name) net.portals;
+  signals = without (is_post name) net.signals;
+  boards = without (is_post name) net.boards;
+}

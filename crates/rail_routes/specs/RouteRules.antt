@@ -45,9 +45,13 @@ abbrev pub goes_on : List Step → Bool
 goes_on [] = false
 goes_on (step ∷ steps) = true
 
--- the step leads on from the joint over a passage of its section, and, where no step follows, to the post
+-- the step leads on from the joint over a passage of its section
+abbrev pub leads_from : List Section → List ℕ → Step → Bool
+leads_from sections joint step = same_name joint step.from && has_passage sections step.section step.from step.to
+
+-- the step leads on from the joint, and, where no step follows, to the post
 abbrev pub leads_on : List Section → Post → List ℕ → Step → List Step → Bool
-leads_on sections end joint step rest = same_name joint step.from && has_passage sections step.section step.from step.to && (goes_on rest || ends end step)
+leads_on sections end joint step rest = leads_from sections joint step && (goes_on rest || ends end step)
 
 -- each step leads on from where the one before ended
 abbrev pub step_tests : List Section → Post → ℕ → List ℕ → List Step → List (Test NetFault)
@@ -58,7 +62,9 @@ step_tests sections end n joint (step ∷ steps) =
 
 -- the steps lead from the one post to the other
 abbrev pub way_from : Post → Post → List Section → List Step → List (Test NetFault)
-way_from begin end sections steps = refused_where RouteBroken 1 (not (begins begin sections steps)) ∷ step_tests sections end 1 begin.joint steps
+way_from begin end sections steps =
+    refused_where RouteBroken 1 (not (begins begin sections steps))
+    ∷ step_tests sections end 1 begin.joint steps
 
 -- the same, where both posts are there
 abbrev pub way_tests : Option Post → Option Post → List Section → List Step → List (Test NetFault)

@@ -1,5 +1,5 @@
 -- Sound networks: each post, turn and route keeps its rule.
-use Rattle.std.specs.Prelude.{ℕ, Bool, true, false, not, ◌&&◌, ◌||◌, List, [], ◌∷◌, Option, Some, None, length, nat_le, IsTrue}
+use Rattle.std.specs.Prelude.{ℕ, Bool, true, false, not, ◌&&◌, ◌||◌, List, [], ◌∷◌, Option, Some, length, nat_le, IsTrue}
 use Rattle.std.specs.List.{list_any, list_all}
 use Rattle.rail_base.specs.NameForms.{same_name}
 use Rattle.rail_base.specs.declared.limits.TheConstants.{SETTING, WATCHING, APPROACH, TURN_TIME, ROUTE_SECTIONS}
@@ -27,7 +27,9 @@ same_role role other = false
 
 -- the times of a portal or signal are in range
 abbrev pub is_timed : Post → Bool
-is_timed post = not (has_times post.role) || (is_within SETTING post.setting && nat_le post.watching WATCHING && nat_le post.approach APPROACH)
+is_timed post =
+    not (has_times post.role)
+    || (is_within SETTING post.setting && nat_le post.watching WATCHING && nat_le post.approach APPROACH)
 
 -- a post of the role is formed as the role asks, has its times in range, and stands where it may
 abbrev pub is_sound_post : Role → List Section → Post → Bool

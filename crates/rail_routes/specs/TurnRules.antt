@@ -12,7 +12,9 @@ use Rattle.rail_routes.specs.Net.{Net, posts, is_post, is_turn}
 -- a turn arrives at a signal or board and leaves from another post, which is a signal
 abbrev pub turns_well : Net → Turn → Bool
 turns_well net turn =
-    not (list_any (is_post turn.arriving) net.portals) && list_any (is_post turn.leaving) net.signals && not (same_name turn.arriving turn.leaving)
+    not (list_any (is_post turn.arriving) net.portals)
+    && list_any (is_post turn.leaving) net.signals
+    && not (same_name turn.arriving turn.leaving)
 
 -- the tests of a new turn, in their order
 abbrev pub turn_tests : Net → Turn → List (Test NetFault)

@@ -23,7 +23,9 @@ runs_over section route = list_any (same_name section) (sections_of route)
 
 -- a section is in use where a post stands at one of its joints or a route runs over it
 abbrev pub is_section_used : Net → Section → Bool
-is_section_used net section = list_any (λ post. has_joint post.joint section) (posts net) || list_any (runs_over section.name) net.routes
+is_section_used net section =
+    list_any (λ post. has_joint post.joint section) (posts net)
+    || list_any (runs_over section.name) net.routes
 
 -- the turn names the post
 abbrev pub turns_at : List ℕ → Turn → Bool

@@ -10,8 +10,6 @@
 mod items;
 mod network;
 mod post_list;
-#[cfg(test)]
-mod tests;
 
 pub use items::{Post, Role, Route, Step, Turn};
 pub use network::Network;

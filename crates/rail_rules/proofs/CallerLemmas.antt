@@ -26,3 +26,15 @@ pub use Rattle.rail_rules.proofs.Found.{finds_exactly, leg_parts}
 pub use Rattle.rail_rules.proofs.Unchanged.{gather_same}
 -- the admissions are those before the line
 pub use Rattle.rail_rules.proofs.Unchanged.{admissions_kept}
+-- Accepting: a plant that may be run, part by part.
+pub use Rattle.rail_rules.proofs.Accepting.{IsAccepted, accepted_parts, list_all_get, from_one}
+-- a section within the ranges
+pub use Rattle.rail_rules.proofs.Accepting.{IsSectionInRange, section_in_range}
+-- a train within the ranges
+pub use Rattle.rail_rules.proofs.Accepting.{IsRowInRange, row_in_range}
+-- a train's kind within the ranges
+pub use Rattle.rail_rules.proofs.Accepting.{IsKindInRange}
+-- a move within the ranges
+pub use Rattle.rail_rules.proofs.Accepting.{IsMoveInRange, move_in_range}
+-- a call within the ranges
+pub use Rattle.rail_rules.proofs.Accepting.{IsCallInRange, call_in_range}

@@ -8,3 +8,4 @@ mod Counted
 mod Parts
 mod Found
 mod Unchanged
+mod Accepting

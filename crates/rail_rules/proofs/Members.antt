@@ -59,11 +59,3 @@ apart_sym xs ys apart =
     (λ in_xs. absurd (false≢true (sym (apart_at xs ys x apart in_xs) ∙ in_ys)))
     (λ out. out)
     (cases_Bool (is_in x xs)))
-
--- what isn't apart has a common number
-pub common_member : (xs ys : List ℕ) → are_apart xs ys ≡ false → (x : ℕ) × (is_in x xs ≡ true) × (is_in x ys ≡ true)
-common_member xs ys h =
-    ⊎_elim
-    (λ some. list_any_found (λ z. is_in z ys) xs some)
-    (λ none. absurd (false≢true (sym h ∙ not_from_false (list_any (λ z. is_in z ys) xs) none)))
-    (cases_Bool (list_any (λ z. is_in z ys) xs))

@@ -37,7 +37,8 @@ is_section_in_range row = is_name row.name && is_from_one SECTION_LENGTH row.len
 
 -- a train kind within the ranges
 abbrev pub is_kind_in_range : TrainKind → Bool
-is_kind_in_range kind = is_from_one TRAIN_LENGTH kind.length && is_from_one SPEED kind.speed && nat_le kind.start START && nat_le kind.stop STOP
+is_kind_in_range kind = is_from_one TRAIN_LENGTH kind.length && is_from_one SPEED kind.speed && nat_le kind.start START
+    && nat_le kind.stop STOP
 
 -- a turn at a step of the move, within the ranges
 abbrev pub is_turn_in_range : ℕ → Option TurnRow → Bool
@@ -60,14 +61,17 @@ is_train_in_range plant t = is_name (train plant t).name && is_kind_in_range (tr
 
 -- the train is no longer than the sections of each of its routes before the last one
 abbrev pub does_fit : Plant → ℕ → Bool
-does_fit plant t = all_below (λ m. nat_le (train plant t).kind.length (sum_by (λ x. (section plant x).length) (move_row plant t m).sections)) (moves plant t - 1)
+does_fit plant t = all_below
+    (λ m. nat_le (train plant t).kind.length (sum_by (λ x. (section plant x).length) (move_row plant t m).sections))
+    (moves plant t - 1)
 
 -- a time of an input, where there is one, within the limit
 abbrev pub is_time_in_range : Option ℕ → Bool
 is_time_in_range None = true
 is_time_in_range (Some time) = nat_le time INPUT_TIME
 
--- a call at the end of a move: within the ranges; a call that is no stop has no dwell; at the last place it is no stop and has no departure; at a place with a turn it is a stop
+-- a call at the end of a move: within the ranges; a call that is no stop has no dwell; at the last
+-- place it is no stop and has no departure; at a place with a turn it is a stop
 abbrev pub is_call_in_range : Bool → Bool → Option Call → Bool
 is_call_in_range last turns None = true
 is_call_in_range last turns (Some call) = is_time_in_range call.arrival && is_time_in_range call.departure && nat_le call.dwell INPUT_TIME
@@ -75,9 +79,12 @@ is_call_in_range last turns (Some call) = is_time_in_range call.arrival && is_ti
 
 -- the calls of a train
 abbrev pub are_calls_in_range : Plant → ℕ → Bool
-are_calls_in_range plant t = all_below (λ m. is_call_in_range (suc m == moves plant t) (is_some (move_row plant t m).turn) (call_after plant t m)) (moves plant t)
+are_calls_in_range plant t = all_below
+    (λ m. is_call_in_range (suc m == moves plant t) (is_some (move_row plant t m).turn) (call_after plant t m))
+    (moves plant t)
 
--- a plant that may be run: within the limits and ranges, with distinct names; each train fits its routes, and no train would stand on a section that its next move needs
+-- a plant that may be run: within the limits and ranges, with distinct names; each train fits its
+-- routes, and no train would stand on a section that its next move needs
 abbrev pub is_accepted : Plant → Bool
 is_accepted plant = nat_le (length plant.tables.sections) SECTIONS && nat_le (trains plant) TRAINS
     && nat_le plant.tables.release RELEASE && nat_le plant.tables.depth DEPTH
@@ -103,10 +110,12 @@ is_order_in_range plant (Priority t n) = nat_lt t (trains plant) && nat_le n 255
 -- commands for the plant in order of time, none of them before the given time
 abbrev pub are_commands_in_range : Plant → ℕ → List Command → Bool
 are_commands_in_range plant earliest [] = true
-are_commands_in_range plant earliest (command ∷ commands) = nat_le earliest command.at && nat_le command.at INPUT_TIME && is_order_in_range plant command.what
+are_commands_in_range plant earliest (command ∷ commands) = nat_le earliest command.at && nat_le command.at INPUT_TIME
+    && is_order_in_range plant command.what
     && are_commands_in_range plant command.at commands
 
 -- an input that may be run: an accepted plant, commands for it, and a deck of policies with distinct names, one of which is in force first
 abbrev pub is_accepted_input : Input → Bool
-is_accepted_input input = is_accepted input.plant && nat_le (length input.commands) COMMANDS && are_commands_in_range input.plant 0 input.commands
+is_accepted_input input = is_accepted input.plant && nat_le (length input.commands) COMMANDS
+    && are_commands_in_range input.plant 0 input.commands
     && is_from_one POLICIES (length input.deck) && are_distinct_names input.deck && nat_lt input.force (length input.deck)

@@ -58,7 +58,9 @@ bar input front t =
 
 -- the kept list as an admission of the train would repair it: pulled for a train inside, appended for an entering one
 abbrev pub repaired : Input → Front → ℕ → List ℕ
-repaired input front t = cond (place front t == 0) (with_rest_of input.plant t (kept input.plant front)) (without_first t (kept input.plant front))
+repaired input front t = cond (place front t == 0)
+    (with_rest_of input.plant t (kept input.plant front))
+    (without_first t (kept input.plant front))
 
 -- the places after an admission of the train
 abbrev pub places_after : Input → Front → ℕ → List ℕ
@@ -70,7 +72,10 @@ is_repairable input front t = completes (moves_of input.plant) (places_after inp
 
 -- no list is known after an admission of the train
 abbrev pub list_cause : Input → Front → ℕ → Option Cause
-list_cause input front t = cond (is_repairable input front t || finds (moves_of input.plant) input.plant.tables.depth (places_after input front t)) None (Some NoList)
+list_cause input front t = cond
+    (is_repairable input front t || finds (moves_of input.plant) input.plant.tables.depth (places_after input front t))
+    None
+    (Some NoList)
 
 -- why the next move of the train isn't admitted: the first cause that holds
 abbrev pub cause : Input → Front → ℕ → Option Cause
@@ -93,4 +98,6 @@ is_told_so input front t = same_cause (last_hold front t (suc (place front t))) 
 abbrev pub is_settled : Input → Front → Bool
 is_settled input [] = true
 is_settled input (line ∷ before) = is_deciding input (line ∷ before)
-    && all_below (λ t. not (is_ready input (line ∷ before) t) || (is_some (cause input (line ∷ before) t) && is_told_so input (line ∷ before) t)) (trains input.plant)
+    && all_below
+    (λ t. not (is_ready input (line ∷ before) t) || (is_some (cause input (line ∷ before) t) && is_told_so input (line ∷ before) t))
+    (trains input.plant)

@@ -59,11 +59,14 @@ moved_lines plant front = gather (λ t. moved_events plant t (admissions front t
 
 -- the event lines of all trains
 abbrev pub events : Input → Front → List Entry
-events input front = gather (λ t. train_events input.plant t (admissions front t) (is_cancelled t (told input.commands front))) (trains input.plant)
+events input front = gather
+    (λ t. train_events input.plant t (admissions front t) (is_cancelled t (told input.commands front)))
+    (trains input.plant)
 
 -- the line of a command, counted from 0: told where its order takes effect
 abbrev pub command_line : Input → Front → Command → ℕ → Entry
-command_line input front command k = at_time command.at (cond (takes_effect input front (told input.commands front) command.what) (Told (suc k)) (Untold (suc k)))
+command_line input front command k = at_time command.at
+    (cond (takes_effect input front (told input.commands front) command.what) (Told (suc k)) (Untold (suc k)))
 
 -- the line of a command stands in the front, told or untold
 abbrev pub is_written : Front → Command → ℕ → Bool
@@ -72,7 +75,9 @@ is_written front command k = stands front (at_time command.at (Told (suc k))) ||
 -- the lines of the commands that don't stand in the front, the first of which is counted k
 abbrev pub commands_due : Input → Front → ℕ → List Command → List Entry
 commands_due input front k [] = []
-commands_due input front k (command ∷ commands) = cond (is_written front command k) [] (command_line input front command k ∷ []) ++ commands_due input front (suc k) commands
+commands_due input front k (command ∷ commands) =
+    cond (is_written front command k) [] (command_line input front command k ∷ [])
+    ++ commands_due input front (suc k) commands
 
 -- the due lines: the event lines that don't stand in the front
 abbrev pub due_lines : Input → Front → List Entry

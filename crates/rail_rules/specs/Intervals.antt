@@ -53,7 +53,8 @@ signalled plant t adms m = admitted adms m + (move_row plant t m).setting + (mov
 abbrev pub standing_part : Plant → ℕ → List ℕ → ℕ → ℕ → ℕ
 standing_part plant t adms m j = cond (does_stand plant t m j) (clears_from plant t adms m j - leave plant t adms m j) 0
 
--- while the interval is open, its running part is undecided on the last step before a place that isn't forced, since the train may pass there
+-- while the interval is open, its running part is undecided on the last step before
+-- a place that isn't forced, since the train may pass there
 abbrev pub is_undecided : Plant → ℕ → List ℕ → ℕ → ℕ → Bool
 is_undecided plant t adms m j = is_open plant t adms m j && (suc j == steps plant t m) && not (is_forced plant t (suc m))
 
@@ -81,7 +82,8 @@ abbrev pub parts_sum : Parts → ℕ
 parts_sum parts = decided parts.setting + decided parts.watching + decided parts.approach + decided parts.waiting + decided parts.earlier
     + decided parts.running + decided parts.standing + decided parts.clearing + decided parts.release
 
--- the instants that the parts lie between follow each other: the signal is clear before the move begins, the head enters after that, leaves after it entered, and the train clears the section after its head left it
+-- the instants that the parts lie between follow each other: the signal is clear before the move begins, the head
+-- enters after that, leaves after it entered, and the train clears the section after its head left it
 pub record IsInOrder (plant : Plant) (t : ℕ) (adms : List ℕ) (m j : ℕ) : Type 0 where
   pub signal : signalled plant t adms m ≤ go plant t adms m
   pub begun : go plant t adms m ≤ enter plant t adms m j

@@ -29,7 +29,8 @@ note_fits line place Pulled = is_bare line && nat_lt 0 place
 note_fits line place Appended = is_bare line && (place == 0)
 note_fits line place Fresh = not (is_bare line)
 
--- an admit line at the instant: its train waits and isn't stopped, and no needed section is closed or blocked; it is the train's next move; no hold line stands before it; and the kept list completes after it
+-- an admit line at the instant: its train waits and isn't stopped, and no needed section is closed or blocked; it is
+-- the train's next move; no hold line stands before it; and the kept list completes after it
 abbrev pub may_admit : Input → Front → Line → ℕ → ℕ → Note → Bool
 may_admit input front line t m note = (line.entry.at == instant front) && waits input front t && not (is_some (bar input front t))
     && (m == suc (place front t)) && not (has_held front) && note_fits line (place front t) note
@@ -39,7 +40,8 @@ may_admit input front line t m note = (line.entry.at == instant front) && waits 
 abbrev pub is_hold_due : Input → Front → ℕ → Bool
 is_hold_due input front t = is_ready input front t && not (is_told_so input front t)
 
--- a hold line at the instant: nobody could be admitted, and its train is the first for which a hold line is due, with its next move and its cause
+-- a hold line at the instant: nobody could be admitted, and its train is the first for
+-- which a hold line is due, with its next move and its cause
 abbrev pub may_hold : Input → Front → Line → ℕ → ℕ → Cause → Bool
 may_hold input front line t m why = is_bare line && (line.entry.at == instant front) && is_deciding input front
     && all_below (λ u. not (could_go input front u)) (trains input.plant)
@@ -57,7 +59,8 @@ is_out front t = list_any (λ (line : Line). is_out_line t line.entry.what) fron
 
 -- the trains that are neither out nor cancelled, by number
 abbrev pub remaining : Input → Front → List ℕ
-remaining input front = filter (λ t. not (is_out front t || is_cancelled t (told input.commands front))) (listed (λ t. t) (trains input.plant))
+remaining input front = filter (λ t. not (is_out front t || is_cancelled t (told input.commands front)))
+    (listed (λ t. t) (trains input.plant))
 
 -- the end line: everything is settled and nothing is due; it has the instant of the front and names the trains that remain
 abbrev pub may_end : Input → Front → Line → Bool

@@ -88,9 +88,11 @@ is_in_deck deck name orders = list_any (same_numbers name) deck && not (is_retir
 abbrev pub first_force : Input → List ℕ
 first_force input = get_or input.deck input.force []
 
--- an order takes effect: a cancel only where no move of the train is admitted and it isn't cancelled yet, a policy only where the deck has it, a retirement only where the deck has it and it isn't in force
+-- an order takes effect: a cancel only where no move of the train is admitted and it isn't cancelled yet, a policy
+-- only where the deck has it, a retirement only where the deck has it and it isn't in force
 abbrev pub takes_effect : Input → Front → List Order → Order → Bool
 takes_effect input front orders (Policy name) = is_in_deck input.deck name orders
-takes_effect input front orders (Retire name) = is_in_deck input.deck name orders && not (same_numbers name (in_force (first_force input) orders))
+takes_effect input front orders (Retire name) = is_in_deck input.deck name orders
+    && not (same_numbers name (in_force (first_force input) orders))
 takes_effect input front orders (Cancel t) = (length (admissions front t) == 0) && not (is_cancelled t orders)
 takes_effect input front orders _ = true

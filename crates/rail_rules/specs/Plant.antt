@@ -83,9 +83,11 @@ from_turn (Some turn) sections = drop (turn.step - 1) sections
 abbrev pub longer : List ℕ → List ℕ → List ℕ
 longer xs ys = cond (nat_lt (length xs) (length ys)) ys xs
 
--- the standing set after a move: the shortest end of its route that is as long as the train and, where there is a turn, begins at the turn step or before
+-- the standing set after a move: the shortest end of its route that is as long as the
+-- train and, where there is a turn, begins at the turn step or before
 abbrev pub standing_after : Plant → ℕ → ℕ → List ℕ
-standing_after plant t m = longer (shortest_end plant (train plant t).kind.length (needed plant t m)) (from_turn (move_row plant t m).turn (needed plant t m))
+standing_after plant t m = longer (shortest_end plant (train plant t).kind.length (needed plant t m))
+    (from_turn (move_row plant t m).turn (needed plant t m))
 
 -- what the analysis knows of the plant
 abbrev pub moves_of : Plant → Moves
@@ -104,7 +106,8 @@ is_forced plant t (suc m) = nat_lt (suc m) (moves plant t)
 -- the least standing time at a place, by its call and its turn
 abbrev pub dwell : Plant → ℕ → ℕ → ℕ
 dwell plant t zero = 0
-dwell plant t (suc m) = max (option_map_or (λ (call : Call). call.dwell) (call_after plant t m) 0) (option_map_or (λ (turn : TurnRow). turn.time) (move_row plant t m).turn 0)
+dwell plant t (suc m) = max (option_map_or (λ (call : Call). call.dwell) (call_after plant t m) 0)
+    (option_map_or (λ (turn : TurnRow). turn.time) (move_row plant t m).turn 0)
 
 -- the departure of the call at a place, or 0
 abbrev pub departure : Plant → ℕ → ℕ → ℕ
@@ -123,7 +126,8 @@ clear_time kind row = quotient_up (36 * kind.length) (min kind.speed row.speed)
 abbrev pub run_over : Plant → ℕ → ℕ → ℕ → ℕ
 run_over plant t m steps = sum_below (λ j. run_time (train plant t).kind (section plant (step_section plant t m j))) steps
 
--- how many lines a move has at most, hold lines aside: its head enters and its tail frees each section, and it is ready, admitted and arrives
+-- how many lines a move has at most, hold lines aside: its head enters and its tail
+-- frees each section, and it is ready, admitted and arrives
 abbrev pub move_lines : Plant → ℕ → ℕ → ℕ
 move_lines plant t m = 2 * steps plant t m + 3
 

@@ -43,7 +43,9 @@ mark_after _ old = old
 -- the mark of the rotating box of this name: by the last train admitted while it was in force, or as it was handed in
 abbrev pub mark_of : Input → List Seat → List ℕ → Front → ℕ
 mark_of input seats name [] = (seat_of seats name).mark
-mark_of input seats name (line ∷ before) = cond (same_numbers (force_of input before) name) (mark_after line.entry.what (mark_of input seats name before)) (mark_of input seats name before)
+mark_of input seats name (line ∷ before) = cond (same_numbers (force_of input before) name)
+    (mark_after line.entry.what (mark_of input seats name before))
+    (mark_of input seats name before)
 
 -- the departure of a call, where there is one
 abbrev pub call_departure : Option Call → Option ℕ
@@ -63,11 +65,15 @@ first_departure plant t m (suc places) = or_else (call_departure (call_after pla
 -- when a move is due: the first the entry, each other one the next departure, else the planned arrival at the last place, else the entry
 abbrev pub due : Plant → ℕ → ℕ → ℕ
 due plant t zero = (train plant t).entry
-due plant t (suc m) = option_map_or (λ (at : ℕ). at) (or_else (first_departure plant t m (moves plant t - suc m)) (call_arrival (call_after plant t (moves plant t - 1)))) (train plant t).entry
+due plant t (suc m) =
+    option_map_or (λ (at : ℕ). at)
+    (or_else (first_departure plant t m (moves plant t - suc m)) (call_arrival (call_after plant t (moves plant t - 1))))
+    (train plant t).entry
 
 -- the key of a waiting train by a policy: the least one is chosen
 abbrev pub key : Input → List Seat → Front → ℕ → PolicyKind → List ℕ
-key input seats front t Priority = priority_of (train input.plant t).priority t (told input.commands front) ∷ (train input.plant t).entry ∷ t ∷ []
+key input seats front t Priority = priority_of (train input.plant t).priority t (told input.commands front)
+    ∷ (train input.plant t).entry ∷ t ∷ []
 key input seats front t Timetable = due input.plant t (place front t) ∷ t ∷ []
 key input seats front t Fcfs = ready input.plant t (admissions front t) (place front t) ∷ t ∷ []
 key input seats front t Rotating = (t + 65536 - mark_of input seats (force_of input front) front) % 65536 ∷ []
@@ -77,7 +83,9 @@ key input seats front t Custom = []
 abbrev pub is_chosen : Input → List Seat → Front → ℕ → Bool
 is_chosen input seats front t =
     let kind : PolicyKind = (seat_of seats (force_of input front)).kind in
-    all_below (λ u. not (could_go input front u && comes_before (key input seats front u kind) (key input seats front t kind))) (trains input.plant)
+    all_below
+    (λ u. not (could_go input front u && comes_before (key input seats front u kind) (key input seats front t kind)))
+    (trains input.plant)
 
 -- a fresh list is taken only where the repaired one doesn't complete
 abbrev pub repairs_first : Input → Front → ℕ → Note → Bool
@@ -86,13 +94,15 @@ repairs_first input front t _ = true
 
 -- an admit line of a run: its train has no cause, repair goes before a fresh list, and the policy in force is obeyed
 abbrev pub is_run_line : Input → List Seat → Front → What → Bool
-is_run_line input seats front (Admit t m note) = not (is_some (cause input front t)) && repairs_first input front t note && is_chosen input seats front t
+is_run_line input seats front (Admit t m note) = not (is_some (cause input front t)) && repairs_first input front t note
+    && is_chosen input seats front t
 is_run_line input seats front _ = true
 
 -- a run front for a deck: a lawful front whose admit lines are those of a run
 abbrev pub is_run : Input → List Seat → Front → Bool
 is_run input seats [] = true
-is_run input seats (line ∷ before) = is_run input seats before && may_follow input before line && is_run_line input seats before line.entry.what
+is_run input seats (line ∷ before) = is_run input seats before && may_follow input before line
+    && is_run_line input seats before line.entry.what
 
 -- a run history: a run front that is lawful to the end
 abbrev pub is_run_history : Input → List Seat → Front → Bool

@@ -18,7 +18,9 @@ pub record Item : Type 0 where
 -- the items with one more of the train in front
 abbrev pub with_train : ℕ → List Item → List Item
 with_train t [] = record { train = t; count = 1 } ∷ []
-with_train t (item ∷ items) = cond (item.train == t) (record { train = t; count = suc item.count } ∷ items) (record { train = t; count = 1 } ∷ item ∷ items)
+with_train t (item ∷ items) = cond (item.train == t)
+    (record { train = t; count = suc item.count } ∷ items)
+    (record { train = t; count = 1 } ∷ item ∷ items)
 
 -- a list as items: neighbouring ones have different trains
 abbrev pub items_of : List ℕ → List Item

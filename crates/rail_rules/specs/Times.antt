@@ -9,7 +9,8 @@ use Rattle.rail_rules.specs.Plant.{Plant, train, moves, move_row, steps, step_se
 abbrev pub stop_time : Plant → ℕ → ℕ → ℕ
 stop_time plant t arrived = arrived + (train plant t).kind.stop
 
--- the departure time at a place: after the dwell and not before the departure of the call where the place is forced, else the time of a stop
+-- the departure time at a place: after the dwell and not before the departure of
+-- the call where the place is forced, else the time of a stop
 abbrev pub depart_time : Plant → ℕ → ℕ → ℕ → ℕ
 depart_time plant t p arrived = cond (is_forced plant t p)
     (max (stop_time plant t arrived + dwell plant t p) (departure plant t p))
@@ -89,7 +90,8 @@ enter plant t adms m j = head_time plant t m (go plant t adms m) (passes plant t
 abbrev pub stop_at : Plant → ℕ → List ℕ → ℕ → ℕ
 stop_at plant t adms m = stop_time plant t (free_run plant t adms (suc m))
 
--- when the train arrives at the end of the move: with its next move where it passes there, at its free running time at the end of its last move, else with a stop
+-- when the train arrives at the end of the move: with its next move where it passes there, at
+-- its free running time at the end of its last move, else with a stop
 abbrev pub arrive : Plant → ℕ → List ℕ → ℕ → ℕ
 arrive plant t adms m = cond (suc m == moves plant t) (free_run plant t adms (suc m))
     (cond (passes plant t adms (suc m)) (go plant t adms (suc m)) (stop_at plant t adms m))

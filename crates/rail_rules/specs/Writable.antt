@@ -61,4 +61,5 @@ pub record IsNamed (plant : Plant) : Type 0 where
   pub train_name : (t : ℕ) → t < trains plant → is_name (train plant t).name ≡ true
   pub section_name : (x : ℕ) → x < length plant.tables.sections → is_name (section plant x).name ≡ true
   pub train_of : (t u : ℕ) → t < trains plant → u < trains plant → (train plant t).name ≡ (train plant u).name → t ≡ u
-  pub section_of : (x y : ℕ) → x < length plant.tables.sections → y < length plant.tables.sections → (section plant x).name ≡ (section plant y).name → x ≡ y
+  pub section_of : (x y : ℕ) → x < length plant.tables.sections → y < length plant.tables.sections
+      → (section plant x).name ≡ (section plant y).name → x ≡ y

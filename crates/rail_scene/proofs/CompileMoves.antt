@@ -67,7 +67,9 @@ numbers_known net (step ∷ rest) known =
     (numbers_known net rest parts.1)
 
 -- sections of other names have other numbers
-other_number : (net : Net) (name : List ℕ) (steps : List Step) → list_any (is_named name) net.sections ≡ true → list_all (is_known_step net.sections) steps ≡ true → list_any (λ (other : Step). same_name name other.section) steps ≡ false → is_in (number_of net name) (map (step_number net) steps) ≡ false
+other_number : (net : Net) (name : List ℕ) (steps : List Step) → list_any (is_named name) net.sections ≡ true →
+    list_all (is_known_step net.sections) steps ≡ true → list_any (λ (other : Step). same_name name other.section) steps ≡ false →
+    is_in (number_of net name) (map (step_number net) steps) ≡ false
 other_number net name [] known all none = refl
 other_number net name (step ∷ rest) known all none =
     let parts = and_parts (is_known_step net.sections step) (list_all (is_known_step net.sections) rest) all in

@@ -20,7 +20,11 @@ two_ahead routes place first lt =
     ∙ ap (λ k. get_or routes (place - 1) no_route ∷ drop k routes) back
     ∙ ap (λ rest. get_or routes (place - 1) no_route ∷ rest) (drop_more routes place no_route lt)
 
-tests_ahead : (net : Net) (item : ℕ) (routes : List Route) (place : ℕ) → 1 ≤ place → place < length routes → first_failing (place_tests net item place (drop (place - 1) routes)) ≡ cond (not (goes_on_to net (get_or routes (place - 1) no_route) (get_or routes place no_route))) (Some (of_train reason.ItineraryBroken item place)) (first_failing (place_tests net item (place + 1) (drop (place + 1 - 1) routes)))
+tests_ahead : (net : Net) (item : ℕ) (routes : List Route) (place : ℕ) → 1 ≤ place → place < length routes →
+    first_failing (place_tests net item place (drop (place - 1) routes))
+    ≡ cond (not (goes_on_to net (get_or routes (place - 1) no_route) (get_or routes place no_route)))
+    (Some (of_train reason.ItineraryBroken item place))
+    (first_failing (place_tests net item (place + 1) (drop (place + 1 - 1) routes)))
 tests_ahead net item routes place first lt =
     let on : Bool = not (goes_on_to net (get_or routes (place - 1) no_route) (get_or routes place no_route)) in
     let answer : Option Refusal = Some (of_train reason.ItineraryBroken item place) in
@@ -32,13 +36,17 @@ tests_ahead net item routes place first lt =
     ∙ ap (λ k. cond on answer (first_failing (place_tests net item (place + 1) (drop k routes)))) here
 
 -- it stops at a place where the train can't go on
-pub broken_at : (net : Net) (item : ℕ) (routes : List Route) (place : ℕ) → 1 ≤ place → place < length routes → goes_on_to net (get_or routes (place - 1) no_route) (get_or routes place no_route) ≡ false → first_failing (place_tests net item place (drop (place - 1) routes)) ≡ Some (of_train reason.ItineraryBroken item place)
+pub broken_at : (net : Net) (item : ℕ) (routes : List Route) (place : ℕ) → 1 ≤ place → place < length routes →
+    goes_on_to net (get_or routes (place - 1) no_route) (get_or routes place no_route) ≡ false →
+    first_failing (place_tests net item place (drop (place - 1) routes)) ≡ Some (of_train reason.ItineraryBroken item place)
 broken_at net item routes place first lt stuck =
     tests_ahead net item routes place first lt
     ∙ ap (λ b. cond (not b) (Some (of_train reason.ItineraryBroken item place)) (first_failing (place_tests net item (place + 1) (drop (place + 1 - 1) routes)))) stuck
 
 -- and goes on where the train can
-pub going_on : (net : Net) (item : ℕ) (routes : List Route) (place : ℕ) → 1 ≤ place → place < length routes → goes_on_to net (get_or routes (place - 1) no_route) (get_or routes place no_route) ≡ true → first_failing (place_tests net item place (drop (place - 1) routes)) ≡ first_failing (place_tests net item (place + 1) (drop (place + 1 - 1) routes))
+pub going_on : (net : Net) (item : ℕ) (routes : List Route) (place : ℕ) → 1 ≤ place → place < length routes →
+    goes_on_to net (get_or routes (place - 1) no_route) (get_or routes place no_route) ≡ true →
+    first_failing (place_tests net item place (drop (place - 1) routes)) ≡ first_failing (place_tests net item (place + 1) (drop (place + 1 - 1) routes))
 going_on net item routes place first lt free =
     tests_ahead net item routes place first lt
     ∙ ap (λ b. cond (not b) (Some (of_train reason.ItineraryBroken item place)) (first_failing (place_tests net item (place + 1) (drop (place + 1 - 1) routes)))) free
@@ -75,7 +83,8 @@ ends_is net (route ∷ next ∷ rest) some =
     ends_is net (next ∷ rest) (omega arith) ∙ ap (λ k. is_portal net (get_or (route ∷ next ∷ rest) k no_route).to) back
 
 -- the tests of an itinerary, with the places between its two ends
-pub itinerary_is : (net : Net) (item : ℕ) (routes : List Route) → first_failing (route_tests net item routes) ≡ cond (not (begins_at_portal net routes)) (Some (of_train reason.NotPortal item 0)) (option_or (first_failing (place_tests net item 1 routes)) (cond (not (ends_at_portal net routes)) (Some (of_train reason.NotPortal item (length routes))) None))
+pub itinerary_is : (net : Net) (item : ℕ) (routes : List Route) →
+    first_failing (route_tests net item routes) ≡ cond (not (begins_at_portal net routes)) (Some (of_train reason.NotPortal item 0)) (option_or (first_failing (place_tests net item 1 routes)) (cond (not (ends_at_portal net routes)) (Some (of_train reason.NotPortal item (length routes))) None))
 itinerary_is net item routes =
     ap (cond (not (begins_at_portal net routes)) (Some (of_train reason.NotPortal item 0)))
     (first_failing-append (place_tests net item 1 routes) (train_refused reason.NotPortal item (length routes) (not (ends_at_portal net routes)) ∷ []))
@@ -99,7 +108,9 @@ module _ (net : Net) (item : ℕ) (routes : List Route) (some : 1 ≤ length rou
   refused_inside o is found =
       is ∙ sym (begun ∙ or-some (first_failing (place_tests net item 1 routes)) (cond (not (ends_at_portal net routes)) (Some (of_train reason.NotPortal item (length routes))) None) (ap is_some (sym is) ∙ found))
 
-  pub ending_is : (o : Option Refusal) (z : Bool) → o ≡ first_failing (place_tests net item 1 routes) → is_some o ≡ false → is_portal net (get_or routes (length routes - 1) no_route).to ≡ z → first_failing (route_tests net item routes) ≡ cond (not z) (Some (of_train reason.NotPortal item (length routes))) None
+  pub ending_is : (o : Option Refusal) (z : Bool) → o ≡ first_failing (place_tests net item 1 routes) → is_some o ≡ false →
+      is_portal net (get_or routes (length routes - 1) no_route).to ≡ z →
+      first_failing (route_tests net item routes) ≡ cond (not z) (Some (of_train reason.NotPortal item (length routes))) None
   ending_is o z is none at_end =
       begun
       ∙ or-none (first_failing (place_tests net item 1 routes)) (cond (not (ends_at_portal net routes)) (Some (of_train reason.NotPortal item (length routes))) None) (ap is_some (sym is) ∙ none)

@@ -97,7 +97,8 @@ module _ (scene : Scene) (h : IsScene scene) (sound : IsSoundNetwork scene.netwo
       let count : length row.moves ≡ length given.routes = length-moves_over net routes ∙ length-map given.routes (route_of net) in
       let moves_are : list_all (is_move_in_range n) row.moves ≡ true =
       ap (λ k. list_all (is_move_in_range k) row.moves) (length-map net.sections section_row) ∙ moves_fine net sound routes (routes_sound net sound given.routes unrefused.routes) in
-      let P : TrainRow → Type 0 = λ r. (is_name r.name && is_kind_in_range r.kind && leb r.entry INPUT_TIME && leb r.priority 255 && is_from_one ITINERARY_ROUTES (length r.moves) && list_all (is_move_in_range n) r.moves && not (is_some (get_or r.moves (length r.moves - 1) no_move).turn)) ≡ true in
+      let P : TrainRow → Type 0 = λ r. (is_name r.name && is_kind_in_range r.kind && leb r.entry INPUT_TIME && leb r.priority 255
+      && is_from_one ITINERARY_ROUTES (length r.moves) && list_all (is_move_in_range n) r.moves && not (is_some (get_or r.moves (length r.moves - 1) no_move).turn)) ≡ true in
       let b1 : Bool = is_name row.name in
       let b2 : Bool = is_kind_in_range row.kind in
       let b3 : Bool = leb row.entry INPUT_TIME in

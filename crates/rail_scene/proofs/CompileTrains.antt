@@ -16,7 +16,8 @@ use Rattle.rail_scene.specs.CompileRefusals.{are_known, of_train, route_tests, t
 use Rattle.rail_scene.proofs.CompilePlaces.{or-some, or-none}
 
 -- a train in front of those after it
-train_ahead : (scene : Scene) (trains : List SceneTrain) (i : ℕ) (train : SceneTrain) → i < length trains → train ≡ get_or trains i train → first_failing (trains_tests scene (i + 1) (drop i trains)) ≡ option_or (first_failing (train_tests scene (i + 1) train)) (first_failing (trains_tests scene (i + 1 + 1) (drop (i + 1) trains)))
+train_ahead : (scene : Scene) (trains : List SceneTrain) (i : ℕ) (train : SceneTrain) → i < length trains → train ≡ get_or trains i train →
+    first_failing (trains_tests scene (i + 1) (drop i trains)) ≡ option_or (first_failing (train_tests scene (i + 1) train)) (first_failing (trains_tests scene (i + 1 + 1) (drop (i + 1) trains)))
 train_ahead scene trains i train lt is =
     let step : drop i trains ≡ train ∷ drop (i + 1) trains = drop_more trains i train lt ∙ ap (λ t. t ∷ drop (i + 1) trains) (sym is) in
     let next : suc (i + 1) ≡ i + 1 + 1 = omega arith in
@@ -24,13 +25,17 @@ train_ahead scene trains i train lt is =
     ∙ first_failing-append (train_tests scene (i + 1) train) (trains_tests scene (suc (i + 1)) (drop (i + 1) trains))
     ∙ ap (λ k. option_or (first_failing (train_tests scene (i + 1) train)) (first_failing (trains_tests scene k (drop (i + 1) trains)))) next
 
-pub train_refused_at : (scene : Scene) (trains : List SceneTrain) (i : ℕ) (train : SceneTrain) (o : Option Refusal) → i < length trains → train ≡ get_or trains i train → o ≡ first_failing (train_tests scene (i + 1) train) → is_some o ≡ true → first_failing (trains_tests scene (i + 1) (drop i trains)) ≡ o
+pub train_refused_at : (scene : Scene) (trains : List SceneTrain) (i : ℕ) (train : SceneTrain) (o : Option Refusal) → i < length trains →
+    train ≡ get_or trains i train → o ≡ first_failing (train_tests scene (i + 1) train) → is_some o ≡ true →
+    first_failing (trains_tests scene (i + 1) (drop i trains)) ≡ o
 train_refused_at scene trains i train o lt is told some =
     train_ahead scene trains i train lt is
     ∙ ap (λ p. option_or p (first_failing (trains_tests scene (i + 1 + 1) (drop (i + 1) trains)))) (sym told)
     ∙ or-some o (first_failing (trains_tests scene (i + 1 + 1) (drop (i + 1) trains))) some
 
-pub train_passed_at : (scene : Scene) (trains : List SceneTrain) (i : ℕ) (train : SceneTrain) (o : Option Refusal) → i < length trains → train ≡ get_or trains i train → o ≡ first_failing (train_tests scene (i + 1) train) → is_some o ≡ false → first_failing (trains_tests scene (i + 1) (drop i trains)) ≡ first_failing (trains_tests scene (i + 1 + 1) (drop (i + 1) trains))
+pub train_passed_at : (scene : Scene) (trains : List SceneTrain) (i : ℕ) (train : SceneTrain) (o : Option Refusal) → i < length trains →
+    train ≡ get_or trains i train → o ≡ first_failing (train_tests scene (i + 1) train) → is_some o ≡ false →
+    first_failing (trains_tests scene (i + 1) (drop i trains)) ≡ first_failing (trains_tests scene (i + 1 + 1) (drop (i + 1) trains))
 train_passed_at scene trains i train o lt is told none =
     train_ahead scene trains i train lt is
     ∙ ap (λ p. option_or p (first_failing (trains_tests scene (i + 1 + 1) (drop (i + 1) trains)))) (sym told)
@@ -40,7 +45,9 @@ pub trains_done : (scene : Scene) (trains : List SceneTrain) (i : ℕ) → lengt
 trains_done scene trains i past = ap (λ rest. first_failing (trains_tests scene (i + 1) rest)) (drop_all i trains past)
 
 -- the tests of a train, with what they look at
-pub train_is : (scene : Scene) (item : ℕ) (train : SceneTrain) (kind routes : Bool) → kind ≡ list_any (λ (k : TrainKind). same_name train.kind k.name) scene.kinds → routes ≡ are_known scene.network train.routes → first_failing (train_tests scene item train) ≡ cond (not kind) (Some (of_train reason.Unknown item 2)) (cond (not routes) (Some (of_train reason.Unknown item 5)) (first_failing (route_tests scene.network item (routes_of scene.network train.routes))))
+pub train_is : (scene : Scene) (item : ℕ) (train : SceneTrain) (kind routes : Bool) →
+    kind ≡ list_any (λ (k : TrainKind). same_name train.kind k.name) scene.kinds → routes ≡ are_known scene.network train.routes →
+    first_failing (train_tests scene item train) ≡ cond (not kind) (Some (of_train reason.Unknown item 2)) (cond (not routes) (Some (of_train reason.Unknown item 5)) (first_failing (route_tests scene.network item (routes_of scene.network train.routes))))
 train_is scene item train kind routes kind_is routes_are =
     λ i. cond (not (sym kind_is i)) (Some (of_train reason.Unknown item 2)) (cond (not (sym routes_are i)) (Some (of_train reason.Unknown item 5)) (first_failing (route_tests scene.network item (routes_of scene.network train.routes))))
 

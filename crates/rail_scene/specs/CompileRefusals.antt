@@ -85,9 +85,12 @@ abbrev pub refusal_in : Fault → Option Refusal
 refusal_in (fault.Refused refusal) = Some refusal
 refusal_in fault.OutOfMemory = None
 
--- why a scene is refused: the first test of a train and its itinerary that fails, train by train, and where none does the first fault of the plant, again train by train
+-- why a scene is refused: the first test of a train and its itinerary that fails, train by train, and where none
+-- does the first fault of the plant, again train by train
 abbrev pub compile_refusal : Scene → Option Refusal
-compile_refusal scene = option_or (first_failing (trains_tests scene 1 scene.trains)) (option_and_then (λ why. refusal_in (fault_for why)) (fault_of (tables_of scene)))
+compile_refusal scene =
+    option_or (first_failing (trains_tests scene 1 scene.trains))
+    (option_and_then (λ why. refusal_in (fault_for why)) (fault_of (tables_of scene)))
 
 -- a fault answers the first refusal, if it is that refusal; want of memory may stand in place of any answer
 abbrev pub IsAnswer : Option Refusal → Fault → Type 0

@@ -21,7 +21,11 @@ use Rattle.rail_scene.specs.Rosters.{kind_tests, train_tests}
 
 -- a scene without items
 abbrev pub empty_draft : Draft
-empty_draft = record { network = record { sections = []; portals = []; signals = []; boards = []; turns = []; routes = [] }; kinds = []; trains = [] }
+empty_draft = record {
+  network = record { sections = []; portals = []; signals = []; boards = []; turns = []; routes = [] };
+  kinds = [];
+  trains = [];
+}
 
 -- the posts of all roles together are at their limit
 abbrev pub are_posts_full : Net → Bool
@@ -40,7 +44,8 @@ is_full Train draft = nat_le TRAINS (length draft.trains)
 
 -- the tests of the item of a table beside those that stand already
 abbrev pub place_tests : ListPart → Draft → Data → List (Test NetFault)
-place_tests Section draft node = section_tests draft.network.sections (is_closed_by draft.network.sections draft.network.portals) (section_of node)
+place_tests Section draft node =
+    section_tests draft.network.sections (is_closed_by draft.network.sections draft.network.portals) (section_of node)
 place_tests Portal draft node = post_tests draft.network (portal_of node)
 place_tests Signal draft node = post_tests draft.network (signal_of node)
 place_tests Board draft node = post_tests draft.network (board_of node)
@@ -59,7 +64,8 @@ item_tests part draft node = refused_where TooMany 0 (is_full part draft) ∷ ow
 
 -- the draft with the items of these tables last in their list
 abbrev pub with_items : ListPart → List Data → Draft → Draft
-with_items Section nodes draft = record draft { network = record draft.network { sections = draft.network.sections ++ map section_of nodes } }
+with_items Section nodes draft =
+    record draft { network = record draft.network { sections = draft.network.sections ++ map section_of nodes } }
 with_items Portal nodes draft = record draft { network = record draft.network { portals = draft.network.portals ++ map portal_of nodes } }
 with_items Signal nodes draft = record draft { network = record draft.network { signals = draft.network.signals ++ map signal_of nodes } }
 with_items Board nodes draft = record draft { network = record draft.network { boards = draft.network.boards ++ map board_of nodes } }

@@ -62,7 +62,15 @@ signal_of node = record {
 
 -- the board of a table, which has no times
 abbrev pub board_of : Data → Post
-board_of node = record { name = spelled_name NAME node; role = role.Board; joint = spelled_name JOINT node; ahead = None; setting = 0; watching = 0; approach = 0 }
+board_of node = record {
+  name = spelled_name NAME node;
+  role = role.Board;
+  joint = spelled_name JOINT node;
+  ahead = None;
+  setting = 0;
+  watching = 0;
+  approach = 0;
+}
 
 -- the turn of a table
 abbrev pub turn_of : Data → Turn
@@ -81,7 +89,12 @@ steps_of (joint ∷ names) = steps_from joint names
 
 -- the route of a table
 abbrev pub route_of : Data → Route
-route_of node = record { name = spelled_name NAME node; from = spelled_name FROM node; to = spelled_name TO node; steps = steps_of (spelled_names PATH node) }
+route_of node = record {
+  name = spelled_name NAME node;
+  from = spelled_name FROM node;
+  to = spelled_name TO node;
+  steps = steps_of (spelled_names PATH node);
+}
 
 -- the train kind of a table
 abbrev pub kind_of : Data → TrainKind

@@ -51,7 +51,8 @@ bounded bounds n = if nat_le bounds.low n && nat_le n bounds.high then Some n el
 
 -- the number that a value is, in the range of the form
 abbrev pub number_by : Form → Option Data → Option ℕ
-number_by (Whole bounds) value = option_and_then (bounded bounds) (option_map_or (λ d. option_and_then counted (as_integer d)) value (Some bounds.default))
+number_by (Whole bounds) value =
+    option_and_then (bounded bounds) (option_map_or (λ d. option_and_then counted (as_integer d)) value (Some bounds.default))
 number_by form value = None
 
 -- the number at a key, which has its default where it is absent

@@ -60,7 +60,10 @@ has_unknown keys node = list_any (λ text. not (is_known keys text)) (keys_in no
 
 -- the tests of key n with this value: it is there where it is required, and of the kind that its form states
 abbrev pub key_test : ℕ → Key → Option Data → List (Test NetFault)
-key_test n key value = refused_where KeyMissing n (not (is_some value) && key.required) ∷ refused_where WrongKind n (not (option_map_or (is_of key.form) value true)) ∷ []
+key_test n key value =
+    refused_where KeyMissing n (not (is_some value) && key.required)
+    ∷ refused_where WrongKind n (not (option_map_or (is_of key.form) value true))
+    ∷ []
 
 -- the tests of the keys, which are numbered from n
 abbrev pub key_tests : ℕ → List Key → Data → List (Test NetFault)

@@ -39,7 +39,8 @@ route_of net name = unwrap_or (find (is_route name) net.routes) no_route
 abbrev pub routes_of : Net → List (List ℕ) → List Route
 routes_of net names = map (route_of net) names
 
--- a train that came over the step may leave from the signal: it stands where the step is entered, and the section of the step isn't ahead of it
+-- a train that came over the step may leave from the signal: it stands where the step is entered, and the section of
+-- the step isn't ahead of it
 abbrev pub may_leave : Post → Step → Bool
 may_leave leaving step = same_name leaving.joint step.from && not (guards step.section leaving)
 
@@ -56,7 +57,8 @@ abbrev pub turn_row : Option Turn → Option ℕ → Option TurnRow
 turn_row (Some turn) (Some step) = Some (record { step = step + 1; time = turn.time })
 turn_row turn step = None
 
--- the turn between two routes: there is one from the end of the first to the beginning of the second, at a step over which a train may leave there
+-- the turn between two routes: there is one from the end of the first to the beginning of the second, at a step over
+-- which a train may leave there
 abbrev pub turn_between : Net → Route → Route → Option TurnRow
 turn_between net route next = turn_row (turn_to net route next) (turn_step net route next)
 
@@ -100,7 +102,13 @@ number_of net name = unwrap_or (position (is_named name) net.sections) 0
 -- the move over a route, from the post at which it begins, with the turn at its end
 abbrev pub move_over : Net → Route → Option TurnRow → MoveRow
 move_over net route turn = let post = unwrap_or (post_named route.from net) no_post in
-    record { sections = map (λ (step : Step). number_of net step.section) route.steps; setting = post.setting; watching = post.watching; approach = post.approach; turn = turn }
+    record {
+      sections = map (λ (step : Step). number_of net step.section) route.steps;
+      setting = post.setting;
+      watching = post.watching;
+      approach = post.approach;
+      turn = turn;
+    }
 
 -- the moves over the routes of an itinerary
 abbrev pub moves_over : Net → List Route → List MoveRow

@@ -7,6 +7,7 @@ pub mod Forms
 pub mod Values
 pub mod Rosters
 pub mod Drafts
+pub mod SpelledItems
 pub mod SpelledScenes
 pub mod Order
 pub mod Itineraries

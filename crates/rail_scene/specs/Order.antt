@@ -26,7 +26,8 @@ item_number n = min n 4_294_967_295
 
 -- one test of a table at its part and number; want of memory is no refusal of a file
 abbrev pub located_as : Part → ℕ → Bool → NetFault → List (Test Refusal)
-located_as part n fails (Refused reason step) = record { answer = record { reason = reason; part = part; item = item_number n; step = step }; fails = fails } ∷ []
+located_as part n fails (Refused reason step) =
+    record { answer = record { reason = reason; part = part; item = item_number n; step = step }; fails = fails } ∷ []
 located_as part n fails OutOfMemory = []
 
 -- the tests of a table at its part and number
@@ -56,13 +57,16 @@ scene_forms root = located Root 0 (form_tests ROOT_KEYS root) ++ forms_of root L
 -- the values of the tables of a list, numbered from n, each beside the items before it
 abbrev pub list_values : ListPart → ℕ → Draft → List Data → List (Test Refusal)
 list_values part n draft [] = []
-list_values part n draft (node ∷ nodes) = located (part_of part) n (item_tests part draft node) ++ list_values part (n + 1) (with_items part (node ∷ []) draft) nodes
+list_values part n draft (node ∷ nodes) =
+    located (part_of part) n (item_tests part draft node)
+    ++ list_values part (n + 1) (with_items part (node ∷ []) draft) nodes
 
 -- the values of the lists in turn
 abbrev pub values_of : Data → Draft → List ListPart → List (Test Refusal)
 values_of root draft [] = []
 values_of root draft (part ∷ parts) =
-    list_values part 1 draft (elements_at (list_key part) root) ++ values_of root (with_items part (elements_at (list_key part) root) draft) parts
+    list_values part 1 draft (elements_at (list_key part) root)
+    ++ values_of root (with_items part (elements_at (list_key part) root) draft) parts
 
 -- the draft with the items of the lists of these parts
 abbrev pub with_lists : Data → List ListPart → Draft → Draft

@@ -1,16 +1,9 @@
 //! A scene that is being read, to which the items of its file are added one by one.
-ghost use Rattle.std.specs.Prelude.{◌≡◌, ◌<◌, ◌++◌, length, false, [], ◌∷◌, Some, None, List, map, OnOk, IfErr};
+ghost use Rattle.std.specs.Prelude.{◌≡◌, ◌<◌, ◌++◌, length, false, [], ◌∷◌, None, map, OnOk, IfErr};
 ghost use Rattle.toml.specs.View.{view};
 ghost use Rattle.rail_track.specs.FirstRefusals.{Answers, first_failing};
-ghost use Rattle.rail_track.specs.SectionRules.{section_tests};
-ghost use Rattle.rail_routes.specs.SectionRules.{is_closed_by};
-ghost use Rattle.rail_routes.specs.PostRules.{post_tests};
-ghost use Rattle.rail_routes.specs.TurnRules.{turn_tests};
-ghost use Rattle.rail_routes.specs.RouteRules.{route_tests};
-ghost use Rattle.rail_scene.specs.declared.keys.TheConstants.{SECTION_KEYS, PORTAL_KEYS, SIGNAL_KEYS, BOARD_KEYS, TURN_KEYS, ROUTE_KEYS, KIND_KEYS, TRAIN_KEYS};
 ghost use Rattle.rail_scene.specs.Entries.{section_of, portal_of, signal_of, board_of, turn_of, route_of, kind_of, train_of};
-ghost use Rattle.rail_scene.specs.Rosters.{kind_tests, train_tests};
-ghost use Rattle.rail_scene.specs.Values.{value_tests};
+ghost use Rattle.rail_scene.specs.SpelledItems.{spelled_section_refusal, spelled_portal_refusal, spelled_signal_refusal, spelled_board_refusal, spelled_turn_refusal, spelled_route_refusal, spelled_kind_refusal, spelled_train_refusal};
 
 use crate::entries;
 use crate::fields::elements_at;
@@ -59,10 +52,7 @@ impl Draft {
         ensures refused { IfErr result (AnswersScene (first_failing (values_of (view root.now) self.old parts.now))) }
     {
         for part in parts {
-            match self.add_list(alloc, *part, elements_at(root, part.key())) {
-                Ok(()) => {}
-                Err(fault) => return Err(fault),
-            }
+            self.add_list(alloc, *part, elements_at(root, part.key()))?;
         }
         Ok(())
     }
@@ -143,21 +133,23 @@ impl Draft {
 
 /// Adds the section of a table last.
 fn add_section(network: &mut Network, alloc: Global, table: &Value) -> Result<(), NetFault>
-    ensures accepted { OnOk result (first_failing (value_tests 1 SECTION_KEYS (view table.now) ++ section_tests network.old.sections (is_closed_by network.old.sections network.old.portals) (section_of (view table.now))) ≡ None) }
-    ensures added { OnOk result (network.new ≡ record network.old { sections = network.old.sections ++ section_of (view table.now) ∷ [] }) }
-    ensures refused { IfErr result (Answers (first_failing (value_tests 1 SECTION_KEYS (view table.now) ++ section_tests network.old.sections (is_closed_by network.old.sections network.old.portals) (section_of (view table.now))))) }
+    ensures accepted { OnOk result (spelled_section_refusal network.old (view table.now) ≡ None) }
+    ensures added { OnOk result (network.new ≡ record network.old {
+      sections = network.old.sections ++ section_of (view table.now) ∷ [];
+    }) }
+    ensures refused { IfErr result (Answers (spelled_section_refusal network.old (view table.now))) }
 {
-    match entries::section(alloc, table) {
-        Ok(item) => network.add_section(alloc, item),
-        Err(fault) => Err(fault),
-    }
+    let item = entries::section(alloc, table)?;
+    network.add_section(alloc, item)
 }
 
 /// Adds the portal of a table last.
 fn add_portal(network: &mut Network, alloc: Global, table: &Value) -> Result<(), NetFault>
-    ensures accepted { OnOk result (first_failing (value_tests 1 PORTAL_KEYS (view table.now) ++ post_tests network.old (portal_of (view table.now))) ≡ None) }
-    ensures added { OnOk result (network.new ≡ record network.old { portals = network.old.portals ++ portal_of (view table.now) ∷ [] }) }
-    ensures refused { IfErr result (Answers (first_failing (value_tests 1 PORTAL_KEYS (view table.now) ++ post_tests network.old (portal_of (view table.now))))) }
+    ensures accepted { OnOk result (spelled_portal_refusal network.old (view table.now) ≡ None) }
+    ensures added { OnOk result (network.new ≡ record network.old {
+      portals = network.old.portals ++ portal_of (view table.now) ∷ [];
+    }) }
+    ensures refused { IfErr result (Answers (spelled_portal_refusal network.old (view table.now))) }
 {
     match entries::portal(table) {
         Ok(item) => network.add_post(alloc, item),
@@ -167,9 +159,11 @@ fn add_portal(network: &mut Network, alloc: Global, table: &Value) -> Result<(),
 
 /// Adds the signal of a table last.
 fn add_signal(network: &mut Network, alloc: Global, table: &Value) -> Result<(), NetFault>
-    ensures accepted { OnOk result (first_failing (value_tests 1 SIGNAL_KEYS (view table.now) ++ post_tests network.old (signal_of (view table.now))) ≡ None) }
-    ensures added { OnOk result (network.new ≡ record network.old { signals = network.old.signals ++ signal_of (view table.now) ∷ [] }) }
-    ensures refused { IfErr result (Answers (first_failing (value_tests 1 SIGNAL_KEYS (view table.now) ++ post_tests network.old (signal_of (view table.now))))) }
+    ensures accepted { OnOk result (spelled_signal_refusal network.old (view table.now) ≡ None) }
+    ensures added { OnOk result (network.new ≡ record network.old {
+      signals = network.old.signals ++ signal_of (view table.now) ∷ [];
+    }) }
+    ensures refused { IfErr result (Answers (spelled_signal_refusal network.old (view table.now))) }
 {
     match entries::signal(table) {
         Ok(item) => network.add_post(alloc, item),
@@ -179,9 +173,9 @@ fn add_signal(network: &mut Network, alloc: Global, table: &Value) -> Result<(),
 
 /// Adds the board of a table last.
 fn add_board(network: &mut Network, alloc: Global, table: &Value) -> Result<(), NetFault>
-    ensures accepted { OnOk result (first_failing (value_tests 1 BOARD_KEYS (view table.now) ++ post_tests network.old (board_of (view table.now))) ≡ None) }
+    ensures accepted { OnOk result (spelled_board_refusal network.old (view table.now) ≡ None) }
     ensures added { OnOk result (network.new ≡ record network.old { boards = network.old.boards ++ board_of (view table.now) ∷ [] }) }
-    ensures refused { IfErr result (Answers (first_failing (value_tests 1 BOARD_KEYS (view table.now) ++ post_tests network.old (board_of (view table.now))))) }
+    ensures refused { IfErr result (Answers (spelled_board_refusal network.old (view table.now))) }
 {
     match entries::board(table) {
         Ok(item) => network.add_post(alloc, item),
@@ -191,50 +185,42 @@ fn add_board(network: &mut Network, alloc: Global, table: &Value) -> Result<(), 
 
 /// Adds the turn of a table last.
 fn add_turn(network: &mut Network, alloc: Global, table: &Value) -> Result<(), NetFault>
-    ensures accepted { OnOk result (first_failing (value_tests 1 TURN_KEYS (view table.now) ++ turn_tests network.old (turn_of (view table.now))) ≡ None) }
+    ensures accepted { OnOk result (spelled_turn_refusal network.old (view table.now) ≡ None) }
     ensures added { OnOk result (network.new ≡ record network.old { turns = network.old.turns ++ turn_of (view table.now) ∷ [] }) }
-    ensures refused { IfErr result (Answers (first_failing (value_tests 1 TURN_KEYS (view table.now) ++ turn_tests network.old (turn_of (view table.now))))) }
+    ensures refused { IfErr result (Answers (spelled_turn_refusal network.old (view table.now))) }
 {
-    match entries::turn(table) {
-        Ok(item) => network.add_turn(alloc, item),
-        Err(fault) => Err(fault),
-    }
+    let item = entries::turn(table)?;
+    network.add_turn(alloc, item)
 }
 
 /// Adds the route of a table last.
 fn add_route(network: &mut Network, alloc: Global, table: &Value) -> Result<(), NetFault>
-    ensures accepted { OnOk result (first_failing (value_tests 1 ROUTE_KEYS (view table.now) ++ route_tests network.old (route_of (view table.now))) ≡ None) }
+    ensures accepted { OnOk result (spelled_route_refusal network.old (view table.now) ≡ None) }
     ensures added { OnOk result (network.new ≡ record network.old { routes = network.old.routes ++ route_of (view table.now) ∷ [] }) }
-    ensures refused { IfErr result (Answers (first_failing (value_tests 1 ROUTE_KEYS (view table.now) ++ route_tests network.old (route_of (view table.now))))) }
+    ensures refused { IfErr result (Answers (spelled_route_refusal network.old (view table.now))) }
 {
-    match entries::route(alloc, table) {
-        Ok(item) => network.add_route(alloc, item),
-        Err(fault) => Err(fault),
-    }
+    let item = entries::route(alloc, table)?;
+    network.add_route(alloc, item)
 }
 
 /// Adds the train kind of a table last.
 fn add_kind(kinds: &mut Kinds, table: &Value) -> Result<(), NetFault>
     requires { length kinds.old < KINDS }
-    ensures accepted { OnOk result (first_failing (value_tests 1 KIND_KEYS (view table.now) ++ kind_tests kinds.old (kind_of (view table.now))) ≡ None) }
+    ensures accepted { OnOk result (spelled_kind_refusal kinds.old (view table.now) ≡ None) }
     ensures added { OnOk result (kinds.new ≡ kinds.old ++ kind_of (view table.now) ∷ []) }
-    ensures refused { IfErr result (Answers (first_failing (value_tests 1 KIND_KEYS (view table.now) ++ kind_tests kinds.old (kind_of (view table.now))))) }
+    ensures refused { IfErr result (Answers (spelled_kind_refusal kinds.old (view table.now))) }
 {
-    match entries::train_kind(table) {
-        Ok(item) => kinds.add(item),
-        Err(fault) => Err(fault),
-    }
+    let item = entries::train_kind(table)?;
+    kinds.add(item)
 }
 
 /// Adds the train of a table last.
 fn add_train(trains: &mut Trains, alloc: Global, table: &Value) -> Result<(), NetFault>
     requires { length trains.old < TRAINS }
-    ensures accepted { OnOk result (first_failing (value_tests 1 TRAIN_KEYS (view table.now) ++ train_tests trains.old (train_of (view table.now))) ≡ None) }
+    ensures accepted { OnOk result (spelled_train_refusal trains.old (view table.now) ≡ None) }
     ensures added { OnOk result (trains.new ≡ trains.old ++ train_of (view table.now) ∷ []) }
-    ensures refused { IfErr result (Answers (first_failing (value_tests 1 TRAIN_KEYS (view table.now) ++ train_tests trains.old (train_of (view table.now))))) }
+    ensures refused { IfErr result (Answers (spelled_train_refusal trains.old (view table.now))) }
 {
-    match entries::train(alloc, table) {
-        Ok(item) => trains.add(item),
-        Err(fault) => Err(fault),
-    }
+    let item = entries::train(alloc, table)?;
+    trains.add(item)
 }

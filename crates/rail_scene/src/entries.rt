@@ -1,16 +1,14 @@
 //! The items of a scene file, each from its table.
-ghost use Rattle.std.specs.Prelude.{◌≡◌, ◌⊎◌, true, false, ◌≤◌, ◌==◌, ◌++◌, [], ◌∷◌, IsTrue, IsSome, Some, None, length, map, not, ℕ, List, OnOk, IfOk, IfErr, MatchResult, MatchOption};
-ghost use Rattle.std.specs.Option.{option_map_or};
-ghost use Rattle.toml.specs.Data.{Data};
+ghost use Rattle.std.specs.Prelude.{◌≡◌, ◌⊎◌, true, false, ◌==◌, ◌++◌, [], ◌∷◌, IsTrue, Some, None, length, map, OnOk, IfOk, IfErr, MatchResult};
 ghost use Rattle.toml.specs.View.{view};
 ghost use Rattle.rail_base.specs.declared.refusals.Reason.TheVariants.{BadName, Range};
 ghost use Rattle.rail_track.specs.declared.section.NetFault.{NetFault};
 ghost use Rattle.rail_track.specs.declared.section.NetFault.TheVariants.{Refused, OutOfMemory};
 ghost use Rattle.rail_track.specs.SectionRules.{joint_count, is_within};
-ghost use Rattle.rail_track.specs.FirstRefusals.{Answers, first_failing, refused_where};
+ghost use Rattle.rail_track.specs.FirstRefusals.{Answers, first_failing};
 ghost use Rattle.rail_scene.specs.declared.keys.TheConstants.{SECTION_KEYS, PORTAL_KEYS, SIGNAL_KEYS, BOARD_KEYS, TURN_KEYS, ROUTE_KEYS, KIND_KEYS, TRAIN_KEYS};
-ghost use Rattle.rail_scene.specs.Fields.{value_at, text_at, name_in, name_at, policy_at, number_at, kind_at, time_at, elements_of, elements_at, are_names, names_in, is_path_count};
-ghost use Rattle.rail_scene.specs.Entries.{section_of, portal_of, signal_of, board_of, turn_of, route_of, kind_of, train_of, steps_of, steps_from, spelled_names};
+ghost use Rattle.rail_scene.specs.Fields.{name_in, name_at, number_at, kind_at, time_at, elements_at, are_names, names_in, is_path_count};
+ghost use Rattle.rail_scene.specs.Entries.{section_of, portal_of, signal_of, board_of, turn_of, route_of, kind_of, train_of, steps_of, spelled_names};
 ghost use Rattle.rail_scene.specs.Values.{value_tests, tests_by, list_tests};
 ghost use Rattle.rail_scene.specs.Scenes.{is_fit_kind, is_fit_train};
 ghost use Rattle.rail_scene.specs.declared.keys.Form.TheVariants as Form;
@@ -84,7 +82,8 @@ fn read_time(table: &Value, key: Key, step: u32) -> Result<Time, NetFault>
 fn read_names(alloc: Global, values: &[Value], step: u32) -> Result<Vec<Name>, NetFault>
     ensures names { IfOk result (λ names. names.items ≡ names_in (map view values.now)) }
     ensures accepted { OnOk result (are_names (map view values.now) ≡ true) }
-    ensures refused { IfErr result (λ fault. (fault ≡ OutOfMemory) ⊎ ((are_names (map view values.now) ≡ false) × (fault ≡ Refused BadName step))) }
+    ensures refused { IfErr result (λ fault.
+        (fault ≡ OutOfMemory) ⊎ ((are_names (map view values.now) ≡ false) × (fault ≡ Refused BadName step))) }
 {
     let mut names = Vec::new(alloc);
     names.reserve(values.len())?;
@@ -112,10 +111,7 @@ fn read_list(
     if !is_count {
         return Err(refused(Reason::Range, step));
     }
-    match read_names(alloc, values, step) {
-        Ok(names) => Ok(names),
-        Err(fault) => Err(fault),
-    }
+    Ok(read_names(alloc, values, step)?)
 }
 
 /// Adds an item last. It fails only for want of memory.
@@ -163,10 +159,7 @@ pub(crate) fn section(alloc: Global, table: &Value) -> Result<Section, NetFault>
     let kind = read_kind(table, SECTION_KIND, 2)?;
     let length = read_number(table, SECTION_LENGTH, 3)?;
     let speed = read_number(table, SPEED, 4)?;
-    let joints = match read_joints(alloc, table, kind, 5) {
-        Ok(joints) => joints,
-        Err(fault) => return Err(fault),
-    };
+    let joints = read_joints(alloc, table, kind, 5)?;
     Ok(Section {
         name,
         kind,
@@ -249,10 +242,7 @@ pub(crate) fn route(alloc: Global, table: &Value) -> Result<Route, NetFault>
     let name = read_name(table, NAME, 1)?;
     let from = read_name(table, FROM, 2)?;
     let to = read_name(table, TO, 3)?;
-    let path = match read_path(alloc, table, 4) {
-        Ok(path) => path,
-        Err(fault) => return Err(fault),
-    };
+    let path = read_path(alloc, table, 4)?;
     Ok(Route {
         name,
         from,
@@ -342,10 +332,7 @@ pub(crate) fn train(alloc: Global, table: &Value) -> Result<SceneTrain, NetFault
     let kind = read_name(table, TRAIN_KIND, 2)?;
     let entry = read_time(table, ENTRY, 3)?;
     let priority = read_number(table, PRIORITY, 4)?;
-    let routes = match read_itinerary(alloc, table, 5) {
-        Ok(routes) => routes,
-        Err(fault) => return Err(fault),
-    };
+    let routes = read_itinerary(alloc, table, 5)?;
     Ok(SceneTrain {
         name,
         kind,

@@ -1,13 +1,9 @@
 //! Readers of the keys of a table. They are total: a table that is not of its form has values too.
-ghost use Rattle.std.specs.Prelude.{◌≡◌, ◌≤◌, ◌<◌, ◌==◌, ◌&&◌, ◌%◌, ◌/◌, IsTrue, Some, None, Option, ℕ, option_map, option_and_then, map, length, not, IfOk, IfErr, OnOk, if◌then◌else◌, is_some};
-ghost use Rattle.std.specs.Option.{option_copied, option_map_or};
-ghost use Rattle.toml.specs.Data.{Data, as_str, as_integer};
+ghost use Rattle.std.specs.Prelude.{◌≡◌, ◌<◌, ◌==◌, ◌&&◌, ◌/◌, Some, None, Option, option_map, option_and_then, map, not, if◌then◌else◌};
+ghost use Rattle.std.specs.Option.{option_copied};
+ghost use Rattle.toml.specs.Data.{as_str, as_integer};
 ghost use Rattle.toml.specs.View.{view};
-ghost use Rattle.rail_base.specs.declared.refusals.Reason.TheVariants.{BadName, Range};
-ghost use Rattle.rail_track.specs.SectionRules.{joint_count, is_within};
-ghost use Rattle.rail_track.specs.declared.section.NetFault.TheVariants.{Refused};
-ghost use Rattle.rail_track.specs.FirstRefusals.{Answers};
-ghost use Rattle.rail_scene.specs.Fields.{value_at, text_at, name_in, name_at, policy_at, counted, bounded, number_by, number_at, kind_named, kind_at, time_up_to, time_at, elements_of, elements_at, are_names, names_in, is_path_count};
+ghost use Rattle.rail_scene.specs.Fields.{value_at, text_at, name_in, name_at, policy_at, counted, bounded, number_at, kind_named, kind_at, time_up_to, time_at, elements_of, elements_at};
 
 use crate::keys::{Bounds, Form, Key};
 use rail_base::limits::INPUT_TIME;

@@ -1,14 +1,13 @@
 //! The first pass over a scene file: whether each table is of its form.
-ghost use Rattle.std.specs.Prelude.{◌≡◌, ◌<◌, ◌^◌, length, Some, None, ℕ, List, map, not, ◌&&◌, is_some, string_bytes, OnOk, IfErr};
+ghost use Rattle.std.specs.Prelude.{◌≡◌, ◌<◌, ◌^◌, length, Some, None, map, not, string_bytes, OnOk, IfErr};
 ghost use Rattle.std.specs.List.{list_any, list_all};
 ghost use Rattle.std.specs.BTreeMap.{keys};
-ghost use Rattle.std.specs.Option.{option_map_or};
-ghost use Rattle.toml.specs.View.{view, table_view};
+ghost use Rattle.toml.specs.View.{view};
 ghost use Rattle.rail_base.specs.declared.refusals.Part.TheVariants.{Root};
 ghost use Rattle.rail_base.specs.declared.refusals.Reason.TheVariants.{KeyMissing, WrongKind};
-ghost use Rattle.rail_track.specs.FirstRefusals.{Answers, first_failing};
+ghost use Rattle.rail_track.specs.FirstRefusals.{first_failing};
 ghost use Rattle.rail_scene.specs.Fields.{value_at};
-ghost use Rattle.rail_scene.specs.Forms.{is_list_of, is_string, is_table, is_of, is_known, has_unknown, member_keys, form_tests, key_tests, key_test};
+ghost use Rattle.rail_scene.specs.Forms.{is_list_of, is_string, is_table, is_of, is_known, has_unknown, form_tests, key_tests, key_test};
 ghost use Rattle.rail_scene.specs.Order.{located, list_forms, forms_of, scene_forms, AnswersScene};
 
 use crate::fields::{elements_at, value_at};
@@ -36,10 +35,7 @@ fn check_lists(root: &Value, parts: &[ListPart]) -> Result<(), Fault>
     ensures refused { IfErr result (AnswersScene (first_failing (forms_of (view root.now) parts.now))) }
 {
     for part in parts {
-        match check_list(*part, elements_at(root, part.key())) {
-            Ok(()) => {}
-            Err(fault) => return Err(fault),
-        }
+        check_list(*part, elements_at(root, part.key()))?;
     }
     Ok(())
 }

@@ -19,8 +19,6 @@ mod places;
 mod reading;
 mod rosters;
 mod scene;
-#[cfg(test)]
-mod tests;
 
 pub use compiling::compile;
 pub use reading::read_scene;

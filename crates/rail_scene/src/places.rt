@@ -1,5 +1,5 @@
 //! Where in a scene file a refusal lies.
-ghost use Rattle.std.specs.Prelude.{◌≡◌, ◌+◌, ℕ};
+ghost use Rattle.std.specs.Prelude.{◌≡◌, ◌+◌};
 ghost use Rattle.rail_scene.specs.Order.{item_number, fault_at};
 
 use rail_base::{Fault, Part, Refusal};

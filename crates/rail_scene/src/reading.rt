@@ -45,14 +45,9 @@ pub fn read_scene(alloc: Global, bytes: &[u8]) -> Result<Scene, Fault>
     ensures kept { IfOk result IsScene }
     ensures refused { IfErr result (AnswersScene (scene_refusal bytes.now)) }
 {
-    let root = match read_root(alloc, bytes) {
-        Ok(root) => root,
-        Err(fault) => return Err(fault),
-    };
-    match check_forms(&root) {
-        Ok(()) => read_values(alloc, &root),
-        Err(fault) => Err(fault),
-    }
+    let root = read_root(alloc, bytes)?;
+    check_forms(&root)?;
+    read_values(alloc, &root)
 }
 
 /// The root of the table that the bytes are by TOML.
@@ -89,10 +84,8 @@ fn read_values(alloc: Global, root: &Value) -> Result<Scene, Fault>
         Ok(header) => header,
         Err(fault) => return Err(located(Part::Root, 0, fault)),
     };
-    match read_lists(alloc, root) {
-        Ok(draft) => Ok(finished(header, draft)),
-        Err(fault) => Err(fault),
-    }
+    let draft = read_lists(alloc, root)?;
+    Ok(finished(header, draft))
 }
 
 /// The items of the lists of a root.
@@ -116,7 +109,14 @@ fn read_lists(alloc: Global, root: &Value) -> Result<Draft, Fault>
 fn finished(header: Header, draft: Draft) -> Scene
     requires release { header.release ≤ limit.RELEASE }
     requires depth { header.depth ≤ limit.DEPTH }
-    ensures scene { result ≡ record { release = header.release; depth = header.depth; policy = header.policy; network = draft.network; kinds = draft.kinds; trains = draft.trains } }
+    ensures scene { result ≡ record {
+      release = header.release;
+      depth = header.depth;
+      policy = header.policy;
+      network = draft.network;
+      kinds = draft.kinds;
+      trains = draft.trains;
+    } }
     ensures kept { IsScene result }
 {
     let Draft {

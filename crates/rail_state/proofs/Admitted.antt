@@ -58,7 +58,10 @@ bar_free None None c h = h
 bar_free (Some x) b c h = absurd (none-some x (sym h))
 bar_free None (Some x) c h = absurd (none-some x (sym h))
 
-module _ (dispatch : Dispatch) (plant : Plant) (front : Front) (state : RunState) (rep : Represents dispatch plant front state) (going : has_ended front ≡ false) (deciding : is_deciding (input_of dispatch plant) front ≡ true) (t : ℕ) (next : IsAdmissible dispatch plant front state.holders state.trains t) (note : Note) (list : List ℕ) (noted : MayKeep (moves_of plant) (places plant front) (kept plant front) t note list) (times : MoveTimes) (arrival : Option ℕ) (after_it : RunState) (has : IsAdmitLine plant front t times arrival state after_it) where
+module _ (dispatch : Dispatch) (plant : Plant) (front : Front) (state : RunState) (rep : Represents dispatch plant front state) (going : has_ended front ≡ false)
+    (deciding : is_deciding (input_of dispatch plant) front ≡ true) (t : ℕ) (next : IsAdmissible dispatch plant front state.holders state.trains t) (note : Note) (list : List ℕ)
+    (noted : MayKeep (moves_of plant) (places plant front) (kept plant front) t note list) (times : MoveTimes) (arrival : Option ℕ) (after_it : RunState)
+    (has : IsAdmitLine plant front t times arrival state after_it) where
   abbrev line : Line
   line = admit_line state.instant t (suc (place front t)) note list
 
@@ -96,12 +99,16 @@ module _ (dispatch : Dispatch) (plant : Plant) (front : Front) (state : RunState
   -- the admission is at the ready time and the place isn't forced where the train passes, and else not both
   passes_means : passes plant t (admissions front t ++ state.instant ∷ []) (place front t) ≡ (not (is_forced plant t (place front t)) && eqb state.instant (ready plant t (admissions front t) (place front t)))
   passes_means =
-      ap (λ b. b && does_pass plant t (place front t) (previous (admissions front t ++ state.instant ∷ []) (place front t)) (free_run plant t (admissions front t ++ state.instant ∷ []) (place front t)) (admitted (admissions front t ++ state.instant ∷ []) (place front t))) (is_added (admissions front t) state.instant)
+      ap (λ b. b && does_pass plant t (place front t) (previous (admissions front t ++ state.instant ∷ []) (place front t))
+      (free_run plant t (admissions front t ++ state.instant ∷ []) (place front t)) (admitted (admissions front t ++ state.instant ∷ []) (place front t))) (is_added
+      (admissions front t) state.instant)
       ∙ ap (λ at. not (is_forced plant t (place front t)) && eqb at (ready plant t (admissions front t ++ state.instant ∷ []) (place front t))) (admitted_added (admissions front t) state.instant)
       ∙ ap (λ r. not (is_forced plant t (place front t)) && eqb state.instant r) (ready_agrees plant t (admissions front t ++ state.instant ∷ []) (admissions front t) (place front t) (place front t) (agree_added (admissions front t) state.instant) (omega arith))
 
   -- the arrival that was deferred, where the train passes and where it doesn't
-  passing_balance : (q : Event → Bool) → count_by q (passing_event t (place front t) times) + tally (λ e. q (event_of e)) (taken_back plant t (admissions front t) (place front t)) ≡ tally (λ e. q (event_of e)) (taken_back plant t (admissions front t ++ state.instant ∷ []) (place front t)) + count_by q (deferred_event t (state_of state.trains t).place (state_of state.trains t).deferred)
+  passing_balance : (q : Event → Bool) → count_by q (passing_event t (place front t) times) + tally (λ e. q (event_of e)) (taken_back plant t (admissions front t) (place front t))
+      ≡ tally (λ e. q (event_of e)) (taken_back plant t (admissions front t ++ state.instant ∷ []) (place front t))
+      + count_by q (deferred_event t (state_of state.trains t).place (state_of state.trains t).deferred)
   passing_balance q = of (place front t) refl
     where
       p : Entry → Bool
@@ -120,7 +127,9 @@ module _ (dispatch : Dispatch) (plant : Plant) (front : Front) (state : RunState
       held_one : (m : ℕ) (o : Option ℕ) (at : ℕ) → o ≡ Some at → count_by q (deferred_event t m o) ≡ cond (q (train_event at class.Arrive t m)) 1 0
       held_one m o at is = ap (λ x. count_by q (deferred_event t m x)) is ∙ omega arith
 
-      of : (k : ℕ) → place front t ≡ k → count_by q (passing_event t k times) + tally (λ e. q (event_of e)) (taken_back plant t (admissions front t) k) ≡ tally (λ e. q (event_of e)) (taken_back plant t (admissions front t ++ state.instant ∷ []) k) + count_by q (deferred_event t (state_of state.trains t).place (state_of state.trains t).deferred)
+      of : (k : ℕ) → place front t ≡ k → count_by q (passing_event t k times) + tally (λ e. q (event_of e)) (taken_back plant t (admissions front t) k)
+          ≡ tally (λ e. q (event_of e)) (taken_back plant t (admissions front t ++ state.instant ∷ []) k)
+          + count_by q (deferred_event t (state_of state.trains t).place (state_of state.trains t).deferred)
       of zero here =
           omega (arith, no_arrival (state_of state.trains t).place (state_of state.trains t).deferred (λ at held. omega (arith, (rep.pending.deferred t at known held).begun, rep.times.places t known, here)))
       of (suc m) here = ⊎_elim passing stopping (cases_Bool (passes plant t (admissions front t ++ state.instant ∷ []) (suc m)))
@@ -132,7 +141,9 @@ module _ (dispatch : Dispatch) (plant : Plant) (front : Front) (state : RunState
           place_is = rep.times.places t known ∙ here
 
           arrive_old : arrive plant t (admissions front t) m ≡ stop_at plant t (admissions front t) m
-          arrive_old = arrives_stopping plant t (admissions front t) m more_moves (ap (λ b. b && does_pass plant t (suc m) (previous (admissions front t) (suc m)) (free_run plant t (admissions front t) (suc m)) (admitted (admissions front t) (suc m))) (not_admitted (admissions front t) (suc m) (omega (arith, here))))
+          arrive_old = arrives_stopping plant t (admissions front t) m more_moves
+              (ap (λ b. b && does_pass plant t (suc m) (previous (admissions front t) (suc m)) (free_run plant t (admissions front t) (suc m))
+              (admitted (admissions front t) (suc m))) (not_admitted (admissions front t) (suc m) (omega (arith, here))))
 
           means : passes plant t (admissions front t ++ state.instant ∷ []) (suc m) ≡ (not (is_forced plant t (suc m)) && eqb state.instant (ready plant t (admissions front t) (suc m)))
           means = subst (λ k. passes plant t (admissions front t ++ state.instant ∷ []) k ≡ (not (is_forced plant t k) && eqb state.instant (ready plant t (admissions front t) k))) here passes_means
@@ -143,13 +154,19 @@ module _ (dispatch : Dispatch) (plant : Plant) (front : Front) (state : RunState
           ready_is : (state_of state.trains t).times.next_ready ≡ ready plant t (admissions front t) (suc m)
           ready_is = ap (λ ts. ts.next_ready) old_times ∙ carried_ready plant t (admissions front t) (place front t) left ∙ ap (ready plant t (admissions front t)) here
 
-          passing : passes plant t (admissions front t ++ state.instant ∷ []) (suc m) ≡ true → count_by q (passing_event t (suc m) times) + tally (λ e. q (event_of e)) (taken_back plant t (admissions front t) (suc m)) ≡ tally (λ e. q (event_of e)) (taken_back plant t (admissions front t ++ state.instant ∷ []) (suc m)) + count_by q (deferred_event t (state_of state.trains t).place (state_of state.trains t).deferred)
+          passing : passes plant t (admissions front t ++ state.instant ∷ []) (suc m) ≡ true
+              → count_by q (passing_event t (suc m) times) + tally (λ e. q (event_of e)) (taken_back plant t (admissions front t) (suc m))
+              ≡ tally (λ e. q (event_of e)) (taken_back plant t (admissions front t ++ state.instant ∷ []) (suc m))
+              + count_by q (deferred_event t (state_of state.trains t).place (state_of state.trains t).deferred)
           passing pass =
               let both = and_parts (not (is_forced plant t (suc m))) (eqb state.instant (ready plant t (admissions front t) (suc m))) (sym means ∙ pass) in
               let arrive_new : arrive plant t (admissions front t ++ state.instant ∷ []) m ≡ go plant t (admissions front t ++ state.instant ∷ []) (suc m) = arrives_passing plant t (admissions front t ++ state.instant ∷ []) m more_moves pass in
               let go_now : times.go ≡ go plant t (admissions front t ++ state.instant ∷ []) (suc m) = go_is ∙ ap (go plant t (admissions front t ++ state.instant ∷ [])) here in
               let passes_now : times.passes ≡ true = passes_is ∙ ap (passes plant t (admissions front t ++ state.instant ∷ [])) here ∙ pass in
-              let told : count_by q (passing_event t (suc m) times) ≡ cond (q (train_event times.go class.Arrive t (suc m))) 1 0 = ap (count_by q) (cond-true (nat_lt 0 (suc m) && times.passes) (train_event times.go class.Arrive t (suc m) ∷ []) [] (and_from (nat_lt 0 (suc m)) times.passes (lt-ltb 0 (suc m) (omega arith)) passes_now)) ∙ omega arith in
+              let told : count_by q (passing_event t (suc m) times)
+              ≡ cond (q (train_event times.go class.Arrive t (suc m))) 1 0 =
+              ap (count_by q) (cond-true (nat_lt 0 (suc m) && times.passes) (train_event times.go class.Arrive t (suc m) ∷ []) []
+              (and_from (nat_lt 0 (suc m)) times.passes (lt-ltb 0 (suc m) (omega arith)) passes_now)) ∙ omega arith in
               let was : tally (λ e. q (event_of e)) (taken_back plant t (admissions front t) (suc m)) ≡ cond (q (train_event (arrive plant t (admissions front t) m) class.Arrive t (suc m))) 1 0 = omega arith in
               let is_now : tally (λ e. q (event_of e)) (taken_back plant t (admissions front t ++ state.instant ∷ []) (suc m)) ≡ cond (q (train_event (arrive plant t (admissions front t ++ state.instant ∷ []) m) class.Arrive t (suc m))) 1 0 = omega arith in
               omega (
@@ -164,7 +181,9 @@ module _ (dispatch : Dispatch) (plant : Plant) (front : Front) (state : RunState
                 held_now (state_of state.trains t).deferred refl (not-true (is_forced plant t (suc m)) both.0) (eqb-true state.instant (ready plant t (admissions front t) (suc m)) both.1),
               )
             where
-              held_now : (o : Option ℕ) → (state_of state.trains t).deferred ≡ o → is_forced plant t (suc m) ≡ false → state.instant ≡ ready plant t (admissions front t) (suc m) → count_by q (deferred_event t (suc m) (state_of state.trains t).deferred) ≡ cond (q (train_event (stop_time plant t (state_of state.trains t).times.free_run) class.Arrive t (suc m))) 1 0
+              held_now : (o : Option ℕ) → (state_of state.trains t).deferred ≡ o → is_forced plant t (suc m) ≡ false → state.instant ≡ ready plant t (admissions front t) (suc m)
+                  → count_by q (deferred_event t (suc m) (state_of state.trains t).deferred)
+                  ≡ cond (q (train_event (stop_time plant t (state_of state.trains t).times.free_run) class.Arrive t (suc m))) 1 0
               held_now (Some at) is loose now_ready = held_one (suc m) (state_of state.trains t).deferred at is ∙ ap {B = ℕ} (λ a. cond (q (train_event a class.Arrive t (suc m))) 1 0) (rep.pending.deferred t at known is).stops
               held_now None is loose now_ready =
                   ⊎_elim
@@ -172,21 +191,31 @@ module _ (dispatch : Dispatch) (plant : Plant) (front : Front) (state : RunState
                   (λ held. told_before (state_of state.trains t).last_hold refl held)
                   (rep.pending.bound t known is (omega (arith, place_is)) (omega (arith, place_is, left, here)))
                 where
-                  told_before : (c : Option Cause) → (state_of state.trains t).last_hold ≡ c → is_some (state_of state.trains t).last_hold ≡ true → count_by q (deferred_event t (suc m) (state_of state.trains t).deferred) ≡ cond (q (train_event (stop_time plant t (state_of state.trains t).times.free_run) class.Arrive t (suc m))) 1 0
+                  told_before : (c : Option Cause) → (state_of state.trains t).last_hold ≡ c → is_some (state_of state.trains t).last_hold ≡ true
+                      → count_by q (deferred_event t (suc m) (state_of state.trains t).deferred)
+                      ≡ cond (q (train_event (stop_time plant t (state_of state.trains t).times.free_run) class.Arrive t (suc m))) 1 0
                   told_before None told_is some = absurd (false≢true (sym (ap is_some told_is) ∙ some))
                   told_before (Some w) told_is some =
                       absurd (omega (
                         arith,
-                        held_before_now (input_of dispatch plant) fine front rep.lawful going (no_hold dispatch plant front state rep going deciding t next note list noted) t w (ready_runs (input_of dispatch plant) front t (ready_it dispatch plant front state rep going deciding t next note list noted)) (sym (rep.waiting.told t known) ∙ told_is),
+                        held_before_now (input_of dispatch plant) fine front rep.lawful going (no_hold dispatch plant front state rep going deciding t next note list noted) t w
+                            (ready_runs (input_of dispatch plant) front t (ready_it dispatch plant front state rep going deciding t next note list noted))
+                            (sym (rep.waiting.told t known) ∙ told_is),
                         now_ready,
                         rep.time,
                         ap (ready plant t (admissions front t)) here,
                       ))
 
-          stopping : passes plant t (admissions front t ++ state.instant ∷ []) (suc m) ≡ false → count_by q (passing_event t (suc m) times) + tally (λ e. q (event_of e)) (taken_back plant t (admissions front t) (suc m)) ≡ tally (λ e. q (event_of e)) (taken_back plant t (admissions front t ++ state.instant ∷ []) (suc m)) + count_by q (deferred_event t (state_of state.trains t).place (state_of state.trains t).deferred)
+          stopping : passes plant t (admissions front t ++ state.instant ∷ []) (suc m) ≡ false
+              → count_by q (passing_event t (suc m) times) + tally (λ e. q (event_of e)) (taken_back plant t (admissions front t) (suc m))
+              ≡ tally (λ e. q (event_of e)) (taken_back plant t (admissions front t ++ state.instant ∷ []) (suc m))
+              + count_by q (deferred_event t (state_of state.trains t).place (state_of state.trains t).deferred)
           stopping pass =
               let passes_now : times.passes ≡ false = passes_is ∙ ap (passes plant t (admissions front t ++ state.instant ∷ [])) here ∙ pass in
-              let run_same : free_run plant t (admissions front t ++ state.instant ∷ []) (suc m) ≡ free_run plant t (admissions front t) (suc m) = free_run_agrees plant t (admissions front t ++ state.instant ∷ []) (admissions front t) (place front t) (suc m) (agree_added (admissions front t) state.instant) (omega (arith, here)) in
+              let run_same : free_run plant t (admissions front t ++ state.instant ∷ []) (suc m)
+              ≡ free_run plant t (admissions front t) (suc m) =
+              free_run_agrees plant t (admissions front t ++ state.instant ∷ []) (admissions front t) (place front t) (suc m) (agree_added (admissions front t) state.instant)
+              (omega (arith, here)) in
               let arrive_new : arrive plant t (admissions front t ++ state.instant ∷ []) m ≡ arrive plant t (admissions front t) m = arrives_stopping plant t (admissions front t ++ state.instant ∷ []) m more_moves pass ∙ ap (stop_time plant t) run_same ∙ sym arrive_old in
               let told : count_by q (passing_event t (suc m) times) ≡ 0 = ap (count_by q) (cond-false (nat_lt 0 (suc m) && times.passes) (train_event times.go class.Arrive t (suc m) ∷ []) [] (and_right (nat_lt 0 (suc m)) times.passes passes_now)) in
               let was : tally (λ e. q (event_of e)) (taken_back plant t (admissions front t) (suc m)) ≡ cond (q (train_event (arrive plant t (admissions front t) m) class.Arrive t (suc m))) 1 0 = omega arith in
@@ -204,10 +233,16 @@ module _ (dispatch : Dispatch) (plant : Plant) (front : Front) (state : RunState
               none_held at held back =
                   ⊎_elim
                   (λ unready. false≢true (sym unready ∙ waits_it dispatch plant front state rep going deciding t next note list noted))
-                  (λ now_ready. false≢true (sym pass ∙ means ∙ and_from (not (is_forced plant t (suc m))) (eqb state.instant (ready plant t (admissions front t) (suc m))) (not_from_false (is_forced plant t (suc m)) (ap (is_forced plant t) (sym place_is) ∙ back.loose)) (eq-eqb state.instant (ready plant t (admissions front t) (suc m)) (rep.time ∙ sym now_ready.0 ∙ ready_is))))
+                  (λ now_ready. false≢true (sym pass ∙ means ∙ and_from (not (is_forced plant t (suc m))) (eqb state.instant (ready plant t (admissions front t) (suc m)))
+                  (not_from_false (is_forced plant t (suc m)) (ap (is_forced plant t) (sym place_is) ∙ back.loose))
+                  (eq-eqb state.instant (ready plant t (admissions front t) (suc m)) (rep.time ∙ sym now_ready.0 ∙ ready_is))))
                   back.still
 
-  lines_balance : (p : Entry → Bool) → tally p (gained plant t (admissions front t ++ state.instant ∷ []) (place front t)) ≡ tally p (taken_back plant t (admissions front t ++ state.instant ∷ []) (place front t)) + tally p (freed_before plant t (admissions front t ++ state.instant ∷ []) (place front t)) + tally p (step_lines plant t (admissions front t ++ state.instant ∷ []) (place front t)) + tally p (end_lines plant t (admissions front t ++ state.instant ∷ []) (place front t))
+  lines_balance : (p : Entry → Bool) → tally p (gained plant t (admissions front t ++ state.instant ∷ []) (place front t))
+      ≡ tally p (taken_back plant t (admissions front t ++ state.instant ∷ []) (place front t))
+      + tally p (freed_before plant t (admissions front t ++ state.instant ∷ []) (place front t))
+      + tally p (step_lines plant t (admissions front t ++ state.instant ∷ []) (place front t))
+      + tally p (end_lines plant t (admissions front t ++ state.instant ∷ []) (place front t))
   lines_balance p =
       let m : ℕ = place front t in
       let now : List ℕ = admissions front t ++ state.instant ∷ [] in
@@ -252,7 +287,9 @@ module _ (dispatch : Dispatch) (plant : Plant) (front : Front) (state : RunState
       let run_is : times.free_run ≡ free_run plant t now (suc m) = ap (λ ts. ts.free_run) has.are_times in
       let ready_is : times.next_ready ≡ ready plant t now (suc m) = ap (λ ts. ts.next_ready) has.are_times ∙ carried_ready plant t now (suc m) more_left in
       let soon : state.instant < free_run plant t now (suc m) = omega (arith, go_after_admission plant t fine now m left, run_after_go plant t fine now m left, admitted_added (admissions front t) state.instant) in
-      let loose_ready : ready plant t now (suc m) ≡ max (previous now (suc m)) (free_run plant t now (suc m) - (signal_time plant t (suc m) + (move_row plant t (suc m)).approach)) = cond-false (is_forced plant t (suc m)) _ (max (previous now (suc m)) (free_run plant t now (suc m) - (signal_time plant t (suc m) + (move_row plant t (suc m)).approach))) loose in
+      let loose_ready : ready plant t now (suc m) ≡ max (previous now (suc m)) (free_run plant t now (suc m) - (signal_time plant t (suc m) + (move_row plant t (suc m)).approach)) =
+      cond-false (is_forced plant t (suc m)) _ (max (previous now (suc m))
+      (free_run plant t now (suc m) - (signal_time plant t (suc m) + (move_row plant t (suc m)).approach))) loose in
       let setting : 0 < (move_row plant t (suc m)).setting = fine.some_setting t (suc m) more_left in
       omega (arith, stops, run_is, ready_is, soon, loose_ready, setting, admitted_added (admissions front t) state.instant)
 
@@ -379,7 +416,11 @@ module _ (dispatch : Dispatch) (plant : Plant) (front : Front) (state : RunState
               (cases_Bool (eqb u t));
           out = λ u lt. same_part (λ r. r.is_out) (λ r. refl) (λ r. refl) u lt ∙ rep.waiting.out u lt ∙ sym (out_kept line front u refl);
         };
-        holders = subst (AreHolders plant (line ∷ front)) (sym has.holders) (holders_taken (input_of dispatch plant) rep.accepted line front lawful t (suc (place front t)) note by_it state.holders (each_free state.holders (needed plant t (place front t)) (bar_free (stop_cause t (told dispatch.commands front)) (closed_cause (needed plant t (place front t)) (told dispatch.commands front)) (held_cause state.holders (needed plant t (place front t))) next.free)) rep.holders);
+        holders = subst (AreHolders plant (line ∷ front)) (sym has.holders)
+            (holders_taken (input_of dispatch plant) rep.accepted line front lawful t (suc (place front t)) note by_it state.holders
+            (each_free state.holders (needed plant t (place front t))
+            (bar_free (stop_cause t (told dispatch.commands front)) (closed_cause (needed plant t (place front t)) (told dispatch.commands front))
+            (held_cause state.holders (needed plant t (place front t))) next.free)) rep.holders);
         known = record {
           cause = λ u c lt k. absurd (none-some c (sym (none_known u lt) ∙ k));
           waits = λ u c lt k. absurd (none-some c (sym (none_known u lt) ∙ k));

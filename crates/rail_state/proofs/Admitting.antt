@@ -51,7 +51,9 @@ left_of_ready dispatch plant front u ready =
     let inner = and_parts (nat_lt (place front u) (moves plant u) && not (is_cancelled u (told dispatch.commands front))) (Rattle.rail_rules.specs.Fronts.stands front (Rattle.rail_rules.specs.Events.ready_line plant u (admissions front u) (place front u))) ready in
     ltb-true (place front u) (moves plant u) (and_parts (nat_lt (place front u) (moves plant u)) (not (is_cancelled u (told dispatch.commands front))) inner.0).0
 
-module _ (dispatch : Dispatch) (plant : Plant) (front : Front) (state : RunState) (rep : Represents dispatch plant front state) (going : has_ended front ≡ false) (deciding : is_deciding (input_of dispatch plant) front ≡ true) (t : ℕ) (next : IsAdmissible dispatch plant front state.holders state.trains t) (note : Note) (list : List ℕ) (noted : MayKeep (moves_of plant) (places plant front) (kept plant front) t note list) where
+module _ (dispatch : Dispatch) (plant : Plant) (front : Front) (state : RunState) (rep : Represents dispatch plant front state) (going : has_ended front ≡ false)
+    (deciding : is_deciding (input_of dispatch plant) front ≡ true) (t : ℕ) (next : IsAdmissible dispatch plant front state.holders state.trains t) (note : Note) (list : List ℕ)
+    (noted : MayKeep (moves_of plant) (places plant front) (kept plant front) t note list) where
   abbrev pub line : Line
   line = admit_line state.instant t (suc (place front t)) note list
 
@@ -114,7 +116,9 @@ module _ (dispatch : Dispatch) (plant : Plant) (front : Front) (state : RunState
   lawful_line = and_from (is_lawful (input_of dispatch plant) front) (may_follow (input_of dispatch plant) front line) rep.lawful follows
 
 -- a train that is next, with a list that a run takes, may be admitted
-module _ (dispatch : Dispatch) (plant : Plant) (front : Front) (state : RunState) (rep : Represents dispatch plant front state) (going : has_ended front ≡ false) (deciding : is_deciding (input_of dispatch plant) front ≡ true) (t : ℕ) (next : IsNext dispatch plant front state.holders state.trains t) (note : Note) (list : List ℕ) (noted : IsNoted (moves_of plant) plant.tables.depth (places plant front) (kept plant front) t note list) where
+module _ (dispatch : Dispatch) (plant : Plant) (front : Front) (state : RunState) (rep : Represents dispatch plant front state) (going : has_ended front ≡ false)
+    (deciding : is_deciding (input_of dispatch plant) front ≡ true) (t : ℕ) (next : IsNext dispatch plant front state.holders state.trains t) (note : Note) (list : List ℕ)
+    (noted : IsNoted (moves_of plant) plant.tables.depth (places plant front) (kept plant front) t note list) where
   untried : ((state_of state.trains t).waits ≡ true) × (not (is_some (state_of state.trains t).known) ≡ true)
   untried = and_parts (state_of state.trains t).waits (not (is_some (state_of state.trains t).known)) next.untried
 
@@ -150,7 +154,11 @@ module _ (dispatch : Dispatch) (plant : Plant) (front : Front) (state : RunState
   goes = and_from (is_ready (input_of dispatch plant) front t) (not (is_some (cause (input_of dispatch plant) front t))) (ready_it dispatch plant front state rep going deciding t admissible note list may_keep) (ap (λ c. not (is_some c)) no_cause)
 
 -- an admission that obeys the policy in force continues the run
-module _ (dispatch : Dispatch) (plant : Plant) (front : Front) (state : RunState) (rep : Represents dispatch plant front state) (seats : List Seat) (run : is_run (input_of dispatch plant) seats front ≡ true) (going : has_ended front ≡ false) (deciding : is_deciding (input_of dispatch plant) front ≡ true) (t : ℕ) (next : IsNext dispatch plant front state.holders state.trains t) (note : Note) (list : List ℕ) (noted : IsNoted (moves_of plant) plant.tables.depth (places plant front) (kept plant front) t note list) (chosen : is_chosen (input_of dispatch plant) seats front t ≡ true) where
+module _ (dispatch : Dispatch) (plant : Plant) (front : Front) (state : RunState) (rep : Represents dispatch plant front state) (seats : List Seat)
+    (run : is_run (input_of dispatch plant) seats front ≡ true) (going : has_ended front ≡ false) (deciding : is_deciding (input_of dispatch plant) front ≡ true) (t : ℕ)
+    (next : IsNext dispatch plant front state.holders state.trains t) (note : Note) (list : List ℕ)
+    (noted : IsNoted (moves_of plant) plant.tables.depth (places plant front) (kept plant front) t note list)
+    (chosen : is_chosen (input_of dispatch plant) seats front t ≡ true) where
   pub runs : is_run (input_of dispatch plant) seats (taken dispatch plant front state rep going deciding t next note list noted ∷ front) ≡ true
   runs =
       run_continued (input_of dispatch plant) seats (taken dispatch plant front state rep going deciding t next note list noted) front run
@@ -171,13 +179,23 @@ module _ (dispatch : Dispatch) (plant : Plant) (front : Front) (state : RunState
 
 -- the train that the policy in force chooses among those whose cause isn't known obeys it
 pub chosen_obeys : (dispatch : Dispatch) (plant : Plant) (front : Front) (state : RunState) → Represents dispatch plant front state → is_deciding (input_of dispatch plant) front ≡ true → (seats : List Seat) (t : ℕ)
-    → ((u : ℕ) → u < trains plant → is_untried (state_of state.trains u) ≡ true → comes_before (key (input_of dispatch plant) seats front u (seat_of seats (force_of (input_of dispatch plant) front)).kind) (key (input_of dispatch plant) seats front t (seat_of seats (force_of (input_of dispatch plant) front)).kind) ≡ false)
+    → ((u : ℕ) → u < trains plant → is_untried (state_of state.trains u) ≡ true
+    → comes_before (key (input_of dispatch plant) seats front u (seat_of seats (force_of (input_of dispatch plant) front)).kind)
+    (key (input_of dispatch plant) seats front t (seat_of seats (force_of (input_of dispatch plant) front)).kind) ≡ false)
     → is_chosen (input_of dispatch plant) seats front t ≡ true
 chosen_obeys dispatch plant front state rep deciding seats t chosen =
-    all_below_from (λ u. not (could_go (input_of dispatch plant) front u && comes_before (key (input_of dispatch plant) seats front u (seat_of seats (force_of (input_of dispatch plant) front)).kind) (key (input_of dispatch plant) seats front t (seat_of seats (force_of (input_of dispatch plant) front)).kind))) (trains plant)
-    (λ u lt. not_from_false (could_go (input_of dispatch plant) front u && comes_before (key (input_of dispatch plant) seats front u (seat_of seats (force_of (input_of dispatch plant) front)).kind) (key (input_of dispatch plant) seats front t (seat_of seats (force_of (input_of dispatch plant) front)).kind))
-    (false_from_ne_true (could_go (input_of dispatch plant) front u && comes_before (key (input_of dispatch plant) seats front u (seat_of seats (force_of (input_of dispatch plant) front)).kind) (key (input_of dispatch plant) seats front t (seat_of seats (force_of (input_of dispatch plant) front)).kind)) (λ h.
-    let parts_of = and_parts (could_go (input_of dispatch plant) front u) (comes_before (key (input_of dispatch plant) seats front u (seat_of seats (force_of (input_of dispatch plant) front)).kind) (key (input_of dispatch plant) seats front t (seat_of seats (force_of (input_of dispatch plant) front)).kind)) h in
+    all_below_from (λ u. not (could_go (input_of dispatch plant) front u
+    && comes_before (key (input_of dispatch plant) seats front u (seat_of seats (force_of (input_of dispatch plant) front)).kind)
+    (key (input_of dispatch plant) seats front t (seat_of seats (force_of (input_of dispatch plant) front)).kind))) (trains plant)
+    (λ u lt. not_from_false (could_go (input_of dispatch plant) front u
+    && comes_before (key (input_of dispatch plant) seats front u (seat_of seats (force_of (input_of dispatch plant) front)).kind)
+    (key (input_of dispatch plant) seats front t (seat_of seats (force_of (input_of dispatch plant) front)).kind))
+    (false_from_ne_true (could_go (input_of dispatch plant) front u
+    && comes_before (key (input_of dispatch plant) seats front u (seat_of seats (force_of (input_of dispatch plant) front)).kind)
+    (key (input_of dispatch plant) seats front t (seat_of seats (force_of (input_of dispatch plant) front)).kind)) (λ h.
+    let parts_of = and_parts (could_go (input_of dispatch plant) front u)
+    (comes_before (key (input_of dispatch plant) seats front u (seat_of seats (force_of (input_of dispatch plant) front)).kind)
+    (key (input_of dispatch plant) seats front t (seat_of seats (force_of (input_of dispatch plant) front)).kind)) h in
     let both = and_parts (is_ready (input_of dispatch plant) front u) (not (is_some (cause (input_of dispatch plant) front u))) parts_of.0 in
     let waits_u : (state_of state.trains u).waits ≡ true = rep.waiting.ready u lt ∙ both.0 in
     let unknown : is_some (state_of state.trains u).known ≡ false =

@@ -61,7 +61,18 @@ begins dispatch plant state accepted has = record {
     times = λ t lt. ap (λ (r : TrainState). r.times) (train_is t lt);
   };
   pending = record {
-    counted = λ q. omega (arith, has.events q, none_held q, ready_lines q (trains plant) (λ t lt. lt), tally-gather (λ e. q (event_of e)) (λ t. train_events plant t [] false) (trains plant), ap (tally (λ e. q (event_of e))) (all_to_come (all_events plant [])), due_split (input_of dispatch plant) [] (λ e. q (event_of e)), tally-same (λ e. is_kept [] e.what && q (event_of e)) (λ e. q (event_of e)) (to_come plant []) (λ e. ap (λ b. b && q (event_of e)) (all_kept e.what)));
+    counted = λ q. omega (
+      arith,
+      has.events q,
+      none_held q,
+      ready_lines q (trains plant) (λ t lt. lt),
+      tally-gather (λ e. q (event_of e)) (λ t. train_events plant t [] false)
+          (trains plant),
+      ap (tally (λ e. q (event_of e))) (all_to_come (all_events plant [])),
+      due_split (input_of dispatch plant) [] (λ e. q (event_of e)),
+      tally-same
+          (λ e. is_kept [] e.what && q (event_of e)) (λ e. q (event_of e)) (to_come plant []) (λ e. ap (λ b. b && q (event_of e)) (all_kept e.what)),
+    );
     deferred = λ t at lt held. absurd (none-some at (sym (ap (λ (r : TrainState). r.deferred) (train_is t lt)) ∙ held));
     bound = λ t lt none some left. absurd (omega (arith, some, ap (λ (r : TrainState). r.place) (train_is t lt)));
   };

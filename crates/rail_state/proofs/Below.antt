@@ -98,7 +98,8 @@ pub next_enter : (input : Input) → IsWellFormed input.plant → (front : Front
 next_enter input fine front lawful t n i m j known head lm lj fresh least = pending_enter input fine front lawful t n i m j known head lm lj fresh least
 
 -- of holders
-pub holders_block : (input : Input) → is_accepted input.plant ≡ true → (front : Front) → is_lawful input front ≡ true → is_deciding input front ≡ true → (holders : List (Option ℕ)) → AreHolders input.plant front holders → (sections : List ℕ) → blocked_cause input front sections ≡ held_cause holders sections
+pub holders_block : (input : Input) → is_accepted input.plant ≡ true → (front : Front) → is_lawful input front ≡ true → is_deciding input front ≡ true → (holders : List (Option ℕ))
+    → AreHolders input.plant front holders → (sections : List ℕ) → blocked_cause input front sections ≡ held_cause holders sections
 holders_block input accepted front lawful deciding holders are sections = blocked_is input accepted front lawful deciding holders are sections
 
 -- of what is settled
@@ -140,14 +141,18 @@ pub follows_event : (input : Input) (front : Front) (line : Line) → has_ended 
 follows_event input front line going happens = happens_follows input front line going happens
 
 -- of holders
-pub holder_frees : (input : Input) → is_accepted input.plant ≡ true → (line : Line) (front : Front) → is_lawful input (line ∷ front) ≡ true → (x t : ℕ) → line.entry.what ≡ Free x t → (h : List (Option ℕ)) → AreHolders input.plant front h → (get_or h x None ≡ Some t) × AreHolders input.plant (line ∷ front) (set h x None)
+pub holder_frees : (input : Input) → is_accepted input.plant ≡ true → (line : Line) (front : Front) → is_lawful input (line ∷ front) ≡ true → (x t : ℕ) → line.entry.what ≡ Free x t
+    → (h : List (Option ℕ)) → AreHolders input.plant front h → (get_or h x None ≡ Some t) × AreHolders input.plant (line ∷ front) (set h x None)
 holder_frees input accepted line front lawful x t what h are = frees_one input accepted line front lawful x t what h are
 
-pub holders_kept : (input : Input) → is_accepted input.plant ≡ true → (line : Line) (front : Front) → is_lawful input (line ∷ front) ≡ true → is_admission line.entry.what ≡ false → ((x t : ℕ) → line.entry.what ≡ Free x t → ⊥) → (h : List (Option ℕ)) → AreHolders input.plant front h → AreHolders input.plant (line ∷ front) h
+pub holders_kept : (input : Input) → is_accepted input.plant ≡ true → (line : Line) (front : Front) → is_lawful input (line ∷ front) ≡ true → is_admission line.entry.what ≡ false
+    → ((x t : ℕ) → line.entry.what ≡ Free x t → ⊥) → (h : List (Option ℕ)) → AreHolders input.plant front h → AreHolders input.plant (line ∷ front) h
 holders_kept input accepted line front lawful idle no_free h are = kept_holders input.plant line front idle no_free h are
 
 -- of lines to come
-pub head_enters : (input : Input) → IsWellFormed input.plant → (line : Line) (front : Front) → is_lawful input (line ∷ front) ≡ true → (t n i : ℕ) → n < place front t → line.entry ≡ enter_line input.plant t (admissions front t) n i → IsHead input.plant front t n i → IsHead input.plant (line ∷ front) t (next_move input.plant t n i) (next_step input.plant t n i)
+pub head_enters : (input : Input) → IsWellFormed input.plant → (line : Line) (front : Front) → is_lawful input (line ∷ front) ≡ true → (t n i : ℕ) → n < place front t
+    → line.entry ≡ enter_line input.plant t (admissions front t) n i → IsHead input.plant front t n i
+    → IsHead input.plant (line ∷ front) t (next_move input.plant t n i) (next_step input.plant t n i)
 head_enters input fine line front lawful t n i lt same head = pending_enters input fine line front lawful t n i lt same head
 
 pub head_kept : (input : Input) → IsWellFormed input.plant → (line : Line) (front : Front) → is_lawful input (line ∷ front) ≡ true → (t n i : ℕ) → enters t line.entry.what ≡ false → IsHead input.plant front t n i → IsHead input.plant (line ∷ front) t n i
@@ -175,7 +180,9 @@ pub follows_end : (input : Input) (front : Front) (line : Line) → has_ended fr
 follows_end input front line going ends = ends_follows input front line going ends
 
 -- of holders
-pub holders_taken : (input : Input) → is_accepted input.plant ≡ true → (line : Line) (front : Front) → is_lawful input (line ∷ front) ≡ true → (t m : ℕ) (note : Note) → Admits input front line t m note → (h : List (Option ℕ)) → ((x : ℕ) → is_in x (needed input.plant t (place front t)) ≡ true → get_or h x None ≡ None) → AreHolders input.plant front h → AreHolders input.plant (line ∷ front) (taken_by h (needed input.plant t (place front t)) t)
+pub holders_taken : (input : Input) → is_accepted input.plant ≡ true → (line : Line) (front : Front) → is_lawful input (line ∷ front) ≡ true → (t m : ℕ) (note : Note)
+    → Admits input front line t m note → (h : List (Option ℕ)) → ((x : ℕ) → is_in x (needed input.plant t (place front t)) ≡ true → get_or h x None ≡ None)
+    → AreHolders input.plant front h → AreHolders input.plant (line ∷ front) (taken_by h (needed input.plant t (place front t)) t)
 holders_taken input accepted line front lawful t m note admits h free are = takes input accepted line front t m note admits h free are
 
 -- before the first line

@@ -57,8 +57,8 @@ module _ (plant : Plant) (t : ℕ) (r : TrainState) where
   out_same (Hold u m why) other = refl
   out_same End other = refl
 
-  pub out_now_rider : (state_after plant (Out t) t r).is_out ≡ true
-  out_now_rider = ap (λ (s : TrainState). s.is_out) (cond-true (eqb t t) (record r { is_out = true }) r (eq-eqb t t refl))
+  pub out_now_state : (state_after plant (Out t) t r).is_out ≡ true
+  out_now_state = ap (λ (s : TrainState). s.is_out) (cond-true (eqb t t) (record r { is_out = true }) r (eq-eqb t t refl))
 
   pub known_kept : (w : What) → ((x u : ℕ) → w ≡ Free x u → ⊥) → (state_after plant w t r).known ≡ r.known
   known_kept (Free x u) other = absurd (other x u refl)

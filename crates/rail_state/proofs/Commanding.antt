@@ -19,7 +19,8 @@ use Rattle.rail_queue.specs.Order.{class_number, goes_before}
 use Rattle.rail_state.specs.Events.{event_of}
 use Rattle.rail_state.specs.Representation.{HasTold, IsCommandOf, Represents, bare_at}
 use Rattle.rail_state.proofs.Below.{well_formed_plant}
-use Rattle.rail_state.proofs.LineCodes.{event_time, one_event, same_event}
+use Rattle.rail_state.proofs.EventCodes.{one_event, same_event}
+use Rattle.rail_state.proofs.LineCodes.{event_time}
 use Rattle.rail_state.proofs.Next.{held_later, quiet_earlier, some_due}
 use Rattle.rail_state.proofs.Settling.{settled_front}
 use Rattle.rail_state.proofs.Telling.{told_after}
@@ -44,7 +45,8 @@ not_past dispatch plant front state rep event some = ⊎_elim of_train of_comman
         (λ still. omega (arith, still, ap (λ (e : Event). e.at) (one_event event (event_of (command_line (input_of dispatch plant) front due.command (0 + due.index))) due.passing), event_time (command_line (input_of dispatch plant) front due.command (0 + due.index))))
         ((timely (input_of dispatch plant) (well_formed_plant plant rep.accepted) front rep.lawful).commands due.index due.command due.listed)
 
-pub commanded : (dispatch : Dispatch) (plant : Plant) (front : Front) (state : RunState) → Represents dispatch plant front state → has_ended front ≡ false → (event : Event) (rest : List Event) → state.queue.events ≡ event ∷ rest → (after : RunState) (k : ℕ) (command : Command) → slice_get dispatch.commands k ≡ Some command
+pub commanded : (dispatch : Dispatch) (plant : Plant) (front : Front) (state : RunState) → Represents dispatch plant front state → has_ended front ≡ false
+    → (event : Event) (rest : List Event) → state.queue.events ≡ event ∷ rest → (after : RunState) (k : ℕ) (command : Command) → slice_get dispatch.commands k ≡ Some command
     → event.class ≡ class.Command → event.number ≡ suc k → list_any (λ other. goes_before other event) state.queue.events ≡ false → (state.is_settled ≡ true) ⊎ (event.at ≡ state.instant)
     → HasTold plant (orders_of dispatch.commands (command_line (input_of dispatch plant) front command k).what) event state after
     → Represents dispatch plant (bare_at event.at (command_line (input_of dispatch plant) front command k).what ∷ front) after
@@ -65,7 +67,8 @@ listed_command dispatch plant front state rep event rest first least classed =
       index = due.index;
       command = due.command;
       listed = due.listed;
-      numbered = ap (λ (x : Event). x.number) (one_event event (event_of (command_line (input_of dispatch plant) front due.command (0 + due.index))) due.passing) ∙ number_of (takes_effect (input_of dispatch plant) front (told dispatch.commands front) due.command.what) due.command.at (suc (0 + due.index)) ∙ omega arith;
+      numbered = ap (λ (x : Event). x.number) (one_event event (event_of (command_line (input_of dispatch plant) front due.command (0 + due.index))) due.passing)
+          ∙ number_of (takes_effect (input_of dispatch plant) front (told dispatch.commands front) due.command.what) due.command.at (suc (0 + due.index)) ∙ omega arith;
     })
     (due_found (input_of dispatch plant) front (λ d. same_event event (event_of d)) (some_due dispatch plant front state rep event rest first least))
   where

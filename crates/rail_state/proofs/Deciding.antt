@@ -18,7 +18,8 @@ use Rattle.rail_state.specs.Events.{event_of, deferred_event}
 use Rattle.rail_state.specs.TrainStates.{state_of}
 use Rattle.rail_state.specs.Representation.{Represents, deferred_events}
 use Rattle.rail_state.proofs.Below.{well_formed_plant}
-use Rattle.rail_state.proofs.LineCodes.{before_by_time, event_time, one_event, same_event, same_event-self}
+use Rattle.rail_state.proofs.EventCodes.{one_event, same_event, same_event-self}
+use Rattle.rail_state.proofs.LineCodes.{before_by_time, event_time}
 use Rattle.rail_state.proofs.Counts.{count-gather_zero, count-le, count-none}
 use Rattle.rail_state.proofs.Next.{due_some, held_no_ready, ready_later, ready_to_come, runs_inside, some_due}
 use Rattle.rail_state.proofs.Settling.{deciding_when_quiet}

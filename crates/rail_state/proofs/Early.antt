@@ -44,7 +44,8 @@ no_early_hold input (line ∷ front) t lawful runs unready =
     unready_before adms = false_from_ne_true (is_ready input front t) (λ is. false≢true (sym unready ∙ still_ready input line front t adms runs is))
 
     -- where the line leaves the train's admissions and the hold lines of its next move
-    same_move : (is_ready input front t ≡ false → last_hold front t (suc (place front t)) ≡ None) → admissions (line ∷ front) t ≡ admissions front t → last_hold (line ∷ front) t (suc (place front t)) ≡ last_hold front t (suc (place front t)) → last_hold (line ∷ front) t (suc (place (line ∷ front) t)) ≡ None
+    same_move : (is_ready input front t ≡ false → last_hold front t (suc (place front t)) ≡ None) → admissions (line ∷ front) t ≡ admissions front t
+        → last_hold (line ∷ front) t (suc (place front t)) ≡ last_hold front t (suc (place front t)) → last_hold (line ∷ front) t (suc (place (line ∷ front) t)) ≡ None
     same_move before adms last = ap (λ (list : List ℕ). last_hold (line ∷ front) t (suc (length list))) adms ∙ last ∙ before (unready_before adms)
 
     step : (is_ready input front t ≡ false → last_hold front t (suc (place front t)) ≡ None) → Follows input front line → last_hold (line ∷ front) t (suc (place (line ∷ front) t)) ≡ None
@@ -114,10 +115,14 @@ no_event_at_hold input line hold front is_held follows happens same =
     (due_found input (hold ∷ front) (same_entry line.entry) happens.due)
 
 -- after the last hold line of a move that is still to be admitted, unless it is the last line, time has gone on since it was ready
-pub held_before_now : (input : Input) → IsWellFormed input.plant → (front : Front) → is_lawful input front ≡ true → has_ended front ≡ false → has_held front ≡ false → (t : ℕ) (why : Cause) → is_cancelled t (told input.commands front) ≡ false → last_hold front t (suc (place front t)) ≡ Some why → ready input.plant t (admissions front t) (place front t) < instant front
+pub held_before_now : (input : Input) → IsWellFormed input.plant → (front : Front) → is_lawful input front ≡ true → has_ended front ≡ false → has_held front ≡ false
+    → (t : ℕ) (why : Cause) → is_cancelled t (told input.commands front) ≡ false → last_hold front t (suc (place front t)) ≡ Some why
+    → ready input.plant t (admissions front t) (place front t) < instant front
 held_before_now input fine [] lawful going unheld_last t why runs is = absurd (none-some why is)
 held_before_now input fine (line ∷ front) lawful going unheld_last t why runs is =
-    step (not_ended input front line (and_parts (is_lawful input front) (may_follow input front line) lawful).1) (λ open_before no_hold c held. held_before_now input fine front (lawful_before input line front lawful) open_before no_hold t c (was_running input.commands line front t runs) held) (lawful_last input line front lawful)
+    step (not_ended input front line (and_parts (is_lawful input front) (may_follow input front line) lawful).1)
+    (λ open_before no_hold c held. held_before_now input fine front (lawful_before input line front lawful) open_before no_hold t c
+    (was_running input.commands line front t runs) held) (lawful_last input line front lawful)
   where
     before : is_lawful input front ≡ true
     before = lawful_before input line front lawful
@@ -131,7 +136,9 @@ held_before_now input fine (line ∷ front) lawful going unheld_last t why runs 
     moved : admissions (line ∷ front) t ≡ admissions front t → ready input.plant t (admissions front t) (place front t) < line.entry.at → ready input.plant t (admissions (line ∷ front) t) (place (line ∷ front) t) < line.entry.at
     moved adms lt = subst (λ list. ready input.plant t list (length list) < line.entry.at) (sym adms) lt
 
-    at_event : has_ended front ≡ false → (has_ended front ≡ false → has_held front ≡ false → (w : Cause) → last_hold front t (suc (place front t)) ≡ Some w → ready input.plant t (admissions front t) (place front t) < instant front) → Happens input front line → ready input.plant t (admissions (line ∷ front) t) (place (line ∷ front) t) < line.entry.at
+    at_event : has_ended front ≡ false → (has_ended front ≡ false → has_held front ≡ false → (w : Cause) → last_hold front t (suc (place front t)) ≡ Some w
+        → ready input.plant t (admissions front t) (place front t) < instant front) → Happens input front line → ready input.plant t (admissions (line ∷ front) t) (place
+        (line ∷ front) t) < line.entry.at
     at_event open_before earlier happens =
         let adms = admissions_kept line front t (event_admits_nothing line.entry.what happens.event) in
         let held = same_hold (event_holds_nothing line.entry.what happens.event) adms in
@@ -151,7 +158,9 @@ held_before_now input fine (line ∷ front) lawful going unheld_last t why runs 
             (λ ge. absurd (no_event_at_hold input line hold rest h (lawful_last input hold rest (subst (λ g. is_lawful input g ≡ true) (sym same_front) before)) (subst (λ g. Happens input g line) (sym same_front) happens') (omega (arith, ge, rises', ap instant same_front))))
             (cases_lt (instant front) line.entry.at)
 
-    at_admission : has_ended front ≡ false → (has_ended front ≡ false → has_held front ≡ false → (w : Cause) → last_hold front t (suc (place front t)) ≡ Some w → ready input.plant t (admissions front t) (place front t) < instant front) → (u m : ℕ) (note : Note) → Admits input front line u m note → ready input.plant t (admissions (line ∷ front) t) (place (line ∷ front) t) < line.entry.at
+    at_admission : has_ended front ≡ false → (has_ended front ≡ false → has_held front ≡ false → (w : Cause) → last_hold front t (suc (place front t)) ≡ Some w
+        → ready input.plant t (admissions front t) (place front t) < instant front) → (u m : ℕ) (note : Note) → Admits input front line u m note → ready input.plant t (admissions
+        (line ∷ front) t) (place (line ∷ front) t) < line.entry.at
     at_admission open_before earlier u m note admits =
         ⊎_elim
         (λ here.
@@ -164,7 +173,9 @@ held_before_now input fine (line ∷ front) lawful going unheld_last t why runs 
         moved adms (subst (λ now. ready input.plant t (admissions front t) (place front t) < now) (sym admits.now) (earlier open_before admits.no_hold why (same_hold (ap is_hold admits.what) adms))))
         (cases_Bool (eqb t u))
 
-    step : has_ended front ≡ false → (has_ended front ≡ false → has_held front ≡ false → (w : Cause) → last_hold front t (suc (place front t)) ≡ Some w → ready input.plant t (admissions front t) (place front t) < instant front) → Follows input front line → ready input.plant t (admissions (line ∷ front) t) (place (line ∷ front) t) < line.entry.at
+    step : has_ended front ≡ false → (has_ended front ≡ false → has_held front ≡ false → (w : Cause) → last_hold front t (suc (place front t)) ≡ Some w
+        → ready input.plant t (admissions front t) (place front t) < instant front) → Follows input front line → ready input.plant t (admissions (line ∷ front) t) (place
+        (line ∷ front) t) < line.entry.at
     step open_before earlier (by_event happens) = at_event open_before earlier happens
     step open_before earlier (by_admission u m note admits) = at_admission open_before earlier u m note admits
     step open_before earlier (by_hold u m c holds) = absurd (false≢true (sym unheld_last ∙ ap is_hold holds.what))

@@ -32,7 +32,7 @@ use Rattle.rail_state.specs.Events.{event_of, deferred_event}
 use Rattle.rail_state.specs.TrainStates.{state_of}
 use Rattle.rail_state.specs.Representation.{IsBound, IsEndLine, Represents, left_of}
 use Rattle.rail_state.proofs.Below.{well_formed_plant, follows_end, head_kept, hold_kept, holders_kept, out_kept, ready_kept}
-use Rattle.rail_state.proofs.LineCodes.{same_event, same_event-self}
+use Rattle.rail_state.proofs.EventCodes.{same_event, same_event-self}
 use Rattle.rail_state.proofs.Counts.{count-gather_zero}
 use Rattle.rail_state.proofs.Lines.{is_free_line, is_ready_line}
 use Rattle.rail_state.proofs.Next.{due_some, runs_inside, held_no_ready, ready_to_come}
@@ -66,7 +66,10 @@ module _ (dispatch : Dispatch) (plant : Plant) (front : Front) (state : RunState
       let left : place front t < moves plant t = omega (arith, back.left, rep.times.places t known) in
       let unready : (state_of state.trains t).waits ≡ false → ⊥ = λ waits.
       let ready = ready_line plant t (admissions front t) (place front t) in
-      let some = due_some dispatch plant front (λ d. same_event (event_of ready) (event_of d)) t ready known (readying (place front t) (omega arith) left (runs_inside dispatch plant front state rep t (omega (arith, back.begun, rep.times.places t known))) refl) (ready_to_come dispatch plant front t (runs_inside dispatch plant front state rep t (omega (arith, back.begun, rep.times.places t known))) left (sym (rep.waiting.ready t known) ∙ waits)) (same_event-self (event_of ready)) in
+      let some = due_some dispatch plant front (λ d. same_event (event_of ready) (event_of d)) t ready known
+      (readying (place front t) (omega arith) left (runs_inside dispatch plant front state rep t (omega (arith, back.begun, rep.times.places t known))) refl)
+      (ready_to_come dispatch plant front t (runs_inside dispatch plant front state rep t (omega (arith, back.begun, rep.times.places t known))) left
+      (sym (rep.waiting.ready t known) ∙ waits)) (same_event-self (event_of ready)) in
       omega (arith, some, rep.pending.counted (same_event (event_of ready)), ap (count_by (same_event (event_of ready))) empty, held_no_ready plant state.trains ready.at t (suc (place front t))) in
       ⊎_elim unready
       (λ now. ⊎_elim
@@ -98,7 +101,9 @@ module _ (dispatch : Dispatch) (plant : Plant) (front : Front) (state : RunState
         omega (arith, nothing_to_come, tally-some (λ d. eqb d.at (instant front)) (due_lines (input_of dispatch plant) front) some, tally-le (λ d. eqb d.at (instant front)) (λ e. true) (due_lines (input_of dispatch plant) front) (λ d h. refl)))));
     nothing_due = sym (tally_all (due_lines (input_of dispatch plant) front)) ∙ nothing_to_come;
     names = (bytes_decides (left_of dispatch plant front state.trains) (remaining (input_of dispatch plant) front)).1
-        (filter_same (λ t. not ((state_of state.trains t).is_out || is_cancelled t (told dispatch.commands front))) (λ t. not (is_out front t || is_cancelled t (told dispatch.commands front))) (trains plant) (λ t lt. ap (λ b. not (b || is_cancelled t (told dispatch.commands front))) (rep.waiting.out t lt)));
+        (filter_same (λ t. not ((state_of state.trains t).is_out || is_cancelled t (told dispatch.commands front)))
+        (λ t. not (is_out front t || is_cancelled t (told dispatch.commands front))) (trains plant)
+        (λ t lt. ap (λ b. not (b || is_cancelled t (told dispatch.commands front))) (rep.waiting.out t lt)));
   }
 
   pub follows : may_follow (input_of dispatch plant) front line ≡ true

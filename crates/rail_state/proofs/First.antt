@@ -131,7 +131,8 @@ looked_none plant holders old = record {
 }
 
 -- one more train is looked at
-pub looked_more : (plant : Plant) (holders : List (Option ℕ)) (old now : List TrainState) (i : ℕ) (first : Option ℕ) → i < length old → IsLookedAt plant holders old now i first → IsLookedAt plant holders old (set now i (looked_at plant holders i (state_of now i))) (i + 1) (first_with (set now i (looked_at plant holders i (state_of now i))) first i)
+pub looked_more : (plant : Plant) (holders : List (Option ℕ)) (old now : List TrainState) (i : ℕ) (first : Option ℕ) → i < length old → IsLookedAt plant holders old now i first
+    → IsLookedAt plant holders old (set now i (looked_at plant holders i (state_of now i))) (i + 1) (first_with (set now i (looked_at plant holders i (state_of now i))) first i)
 looked_more plant holders old now i first lt h =
     let train_state : TrainState = looked_at plant holders i (state_of now i) in
     record {

@@ -30,7 +30,9 @@ pub cause_unfreed : (h : List (Option ℕ)) (x : ℕ) (xs : List ℕ) (c : Optio
 cause_unfreed h x [] c why is other = is
 cause_unfreed h x (y ∷ ys) c why is other = at (λ later. cause_unfreed h x ys c why later other) (get_or h y None) refl is
   where
-    at : (or_else (held_cause h ys) c ≡ Some why → or_else (held_cause (set h x None) ys) c ≡ Some why) → (holder : Option ℕ) → get_or h y None ≡ holder → or_else (or_else (option_map (Blocked y) holder) (held_cause h ys)) c ≡ Some why → or_else (or_else (option_map (Blocked y) (get_or (set h x None) y None)) (held_cause (set h x None) ys)) c ≡ Some why
+    at : (or_else (held_cause h ys) c ≡ Some why → or_else (held_cause (set h x None) ys) c ≡ Some why) → (holder : Option ℕ) → get_or h y None ≡ holder
+        → or_else (or_else (option_map (Blocked y) holder) (held_cause h ys)) c ≡ Some why
+        → or_else (or_else (option_map (Blocked y) (get_or (set h x None) y None)) (held_cause (set h x None) ys)) c ≡ Some why
     at deeper None free is' =
         ap (λ o. or_else (or_else (option_map (Blocked y) o) (held_cause (set h x None) ys)) c) (freed_other h x y free) ∙ deeper is'
     at deeper (Some u) held is' =

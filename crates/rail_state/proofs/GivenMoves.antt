@@ -1,5 +1,5 @@
 -- A train is given its next move: the sections that it takes, and the events of the move.
-use Rattle.std.proofs.Common.{◌≡◌, ℕ, suc, ◌+◌, ◌-◌, ◌<◌, ◌≤◌, Bool, true, false, not, eqb, ltb, List, [], ◌∷◌, ◌++◌, length, drop, set, get_or, count_by, Option, Some, None, refl, sym, ap, ◌∙◌, subst, ⊎_elim, arith}
+use Rattle.std.proofs.Common.{◌≡◌, ℕ, suc, ◌+◌, ◌-◌, ◌<◌, Bool, true, false, not, eqb, ltb, List, [], ◌∷◌, ◌++◌, length, drop, set, get_or, count_by, Option, Some, None, refl, sym, ap, ◌∙◌, subst, ⊎_elim, arith}
 use Rattle.std.proofs.Math.Seq.{drop-cons}
 use Rattle.std.specs.List.{list_all}
 use Rattle.std.specs.Option.{option_map}
@@ -16,13 +16,12 @@ use Rattle.rail_laws_run.specs.HolderTables.{held_cause, taken_by}
 use Rattle.rail_queue.specs.declared.event.Event.{Event}
 use Rattle.rail_state.specs.declared.train.TrainState.{TrainState}
 use Rattle.rail_state.specs.TrainStates.{state_of}
-use Rattle.rail_rules.specs.Accepted.{are_distinct, is_accepted}
+use Rattle.rail_rules.specs.Accepted.{are_distinct}
 use Rattle.rail_rules.specs.Causes.{place}
 use Rattle.rail_rules.specs.Fronts.{Front, admissions}
 use Rattle.rail_rules.specs.Numbers.{is_in, or_else}
-use Rattle.rail_rules.specs.Plant.{Plant, move_row, moves, steps, trains}
+use Rattle.rail_rules.specs.Plant.{Plant}
 use Rattle.rail_state.specs.Representation.{passing_event}
-use Rattle.rail_laws_front.proofs.CallerLemmas.{accepted_parts, move_in_range, row_in_range}
 use Rattle.rail_state.specs.Admissions.{CanBeTaken, IsGivable}
 
 -- the cause of held sections stays while another section is taken
@@ -67,9 +66,10 @@ first_of_rest xs i x lt is =
 pub taken_next : (h : List (Option ℕ)) (xs : List ℕ) (i x t : ℕ) (all : List (Option ℕ)) → drop i xs ≡ x ∷ drop (i + 1) xs → taken_by h (drop i xs) t ≡ all → taken_by (set h x (Some t)) (drop (i + 1) xs) t ≡ all
 taken_next h xs i x t all first taken = ap (λ ys. taken_by h ys t) (sym first) ∙ taken
 
--- a move of an accepted plant has few steps
-pub few_steps : (plant : Plant) → is_accepted plant ≡ true → (t m : ℕ) → t < trains plant → m < moves plant t → steps plant t m ≤ 32
-few_steps plant accepted t m known lt = (move_in_range (length plant.tables.sections) (move_row plant t m) ((row_in_range plant (accepted_parts plant accepted) t known).each_move m lt)).few_steps
+-- what holds of the plant, the train and the place of a move holds of those that it was made of
+pub as_made : (P : Plant → ℕ → ℕ → Type 0) {plant plant' : Plant} {t t' place place' : ℕ} → plant ≡ plant' → t ≡ t' → place ≡ place' → P plant t place → P plant' t' place'
+as_made P {plant} {plant'} {t} {t'} {place} {place'} same_plant same_train same_place holds =
+    subst (P plant' t') same_place (subst (λ u. P plant' u place) same_train (subst (λ x. P x t place) same_plant holds))
 
 -- the place behind the next move, and the one before it
 pub record IsNextPlace (front : Front) (t next : ℕ) : Type 0 where
@@ -85,7 +85,9 @@ next_place plant front states now t train_state givable is =
 abbrev pub MakesTimes : Plant → ℕ → ℕ → ℕ → MoveTimes → MoveTimes → Type 0
 MakesTimes plant t next now before after = (adms : List ℕ) → length adms ≡ next - 1 → before ≡ times_at plant t adms (next - 1) → after ≡ times_at plant t (adms ++ now ∷ []) next
 
-pub next_times : (plant : Plant) (front : Front) (states : List TrainState) (now t : ℕ) (train_state : TrainState) (times : MoveTimes) → IsGivable plant front states now t → train_state ≡ state_of states t → MakesTimes plant t (train_state.place + 1) now train_state.times times → times ≡ times_at plant t (admissions front t ++ now ∷ []) (suc (place front t))
+pub next_times : (plant : Plant) (front : Front) (states : List TrainState) (now t : ℕ) (train_state : TrainState) (times : MoveTimes) → IsGivable plant front states now t
+    → train_state ≡ state_of states t → MakesTimes plant t (train_state.place + 1) now train_state.times times
+    → times ≡ times_at plant t (admissions front t ++ now ∷ []) (suc (place front t))
 next_times plant front states now t train_state times givable is made =
     let at = next_place plant front states now t train_state givable is in
     let carried : train_state.times ≡ times_at plant t (admissions front t) (place front t) = ap (λ (r : TrainState). r.times) is ∙ givable.times_are in
@@ -98,7 +100,9 @@ ArePushed plant t adms times arrival q before after next m = count_by q after + 
     ≡ count_by q before + tally (λ e. q (event_of e)) (freed_before plant t adms m) + count_by q (passing_event t m times)
     + tally (λ e. q (event_of e)) (step_lines plant t adms m) + tally (λ e. q (event_of e)) (end_lines plant t adms m)
 
-pub pushed_at : (plant : Plant) (front : Front) (t next : ℕ) (adms : List ℕ) (times : MoveTimes) (arrival : Option ℕ) (q : Event → Bool) (before after : List Event) → IsNextPlace front t next → ArePushed plant t adms times arrival q before after next (next - 1) → ArePushed plant t adms times arrival q before after (suc (place front t)) (place front t)
+pub pushed_at : (plant : Plant) (front : Front) (t next : ℕ) (adms : List ℕ) (times : MoveTimes) (arrival : Option ℕ) (q : Event → Bool) (before after : List Event)
+    → IsNextPlace front t next → ArePushed plant t adms times arrival q before after next (next - 1)
+    → ArePushed plant t adms times arrival q before after (suc (place front t)) (place front t)
 pushed_at plant front t next adms times arrival q before after at pushed =
     let P : ℕ → Type 0 = λ p. ArePushed plant t adms times arrival q before after p (next - 1) in
     let Q : ℕ → Type 0 = ArePushed plant t adms times arrival q before after (suc (place front t)) in

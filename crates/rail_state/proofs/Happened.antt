@@ -30,7 +30,8 @@ use Rattle.rail_state.specs.TrainStates.{state_of}
 use Rattle.rail_state.specs.Representation.{AreKnown, HasHappened, Represents, bare_at, what_of}
 use Rattle.rail_laws_run.specs.LinesToCome.{ToCome}
 use Rattle.rail_state.proofs.Below.{well_formed_plant, follows_event, next_enter, to_come_found}
-use Rattle.rail_state.proofs.LineCodes.{before_by_time, event_time, one_event, same_event}
+use Rattle.rail_state.proofs.EventCodes.{one_event, same_event}
+use Rattle.rail_state.proofs.LineCodes.{before_by_time, event_time}
 use Rattle.rail_state.proofs.Counts.{count-cons}
 use Rattle.rail_state.proofs.Next.{due_some, found, found_due, least_line, none_due_before, quiet_earlier}
 use Rattle.rail_state.proofs.Pending.{pending_after}
@@ -64,7 +65,9 @@ event_ends_nothing (Admit t m note) kind = absurd (false≢true kind)
 event_ends_nothing (Hold t m why) kind = absurd (false≢true kind)
 event_ends_nothing End kind = absurd (false≢true kind)
 
-module _ (dispatch : Dispatch) (plant : Plant) (front : Front) (state : RunState) (rep : Represents dispatch plant front state) (going : has_ended front ≡ false) (event : Event) (rest : List Event) (first : state.queue.events ≡ event ∷ rest) (least : list_any (λ other. goes_before other event) state.queue.events ≡ false) (goes : (state.is_settled ≡ true) ⊎ (event.at ≡ state.instant)) (of_train : event.class ≡ class.Command → ⊥) where
+module _ (dispatch : Dispatch) (plant : Plant) (front : Front) (state : RunState) (rep : Represents dispatch plant front state) (going : has_ended front ≡ false) (event : Event)
+    (rest : List Event) (first : state.queue.events ≡ event ∷ rest) (least : list_any (λ other. goes_before other event) state.queue.events ≡ false)
+    (goes : (state.is_settled ≡ true) ⊎ (event.at ≡ state.instant)) (of_train : event.class ≡ class.Command → ⊥) where
   abbrev pub it : ToCome plant front (λ d. same_event event (event_of d))
   it = found dispatch plant front state rep event rest first least of_train
 
@@ -97,7 +100,14 @@ module _ (dispatch : Dispatch) (plant : Plant) (front : Front) (state : RunState
       ⊎_elim
       (λ some.
       let other = to_come_found plant front (λ d. enters t d.what && nat_lt d.at event.at) some in
-      absurd (omega (arith, ltb-true other.entry.at event.at (and_parts (enters t other.entry.what) (nat_lt other.entry.at event.at) other.passes).1, later other.train other.entry other.known (entering_any other.train t (is_cancelled other.train (told dispatch.commands front)) other.entry other.event (and_parts (enters t other.entry.what) (nat_lt other.entry.at event.at) other.passes).0) other.fresh)))
+      absurd (omega (
+        arith,
+        ltb-true other.entry.at event.at (and_parts (enters t other.entry.what)
+            (nat_lt other.entry.at event.at) other.passes).1,
+        later other.train other.entry other.known (entering_any other.train t
+            (is_cancelled other.train (told dispatch.commands front)) other.entry other.event
+            (and_parts (enters t other.entry.what) (nat_lt other.entry.at event.at) other.passes).0) other.fresh,
+      )))
       (λ none. omega (arith, none))
       (cases_lt 0 (tally (λ d. enters t d.what && nat_lt d.at event.at) (to_come plant front)))
 
@@ -183,13 +193,19 @@ module _ (dispatch : Dispatch) (plant : Plant) (front : Front) (state : RunState
   lawful_line = and_from (is_lawful (input_of dispatch plant) front) (may_follow (input_of dispatch plant) front (bare_at event.at (what_of plant state.trains event))) lawful_now follows
 
   -- the head that enters is at the right section
-  pub entering_line : (t : ℕ) → (one : EntersOne t (what_of plant state.trains event)) → t < trains plant → ((state_of state.trains t).head.place - 1 < place front t) × ((bare_at event.at (what_of plant state.trains event)).entry ≡ enter_line plant t (admissions front t) ((state_of state.trains t).head.place - 1) ((state_of state.trains t).head.step - 1))
+  pub entering_line : (t : ℕ) → (one : EntersOne t (what_of plant state.trains event)) → t < trains plant
+      → ((state_of state.trains t).head.place - 1 < place front t)
+      × ((bare_at event.at (what_of plant state.trains event)).entry
+      ≡ enter_line plant t (admissions front t) ((state_of state.trains t).head.place - 1) ((state_of state.trains t).head.step - 1))
   entering_line t one lt = of it.event
     where
       enters_it : enters t it.entry.what ≡ true
       enters_it = ap (enters t) (sym what_is ∙ one.same) ∙ eq-eqb t t refl
 
-      of : IsEvent plant it.train (admissions front it.train) false it.entry → ((state_of state.trains t).head.place - 1 < place front t) × ((bare_at event.at (what_of plant state.trains event)).entry ≡ enter_line plant t (admissions front t) ((state_of state.trains t).head.place - 1) ((state_of state.trains t).head.step - 1))
+      of : IsEvent plant it.train (admissions front it.train) false it.entry
+          → ((state_of state.trains t).head.place - 1 < place front t)
+          × ((bare_at event.at (what_of plant state.trains event)).entry
+          ≡ enter_line plant t (admissions front t) ((state_of state.trains t).head.place - 1) ((state_of state.trains t).head.step - 1))
       of (entering m j lm lj is) =
           let head = at_head m j lm lj is in
           let this : it.train ≡ t = eqb-true it.train t (sym (ap (λ (e : Entry). enters t e.what) is) ∙ enters_it) in

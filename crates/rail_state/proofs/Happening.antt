@@ -32,7 +32,7 @@ use Rattle.rail_state.proofs.Next.{carried_ready}
 use Rattle.rail_state.proofs.Times.{place_kept}
 use Rattle.rail_state.proofs.Freed.{kept_cause}
 use Rattle.rail_state.proofs.Lines.{EntersOne, FreesOne, enter_view, free_view, is_free_line, is_ready_line, out_view, ready_view}
-use Rattle.rail_state.proofs.Changed.{head_next, head_same, known_kept, out_now_rider, out_same, waits_kept, waits_now}
+use Rattle.rail_state.proofs.Changed.{head_next, head_same, known_kept, out_now_state, out_same, waits_kept, waits_now}
 use Rattle.rail_state.specs.declared.run_state.RunState.{RunState}
 use Rattle.rail_state.specs.SeenCauses.{seen_cause}
 
@@ -84,7 +84,9 @@ head_counts plant t head some = of (nat_lt head.step (steps plant t (head.place 
     of false = (omega arith, omega arith)
 
 -- of an event line of these trains
-module _ (dispatch : Dispatch) (plant : Plant) (front : Front) (state : RunState) (rep : Represents dispatch plant front state) (at : ℕ) (w : What) (lawful : is_lawful (input_of dispatch plant) (bare_at at w ∷ front) ≡ true) (kind : is_train_event w ≡ true) (after : List TrainState) (changed : (t : ℕ) → t < trains plant → state_of after t ≡ state_after plant w t (state_of state.trains t)) where
+module _ (dispatch : Dispatch) (plant : Plant) (front : Front) (state : RunState) (rep : Represents dispatch plant front state) (at : ℕ) (w : What)
+    (lawful : is_lawful (input_of dispatch plant) (bare_at at w ∷ front) ≡ true) (kind : is_train_event w ≡ true) (after : List TrainState)
+    (changed : (t : ℕ) → t < trains plant → state_of after t ≡ state_after plant w t (state_of state.trains t)) where
   abbrev pub line : Line
   line = bare_at at w
 
@@ -151,7 +153,7 @@ module _ (dispatch : Dispatch) (plant : Plant) (front : Front) (state : RunState
         ∙ sym (ap (λ p. last_hold (line ∷ front) t (suc p)) (place_kept line front t idle));
     out = λ t lt.
         ⊎_elim
-        (λ now. ap (λ (r : TrainState). r.is_out) (changed t lt ∙ ap (λ v. state_after plant v t (state_of state.trains t)) now) ∙ out_now_rider plant t (state_of state.trains t)
+        (λ now. ap (λ (r : TrainState). r.is_out) (changed t lt ∙ ap (λ v. state_after plant v t (state_of state.trains t)) now) ∙ out_now_state plant t (state_of state.trains t)
         ∙ sym (out_now line front t (ap (is_out_line t) now ∙ eq-eqb t t refl)))
         (λ other. ap (λ (r : TrainState). r.is_out) (changed t lt) ∙ out_same plant t (state_of state.trains t) w other ∙ rep.waiting.out t lt ∙ sym (out_kept line front t other))
         (out_view t w);
@@ -194,7 +196,10 @@ module _ (dispatch : Dispatch) (plant : Plant) (front : Front) (state : RunState
       (rep.pending.bound t lt (sym (same_arrival t lt) ∙ none) (omega (arith, some, same_place t lt)) (omega (arith, left, same_place t lt)))
 
   -- the heads: that of a train whose enter line this is goes on
-  pub heads_after : ((t : ℕ) → (one : EntersOne t w) → t < trains plant → ((state_of state.trains t).head.place - 1 < place front t) × (line.entry ≡ enter_line plant t (admissions front t) ((state_of state.trains t).head.place - 1) ((state_of state.trains t).head.step - 1))) → AreHeads plant (line ∷ front) after
+  pub heads_after : ((t : ℕ) → (one : EntersOne t w) → t < trains plant
+      → ((state_of state.trains t).head.place - 1 < place front t)
+      × (line.entry ≡ enter_line plant t (admissions front t) ((state_of state.trains t).head.place - 1) ((state_of state.trains t).head.step - 1))) → AreHeads plant (line
+      ∷ front) after
   heads_after entering = record {
     place_counts = λ t lt.
         ⊎_elim

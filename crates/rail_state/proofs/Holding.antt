@@ -31,7 +31,10 @@ use Rattle.rail_rules.specs.Orders.{Dispatch, input_of}
 use Rattle.rail_state.specs.declared.run_state.RunState.{RunState}
 use Rattle.rail_state.specs.SeenCauses.{seen_cause}
 
-module _ (dispatch : Dispatch) (plant : Plant) (front : Front) (state : RunState) (rep : Represents dispatch plant front state) (going : has_ended front ≡ false) (deciding : is_deciding (input_of dispatch plant) front ≡ true) (all_known : AreAllKnown plant state.trains) (t : ℕ) (known : t < trains plant) (why : Cause) (is : (state_of state.trains t).known ≡ Some why) (untold : lacks_hold_line (state_of state.trains t) ≡ true) (first : (u : ℕ) → u < t → lacks_hold_line (state_of state.trains u) ≡ false) where
+module _ (dispatch : Dispatch) (plant : Plant) (front : Front) (state : RunState) (rep : Represents dispatch plant front state) (going : has_ended front ≡ false)
+    (deciding : is_deciding (input_of dispatch plant) front ≡ true) (all_known : AreAllKnown plant state.trains) (t : ℕ) (known : t < trains plant) (why : Cause)
+    (is : (state_of state.trains t).known ≡ Some why) (untold : lacks_hold_line (state_of state.trains t) ≡ true)
+    (first : (u : ℕ) → u < t → lacks_hold_line (state_of state.trains u) ≡ false) where
   abbrev pub line : Line
   line = bare_at state.instant (Hold t (suc (place front t)) why)
 
@@ -72,7 +75,9 @@ module _ (dispatch : Dispatch) (plant : Plant) (front : Front) (state : RunState
       told_same u lt waits some untold_no =
           ⊎_elim
           (λ same. one_cause (state_of state.trains u).last_hold (state_of state.trains u).known same)
-          (λ other. absurd (false≢true (sym untold_no ∙ and_from ((state_of state.trains u).waits && is_some (state_of state.trains u).known) (not (same_cause (state_of state.trains u).last_hold (state_of state.trains u).known)) (and_from (state_of state.trains u).waits (is_some (state_of state.trains u).known) waits some) (ap not other))))
+          (λ other. absurd (false≢true (sym untold_no ∙ and_from ((state_of state.trains u).waits && is_some (state_of state.trains u).known)
+          (not (same_cause (state_of state.trains u).last_hold (state_of state.trains u).known))
+          (and_from (state_of state.trains u).waits (is_some (state_of state.trains u).known) waits some) (ap not other))))
           (cases_Bool (same_cause (state_of state.trains u).last_hold (state_of state.trains u).known))
 
   pub follows : may_follow (input_of dispatch plant) front line ≡ true
@@ -116,7 +121,9 @@ module _ (dispatch : Dispatch) (plant : Plant) (front : Front) (state : RunState
                 loose = subst (λ (r : TrainState). is_forced plant u r.place ≡ false) (sym same) back.loose;
                 stops = subst (λ (r : TrainState). at ≡ stop_time plant u r.times.free_run) (sym same) back.stops;
                 early = subst (λ (r : TrainState). r.times.next_ready < at) (sym same) back.early;
-                still = subst (λ (r : TrainState). (r.waits ≡ false) ⊎ ((r.times.next_ready ≡ state.instant) × (r.last_hold ≡ None))) (sym same) (subst (λ now. ((state_of state.trains u).waits ≡ false) ⊎ (((state_of state.trains u).times.next_ready ≡ now) × ((state_of state.trains u).last_hold ≡ None))) (sym rep.time) back.still);
+                still = subst (λ (r : TrainState). (r.waits ≡ false) ⊎ ((r.times.next_ready ≡ state.instant) × (r.last_hold ≡ None))) (sym same)
+                    (subst (λ now. ((state_of state.trains u).waits ≡ false) ⊎ (((state_of state.trains u).times.next_ready ≡ now) × ((state_of state.trains u).last_hold ≡ None)))
+                    (sym rep.time) back.still);
               })
               (cases_Bool (eqb u t));
           bound = λ u lt none some left.

@@ -22,7 +22,8 @@ use Rattle.rail_queue.specs.Order.{first_time_of, goes_before, is_sorted}
 use Rattle.rail_state.specs.Events.{event_of}
 use Rattle.rail_state.specs.TrainStates.{no_state, state_of}
 use Rattle.rail_state.specs.Representation.{Represents, is_due_now, may_admit_by}
-use Rattle.rail_state.proofs.LineCodes.{event_time, one_event, same_event}
+use Rattle.rail_state.proofs.EventCodes.{one_event, same_event}
+use Rattle.rail_state.proofs.LineCodes.{event_time}
 use Rattle.rail_state.proofs.Deciding.{deciding, first_least}
 use Rattle.rail_state.proofs.Next.{some_due}
 use Rattle.rail_state.proofs.Settling.{bar_seen}

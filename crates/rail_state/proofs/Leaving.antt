@@ -54,12 +54,6 @@ left_entering plant t adms m j accepted within leaves =
     (λ earlier. sym (cond-false (eqb (suc j) (steps plant t m)) (arrive plant t adms m) (enter plant t adms m (suc j)) earlier))
     (cases_Bool (eqb (suc j) (steps plant t m)))
 
--- the interval on which the train stands tells nothing before its next move is admitted
-pub open_none : (plant : Plant) (t : ℕ) (adms : List ℕ) (m j x : ℕ) → does_stand plant t m j ≡ true → is_admitted adms (suc m) ≡ false → free_lines t x (end_of plant t adms m j) ≡ []
-open_none plant t adms m j x stands none =
-    let is : is_open plant t adms m j ≡ true = λ k. stands k && not (none k) in
-    ap (free_lines t x) (cond-true (is_open plant t adms m j) None (Some (end_time plant t adms m j)) is)
-
 -- each other one is given free at its end
 pub left_line : (plant : Plant) (t : ℕ) (adms : List ℕ) (m j x at : ℕ) → does_stand plant t m j ≡ false → at ≡ end_time plant t adms m j → free_lines t x (end_of plant t adms m j) ≡ at_time at (Free x t) ∷ []
 left_line plant t adms m j x at leaves ended =
@@ -91,7 +85,8 @@ pub next_ready : (plant : Plant) (t : ℕ) (adms : List ℕ) (m : ℕ) → suc m
 next_ready plant t adms m more = cond-true (ltb (suc m) (moves plant t)) (ready plant t adms (suc m)) (free_run plant t adms (suc m)) (lt-ltb (suc m) (moves plant t) more)
 
 -- at an earlier place the train arrives with a stop as long as its next move isn't admitted, and that is ready
-pub ends_earlier : (plant : Plant) (t : ℕ) (adms : List ℕ) (m place stop next : ℕ) → place ≡ suc m → suc m < moves plant t → is_admitted adms (suc m) ≡ false → stop ≡ stop_at plant t adms m → next ≡ ready plant t adms (suc m) → end_lines plant t adms m ≡ at_time stop (Arrive t place) ∷ at_time next (Ready t (place + 1)) ∷ []
+pub ends_earlier : (plant : Plant) (t : ℕ) (adms : List ℕ) (m place stop next : ℕ) → place ≡ suc m → suc m < moves plant t → is_admitted adms (suc m) ≡ false
+    → stop ≡ stop_at plant t adms m → next ≡ ready plant t adms (suc m) → end_lines plant t adms m ≡ at_time stop (Arrive t place) ∷ at_time next (Ready t (place + 1)) ∷ []
 ends_earlier plant t adms m place stop next at more none stopped readied =
     let after : suc (suc m) ≡ place + 1 = omega (arith, at) in
     ends plant t adms m (at_time stop (Arrive t place)) [] (at_time next (Ready t (place + 1)) ∷ [])

@@ -41,7 +41,6 @@ mod Taking
 mod Ceasing
 mod Touching
 mod Early
-mod Never
 mod GivenMoves
 mod EventClasses
 mod QueueRoom

@@ -23,7 +23,9 @@ use Rattle.rail_state.proofs.Pending.{held_same}
 use Rattle.rail_state.specs.declared.run_state.RunState.{RunState}
 
 -- states of which nothing but the known causes is new
-module _ (dispatch : Dispatch) (plant : Plant) (front : Front) (state : RunState) (rep : Represents dispatch plant front state) (states : List TrainState) (many : length states ≡ length state.trains) (known_of : ℕ → Option Cause) (changed : (t : ℕ) → t < trains plant → state_of states t ≡ record (state_of state.trains t) { known = known_of t })
+module _ (dispatch : Dispatch) (plant : Plant) (front : Front) (state : RunState) (rep : Represents dispatch plant front state) (states : List TrainState)
+    (many : length states ≡ length state.trains) (known_of : ℕ → Option Cause)
+    (changed : (t : ℕ) → t < trains plant → state_of states t ≡ record (state_of state.trains t) { known = known_of t })
     (holds : (t : ℕ) (why : Cause) → t < trains plant → known_of t ≡ Some why → seen_cause (input_of dispatch plant) front state.holders t ≡ Some why)
     (of_waiting : (t : ℕ) (why : Cause) → t < trains plant → known_of t ≡ Some why → (state_of state.trains t).waits ≡ true)
     (keeps : (t : ℕ) → t < trains plant → is_some (state_of state.trains t).known ≡ true → known_of t ≡ (state_of state.trains t).known) where
@@ -82,7 +84,9 @@ module _ (dispatch : Dispatch) (plant : Plant) (front : Front) (state : RunState
   }
 
 -- the trains were looked at
-pub looked_stands : (dispatch : Dispatch) (plant : Plant) (front : Front) (state : RunState) → Represents dispatch plant front state → (states : List TrainState) → length states ≡ length state.trains → ((t : ℕ) → t < trains plant → state_of states t ≡ looked_told dispatch plant front state.holders t (state_of state.trains t)) → Represents dispatch plant front (with_trains state states)
+pub looked_stands : (dispatch : Dispatch) (plant : Plant) (front : Front) (state : RunState) → Represents dispatch plant front state → (states : List TrainState)
+    → length states ≡ length state.trains → ((t : ℕ) → t < trains plant → state_of states t ≡ looked_told dispatch plant front state.holders t (state_of state.trains t))
+    → Represents dispatch plant front (with_trains state states)
 looked_stands dispatch plant front state rep states many looked =
     found_out dispatch plant front state rep states many
     (λ t. cond (is_untried (state_of state.trains t)) (seen_bar (told dispatch.commands front) state.holders t (needed plant t (state_of state.trains t).place)) (state_of state.trains t).known)
@@ -91,7 +95,9 @@ looked_stands dispatch plant front state rep states many looked =
     ⊎_elim
     (λ untried.
     let held : seen_bar (told dispatch.commands front) state.holders t (needed plant t (place front t)) ≡ Some why =
-    ap (λ p. seen_bar (told dispatch.commands front) state.holders t (needed plant t p)) (sym (rep.times.places t lt)) ∙ sym (cond-true (is_untried (state_of state.trains t)) (seen_bar (told dispatch.commands front) state.holders t (needed plant t (state_of state.trains t).place)) (state_of state.trains t).known untried) ∙ is in
+    ap (λ p. seen_bar (told dispatch.commands front) state.holders t (needed plant t p)) (sym (rep.times.places t lt))
+    ∙ sym (cond-true (is_untried (state_of state.trains t)) (seen_bar (told dispatch.commands front) state.holders t (needed plant t (state_of state.trains t).place))
+    (state_of state.trains t).known untried) ∙ is in
     ap (λ c. or_else c (list_cause (input_of dispatch plant) front t)) held)
     (λ tried. rep.known.cause t why lt (sym (cond-false (is_untried (state_of state.trains t)) (seen_bar (told dispatch.commands front) state.holders t (needed plant t (state_of state.trains t).place)) (state_of state.trains t).known tried) ∙ is))
     (cases_Bool (is_untried (state_of state.trains t))))
@@ -100,10 +106,14 @@ looked_stands dispatch plant front state rep states many looked =
     (λ untried. (and_parts (state_of state.trains t).waits (not (is_some (state_of state.trains t).known)) untried).0)
     (λ tried. rep.known.waits t why lt (sym (cond-false (is_untried (state_of state.trains t)) (seen_bar (told dispatch.commands front) state.holders t (needed plant t (state_of state.trains t).place)) (state_of state.trains t).known tried) ∙ is))
     (cases_Bool (is_untried (state_of state.trains t))))
-    (λ t lt some. cond-false (is_untried (state_of state.trains t)) (seen_bar (told dispatch.commands front) state.holders t (needed plant t (state_of state.trains t).place)) (state_of state.trains t).known (and_right (state_of state.trains t).waits (not (is_some (state_of state.trains t).known)) (ap not some)))
+    (λ t lt some. cond-false (is_untried (state_of state.trains t)) (seen_bar (told dispatch.commands front) state.holders t (needed plant t (state_of state.trains t).place))
+    (state_of state.trains t).known (and_right (state_of state.trains t).waits (not (is_some (state_of state.trains t).known)) (ap not some)))
 
 -- no list is known for a train
-pub no_list_stands : (dispatch : Dispatch) (plant : Plant) (front : Front) (state : RunState) → Represents dispatch plant front state → (t : ℕ) → IsNext dispatch plant front state.holders state.trains t → is_known (moves_of plant) plant.tables.depth (places plant front) (kept plant front) t ≡ false → (states : List TrainState) → states ≡ set state.trains t (record (state_of state.trains t) { known = Some NoList }) → Represents dispatch plant front (with_trains state states)
+pub no_list_stands : (dispatch : Dispatch) (plant : Plant) (front : Front) (state : RunState) → Represents dispatch plant front state → (t : ℕ)
+    → IsNext dispatch plant front state.holders state.trains t → is_known (moves_of plant) plant.tables.depth (places plant front) (kept plant front) t ≡ false
+    → (states : List TrainState) → states ≡ set state.trains t (record (state_of state.trains t) { known = Some NoList })
+    → Represents dispatch plant front (with_trains state states)
 no_list_stands dispatch plant front state rep t next unknown states is =
     found_out dispatch plant front state rep states
     (ap length is ∙ length-set state.trains t (record (state_of state.trains t) { known = Some NoList }))
@@ -166,7 +176,9 @@ all_told plant state known told t lt waits =
       told =
           ⊎_elim
           (λ same_told. one_cause (state_of state.trains t).last_hold (state_of state.trains t).known same_told ∙ is)
-          (λ other. absurd (false≢true (sym (told t lt) ∙ and_from ((state_of state.trains t).waits && is_some (state_of state.trains t).known) (not (same_cause (state_of state.trains t).last_hold (state_of state.trains t).known)) (and_from (state_of state.trains t).waits (is_some (state_of state.trains t).known) waits some) (ap not other))))
+          (λ other. absurd (false≢true (sym (told t lt) ∙ and_from ((state_of state.trains t).waits && is_some (state_of state.trains t).known)
+          (not (same_cause (state_of state.trains t).last_hold (state_of state.trains t).known))
+          (and_from (state_of state.trains t).waits (is_some (state_of state.trains t).known) waits some) (ap not other))))
           (cases_Bool (same_cause (state_of state.trains t).last_hold (state_of state.trains t).known));
     }
 

@@ -17,10 +17,9 @@ use Rattle.rail_laws_front.specs.EventLines.{IsEvent}
 use Rattle.rail_laws_front.specs.EventLines.IsEvent.{readying}
 use Rattle.rail_laws_front.proofs.CallerLemmas.{IsEventDue, due_found, due_from_event, running_event, same_entry_refl}
 use Rattle.rail_laws_events.proofs.CallerLemmas.{some-tally, tally-le, tally-some, event_is_train}
-use Rattle.rail_state.proofs.Never.{cancelled_never_goes}
+use Rattle.rail_laws_events.proofs.CallerLemmas.{cancelled_never_goes}
 use Rattle.rail_state.proofs.Least.{due_agree}
-use Rattle.rail_state.proofs.EventCodes.{is_due_kind}
-use Rattle.rail_state.proofs.EventCodes.{key_is_rank as due_key}
+use Rattle.rail_state.proofs.EventCodes.{is_due_kind, key_is_rank, one_event, same_event, same_event-self}
 use Rattle.rail_laws_events.specs.Accounts.{tally}
 use Rattle.rail_block.specs.CarriedTimes.{times_at}
 use Rattle.rail_queue.specs.declared.event.Event.{Event}
@@ -31,7 +30,9 @@ use Rattle.rail_state.specs.declared.train.TrainState.{TrainState}
 use Rattle.rail_state.specs.TrainStates.{state_of}
 use Rattle.rail_state.specs.Representation.{Represents, deferred_events}
 use Rattle.rail_laws_run.specs.LinesToCome.{ToCome}
-use Rattle.rail_state.proofs.LineCodes.{before_by_time, event_time, key_is_rank, one_event, same_event, same_event-self}
+use Rattle.rail_state.proofs.LineCodes.{before_by_time, event_time}
+use Rattle.rail_laws_events.specs.Accounts.{is_train_event}
+use Rattle.rail_rules.specs.LineCounts.{is_command}
 use Rattle.rail_state.proofs.Counts.{count-cons, count-gather_zero, count-le, count-none}
 use Rattle.rail_state.specs.declared.run_state.RunState.{RunState}
 
@@ -41,7 +42,8 @@ carried_ready plant t adms zero lt = refl
 carried_ready plant t adms (suc m) lt = cond-true {A = ℕ} (nat_lt (suc m) (moves plant t)) (ready plant t adms (suc m)) _ (lt-ltb (suc m) (moves plant t) lt)
 
 -- a train that isn't ready has its ready line to come
-pub ready_to_come : (dispatch : Dispatch) (plant : Plant) (front : Front) (t : ℕ) → is_cancelled t (told dispatch.commands front) ≡ false → place front t < moves plant t → is_ready (input_of dispatch plant) front t ≡ false → stands front (ready_line plant t (admissions front t) (place front t)) ≡ false
+pub ready_to_come : (dispatch : Dispatch) (plant : Plant) (front : Front) (t : ℕ) → is_cancelled t (told dispatch.commands front) ≡ false → place front t < moves plant t
+    → is_ready (input_of dispatch plant) front t ≡ false → stands front (ready_line plant t (admissions front t) (place front t)) ≡ false
 ready_to_come dispatch plant front t runs lt h =
     ⊎_elim
     (λ stood. absurd (false≢true (sym h ∙ and_from (nat_lt (place front t) (moves plant t) && not (is_cancelled t (told dispatch.commands front))) (stands front (ready_line plant t (admissions front t) (place front t)))
@@ -66,7 +68,9 @@ not_before a b xs ys h =
     (cases_Bool (nat_lt a b))
 
 -- a due event line is counted
-pub due_some : (dispatch : Dispatch) (plant : Plant) (front : Front) (p : Entry → Bool) (t : ℕ) (e : Entry) → t < trains plant → IsEvent plant t (admissions front t) (is_cancelled t (told dispatch.commands front)) e → stands front e ≡ false → p e ≡ true → 0 < tally p (due_lines (input_of dispatch plant) front)
+pub due_some : (dispatch : Dispatch) (plant : Plant) (front : Front) (p : Entry → Bool) (t : ℕ) (e : Entry) → t < trains plant
+    → IsEvent plant t (admissions front t) (is_cancelled t (told dispatch.commands front)) e → stands front e ≡ false → p e ≡ true
+    → 0 < tally p (due_lines (input_of dispatch plant) front)
 due_some dispatch plant front p t e known event fresh passes = tally-some p (due_lines (input_of dispatch plant) front) (due_from_event (input_of dispatch plant) front p t e known event fresh passes)
 
 -- a train inside isn't cancelled
@@ -173,7 +177,8 @@ module _ (dispatch : Dispatch) (plant : Plant) (front : Front) (state : RunState
     found_due =
         ⊎_elim
         (λ due. due)
-        (λ due. absurd (of_train (ap (λ (e : Event). e.class) (one_event event (event_of (command_line (input_of dispatch plant) front due.command (0 + due.index))) due.passing) ∙ command_class (takes_effect (input_of dispatch plant) front (told dispatch.commands front) due.command.what) due.command.at (suc (0 + due.index)))))
+        (λ due. absurd (of_train (ap (λ (e : Event). e.class) (one_event event (event_of (command_line (input_of dispatch plant) front due.command (0 + due.index))) due.passing)
+        ∙ command_class (takes_effect (input_of dispatch plant) front (told dispatch.commands front) due.command.what) due.command.at (suc (0 + due.index)))))
         (due_found (input_of dispatch plant) front (λ d. same_event event (event_of d)) some_due)
       where
         command_class : (b : Bool) (at n : ℕ) → (event_of (record { at = at; what = cond b (Told n) (Untold n) })).class ≡ class.Command
@@ -198,9 +203,10 @@ module _ (dispatch : Dispatch) (plant : Plant) (front : Front) (state : RunState
         let entry : Entry = found_due.entry in
         let same : event ≡ event_of entry = one_event event (event_of entry) found_due.passing in
         let earlier : Entry → Bool = λ d. comes_before (rank d) (rank entry) in
-        let is_train = event_is_train plant found_due.train (admissions front found_due.train) (is_cancelled found_due.train (told dispatch.commands front)) entry found_due.event in
+        let is_train : is_train_event entry.what ≡ true = event_is_train plant found_due.train (admissions front found_due.train) (is_cancelled found_due.train (told dispatch.commands front)) entry found_due.event in
+        let due_kind : is_due_kind entry.what ≡ true = or_left (is_train_event entry.what) (is_command entry.what) is_train in
         let agree : (d : Entry) → is_due_kind d.what ≡ true → comes_before (rank d) (rank entry) ≡ goes_before (event_of d) event =
-        λ d h. ap (λ k. comes_before k (rank entry)) (sym (due_key d h)) ∙ ap (comes_before (key (event_of d))) (sym (key_is_rank entry is_train) ∙ ap key (sym same)) in
+        λ d h. ap (λ k. comes_before k (rank entry)) (sym (key_is_rank d h)) ∙ ap (comes_before (key (event_of d))) (sym (key_is_rank entry due_kind) ∙ ap key (sym same)) in
         and_from (list_any (same_entry entry) (due_lines (input_of dispatch plant) front)) (not (list_any earlier (due_lines (input_of dispatch plant) front)))
         (due_from_event (input_of dispatch plant) front (same_entry entry) found_due.train entry found_due.known found_due.event found_due.unwritten (same_entry_refl entry))
         (not_from_false (list_any earlier (due_lines (input_of dispatch plant) front)) (false_from_ne_true (list_any earlier (due_lines (input_of dispatch plant) front)) (λ any.

@@ -7,7 +7,7 @@ use Rattle.rail_rules.specs.Accepted.{is_accepted}
 use Rattle.rail_queue.specs.declared.event.Event.{Event}
 use Rattle.rail_state.proofs.Counts.{count-append}
 use Rattle.rail_laws_events.proofs.CallerLemmas.{sum-limited}
-use Rattle.rail_laws_front.proofs.CallerLemmas.{accepted_parts, move_in_range, row_in_range}
+use Rattle.rail_rules.proofs.CallerLemmas.{accepted_parts, move_in_range, row_in_range}
 use Rattle.rail_base.specs.declared.limits.TheConstants.{MOVE_LINES, TRAIN_LINES}
 use Rattle.std.proofs.lemmas.List.{length-map}
 use Rattle.rail_base.specs.declared.plant.SectionRow.{SectionRow}
@@ -15,7 +15,7 @@ use Rattle.rail_base.specs.declared.plant.SectionRow.{SectionRow}
 -- the lines of a train's moves
 of_train : (plant : Plant) → is_accepted plant ≡ true → (t : ℕ) → t < trains plant → sum_below (λ m. 2 * steps plant t m + 3) (moves plant t) ≤ TRAIN_LINES
 of_train plant accepted t lt =
-    let row = row_in_range plant (accepted_parts plant accepted) t lt in
+    let row = row_in_range plant (accepted_parts plant accepted).trains_in_range t lt in
     omega (
       arith,
       sum-limited (λ m. 2 * steps plant t m + 3) MOVE_LINES (moves plant t) (λ m lm. omega (arith, (move_in_range (length plant.tables.sections) (move_row plant t m) (row.each_move m lm)).few_steps)),

@@ -25,7 +25,9 @@ use Rattle.rail_state.proofs.Lines.{EntersOne}
 use Rattle.rail_rules.specs.Orders.{Dispatch, input_of}
 use Rattle.rail_state.specs.declared.run_state.RunState.{RunState}
 
-module _ (dispatch : Dispatch) (plant : Plant) (front : Front) (state : RunState) (rep : Represents dispatch plant front state) (going : has_ended front ≡ false) (event : Event) (rest : List Event) (first : state.queue.events ≡ event ∷ rest) (least : list_any (λ other. goes_before other event) state.queue.events ≡ false) (goes : (state.is_settled ≡ true) ⊎ (event.at ≡ state.instant)) (of_train : event.class ≡ class.Command → ⊥) where
+module _ (dispatch : Dispatch) (plant : Plant) (front : Front) (state : RunState) (rep : Represents dispatch plant front state) (going : has_ended front ≡ false) (event : Event)
+    (rest : List Event) (first : state.queue.events ≡ event ∷ rest) (least : list_any (λ other. goes_before other event) state.queue.events ≡ false)
+    (goes : (state.is_settled ≡ true) ⊎ (event.at ≡ state.instant)) (of_train : event.class ≡ class.Command → ⊥) where
   says_class : (c : Class) → event.class ≡ c → what_of plant state.trains event ≡ what_of plant state.trains (record event { class = c })
   says_class c is = ap (λ k. what_of plant state.trains (record event { class = k })) is
 
@@ -39,9 +41,12 @@ module _ (dispatch : Dispatch) (plant : Plant) (front : Front) (state : RunState
   train_is = of (it dispatch plant front state rep going event rest first least goes of_train).event
     where
       same : event ≡ event_of (it dispatch plant front state rep going event rest first least goes of_train).entry
-      same = Rattle.rail_state.proofs.LineCodes.one_event event (event_of (it dispatch plant front state rep going event rest first least goes of_train).entry) (it dispatch plant front state rep going event rest first least goes of_train).passes
+      same = Rattle.rail_state.proofs.EventCodes.one_event event (event_of (it dispatch plant front state rep going event rest first least goes of_train).entry) (it dispatch plant front state rep going event rest first least goes of_train).passes
 
-      of : IsEvent plant (it dispatch plant front state rep going event rest first least goes of_train).train (admissions front (it dispatch plant front state rep going event rest first least goes of_train).train) false (it dispatch plant front state rep going event rest first least goes of_train).entry → event.train ≡ (it dispatch plant front state rep going event rest first least goes of_train).train
+      of : IsEvent plant (it dispatch plant front state rep going event rest first least goes of_train).train
+          (admissions front (it dispatch plant front state rep going event rest first least goes of_train).train) false
+          (it dispatch plant front state rep going event rest first least goes of_train).entry
+          → event.train ≡ (it dispatch plant front state rep going event rest first least goes of_train).train
       of (entering m j lm lj is) = ap (λ (e : Event). e.train) (same ∙ ap event_of is)
       of (arriving m lm is) = ap (λ (e : Event). e.train) (same ∙ ap event_of is)
       of (freeing m j lm lj closed is) = ap (λ (e : Event). e.train) (same ∙ ap event_of is)

@@ -16,7 +16,8 @@ pub deciding_when_quiet : (dispatch : Dispatch) (plant : Plant) (line : Line) (b
 deciding_when_quiet dispatch plant line before going quiet = and_from (not (has_ended (line ∷ before))) (is_quiet (due_lines (input_of dispatch plant) (line ∷ before)) line.entry.at) (ap not going) quiet
 
 -- what bars a train at a decision is told by the orders and the table of holders
-pub bar_seen : (dispatch : Dispatch) (plant : Plant) (front : Front) (state : RunState) → Represents dispatch plant front state → is_deciding (input_of dispatch plant) front ≡ true → (t : ℕ) → bar (input_of dispatch plant) front t ≡ seen_bar (told dispatch.commands front) state.holders t (needed plant t (place front t))
+pub bar_seen : (dispatch : Dispatch) (plant : Plant) (front : Front) (state : RunState) → Represents dispatch plant front state → is_deciding (input_of dispatch plant) front ≡ true
+    → (t : ℕ) → bar (input_of dispatch plant) front t ≡ seen_bar (told dispatch.commands front) state.holders t (needed plant t (place front t))
 bar_seen dispatch plant front state rep deciding t =
     let sections : List ℕ = needed plant t (place front t) in
     ap (λ c. or_else (stop_cause t (told dispatch.commands front)) (or_else (closed_cause sections (told dispatch.commands front)) c)) (holders_block (input_of dispatch plant) rep.accepted front rep.lawful deciding state.holders rep.holders sections)
@@ -25,10 +26,12 @@ bar_seen dispatch plant front state rep deciding t =
 pub cause_seen : (dispatch : Dispatch) (plant : Plant) (front : Front) (state : RunState) → Represents dispatch plant front state → is_deciding (input_of dispatch plant) front ≡ true → (t : ℕ) → cause (input_of dispatch plant) front t ≡ seen_cause (input_of dispatch plant) front state.holders t
 cause_seen dispatch plant front state rep deciding t =
     let sections : List ℕ = needed plant t (place front t) in
-    ap (λ c. or_else (or_else (stop_cause t (told dispatch.commands front)) (or_else (closed_cause sections (told dispatch.commands front)) c)) (list_cause (input_of dispatch plant) front t)) (holders_block (input_of dispatch plant) rep.accepted front rep.lawful deciding state.holders rep.holders sections)
+    ap (λ c. or_else (or_else (stop_cause t (told dispatch.commands front)) (or_else (closed_cause sections (told dispatch.commands front)) c))
+    (list_cause (input_of dispatch plant) front t)) (holders_block (input_of dispatch plant) rep.accepted front rep.lawful deciding state.holders rep.holders sections)
 
 -- everything is settled where nothing is due and all were told why they wait
-pub settled_front : (dispatch : Dispatch) (plant : Plant) (front : Front) (state : RunState) → Represents dispatch plant front state → has_ended front ≡ false → state.is_settled ≡ true → is_quiet (due_lines (input_of dispatch plant) front) (instant front) ≡ true → is_settled (input_of dispatch plant) front ≡ true
+pub settled_front : (dispatch : Dispatch) (plant : Plant) (front : Front) (state : RunState) → Represents dispatch plant front state → has_ended front ≡ false
+    → state.is_settled ≡ true → is_quiet (due_lines (input_of dispatch plant) front) (instant front) ≡ true → is_settled (input_of dispatch plant) front ≡ true
 settled_front dispatch plant [] state rep going settled quiet = refl
 settled_front dispatch plant (line ∷ before) state rep going settled quiet =
     let deciding = deciding_when_quiet dispatch plant line before going quiet in

@@ -14,7 +14,7 @@ use Rattle.rail_rules.specs.Numbers.{comes_before, gather}
 use Rattle.rail_rules.specs.Plant.{Plant, is_forced, moves, needed, trains}
 use Rattle.rail_rules.specs.Times.{stop_time}
 use Rattle.rail_rules.specs.Fronts.{Front, Line, admissions, has_ended, instant, is_admission, is_hold, rank, same_entry, stands}
-use Rattle.rail_rules.specs.Orders.{Input, is_cancelled, orders_of, takes_effect, told, Dispatch, input_of}
+use Rattle.rail_rules.specs.Orders.{is_cancelled, orders_of, takes_effect, told, Dispatch, input_of}
 use Rattle.rail_rules.specs.Events.{command_line, due_lines, is_least}
 use Rattle.rail_rules.specs.Causes.{is_settled, last_hold, place}
 use Rattle.rail_rules.specs.Lawful.{is_lawful, is_out, may_follow}
@@ -45,7 +45,8 @@ use Rattle.rail_state.proofs.Times.{times_kept}
 use Rattle.rail_state.specs.declared.run_state.RunState.{RunState}
 
 -- of a command
-module _ (dispatch : Dispatch) (plant : Plant) (front : Front) (state : RunState) (rep : Represents dispatch plant front state) (going : has_ended front ≡ false) (event : Event) (after : RunState) (k : ℕ) (command : Command) (listed : slice_get dispatch.commands k ≡ Some command) (classed : event.class ≡ class.Command) (numbered : event.number ≡ suc k)
+module _ (dispatch : Dispatch) (plant : Plant) (front : Front) (state : RunState) (rep : Represents dispatch plant front state) (going : has_ended front ≡ false) (event : Event)
+    (after : RunState) (k : ℕ) (command : Command) (listed : slice_get dispatch.commands k ≡ Some command) (classed : event.class ≡ class.Command) (numbered : event.number ≡ suc k)
     (least : list_any (λ other. goes_before other event) state.queue.events ≡ false) (held_later : (t at : ℕ) → t < trains plant → (state_of state.trains t).deferred ≡ Some at → event.at < at) (goes : (state.is_settled ≡ true) ⊎ (event.at ≡ state.instant))
     (settled_now : state.is_settled ≡ true → instant front < event.at → is_settled (input_of dispatch plant) front ≡ true) (past : instant front ≤ event.at) where
   abbrev orders : List Order
@@ -225,7 +226,8 @@ module _ (dispatch : Dispatch) (plant : Plant) (front : Front) (state : RunState
         counted = λ q.
             ap (λ es. count_by q es + count_by q (deferred_events plant after.trains)) has.events
             ∙ ap (λ es. count_by q (filter (stays orders) has.rest) + count_by q es) (held_same plant state.trains after.trains (same_part (λ r. r.place) (λ r c w. refl)) (same_part (λ r. r.deferred) (λ r c w. refl)))
-            ∙ command_taken (input_of dispatch plant) fine line front lawful_line kind state.queue.events has.rest (deferred_events plant state.trains) rep.pending.counted (has.first ∙ ap (λ e. e ∷ has.rest) (sym (ap event_of (sym (is_its_line has.rest has.first)) ∙ (found has.rest has.first).1))) (held_stays orders) q;
+            ∙ command_taken (input_of dispatch plant) fine line front lawful_line kind state.queue.events has.rest (deferred_events plant state.trains) rep.pending.counted
+            (has.first ∙ ap (λ e. e ∷ has.rest) (sym (ap event_of (sym (is_its_line has.rest has.first)) ∙ (found has.rest has.first).1))) (held_stays orders) q;
         deferred = λ t at lt arrives.
             let back = rep.pending.deferred t at lt (sym (same_part (λ r. r.deferred) (λ r c w. refl) t lt) ∙ arrives) in
             let place_same = same_part (λ r. r.place) (λ r c w. refl) t lt in

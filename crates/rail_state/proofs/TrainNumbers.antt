@@ -28,7 +28,9 @@ passes_not p n fails =
     filter-append p (numbers n) (n ∷ []) ∙ ap (λ list. filter p (numbers n) ++ list) (cond-false (p n) (n ∷ []) [] fails) ∙ append-nil (filter p (numbers n))
 
 -- what holds behind each number that passes, and over each that doesn't, holds in the end
-pub in_turn : {S : Type 0} (step : S → ℕ → S) (p : ℕ → Bool) (Holds : S → ℕ → Type 0) (s : S) (n : ℕ) → Holds s 0 → ((now : S) (i : ℕ) → i < n → p i ≡ true → Holds now i → Holds (step now i) (i + 1)) → ((now : S) (i : ℕ) → i < n → p i ≡ false → Holds now i → Holds now (i + 1)) → Holds (fold step s (filter p (numbers n))) n
+pub in_turn : {S : Type 0} (step : S → ℕ → S) (p : ℕ → Bool) (Holds : S → ℕ → Type 0) (s : S) (n : ℕ) → Holds s 0
+    → ((now : S) (i : ℕ) → i < n → p i ≡ true → Holds now i → Holds (step now i) (i + 1)) → ((now : S) (i : ℕ) → i < n → p i ≡ false → Holds now i → Holds now (i + 1))
+    → Holds (fold step s (filter p (numbers n))) n
 in_turn step p Holds s zero start more over = start
 in_turn {S} step p Holds s (suc n) start more over =
     let now : S = fold step s (filter p (numbers n)) in

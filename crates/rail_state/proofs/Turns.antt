@@ -22,7 +22,9 @@ use Rattle.rail_state.proofs.TrainNumbers.{first_is_least, IsLeast, in_turn, num
 use Rattle.rail_state.proofs.WatchedKept.{is_watched_in, none_known, not_blocked, not_known, not_untried, still_watched, untold_watched, written}
 
 -- what is done to each watched train in turn, where it wouldn't change the others
-pub all_watched : {S : Type 0} (step : S → ℕ → S) (Holds : S → ℕ → Type 0) (s : S) (states : List TrainState) (watched : Vec ℕ) → AreWatched states watched → Holds s 0 → ((now : S) (i : ℕ) → i < length states → Holds now i → Holds (step now i) (i + 1)) → ((now : S) (i : ℕ) → is_watched (state_of states i) ≡ false → Holds now i → Holds now (i + 1)) → Holds (fold step s watched.items) (length states)
+pub all_watched : {S : Type 0} (step : S → ℕ → S) (Holds : S → ℕ → Type 0) (s : S) (states : List TrainState) (watched : Vec ℕ) → AreWatched states watched → Holds s 0
+    → ((now : S) (i : ℕ) → i < length states → Holds now i → Holds (step now i) (i + 1))
+    → ((now : S) (i : ℕ) → is_watched (state_of states i) ≡ false → Holds now i → Holds now (i + 1)) → Holds (fold step s watched.items) (length states)
 all_watched {S} step Holds s states watched kept start more over =
     let P : List ℕ → Type 0 = λ list. Holds (fold step s list) (length states) in
     subst P (sym kept.exact) (in_turn step (is_watched_in states) Holds s (length states) start (λ now i lt _. more now i lt) (λ now i _. over now i))
@@ -49,7 +51,9 @@ or_none true = refl
 or_none false = refl
 
 -- behind an admission those of the watched trains are watched that wait still
-pub admitted_kept : (old mid : List TrainState) (watched now : Vec ℕ) (t : ℕ) (train_state : TrainState) → AreWatched old watched → IsChanged (λ _. unknown) old mid (length old) → t < length old → train_state.waits ≡ false → train_state.known ≡ None → now.items ≡ filter (λ u. (state_of (set mid t train_state) u).waits) watched.items → vec_capacity now ≡ vec_capacity watched → AreWatched (set mid t train_state) now
+pub admitted_kept : (old mid : List TrainState) (watched now : Vec ℕ) (t : ℕ) (train_state : TrainState) → AreWatched old watched → IsChanged (λ _. unknown) old mid (length old)
+    → t < length old → train_state.waits ≡ false → train_state.known ≡ None → now.items ≡ filter (λ u. (state_of (set mid t train_state) u).waits) watched.items
+    → vec_capacity now ≡ vec_capacity watched → AreWatched (set mid t train_state) now
 admitted_kept old mid watched now t train_state kept changed lt off none items room =
     let new : List TrainState = set mid t train_state in
     let waits : ℕ → Bool = λ u. (state_of new u).waits in
@@ -81,7 +85,8 @@ admitted_each old mid t times arrival changed lt =
     (λ u ne. each u ∙ sym (cond-false (t == u) (admitted times arrival (state_of old u)) (unknown (state_of old u)) (grind (arith, nat_tests))))
 
 -- all trains were looked at
-pub all_looked_at : (plant : Plant) (holders : List (Option ℕ)) (states : List TrainState) (watched : Vec ℕ) → AreWatched states watched → IsLookedAt plant holders states (fold (look_at plant holders) (states, None) watched.items).0 (length states) (fold (look_at plant holders) (states, None) watched.items).1
+pub all_looked_at : (plant : Plant) (holders : List (Option ℕ)) (states : List TrainState) (watched : Vec ℕ) → AreWatched states watched
+    → IsLookedAt plant holders states (fold (look_at plant holders) (states, None) watched.items).0 (length states) (fold (look_at plant holders) (states, None) watched.items).1
 all_looked_at plant holders states watched kept =
     let Holds : List TrainState × Option ℕ → ℕ → Type 0 = λ now i. IsLookedAt plant holders states now.0 i now.1 in
     all_watched (look_at plant holders) Holds (states, None) states watched kept (looked_none plant holders states)
@@ -89,7 +94,8 @@ all_looked_at plant holders states watched kept =
     (λ now i off h. looked_over plant holders states now.0 i now.1 (not_untried (state_of states i) off) h)
 
 -- the trains of the list were looked at
-pub looked_now : (plant : Plant) (holders : List (Option ℕ)) (states shown new : List TrainState) (watched : Vec ℕ) (list : List ℕ) (first : Option ℕ) → AreWatched states watched → shown ≡ states → list ≡ watched.items → (new, first) ≡ fold (look_at plant holders) (shown, None) list → IsLookedAt plant holders states new (length states) first
+pub looked_now : (plant : Plant) (holders : List (Option ℕ)) (states shown new : List TrainState) (watched : Vec ℕ) (list : List ℕ) (first : Option ℕ) → AreWatched states watched
+    → shown ≡ states → list ≡ watched.items → (new, first) ≡ fold (look_at plant holders) (shown, None) list → IsLookedAt plant holders states new (length states) first
 looked_now plant holders states shown new watched list first kept shown_is list_is is =
     let whole : (new, first) ≡ fold (look_at plant holders) (states, None) watched.items = is ∙ ap (λ (rs : List TrainState). fold (look_at plant holders) (rs, None) list) shown_is ∙ ap (fold (look_at plant holders) (states, None)) list_is in
     let P : List TrainState × Option ℕ → Type 0 = λ now. IsLookedAt plant holders states now.0 (length states) now.1 in
@@ -114,7 +120,9 @@ looked_at_kept plant holders old new watched first kept looked =
     ∙ kept.free t x waits)
 
 -- one more train of the list is looked at
-pub looked_step : (plant : Plant) (holders : List (Option ℕ)) (start : List TrainState × Option ℕ) (list : List ℕ) (rows new : List TrainState) (first chosen : Option ℕ) (i t : ℕ) → (rows, first) ≡ fold (look_at plant holders) start (take i list) → i < length list → t ≡ get_or list i t → new ≡ set rows t (looked_at plant holders t (state_of rows t)) → chosen ≡ first_with new first t → (new, chosen) ≡ fold (look_at plant holders) start (take (i + 1) list)
+pub looked_step : (plant : Plant) (holders : List (Option ℕ)) (start : List TrainState × Option ℕ) (list : List ℕ) (rows new : List TrainState) (first chosen : Option ℕ) (i t : ℕ)
+    → (rows, first) ≡ fold (look_at plant holders) start (take i list) → i < length list → t ≡ get_or list i t → new ≡ set rows t (looked_at plant holders t (state_of rows t))
+    → chosen ≡ first_with new first t → (new, chosen) ≡ fold (look_at plant holders) start (take (i + 1) list)
 looked_step plant holders start list rows new first chosen i t so_far lt item new_is chosen_is =
     ap (λ (some : Option ℕ). (new, some)) chosen_is
     ∙ ap (λ (rs : List TrainState). (rs, first_with rs first t)) new_is
@@ -123,7 +131,9 @@ looked_step plant holders start list rows new first chosen i t so_far lt item ne
     ∙ sym (fold_more (look_at plant holders) start list i t lt)
 
 -- a look leaves that each waiting train has a next move
-pub moves_stay : (plant : Plant) (holders : List (Option ℕ)) (rows new : List TrainState) (t : ℕ) → t < length rows → new ≡ set rows t (looked_at plant holders t (state_of rows t)) → ((u : ℕ) → u < trains plant → (state_of rows u).waits ≡ true → (state_of rows u).place < moves plant u) → (u : ℕ) → u < trains plant → (state_of new u).waits ≡ true → (state_of new u).place < moves plant u
+pub moves_stay : (plant : Plant) (holders : List (Option ℕ)) (rows new : List TrainState) (t : ℕ) → t < length rows → new ≡ set rows t (looked_at plant holders t (state_of rows t))
+    → ((u : ℕ) → u < trains plant → (state_of rows u).waits ≡ true → (state_of rows u).place < moves plant u) → (u : ℕ) → u < trains plant → (state_of new u).waits ≡ true
+    → (state_of new u).place < moves plant u
 moves_stay plant holders rows new t lt new_is before =
     subst (λ (rs : List TrainState). (u : ℕ) → u < trains plant → (state_of rs u).waits ≡ true → (state_of rs u).place < moves plant u) (sym new_is)
     (written (λ u train_state. u < trains plant → train_state.waits ≡ true → train_state.place < moves plant u) rows t (looked_at plant holders t (state_of rows t)) lt (before t) (λ u _. before u))

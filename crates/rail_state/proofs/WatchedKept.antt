@@ -77,7 +77,9 @@ pub train_read : (states : List TrainState) (t : ℕ) (train_state : TrainState)
 train_read states t train_state lt read = read ∙ get_or_default states t train_state no_state lt
 
 -- where each train is watched as before, the list stays
-pub still_watched : (old new : List TrainState) (watched : Vec ℕ) → AreWatched old watched → length new ≡ length old → ((t : ℕ) → is_watched (state_of new t) ≡ is_watched (state_of old t)) → ((t x : ℕ) → (state_of new t).waits ≡ false → is_blocked_at x (state_of new t).known ≡ false) → AreWatched new watched
+pub still_watched : (old new : List TrainState) (watched : Vec ℕ) → AreWatched old watched → length new ≡ length old
+    → ((t : ℕ) → is_watched (state_of new t) ≡ is_watched (state_of old t)) → ((t x : ℕ) → (state_of new t).waits ≡ false → is_blocked_at x (state_of new t).known ≡ false)
+    → AreWatched new watched
 still_watched old new watched kept long same free = record {
   few = omega (arith, kept.few, long);
   exact = kept.exact ∙ same_pass (is_watched_in old) (is_watched_in new) (length old) (λ t _. sym (same t)) ∙ ap (λ n. filter (is_watched_in new) (numbers n)) (sym long);
@@ -107,14 +109,18 @@ same_list states watched now kept items room = record {
 }
 
 -- a change of a watched train that leaves it watched leaves the list
-watched_again : (states : List TrainState) (watched : Vec ℕ) (t : ℕ) (train_state : TrainState) → AreWatched states watched → t < length states → is_watched (state_of states t) ≡ true → is_watched train_state ≡ true → ((x : ℕ) → train_state.waits ≡ false → is_blocked_at x train_state.known ≡ false) → AreWatched (set states t train_state) watched
+watched_again : (states : List TrainState) (watched : Vec ℕ) (t : ℕ) (train_state : TrainState) → AreWatched states watched → t < length states
+    → is_watched (state_of states t) ≡ true → is_watched train_state ≡ true → ((x : ℕ) → train_state.waits ≡ false → is_blocked_at x train_state.known ≡ false)
+    → AreWatched (set states t train_state) watched
 watched_again states watched t train_state kept lt was is free =
     still_watched states (set states t train_state) watched kept (length-set states t train_state)
     (written (λ u now. is_watched now ≡ is_watched_in states u) states t train_state lt (is ∙ sym was) (λ u _. refl))
     (λ u x. written (λ u now. now.waits ≡ false → is_blocked_at x now.known ≡ false) states t train_state lt (free x) (λ u _. kept.free u x) u)
 
 -- a train that is watched from now on is put into the list
-watched_more : (states : List TrainState) (watched now : Vec ℕ) (t : ℕ) (train_state : TrainState) → AreWatched states watched → t < length states → is_watched (state_of states t) ≡ false → is_watched train_state ≡ true → ((x : ℕ) → train_state.waits ≡ false → is_blocked_at x train_state.known ≡ false) → now.items ≡ inserted t watched.items → vec_capacity now ≡ vec_capacity watched → AreWatched (set states t train_state) now
+watched_more : (states : List TrainState) (watched now : Vec ℕ) (t : ℕ) (train_state : TrainState) → AreWatched states watched → t < length states
+    → is_watched (state_of states t) ≡ false → is_watched train_state ≡ true → ((x : ℕ) → train_state.waits ≡ false → is_blocked_at x train_state.known ≡ false)
+    → now.items ≡ inserted t watched.items → vec_capacity now ≡ vec_capacity watched → AreWatched (set states t train_state) now
 watched_more states watched now t train_state kept lt was is free items room =
     let new : List TrainState = set states t train_state in
     let long : length new ≡ length states = length-set states t train_state in
@@ -128,7 +134,10 @@ watched_more states watched now t train_state kept lt was is free items room =
     }
 
 -- a train that is watched from now on stands in the list
-pub watched_now : (states : List TrainState) (watched now : Vec ℕ) (t : ℕ) (train_state : TrainState) → AreWatched states watched → t < length states → is_watched train_state ≡ true → ((x : ℕ) → train_state.waits ≡ false → is_blocked_at x train_state.known ≡ false) → now.items ≡ cond (is_watched (state_of states t)) watched.items (inserted t watched.items) → vec_capacity now ≡ vec_capacity watched → AreWatched (set states t train_state) now
+pub watched_now : (states : List TrainState) (watched now : Vec ℕ) (t : ℕ) (train_state : TrainState) → AreWatched states watched → t < length states
+    → is_watched train_state ≡ true → ((x : ℕ) → train_state.waits ≡ false → is_blocked_at x train_state.known ≡ false)
+    → now.items ≡ cond (is_watched (state_of states t)) watched.items (inserted t watched.items) → vec_capacity now ≡ vec_capacity watched
+    → AreWatched (set states t train_state) now
 watched_now states watched now t train_state kept lt is free items room =
     ⊎_elim
     (λ was. same_list (set states t train_state) watched now (watched_again states watched t train_state kept lt was is free) (items ∙ cond-true (is_watched (state_of states t)) watched.items (inserted t watched.items) was) room)
@@ -161,7 +170,10 @@ shown_below states shown watched list kept shown_is list_is =
     subst (P shown) (sym list_is) (subst (λ rs. P rs watched.items) (sym shown_is) (watched_below states watched kept))
 
 -- the train is watched from now on, where the list is so
-pub watched_at : (states shown : List TrainState) (watched now : Vec ℕ) (t i : ℕ) (train_state : TrainState) → AreWatched states watched → shown ≡ states → i ≡ t → t < length states → is_watched train_state ≡ true → ((x : ℕ) → train_state.waits ≡ false → is_blocked_at x train_state.known ≡ false) → now.items ≡ cond (is_watched (state_of shown t)) watched.items (inserted t watched.items) → vec_capacity now ≡ vec_capacity watched → AreWatched (set states i train_state) now
+pub watched_at : (states shown : List TrainState) (watched now : Vec ℕ) (t i : ℕ) (train_state : TrainState) → AreWatched states watched → shown ≡ states → i ≡ t
+    → t < length states → is_watched train_state ≡ true → ((x : ℕ) → train_state.waits ≡ false → is_blocked_at x train_state.known ≡ false)
+    → now.items ≡ cond (is_watched (state_of shown t)) watched.items (inserted t watched.items) → vec_capacity now ≡ vec_capacity watched
+    → AreWatched (set states i train_state) now
 watched_at states shown watched now t i train_state kept shown_is here lt is free items room =
     subst (λ (k : ℕ). AreWatched (set states k train_state) now) (sym here)
     (watched_now states watched now t train_state kept lt is free (items ∙ ap (λ (rs : List TrainState). cond (is_watched (state_of rs t)) watched.items (inserted t watched.items)) shown_is) room)

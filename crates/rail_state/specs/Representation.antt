@@ -9,14 +9,14 @@ use Rattle.rail_base.specs.declared.history.What.{What}
 use Rattle.rail_base.specs.declared.history.What.TheVariants as what
 use Rattle.rail_base.specs.declared.orders.Command.{Command}
 use Rattle.rail_rules.specs.Accepted.{is_accepted}
-use Rattle.rail_rules.specs.Numbers.{gather, listed, or_else}
+use Rattle.rail_rules.specs.Numbers.{gather, listed}
 use Rattle.rail_rules.specs.Plant.{Plant, is_forced, moves, moves_of, claimed, step_section, steps, trains}
 use Rattle.rail_rules.specs.Times.{stop_time}
 use Rattle.rail_rules.specs.Fronts.{Front, Line, admissions, at_time, has_ended, has_held, instant}
-use Rattle.rail_rules.specs.Causes.{is_ready, last_hold, list_cause, place}
+use Rattle.rail_rules.specs.Causes.{is_ready, last_hold, place}
 use Rattle.rail_rules.specs.Lawful.{is_lawful, is_out, note_fits}
-use Rattle.rail_rules.specs.Orders.{Input, is_cancelled, told, Dispatch, input_of}
-use Rattle.rail_rules.specs.Events.{commands_due, due_lines}
+use Rattle.rail_rules.specs.Orders.{is_cancelled, told, Dispatch, input_of}
+use Rattle.rail_rules.specs.Events.{commands_due}
 use Rattle.rail_base.specs.declared.orders.Order.{Order}
 use Rattle.rail_rules.specs.Moves.{Moves}
 use Rattle.rail_rules.specs.Places.{after, completes, place_of}
@@ -63,8 +63,10 @@ IsBound plant t train_state = (is_forced plant t train_state.place ≡ true) ⊎
 -- the pending events and the arrivals that are deferred are the due lines
 pub record ArePending (dispatch : Dispatch) (plant : Plant) (front : Front) (events : List Event) (states : List TrainState) : Type 0 where
   pub counted : AreDue (input_of dispatch plant) front events (deferred_events plant states)
-  pub deferred : (t at : ℕ) → t < trains plant → (state_of states t).deferred ≡ Some at → IsDeferred plant t (instant front) (state_of states t) at
-  pub bound : (t : ℕ) → t < trains plant → (state_of states t).deferred ≡ None → 0 < (state_of states t).place → (state_of states t).place < moves plant t → IsBound plant t (state_of states t)
+  pub deferred : (t at : ℕ) → t < trains plant → (state_of states t).deferred ≡ Some at
+      → IsDeferred plant t (instant front) (state_of states t) at
+  pub bound : (t : ℕ) → t < trains plant → (state_of states t).deferred ≡ None → 0 < (state_of states t).place
+      → (state_of states t).place < moves plant t → IsBound plant t (state_of states t)
 
 -- the heads of the trains enter the right sections next
 pub record AreHeads (plant : Plant) (front : Front) (states : List TrainState) : Type 0 where
@@ -79,10 +81,13 @@ pub record AreWaiting (dispatch : Dispatch) (plant : Plant) (front : Front) (sta
   pub out : (t : ℕ) → t < trains plant → (state_of states t).is_out ≡ is_out front t
 
 -- a cause that is known holds, and is one of a waiting train; after a hold line each is known
-pub record AreKnown (dispatch : Dispatch) (plant : Plant) (front : Front) (holders : List (Option ℕ)) (states : List TrainState) : Type 0 where
-  pub cause : (t : ℕ) (why : Cause) → t < trains plant → (state_of states t).known ≡ Some why → seen_cause (input_of dispatch plant) front holders t ≡ Some why
+pub record AreKnown (dispatch : Dispatch) (plant : Plant) (front : Front) (holders : List (Option ℕ))
+    (states : List TrainState) : Type 0 where
+  pub cause : (t : ℕ) (why : Cause) → t < trains plant → (state_of states t).known ≡ Some why
+      → seen_cause (input_of dispatch plant) front holders t ≡ Some why
   pub waits : (t : ℕ) (why : Cause) → t < trains plant → (state_of states t).known ≡ Some why → (state_of states t).waits ≡ true
-  pub no_more : has_held front ≡ true → (t : ℕ) → t < trains plant → (state_of states t).waits ≡ true → is_some (state_of states t).known ≡ true
+  pub no_more : has_held front ≡ true → (t : ℕ) → t < trains plant → (state_of states t).waits ≡ true
+      → is_some (state_of states t).known ≡ true
 
 -- the train has a known cause, which its last hold line names
 pub record IsTold (train_state : TrainState) : Type 0 where
@@ -120,7 +125,9 @@ what_of plant states event = what_in plant states event event.class
     what_in : Plant → List TrainState → Event → Class → What
     what_in plant states event class.Free = what.Free event.number event.train
     what_in plant states event class.Arrive = what.Arrive event.train event.place
-    what_in plant states event class.Enter = what.Enter event.train event.place (step_section plant event.train ((state_of states event.train).head.place - 1) ((state_of states event.train).head.step - 1))
+    what_in plant states event class.Enter = what.Enter event.train event.place
+        (step_section plant event.train ((state_of states event.train).head.place - 1)
+        ((state_of states event.train).head.step - 1))
     what_in plant states event class.Out = what.Out event.train
     what_in plant states event class.Ready = what.Ready event.train event.place
     what_in plant states event class.Command = what.Told event.number
@@ -130,7 +137,8 @@ abbrev pub holders_after : What → List (Option ℕ) → List (Option ℕ)
 holders_after (what.Free x t) holders = set holders x None
 holders_after _ holders = holders
 
--- after an event line all that waits was told why only if it was so before, nobody is ready just now, and no train was held for a section that is free now
+-- after an event line all that waits was told why only if it was so before, nobody is ready just now, and no train
+-- was held for a section that is free now
 abbrev pub StaysSettled : Plant → List TrainState → What → Type 0
 StaysSettled plant states (what.Ready t m) = ⊥
 StaysSettled plant states (what.Free x u) = (t : ℕ) → t < trains plant → is_blocked_at x (state_of states t).known ≡ false
@@ -141,14 +149,17 @@ pub record HasHappened (plant : Plant) (event : Event) (before after : RunState)
   pub events : before.queue.events ≡ event ∷ after.queue.events
   pub holders : after.holders ≡ holders_after (what_of plant before.trains event) before.holders
   pub many : length after.trains ≡ length before.trains
-  pub trains : (t : ℕ) → t < trains plant → state_of after.trains t ≡ state_after plant (what_of plant before.trains event) t (state_of before.trains t)
+  pub trains : (t : ℕ) → t < trains plant → state_of after.trains t
+      ≡ state_after plant (what_of plant before.trains event) t (state_of before.trains t)
   pub time : after.instant ≡ event.at
   pub going : after.has_ended ≡ before.has_ended
   pub settled : after.is_settled ≡ true → (before.is_settled ≡ true) × StaysSettled plant before.trains (what_of plant before.trains event)
 
 -- the train's hold line was given: no arrival of it is deferred then
 pub record IsHoldLine (t : ℕ) (before after : RunState) : Type 0 where
-  pub events : (q : Event → Bool) → count_by q after.queue.events ≡ count_by q before.queue.events + count_by q (deferred_event t (state_of before.trains t).place (state_of before.trains t).deferred)
+  pub events : (q : Event → Bool) → count_by q after.queue.events
+      ≡ count_by q before.queue.events
+      + count_by q (deferred_event t (state_of before.trains t).place (state_of before.trains t).deferred)
   pub trains : after.trains ≡ set before.trains t (after_hold_line (state_of before.trains t))
   pub holders : after.holders ≡ before.holders
   pub time : after.instant ≡ before.instant
@@ -161,11 +172,16 @@ AreAllKnown plant states = (t : ℕ) → t < trains plant → (state_of states t
 
 -- the trains that are neither out nor cancelled, by number
 abbrev pub left_of : Dispatch → Plant → Front → List TrainState → List ℕ
-left_of dispatch plant front states = filter (λ t. not ((state_of states t).is_out || is_cancelled t (told dispatch.commands front))) (listed (λ t. t) (trains plant))
+left_of dispatch plant front states =
+    filter (λ t. not ((state_of states t).is_out || is_cancelled t (told dispatch.commands front))) (listed (λ t. t) (trains plant))
 
 -- a train that is untried is looked at: where an order or a held section bars its next move, that is its cause
 abbrev pub looked_told : Dispatch → Plant → Front → List (Option ℕ) → ℕ → TrainState → TrainState
-looked_told dispatch plant front holders t train_state = record train_state { known = cond (is_untried train_state) (seen_bar (told dispatch.commands front) holders t (claimed plant t train_state.place)) train_state.known }
+looked_told dispatch plant front holders t train_state =
+    record train_state {
+      known = cond (is_untried train_state)
+          (seen_bar (told dispatch.commands front) holders t (claimed plant t train_state.place)) train_state.known;
+    }
 
 -- the end line was given
 pub record IsEndLine (before after : RunState) : Type 0 where
@@ -180,13 +196,18 @@ abbrev pub passing_event : ℕ → ℕ → MoveTimes → List Event
 passing_event t p times = cond (nat_lt 0 p && times.passes) (train_event times.go class.Arrive t p ∷ []) []
 
 -- the train's next move was admitted, with these times; the arrival at its end is deferred where there is one
-pub record IsAdmitLine (plant : Plant) (front : Front) (t : ℕ) (times : MoveTimes) (arrival : Option ℕ) (before after : RunState) : Type 0 where
+pub record IsAdmitLine (plant : Plant) (front : Front) (t : ℕ) (times : MoveTimes) (arrival : Option ℕ)
+    (before after : RunState) : Type 0 where
   pub pushed : (q : Event → Bool) → let adms : List ℕ = admissions front t ++ before.instant ∷ [] in
       count_by q after.queue.events + count_by q (deferred_event t (suc (place front t)) arrival)
-      ≡ count_by q before.queue.events + tally (λ e. q (event_of e)) (freed_before plant t adms (place front t)) + count_by q (passing_event t (place front t) times)
-      + tally (λ e. q (event_of e)) (step_lines plant t adms (place front t)) + tally (λ e. q (event_of e)) (end_lines plant t adms (place front t))
+      ≡ count_by q before.queue.events + tally (λ e. q (event_of e)) (freed_before plant t adms (place front t))
+      + count_by q (passing_event t (place front t) times)
+      + tally (λ e. q (event_of e)) (step_lines plant t adms (place front t))
+      + tally (λ e. q (event_of e)) (end_lines plant t adms (place front t))
   pub are_times : times ≡ times_at plant t (admissions front t ++ before.instant ∷ []) (suc (place front t))
-  pub deferred : (at : ℕ) → arrival ≡ Some at → (is_forced plant t (suc (place front t)) ≡ false) × (suc (place front t) < moves plant t) × (at ≡ stop_time plant t times.free_run)
+  pub deferred : (at : ℕ) → arrival ≡ Some at
+      → (is_forced plant t (suc (place front t)) ≡ false) × (suc (place front t) < moves plant t)
+      × (at ≡ stop_time plant t times.free_run)
   pub not_deferred : arrival ≡ None → (is_forced plant t (suc (place front t)) ≡ true) ⊎ (suc (place front t) ≡ moves plant t)
   pub many : length after.trains ≡ length before.trains
   pub trains : (u : ℕ) → u < trains plant → state_of after.trains u ≡ state_admitted t times arrival u (state_of before.trains u)
@@ -196,13 +217,15 @@ pub record IsAdmitLine (plant : Plant) (front : Front) (t : ℕ) (times : MoveTi
   pub settled : after.is_settled ≡ false
 
 -- the train is to be admitted: it waits, its cause isn't known, and nothing bars its next move
-pub record IsNext (dispatch : Dispatch) (plant : Plant) (front : Front) (holders : List (Option ℕ)) (states : List TrainState) (t : ℕ) : Type 0 where
+pub record IsNext (dispatch : Dispatch) (plant : Plant) (front : Front) (holders : List (Option ℕ))
+    (states : List TrainState) (t : ℕ) : Type 0 where
   pub known_train : t < trains plant
   pub untried : is_untried (state_of states t) ≡ true
   pub free : seen_bar (told dispatch.commands front) holders t (claimed plant t (place front t)) ≡ None
 
 -- the train may be admitted: it waits, no hold line was given in the round, and nothing bars its next move
-pub record IsAdmissible (dispatch : Dispatch) (plant : Plant) (front : Front) (holders : List (Option ℕ)) (states : List TrainState) (t : ℕ) : Type 0 where
+pub record IsAdmissible (dispatch : Dispatch) (plant : Plant) (front : Front) (holders : List (Option ℕ))
+    (states : List TrainState) (t : ℕ) : Type 0 where
   pub known_train : t < trains plant
   pub waits : (state_of states t).waits ≡ true
   pub unheld : has_held front ≡ false
@@ -230,14 +253,17 @@ with_trains state states = record state { trains = states }
 
 -- the state before the first line: each train's first move will be ready
 pub record IsBeginning (dispatch : Dispatch) (plant : Plant) (state : RunState) : Type 0 where
-  pub events : (q : Event → Bool) → count_by q state.queue.events ≡ count_by q (gather (λ t. train_event (state_of state.trains t).times.next_ready class.Ready t 1 ∷ []) (trains plant)) + tally (λ e. q (event_of e)) (commands_due (input_of dispatch plant) [] 0 dispatch.commands)
+  pub events : (q : Event → Bool) → count_by q state.queue.events
+      ≡ count_by q (gather (λ t. train_event (state_of state.trains t).times.next_ready class.Ready t 1 ∷ []) (trains plant))
+      + tally (λ e. q (event_of e)) (commands_due (input_of dispatch plant) [] 0 dispatch.commands)
   pub holders : state.holders ≡ replicate (length plant.tables.sections) None
   pub trains : state.trains ≡ listed (outside plant) (trains plant)
   pub time : state.instant ≡ 0
   pub going : state.has_ended ≡ false
   pub settled : state.is_settled ≡ true
 
--- what may be done at the first pending event: its train is known, the section that it frees has a holder, and the section that a head enters is one of its move's
+-- what may be done at the first pending event: its train is known, the section that it frees has a holder, and the
+-- section that a head enters is one of its move's
 pub record IsReadyFor (plant : Plant) (state : RunState) (event : Event) : Type 0 where
   pub known_train : event.train < trains plant
   pub no_command : event.class ≡ class.Command → ⊥
@@ -246,15 +272,22 @@ pub record IsReadyFor (plant : Plant) (state : RunState) (event : Event) : Type 
   pub place_counts : event.class ≡ class.Enter → 1 ≤ (state_of state.trains event.train).head.place
   pub place_within : event.class ≡ class.Enter → (state_of state.trains event.train).head.place ≤ moves plant event.train
   pub step_counts : event.class ≡ class.Enter → 1 ≤ (state_of state.trains event.train).head.step
-  pub step_within : event.class ≡ class.Enter → (state_of state.trains event.train).head.step ≤ steps plant event.train ((state_of state.trains event.train).head.place - 1)
+  pub step_within : event.class ≡ class.Enter
+      → (state_of state.trains event.train).head.step
+      ≤ steps plant event.train ((state_of state.trains event.train).head.place - 1)
 
 -- the orders told may change the cause of the train's next move, or end its waiting
 abbrev pub is_touched : Plant → List Order → ℕ → TrainState → Bool
-is_touched plant orders t train_state = is_cancelled t orders || list_any (λ order. touches order t (claimed plant t train_state.place)) orders
+is_touched plant orders t train_state = is_cancelled t orders
+    || list_any (λ order. touches order t (claimed plant t train_state.place)) orders
 
 -- what is kept of a train after orders are told: a cause that they may change is no longer known, and a cancelled train doesn't wait
 abbrev pub state_told : Plant → List Order → ℕ → TrainState → TrainState
-state_told plant orders t train_state = record train_state { known = cond (is_touched plant orders t train_state) None train_state.known; waits = not (is_cancelled t orders) && train_state.waits }
+state_told plant orders t train_state =
+    record train_state {
+      known = cond (is_touched plant orders t train_state) None train_state.known;
+      waits = not (is_cancelled t orders) && train_state.waits;
+    }
 
 -- the orders were told at a command's event, or none were
 pub record HasTold (plant : Plant) (orders : List Order) (event : Event) (before after : RunState) : Type 0 where
@@ -263,7 +296,9 @@ pub record HasTold (plant : Plant) (orders : List Order) (event : Event) (before
   pub events : after.queue.events ≡ filter (stays orders) rest
   pub holders : after.holders ≡ before.holders
   pub many : length after.trains ≡ length before.trains
-  pub settled : after.is_settled ≡ true → (before.is_settled ≡ true) × ((t : ℕ) → t < trains plant → (state_of after.trains t).waits ≡ true → is_touched plant orders t (state_of before.trains t) ≡ false)
+  pub settled : after.is_settled ≡ true → (before.is_settled ≡ true)
+      × ((t : ℕ) → t < trains plant → (state_of after.trains t).waits ≡ true
+      → is_touched plant orders t (state_of before.trains t) ≡ false)
   pub trains : (t : ℕ) → t < trains plant → state_of after.trains t ≡ state_told plant orders t (state_of before.trains t)
   pub time : after.instant ≡ event.at
   pub going : after.has_ended ≡ before.has_ended
@@ -279,9 +314,11 @@ pub record IsCommandOf (dispatch : Dispatch) (event : Event) : Type 0 where
 abbrev pub is_due_now : RunState → Bool
 is_due_now state = option_map_or (λ (at : ℕ). at == state.instant) (first_time_of state.queue.events) false
 
--- whether the train's next move may be admitted by what is kept, under these orders, where a hold line was the last line or not, and this list is kept after it
+-- whether the train's next move may be admitted by what is kept, under these orders, where a hold line was the last
+-- line or not, and this list is kept after it
 abbrev pub may_admit_by : Plant → List Order → RunState → Bool → List ℕ → List ℕ → Line → ℕ → ℕ → Note → Bool
-may_admit_by plant orders state held positions list line t m note = (line.entry.at == state.instant) && (not (is_due_now state) && (state_of state.trains t).waits)
+may_admit_by plant orders state held positions list line t m note = (line.entry.at == state.instant)
+    && (not (is_due_now state) && (state_of state.trains t).waits)
     && not (is_some (seen_bar orders state.holders t (claimed plant t (state_of state.trains t).place)))
     && (m == suc (state_of state.trains t).place) && not held && note_fits line (state_of state.trains t).place note
     && completes (moves_of plant) (after positions t) list

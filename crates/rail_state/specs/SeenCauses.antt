@@ -18,7 +18,8 @@ use Rattle.rail_state.specs.Events.{event_of}
 
 -- the pending events and the arrivals that are deferred are the due lines
 abbrev pub AreDue : Input → Front → List Event → List Event → Type 0
-AreDue input front events deferred = (q : Event → Bool) → count_by q events + count_by q deferred ≡ tally (λ e. q (event_of e)) (due_lines input front)
+AreDue input front events deferred = (q : Event → Bool)
+    → count_by q events + count_by q deferred ≡ tally (λ e. q (event_of e)) (due_lines input front)
 
 -- no event makes a train ready that one of the orders cancels
 abbrev pub stays : List Order → Event → Bool
@@ -32,7 +33,8 @@ seen_bar orders holders t sections = or_else (stop_cause t orders) (or_else (clo
 
 -- the cause of a train's next move, as a run sees it
 abbrev pub seen_cause : Input → Front → List (Option ℕ) → ℕ → Option Cause
-seen_cause input front holders t = or_else (seen_bar (told input.commands front) holders t (claimed input.plant t (place front t))) (list_cause input front t)
+seen_cause input front holders t =
+    or_else (seen_bar (told input.commands front) holders t (claimed input.plant t (place front t))) (list_cause input front t)
 
 -- the order may change the cause of this train, whose next move is over these sections
 abbrev pub touches : Order → ℕ → List ℕ → Bool

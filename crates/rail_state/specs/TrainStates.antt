@@ -19,7 +19,17 @@ no_times = record { admitted = 0; passes = false; go = 0; free_run = 0; next_rea
 
 -- what stands for a train that a run doesn't have
 abbrev pub no_state : TrainState
-no_state = record { place = 0; times = no_times; head = record { place = 0; step = 0 }; deferred = None; waits = false; last_hold = None; known = None; is_out = false }
+no_state =
+    record {
+      place = 0;
+      times = no_times;
+      head = record { place = 0; step = 0 };
+      deferred = None;
+      waits = false;
+      last_hold = None;
+      known = None;
+      is_out = false;
+    }
 
 -- the train of this number
 abbrev pub state_of : List TrainState → ℕ → TrainState
@@ -27,7 +37,17 @@ state_of states t = get_or states t no_state
 
 -- a train before its entry
 abbrev pub outside : Plant → ℕ → TrainState
-outside plant t = record { place = 0; times = times_at plant t [] 0; head = record { place = 1; step = 1 }; deferred = None; waits = false; last_hold = None; known = None; is_out = false }
+outside plant t =
+    record {
+      place = 0;
+      times = times_at plant t [] 0;
+      head = record { place = 1; step = 1 };
+      deferred = None;
+      waits = false;
+      last_hold = None;
+      known = None;
+      is_out = false;
+    }
 
 -- the cause is that this section is blocked
 abbrev pub is_blocked_at : ℕ → Option Cause → Bool
@@ -47,7 +67,8 @@ without_known x train_state = record train_state { known = cond (is_blocked_at x
 -- an event line changes what is kept of a train
 abbrev pub state_after : Plant → What → ℕ → TrainState → TrainState
 state_after plant (Free x u) t train_state = without_known x train_state
-state_after plant (Enter u m x) t train_state = cond (u == t) (record train_state { head = head_behind plant t train_state.head }) train_state
+state_after plant (Enter u m x) t train_state =
+    cond (u == t) (record train_state { head = head_behind plant t train_state.head }) train_state
 state_after plant (Out u) t train_state = cond (u == t) (record train_state { is_out = true }) train_state
 state_after plant (Ready u m) t train_state = cond (u == t) (record train_state { waits = true }) train_state
 state_after plant _ t train_state = train_state
@@ -58,7 +79,10 @@ is_untried train_state = train_state.waits && not (is_some train_state.known)
 
 -- a train that is untried is looked at: where a needed section of its next move is held, that is its cause
 abbrev pub looked_at : Plant → List (Option ℕ) → ℕ → TrainState → TrainState
-looked_at plant holders t train_state = record train_state { known = cond (is_untried train_state) (held_cause holders (claimed plant t train_state.place)) train_state.known }
+looked_at plant holders t train_state =
+    record train_state {
+      known = cond (is_untried train_state) (held_cause holders (claimed plant t train_state.place)) train_state.known;
+    }
 
 -- what orders the waiting trains: when they are ready, then their number
 abbrev pub turn : List TrainState → ℕ → List ℕ
@@ -79,7 +103,15 @@ after_hold_line train_state = record train_state { last_hold = train_state.known
 
 -- what is kept of a train after the admission of its next move, with the times of that move and the arrival that is deferred
 abbrev pub admitted : MoveTimes → Option ℕ → TrainState → TrainState
-admitted times arrival train_state = record train_state { place = suc train_state.place; times = times; deferred = arrival; waits = false; last_hold = None; known = None }
+admitted times arrival train_state =
+    record train_state {
+      place = suc train_state.place;
+      times = times;
+      deferred = arrival;
+      waits = false;
+      last_hold = None;
+      known = None;
+    }
 
 -- what is kept of the trains after an admission of one of them: no cause is known
 abbrev pub state_admitted : ℕ → MoveTimes → Option ℕ → ℕ → TrainState → TrainState

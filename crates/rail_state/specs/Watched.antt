@@ -31,7 +31,8 @@ inserted t (u ∷ rest) = cond (nat_lt u t) (u ∷ inserted t rest) (t ∷ u ∷
 
 -- this train is looked at, and may be the first untried one so far
 abbrev pub look_at : Plant → List (Option ℕ) → List TrainState × Option ℕ → ℕ → List TrainState × Option ℕ
-look_at plant holders so_far t = let states = set so_far.0 t (looked_at plant holders t (state_of so_far.0 t)) in (states, first_with states so_far.1 t)
+look_at plant holders so_far t =
+    let states = set so_far.0 t (looked_at plant holders t (state_of so_far.0 t)) in (states, first_with states so_far.1 t)
 
 -- the cause of this train is no longer known where it was this section, and whether it was so for one so far
 abbrev pub look_again : ℕ → List TrainState × Bool → ℕ → List TrainState × Bool

@@ -21,7 +21,7 @@ use crate::events::event_of_train;
 use crate::pushes::{MOVE_EVENTS, push_entry};
 use crate::trains::TrainStates;
 use rail_base::{Cause, OutOfMemory, SectionNo, Time, TrainNo, What};
-use rail_block::times_of;
+use rail_block::{KnownMove, times_of};
 use rail_plan::Plant;
 use rail_queue::{Class, Event, EventQueue};
 use rail_release::Holders;
@@ -47,7 +47,8 @@ pub struct RunState {
 impl RunState {
     /// The state before the first line. All memory that it needs is taken here.
     pub fn new(alloc: Global, plant: &Plant) -> Result<RunState, OutOfMemory>
-        ensures events { IfOk result (λ state. (q : Event → Bool) → count_by q state.queue.events ≡ count_by q (gather (λ t. train_event (state_of state.trains t).times.next_ready Ready t 1 ∷ []) (trains plant.now))) }
+        ensures events { IfOk result (λ state. (q : Event → Bool) → count_by q state.queue.events
+            ≡ count_by q (gather (λ t. train_event (state_of state.trains t).times.next_ready Ready t 1 ∷ []) (trains plant.now))) }
         ensures room { IfOk result (λ state. length state.queue.events + state.queue.spare ≡ bound plant.now 0 + MOVE_EVENTS) }
         ensures trains { IfOk result (λ state. state.trains ≡ listed (outside plant.now) (trains plant.now)) }
         ensures holders { IfOk result (λ state. state.holders ≡ replicate (length plant.now.tables.sections) None) }
@@ -79,8 +80,10 @@ impl RunState {
         ensures going { self.new.has_ended ≡ self.old.has_ended }
         ensures holders { self.new.holders ≡ holders_after (what_of plant.now self.old.trains event) self.old.holders }
         ensures many { length self.new.trains ≡ length self.old.trains }
-        ensures trains { (t : ℕ) → state_of self.new.trains t ≡ state_after plant.now (what_of plant.now self.old.trains event) t (state_of self.old.trains t) }
-        ensures settled { self.new.is_settled ≡ true → (self.old.is_settled ≡ true) × StaysSettled plant.now self.old.trains (what_of plant.now self.old.trains event) }
+        ensures trains { (t : ℕ) → state_of self.new.trains t
+            ≡ state_after plant.now (what_of plant.now self.old.trains event) t (state_of self.old.trains t) }
+        ensures settled { self.new.is_settled ≡ true → (self.old.is_settled ≡ true)
+            × StaysSettled plant.now self.old.trains (what_of plant.now self.old.trains event) }
     {
         let train = event.train;
         let place = event.place;
@@ -131,9 +134,10 @@ impl RunState {
         let before = *self.trains.get(train);
         let place = before.place + 1;
         let times = times_of(plant, train, place, self.instant, &before.times);
-        let arrival = push_move(plant, &mut self.queue, train, place, &times);
+        let known = KnownMove::new(plant, train, place);
+        let arrival = push_move(&known, &mut self.queue, &times);
         self.trains.admit(train, times, arrival);
-        take_sections(plant, &mut self.holders, train, place);
+        take_sections(&known, &mut self.holders);
         self.is_settled = false;
     }
 
@@ -145,7 +149,8 @@ impl RunState {
         requires place { (state_of self.old.trains train).place < 65535 }
         requires room { 1 ≤ self.old.queue.spare }
         requires unsettled { self.old.is_settled ≡ false }
-        ensures what { (why : Cause) → (state_of self.old.trains train).known ≡ Some why → result ≡ Hold train ((state_of self.old.trains train).place + 1) why }
+        ensures what { (why : Cause) → (state_of self.old.trains train).known ≡ Some why
+            → result ≡ Hold train ((state_of self.old.trains train).place + 1) why }
         ensures line { IsHoldLine train self.old self.new }
         ensures room { length self.new.queue.events + self.new.queue.spare ≡ length self.old.queue.events + self.old.queue.spare }
     {
@@ -174,7 +179,8 @@ fn held(train: TrainNo, place: u16, known: Option<Cause>) -> What
 /// Pushes the arrival of the train at the end of this move, where there is one that was deferred.
 fn push_deferred(queue: &mut EventQueue, train: TrainNo, place: u16, arrival: Option<Time>)
     requires { 1 ≤ queue.old.spare }
-    ensures counted { (q : Event → Bool) → count_by q queue.new.events ≡ count_by q queue.old.events + count_by q (deferred_event train place arrival) }
+    ensures counted { (q : Event → Bool) → count_by q queue.new.events
+        ≡ count_by q queue.old.events + count_by q (deferred_event train place arrival) }
     ensures room { length queue.new.events + queue.new.spare ≡ length queue.old.events + queue.old.spare }
 {
     if let Some(at) = arrival {
@@ -196,7 +202,8 @@ fn first_events(
     states: &TrainStates,
 ) -> Result<EventQueue, OutOfMemory>
     requires { states.now ≡ listed (outside plant.now) (trains plant.now) }
-    ensures counted { IfOk result (λ queue. (q : Event → Bool) → count_by q queue.events ≡ count_by q (gather (λ t. train_event (state_of states.now t).times.next_ready Ready t 1 ∷ []) (trains plant.now))) }
+    ensures counted { IfOk result (λ queue. (q : Event → Bool) → count_by q queue.events
+        ≡ count_by q (gather (λ t. train_event (state_of states.now t).times.next_ready Ready t 1 ∷ []) (trains plant.now))) }
     ensures room { IfOk result (λ queue. length queue.events + queue.spare ≡ bound plant.now 0 + MOVE_EVENTS) }
 {
     let trains = plant.moves().trains();

@@ -70,7 +70,8 @@ impl TrainStates {
         requires last { (state_of self.old train).head.place ≤ moves plant.now train }
         requires first_step { 1 ≤ (state_of self.old train).head.step }
         requires last_step { (state_of self.old train).head.step ≤ steps plant.now train ((state_of self.old train).head.place - 1) }
-        ensures section { result ≡ step_section plant.now train ((state_of self.old train).head.place - 1) ((state_of self.old train).head.step - 1) }
+        ensures section { result ≡ step_section plant.now train ((state_of self.old train).head.place - 1)
+            ((state_of self.old train).head.step - 1) }
         ensures length { length self.new ≡ length self.old }
         ensures trains { (m x t : ℕ) → state_of self.new t ≡ state_after plant.now (Enter train m x) t (state_of self.old t) }
     {
@@ -104,7 +105,8 @@ impl TrainStates {
     /// A section is free: the causes of the trains that were held for it are no longer known. Whether there were any.
     pub fn look_again_at(&mut self, section: SectionNo) -> bool
         ensures length { length self.new ≡ length self.old }
-        ensures trains { (plant : Plant) (u t : ℕ) → state_of self.new t ≡ state_after plant (Free section u) t (state_of self.old t) }
+        ensures trains { (plant : Plant) (u t : ℕ) → state_of self.new t
+            ≡ state_after plant (Free section u) t (state_of self.old t) }
         ensures any { result ≡ false → (t : ℕ) → is_blocked_at section (state_of self.old t).known ≡ false }
         ensures some { result ≡ true → (t : ℕ) × (is_blocked_at section (state_of self.old t).known ≡ true) }
     {
@@ -117,10 +119,13 @@ impl TrainStates {
     pub fn look(&mut self, plant: &Plant, holders: &Holders) -> Option<TrainNo>
         requires known { length self.old ≡ trains plant.now }
         requires sections { length holders.now ≡ length plant.now.tables.sections }
-        requires moves { (t : ℕ) → t < trains plant.now → (state_of self.old t).waits ≡ true → (state_of self.old t).place < moves plant.now t }
+        requires moves { (t : ℕ) → t < trains plant.now → (state_of self.old t).waits ≡ true
+            → (state_of self.old t).place < moves plant.now t }
         ensures length { length self.new ≡ length self.old }
-        ensures trains { (t : ℕ) → t < length self.old → state_of self.new t ≡ looked_at plant.now holders.now t (state_of self.old t) }
-        ensures first { MatchOption result ((t : ℕ) → is_untried (state_of self.new t) ≡ false) (λ train. (train < length self.new) × IsReadyFirst self.new train) }
+        ensures trains { (t : ℕ) → t < length self.old → state_of self.new t
+            ≡ looked_at plant.now holders.now t (state_of self.old t) }
+        ensures first { MatchOption result ((t : ℕ) → is_untried (state_of self.new t) ≡ false)
+            (λ train. (train < length self.new) × IsReadyFirst self.new train) }
     {
         look_at_each(&mut self.rows, &self.watched, plant, holders)
     }
@@ -137,7 +142,9 @@ impl TrainStates {
 
     /// The first train that has a known cause which its last hold line doesn't name.
     pub fn first_lacking(&self) -> Option<TrainNo>
-        ensures { MatchOption result ((t : ℕ) → lacks_hold_line (state_of self.now t) ≡ false) (λ train. (train < length self.now) × (lacks_hold_line (state_of self.now train) ≡ true) × ((u : ℕ) → u < train → lacks_hold_line (state_of self.now u) ≡ false)) }
+        ensures { MatchOption result ((t : ℕ) → lacks_hold_line (state_of self.now t) ≡ false)
+            (λ train. (train < length self.now) × (lacks_hold_line (state_of self.now train) ≡ true)
+            × ((u : ℕ) → u < train → lacks_hold_line (state_of self.now u) ≡ false)) }
     {
         first_lacking(&self.rows, &self.watched)
     }
@@ -157,7 +164,8 @@ impl TrainStates {
         requires train { train < length self.old }
         requires place { (state_of self.old train).place < 65535 }
         ensures length { length self.new ≡ length self.old }
-        ensures trains { (t : ℕ) → t < length self.old → state_of self.new t ≡ state_admitted train times arrival t (state_of self.old t) }
+        ensures trains { (t : ℕ) → t < length self.old → state_of self.new t
+            ≡ state_admitted train times arrival t (state_of self.old t) }
     {
         forget_causes(&mut self.rows, &self.watched);
         let train_state = &mut self.rows[usize::from(train.0)];

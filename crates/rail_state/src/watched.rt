@@ -18,7 +18,8 @@ use rail_release::Holders;
 pub(crate) fn watch(watched: &mut Vec<TrainNo>, rows: &[TrainState], train: TrainNo)
     requires train { train < length rows.now }
     requires watched { AreWatched rows.now watched.old }
-    ensures watched { watched.new.items ≡ cond (is_watched (state_of rows.now train)) watched.old.items (inserted train watched.old.items) }
+    ensures watched { watched.new.items
+        ≡ cond (is_watched (state_of rows.now train)) watched.old.items (inserted train watched.old.items) }
     ensures room { vec_capacity watched.new ≡ vec_capacity watched.old }
 {
     if !rows[usize::from(train.0)].is_watched() {
@@ -66,7 +67,8 @@ pub(crate) fn look_at_each(
     requires watched { All (λ t. t < length rows.old) watched.now }
     requires known { length rows.old ≡ trains plant.now }
     requires sections { length holders.now ≡ length plant.now.tables.sections }
-    requires moves { (t : ℕ) → t < trains plant.now → (state_of rows.old t).waits ≡ true → (state_of rows.old t).place < moves plant.now t }
+    requires moves { (t : ℕ) → t < trains plant.now → (state_of rows.old t).waits ≡ true
+        → (state_of rows.old t).place < moves plant.now t }
     ensures { (rows.new, result) ≡ fold (look_at plant.now holders.now) (rows.old, None) watched.now }
 {
     let mut first = None;

@@ -23,7 +23,8 @@ pub fn the_loop_is_an_instance()
     ensures free { NothingIsBarred loop_row.input loop_row.front }
     ensures nobody_cancelled { NobodyIsCancelled loop_row.input loop_row.front }
     ensures apart { NeverOverlap loop_row.plant loop_row.front }
-    ensures list { IsTrue (completes (moves_of loop_row.plant) (places loop_row.plant loop_row.front) (kept loop_row.plant loop_row.front)) }
+    ensures list { IsTrue (completes (moves_of loop_row.plant) (places loop_row.plant loop_row.front)
+        (kept loop_row.plant loop_row.front)) }
     ensures all_out { (t : ℕ) → t < trains loop_row.plant
         → IsTrue (is_out loop_row.front t) ⊎ IsTrue (is_cancelled t (told loop_row.input.commands loop_row.front)) }
     ensures lines { lines_beside_holds loop_row.front ≡ bound loop_row.plant (length loop_row.input.commands) }
@@ -43,7 +44,8 @@ pub fn the_deadlock_avoided_is_an_instance()
     ensures free { NothingIsBarred deadlock.input deadlock.front }
     ensures nobody_cancelled { NobodyIsCancelled deadlock.input deadlock.front }
     ensures apart { NeverOverlap deadlock.plant deadlock.front }
-    ensures list { IsTrue (completes (moves_of deadlock.plant) (places deadlock.plant deadlock.front) (kept deadlock.plant deadlock.front)) }
+    ensures list { IsTrue (completes (moves_of deadlock.plant) (places deadlock.plant deadlock.front)
+        (kept deadlock.plant deadlock.front)) }
     ensures all_out { (t : ℕ) → t < trains deadlock.plant
         → IsTrue (is_out deadlock.front t) ⊎ IsTrue (is_cancelled t (told deadlock.input.commands deadlock.front)) }
     ensures lines { lines_beside_holds deadlock.front ≡ bound deadlock.plant (length deadlock.input.commands) }

@@ -6,10 +6,7 @@ ghost use Rattle.rail_rules.specs.Plant.{moves, steps, trains};
 ghost use Rattle.rail_block.specs.CarriedTimes.{AreBelow};
 
 use rail_base::{Cause, Fault, Interval, Parts, SectionNo, Time, TrainNo, What};
-use rail_block::{
-    MoveTimes, arrive_time, end_of, enter_time, entry_times, interval_of, leave_time, out_time,
-    stop_at, times_of,
-};
+use rail_block::{KnownMove, KnownStep, MoveTimes, enter_time, entry_times, interval_of, times_of};
 use rail_engine::Engine;
 use rail_plan::Plant;
 use rail_scene::{compile, read_scene};
@@ -79,32 +76,24 @@ fn both_moves(rt: &impl Abort, plant: &Plant) -> (MoveTimes, MoveTimes)
 /// When it arrives, enters, leaves, clears and is out.
 fn runs_in_time(rt: &impl Abort, plant: &Plant) {
     let (first, second) = both_moves(rt, plant);
-    assert_eq!(rt; stop_at(plant, A, &first), Time(2_020));
-    assert_eq!(rt;
-        arrive_time(plant, A, 1, &first, Some(&second)),
-        Time(2_020)
-    );
-    assert_eq!(rt; arrive_time(plant, A, 2, &second, None), Time(2_580));
+    let there = KnownMove::new(plant, A, 1);
+    let back = KnownMove::new(plant, A, 2);
+    assert_eq!(rt; there.stop_at(&first), Time(2_020));
+    assert_eq!(rt; there.arrive_time(&first, Some(&second)), Time(2_020));
+    assert_eq!(rt; back.arrive_time(&second, None), Time(2_580));
     assert_eq!(rt; enter_time(plant, A, 2, &second, 1), Time(2_060));
     // The start supplement and PW.
     assert_eq!(rt; enter_time(plant, A, 2, &second, 2), Time(2_180));
     // W, and then PW.
-    assert_eq!(rt;
-        leave_time(plant, A, 1, 2, &first, Some(&second)),
-        Time(1_620)
-    );
-    assert_eq!(rt;
-        leave_time(plant, A, 1, 3, &first, Some(&second)),
-        Time(2_020)
-    );
+    let over_pw = KnownStep::new(&there, 2);
+    let over_l1 = KnownStep::new(&there, 3);
+    assert_eq!(rt; over_pw.leave_time(&first, Some(&second)), Time(1_620));
+    assert_eq!(rt; over_l1.leave_time(&first, Some(&second)), Time(2_020));
     // The train is clear of PW 400 after its head, and PW is given free 20 later.
-    assert_eq!(rt; end_of(plant, A, 1, 2, &first, None), Some(Time(2_040)));
+    assert_eq!(rt; over_pw.end_of(&first, None), Some(Time(2_040)));
     // It begins to clear L1 after its start supplement.
-    assert_eq!(rt;
-        end_of(plant, A, 1, 3, &first, Some(&second)),
-        Some(Time(2_580))
-    );
-    assert_eq!(rt; out_time(plant, A, &second), Time(2_980));
+    assert_eq!(rt; over_l1.end_of(&first, Some(&second)), Some(Time(2_580)));
+    assert_eq!(rt; back.out_time(&second), Time(2_980));
 }
 
 /// The blocking interval of L1, on which it stands: open at first, and closed by its second move.

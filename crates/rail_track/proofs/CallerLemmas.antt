@@ -6,6 +6,8 @@ pub use Rattle.rail_track.proofs.Rolls.{found_item, list_any-map}
 pub use Rattle.rail_track.proofs.Tallies.{same_from_name, same_name-comm, same_name-self}
 -- Refusals: first refusals.
 pub use Rattle.rail_track.proofs.Refusals.{all_passed, none_failing, passed_at, refused_at}
+-- the fault that a call passes up
+pub use Rattle.rail_track.proofs.Refusals.{passed_up}
 -- no test fails
 pub use Rattle.rail_track.proofs.Refusals.{AllPassed}
 -- the first refusal answers itself

@@ -1,7 +1,8 @@
 -- First refusals.
-use Rattle.std.proofs.Common.{◌≡◌, ℕ, ◌+◌, ◌<◌, Bool, true, false, cond, ◌||◌, List, [], ◌∷◌, ◌++◌, length, drop, get_or, Option, Some, None, refl, sym, ap, ◌∙◌}
+use Rattle.std.proofs.Common.{◌≡◌, ℕ, ◌+◌, ◌<◌, Bool, true, false, cond, ◌||◌, List, [], ◌∷◌, ◌++◌, length, drop, get_or, Option, Some, None, Result, Ok, Err, IfErr, refl, sym, ap, ◌∙◌, subst}
 use Rattle.std.specs.List.{list_any}
 use Rattle.std.specs.Option.{option_or}
+use Rattle.std.specs.Result.{IsErrAnd}
 use Rattle.std.proofs.lemmas.List.{at_drop_more}
 use Rattle.rail_base.specs.declared.refusals.Reason.{Reason}
 use Rattle.rail_track.specs.declared.section.NetFault.{NetFault}
@@ -55,7 +56,10 @@ none_failing [] h = refl
 none_failing (t ∷ ts) h = ap (λ b. cond b (Some t.answer) (first_failing ts)) h.0 ∙ none_failing ts h.1
 
 -- a test that fails less often passes where the other does
-pub passes_too : {X : Type 0} (reason : Reason) (fails less : X → Bool) → ((x : X) → fails x ≡ false → less x ≡ false) → (n : ℕ) (xs : List X) → AllPassed (tests_over (λ step x. refused_where reason step (fails x)) n xs) → AllPassed (tests_over (λ step x. refused_where reason step (less x)) n xs)
+pub passes_too : {X : Type 0} (reason : Reason) (fails less : X → Bool) →
+    ((x : X) → fails x ≡ false → less x ≡ false) → (n : ℕ) (xs : List X) →
+    AllPassed (tests_over (λ step x. refused_where reason step (fails x)) n xs) →
+    AllPassed (tests_over (λ step x. refused_where reason step (less x)) n xs)
 passes_too reason fails less weaker n [] h = tt
 passes_too reason fails less weaker n (x ∷ xs) h = (weaker x h.0, passes_too reason fails less weaker (n + 1) xs h.1)
 
@@ -63,3 +67,8 @@ passes_too reason fails less weaker n (x ∷ xs) h = (weaker x h.0, passes_too r
 pub answers_first : (first : Option NetFault) (fault : NetFault) → first ≡ Some fault → Answers first fault
 answers_first first (Refused reason step) is = is
 answers_first first OutOfMemory is = tt
+
+-- the fault that a call passes up answers what the called one answered
+pub passed_up : {X E : Type 0} (result : Result X E) (fault : E) (Q : E → Type 0) → IsErrAnd result (λ error. error ≡ fault) → Q fault → IfErr result Q
+passed_up (Ok done) fault Q is answers = tt
+passed_up (Err error) fault Q is answers = subst Q (sym is) answers

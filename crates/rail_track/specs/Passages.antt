@@ -22,4 +22,5 @@ leads from to passage = (same_name from passage.0 && same_name to passage.1) || 
 
 -- the section of this name has a passage from the one joint to the other
 abbrev pub has_passage : List Section → List ℕ → List ℕ → List ℕ → Bool
-has_passage sections name from to = option_map_or (λ section. list_any (leads from to) (passages section.kind section.joints)) (section_named name sections) false
+has_passage sections name from to =
+    option_map_or (λ section. list_any (leads from to) (passages section.kind section.joints)) (section_named name sections) false

@@ -28,7 +28,8 @@ stands_twice joints joint = nat_le 2 (count_by (same_name joint) joints)
 
 -- each joint takes a further section: it stands once in this one, and is not closed to others
 abbrev pub joint_tests : (List ℕ → Bool) → List (List ℕ) → List (Test NetFault)
-joint_tests is_closed joints = tests_over (λ step joint. refused_where JointCrowded step (stands_twice joints joint || is_closed joint)) 1 joints
+joint_tests is_closed joints =
+    tests_over (λ step joint. refused_where JointCrowded step (stands_twice joints joint || is_closed joint)) 1 joints
 
 -- the tests of a new section beside these, in their order
 abbrev pub section_tests : List Section → (List ℕ → Bool) → Section → List (Test NetFault)

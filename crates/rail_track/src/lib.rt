@@ -11,8 +11,6 @@ mod passing;
 mod roll;
 mod section;
 mod tally;
-#[cfg(test)]
-mod tests;
 mod track;
 
 pub use accepting::ClosedJoints;

@@ -20,7 +20,8 @@ pub fn times<K: Eq + Hash>(tally: &Tally<K>, key: &K) -> u32
 pub fn count_each<K: Eq + Hash + Drop, T: Keyed<K>>(tally: &mut Tally<K>, items: &[T])
     requires room { length items.now ≤ spare tally.old }
     requires fits { (key : K) → times K.eq tally.old key + count_by (K.eq key) (map T.key_of items.now) < 2 ^ 32 }
-    ensures counted { (key : K) → times K.eq tally.new key ≡ times K.eq tally.old key + count_by (K.eq key) (map T.key_of items.now) }
+    ensures counted { (key : K) →
+        times K.eq tally.new key ≡ times K.eq tally.old key + count_by (K.eq key) (map T.key_of items.now) }
     ensures spare { spare tally.old ≤ spare tally.new + length items.now }
 {
     for item in items {
@@ -31,7 +32,8 @@ pub fn count_each<K: Eq + Hash + Drop, T: Keyed<K>>(tally: &mut Tally<K>, items:
 /// Counts the key of each of the items once less.
 pub fn discount_each<K: Eq + Hash + Drop, T: Keyed<K>>(tally: &mut Tally<K>, items: &[T])
     requires counted { (key : K) → count_by (K.eq key) (map T.key_of items.now) ≤ times K.eq tally.old key }
-    ensures discounted { (key : K) → times K.eq tally.new key + count_by (K.eq key) (map T.key_of items.now) ≡ times K.eq tally.old key }
+    ensures discounted { (key : K) →
+        times K.eq tally.new key + count_by (K.eq key) (map T.key_of items.now) ≡ times K.eq tally.old key }
 {
     for item in items {
         discount(tally, item.key());

@@ -10,7 +10,7 @@ use Rattle.rail_base.specs.declared.refusals.Refusal.{Refusal}
 use Rattle.rail_rules.specs.Moves.{Moves}
 use Rattle.rail_track.specs.FirstRefusals.{first_failing}
 use Rattle.rail_track.proofs.CallerLemmas.{first_failing-append}
-use Rattle.rail_words.specs.Lists.{Listed, knows, number_of_train, train_of, with_moves, is_comment, sets, moves_trains, asked_tests, line_tests, lines_tests, after_line, words}
+use Rattle.rail_words.specs.Lists.{Listed, knows, number_of_train, train_of, with_moves, is_comment, sets, moves_trains, asked_tests, line_refusal, line_tests, lines_tests, after_line, words}
 use Rattle.rail_base.specs.declared.refusals.Fault.{Fault}
 use Rattle.rail_base.specs.declared.refusals.Fault.TheVariants.{Refused, OutOfMemory}
 use Rattle.rail_words.specs.ListAnswers.{Answers, IsListFor}
@@ -62,13 +62,18 @@ pub asked : (names : List (List ℕ)) (plan : Moves) (is_moving : Bool) (n : ℕ
 asked names plan is_moving n line verb args is plain = ap (line_tests names plan is_moving n) is ∙ ap (λ b. cond b [] (asked_tests names plan is_moving n verb args)) plain
 
 -- a line that is accepted leaves the refusal to the others
-pub accepted_line : (names : List (List ℕ)) (plan : Moves) (listed : Listed) (n : ℕ) (line : List ℕ) (lines : List (List ℕ)) → first_failing (line_tests names plan listed.is_moving n (words line)) ≡ None → first_failing (lines_tests names plan listed n (line ∷ lines)) ≡ first_failing (lines_tests names plan (after_line names listed n (words line)) (n + 1) lines)
+pub accepted_line : (names : List (List ℕ)) (plan : Moves) (listed : Listed) (n : ℕ) (line : List ℕ) (lines : List (List ℕ)) →
+    line_refusal names plan listed n line ≡ None →
+    first_failing (lines_tests names plan listed n (line ∷ lines))
+    ≡ first_failing (lines_tests names plan (after_line names listed n (words line)) (n + 1) lines)
 accepted_line names plan listed n line lines ok =
     first_failing-append (line_tests names plan listed.is_moving n (words line)) (lines_tests names plan (after_line names listed n (words line)) (n + 1) lines)
     ∙ ap (λ o. option_or o (first_failing (lines_tests names plan (after_line names listed n (words line)) (n + 1) lines))) ok
 
 -- the refusal of a line is that of the lines from it on
-pub refused_line_first : (names : List (List ℕ)) (plan : Moves) (listed : Listed) (n : ℕ) (line : List ℕ) (lines : List (List ℕ)) (r : Refusal) → first_failing (line_tests names plan listed.is_moving n (words line)) ≡ Some r → first_failing (lines_tests names plan listed n (line ∷ lines)) ≡ Some r
+pub refused_line_first : (names : List (List ℕ)) (plan : Moves) (listed : Listed) (n : ℕ) (line : List ℕ) (lines : List (List ℕ)) (r : Refusal) →
+    line_refusal names plan listed n line ≡ Some r →
+    first_failing (lines_tests names plan listed n (line ∷ lines)) ≡ Some r
 refused_line_first names plan listed n line lines r bad =
     first_failing-append (line_tests names plan listed.is_moving n (words line)) (lines_tests names plan (after_line names listed n (words line)) (n + 1) lines)
     ∙ ap (λ o. option_or o (first_failing (lines_tests names plan (after_line names listed n (words line)) (n + 1) lines))) bad
@@ -79,6 +84,8 @@ both_on_ok (Ok x) a b f = f a b
 both_on_ok (Err e) a b f = tt
 
 -- what answers a line answers the lines from it on
-pub answers_lines : (names : List (List ℕ)) (plan : Moves) (listed : Listed) (n : ℕ) (line : List ℕ) (lines : List (List ℕ)) (first : Option Refusal) (fault : Fault) → first ≡ first_failing (lines_tests names plan listed n (line ∷ lines)) → Answers (first_failing (line_tests names plan listed.is_moving n (words line))) fault → Answers first fault
+pub answers_lines : (names : List (List ℕ)) (plan : Moves) (listed : Listed) (n : ℕ) (line : List ℕ) (lines : List (List ℕ)) (first : Option Refusal) (fault : Fault) →
+    first ≡ first_failing (lines_tests names plan listed n (line ∷ lines)) →
+    Answers (line_refusal names plan listed n line) fault → Answers first fault
 answers_lines names plan listed n line lines first (Refused r) is answer = is ∙ refused_line_first names plan listed n line lines r answer
 answers_lines names plan listed n line lines first OutOfMemory is answer = tt

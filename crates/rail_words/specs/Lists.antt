@@ -34,7 +34,8 @@ value_on n (b ∷ bs) = value_on (10 * n + (b - 48)) bs
 abbrev pub value_of : List ℕ → ℕ
 value_of digits = value_on 0 digits
 
--- what a list file says: the position of each train, the trains to be moved in order, the last line that sets a position, and whether a train is to be moved
+-- what a list file says: the position of each train, the trains to be moved in order, the last line that sets a
+-- position, and whether a train is to be moved
 pub record Listed : Type 0 where
   pub positions : List ℕ
   pub list : List ℕ
@@ -72,7 +73,9 @@ is_position _ = false
 
 -- a line is `at TRAIN POSITION`, before any train is moved, or `move TRAIN [TRAIN ..]`
 abbrev pub has_form : Bool → List ℕ → List (List ℕ) → Bool
-has_form is_moving verb args = (sets verb && not is_moving && is_position args) || (moves_trains verb && not (length args == 0) && list_all is_name args)
+has_form is_moving verb args =
+    (sets verb && not is_moving && is_position args)
+    || (moves_trains verb && not (length args == 0) && list_all is_name args)
 
 -- the trains that a line names
 abbrev pub trains_named : List ℕ → List (List ℕ) → List (List ℕ)
@@ -104,9 +107,20 @@ abbrev pub line_tests : List (List ℕ) → Moves → Bool → ℕ → List (Lis
 line_tests names plan is_moving n [] = []
 line_tests names plan is_moving n (verb ∷ args) = cond (is_comment verb) [] (asked_tests names plan is_moving n verb args)
 
+-- why a line of this verb is refused, if it is, after what is listed
+abbrev pub asked_refusal : List (List ℕ) → Moves → Listed → ℕ → List ℕ → List (List ℕ) → Option Refusal
+asked_refusal names plan listed n verb args = first_failing (asked_tests names plan listed.is_moving n verb args)
+
+-- why a line is refused, if it is, after what is listed
+abbrev pub line_refusal : List (List ℕ) → Moves → Listed → ℕ → List ℕ → Option Refusal
+line_refusal names plan listed n line = first_failing (line_tests names plan listed.is_moving n (words line))
+
 -- what is listed after a line of this form
 abbrev pub with_position : List (List ℕ) → Listed → ℕ → List (List ℕ) → Listed
-with_position names listed n (train ∷ number ∷ []) = record listed { positions = set listed.positions (number_of_train names train) (value_of number); last_at = n }
+with_position names listed n (train ∷ number ∷ []) = record listed {
+  positions = set listed.positions (number_of_train names train) (value_of number);
+  last_at = n;
+}
 with_position names listed n _ = listed
 
 -- what is listed after moves of trains
@@ -116,12 +130,15 @@ with_moves names listed args = record listed { list = listed.list ++ map (number
 -- what is listed after a line
 abbrev pub after_line : List (List ℕ) → Listed → ℕ → List (List ℕ) → Listed
 after_line names listed n [] = listed
-after_line names listed n (verb ∷ args) = cond (is_comment verb) listed (cond (sets verb) (with_position names listed n args) (with_moves names listed args))
+after_line names listed n (verb ∷ args) =
+    cond (is_comment verb) listed (cond (sets verb) (with_position names listed n args) (with_moves names listed args))
 
 -- the tests of the lines, the first of which is counted n
 abbrev pub lines_tests : List (List ℕ) → Moves → Listed → ℕ → List (List ℕ) → List (Test Refusal)
 lines_tests names plan listed n [] = []
-lines_tests names plan listed n (line ∷ lines) = line_tests names plan listed.is_moving n (words line) ++ lines_tests names plan (after_line names listed n (words line)) (n + 1) lines
+lines_tests names plan listed n (line ∷ lines) =
+    line_tests names plan listed.is_moving n (words line)
+    ++ lines_tests names plan (after_line names listed n (words line)) (n + 1) lines
 
 -- what is listed after the lines, the first of which is counted n
 abbrev pub after_lines : List (List ℕ) → Listed → ℕ → List (List ℕ) → Listed

@@ -74,14 +74,13 @@ pub(crate) fn value_of(digits: &[u8]) -> u64
 pub(crate) fn read_position(args: &[u8]) -> Option<(Name, u64)>
     ensures { MatchOption result
         (is_position (words args.now) ≡ false)
-        (λ read. (number : List ℕ) × (words args.now ≡ read.0 ∷ number ∷ []) × (is_position (words args.now) ≡ true) × (read.1 ≡ min (value_of number) (2 ^ 64 - 1))) }
+        (λ read. (number : List ℕ)
+        × (words args.now ≡ read.0 ∷ number ∷ [])
+        × (is_position (words args.now) ≡ true)
+        × (read.1 ≡ min (value_of number) (2 ^ 64 - 1))) }
 {
-    let Some((train, rest)) = next_word(args) else {
-        return None;
-    };
-    let Some((number, rest)) = next_word(rest) else {
-        return None;
-    };
+    let (train, rest) = next_word(args)?;
+    let (number, rest) = next_word(rest)?;
     if next_word(rest).is_some() || !is_decimal(number) {
         return None;
     }

@@ -11,8 +11,6 @@ mod cutting;
 mod forms;
 mod list;
 mod numbers;
-#[cfg(test)]
-mod tests;
 
 pub use forms::{Form, form_of};
 pub use list::{ListFile, read_list};

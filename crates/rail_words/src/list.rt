@@ -1,12 +1,10 @@
-ghost use Rattle.std.specs.Prelude.{◌≡◌, ◌≢◌, ℕ, ◌+◌, ◌-◌, ◌<◌, ◌≤◌, ◌^◌, ◌∷◌, [], ◌++◌, ◌⊎◌, List, length, map, set, true, false, Some, None, OnOk, OnErr, IfOk, IfErr};
+ghost use Rattle.std.specs.Prelude.{◌≡◌, ℕ, ◌+◌, ◌-◌, ◌<◌, ◌≤◌, ◌^◌, ◌++◌, List, length, map, set, true, false, Some, None, OnOk, IfOk, IfErr};
 ghost use Rattle.std.specs.List.{list_all};
 ghost use Rattle.rail_base.specs.NameForms.{is_name};
 ghost use Rattle.rail_place.specs.Tables.{moves_in};
-ghost use Rattle.rail_track.specs.FirstRefusals.{first_failing};
 ghost use Rattle.rail_rules.specs.Moves.{Moves as plan_of_moves};
-ghost use Rattle.rail_words.specs.Lists.{after_line, asked_tests, is_comment, knows, line_tests, list_line_refusal, listed_in, moves_trains, nothing_listed, number_of_train, sets, train_of, with_moves, with_position, words};
-ghost use Rattle.rail_words.specs.ListAnswers.{Answers, IsListFor, IsPosition, refusal_at};
-ghost use Rattle.rail_base.specs.declared.refusals.Reason.TheVariants.{ListForm, ListName};
+ghost use Rattle.rail_words.specs.Lists.{after_line, asked_refusal, knows, line_refusal, list_line_refusal, listed_in, moves_trains, nothing_listed, number_of_train, sets, train_of, with_moves, with_position, words};
+ghost use Rattle.rail_words.specs.ListAnswers.{Answers, IsListFor, IsPosition, IsRefusedMoves, IsRefusedPosition, refusal_at};
 
 use crate::checking::{Verb, are_known, are_names, read_position, train_of, verb_of};
 use crate::cutting::{next_line, next_word};
@@ -29,7 +27,12 @@ impl Model for ListFile {
 
     ghost Value = { Listed };
 
-    ghost view = { λ file. record { positions = file.positions.items; list = file.list.items; last_at = file.last_at; is_moving = file.is_moving } };
+    ghost view = { λ file. record {
+      positions = file.positions.items;
+      list = file.list.items;
+      last_at = file.last_at;
+      is_moving = file.is_moving;
+    } };
 }
 
 impl ListFile {
@@ -77,10 +80,10 @@ impl ListFile {
         requires names { length names.now.trains.keys ≡ length moves.now }
         requires few { length moves.now ≤ 2 ^ 16 }
         requires list { IsListFor moves.now self.old }
-        ensures accepted { OnOk result (first_failing (line_tests names.now.trains.keys (moves_in moves.now) self.old.is_moving number (words line.now)) ≡ None) }
+        ensures accepted { OnOk result (line_refusal names.now.trains.keys (moves_in moves.now) self.old number line.now ≡ None) }
         ensures listed { OnOk result (self.new ≡ after_line names.now.trains.keys self.old number (words line.now)) }
         ensures list { OnOk result (IsListFor moves.now self.new) }
-        ensures refused { IfErr result (Answers (first_failing (line_tests names.now.trains.keys (moves_in moves.now) self.old.is_moving number (words line.now)))) }
+        ensures refused { IfErr result (Answers (line_refusal names.now.trains.keys (moves_in moves.now) self.old number line.now)) }
     {
         let Some((verb, args)) = next_word(line) else {
             return Ok(());
@@ -104,10 +107,12 @@ impl ListFile {
         requires names { length names.now.trains.keys ≡ length moves.now }
         requires few { length moves.now ≤ 2 ^ 16 }
         requires list { IsListFor moves.now self.old }
-        ensures accepted { (verb : List ℕ) → sets verb ≡ true → OnOk result (first_failing (asked_tests names.now.trains.keys (moves_in moves.now) self.old.is_moving number verb (words args.now)) ≡ None) }
+        ensures accepted { (verb : List ℕ) → sets verb ≡ true →
+            OnOk result (asked_refusal names.now.trains.keys (moves_in moves.now) self.old number verb (words args.now) ≡ None) }
         ensures listed { OnOk result (self.new ≡ with_position names.now.trains.keys self.old number (words args.now)) }
         ensures list { OnOk result (IsListFor moves.now self.new) }
-        ensures refused { (verb : List ℕ) → sets verb ≡ true → IfErr result (Answers (first_failing (asked_tests names.now.trains.keys (moves_in moves.now) self.old.is_moving number verb (words args.now)))) }
+        ensures refused { (verb : List ℕ) → sets verb ≡ true →
+            IfErr result (Answers (asked_refusal names.now.trains.keys (moves_in moves.now) self.old number verb (words args.now))) }
     {
         if self.is_moving {
             return Err(refusal_at(Reason::ListForm, number));
@@ -121,10 +126,12 @@ impl ListFile {
     /// Reads what stands behind `move`.
     fn read_moves(&mut self, names: &Names, number: u32, args: &[u8]) -> Result<(), Fault>
         requires few { length names.now.trains.keys ≤ 2 ^ 16 }
-        ensures accepted { (plan : plan_of_moves) (verb : List ℕ) → sets verb ≡ false → moves_trains verb ≡ true → OnOk result (first_failing (asked_tests names.now.trains.keys plan self.old.is_moving number verb (words args.now)) ≡ None) }
+        ensures accepted { (plan : plan_of_moves) (verb : List ℕ) → sets verb ≡ false → moves_trains verb ≡ true →
+            OnOk result (asked_refusal names.now.trains.keys plan self.old number verb (words args.now) ≡ None) }
         ensures listed { OnOk result (self.new ≡ with_moves names.now.trains.keys self.old (words args.now)) }
         ensures known { OnOk result (list_all (knows names.now.trains.keys) (words args.now) ≡ true) }
-        ensures refused { (plan : plan_of_moves) (verb : List ℕ) → sets verb ≡ false → moves_trains verb ≡ true → IfErr result (Answers (first_failing (asked_tests names.now.trains.keys plan self.old.is_moving number verb (words args.now)))) }
+        ensures refused { (plan : plan_of_moves) (verb : List ℕ) → sets verb ≡ false → moves_trains verb ≡ true →
+            IfErr result (Answers (asked_refusal names.now.trains.keys plan self.old number verb (words args.now))) }
     {
         if !are_names(args) {
             return Err(refusal_at(Reason::ListForm, number));
@@ -145,11 +152,12 @@ impl ListFile {
         requires few { length moves.now ≤ 2 ^ 16 }
         requires list { IsListFor moves.now self.old }
         ensures accepted { OnOk result (IsPosition names.now.trains.keys (moves_in moves.now) name position) }
-        ensures listed { OnOk result (self.new ≡ record self.old { positions = set self.old.positions (number_of_train names.now.trains.keys name) position; last_at = number }) }
+        ensures listed { OnOk result (self.new ≡ record self.old {
+          positions = set self.old.positions (number_of_train names.now.trains.keys name) position;
+          last_at = number;
+        }) }
         ensures list { OnOk result (IsListFor moves.now self.new) }
-        ensures refused { IfErr result (λ fault.
-            ((train_of names.now.trains.keys name ≡ None) × (fault ≡ refusal_at ListName number))
-            ⊎ ((train_of names.now.trains.keys name ≢ None) × ((moves_in moves.now).moves (number_of_train names.now.trains.keys name) < position) × (fault ≡ refusal_at ListForm number))) }
+        ensures refused { IfErr result (IsRefusedPosition names.now.trains.keys (moves_in moves.now) name position number) }
     {
         let Some(train) = names.train(name) else {
             return Err(refusal_at(Reason::ListName, number));
@@ -167,8 +175,8 @@ impl ListFile {
         requires few { length names.now.trains.keys ≤ 2 ^ 16 }
         requires named { list_all is_name (words args.now) ≡ true }
         ensures known { OnOk result (list_all (knows names.now.trains.keys) (words args.now) ≡ true) }
-        ensures listed { OnOk result (self.new ≡ record self.old { list = self.old.list ++ map (number_of_train names.now.trains.keys) (words args.now); is_moving = true }) }
-        ensures refused { IfErr result (λ fault. (fault ≡ Fault.OutOfMemory) ⊎ ((list_all (knows names.now.trains.keys) (words args.now) ≡ false) × (fault ≡ refusal_at ListName number))) }
+        ensures listed { OnOk result (self.new ≡ with_moves names.now.trains.keys self.old (words args.now)) }
+        ensures refused { IfErr result (IsRefusedMoves names.now.trains.keys (words args.now) number) }
     {
         if !are_known(names, args) {
             return Err(refusal_at(Reason::ListName, number));
@@ -232,10 +240,7 @@ pub fn read_list(
     let mut number = 0;
     while let Some((line, rest)) = next_line(text) {
         number += 1;
-        match file.read_line(names, moves, number, line) {
-            Ok(()) => {}
-            Err(fault) => return Err(fault),
-        }
+        file.read_line(names, moves, number, line)?;
         text = rest;
     }
     Ok(file)

@@ -1,12 +1,11 @@
 //! Which step of a route is refused.
-ghost use Rattle.std.specs.Prelude.{◌≡◌, ◌+◌, ◌<◌, ◌≤◌, ◌^◌, ◌&&◌, ◌||◌, not, length, take, Bool, List};
+ghost use Rattle.std.specs.Prelude.{◌≡◌, ◌+◌, ◌<◌, ◌^◌, ◌&&◌, ◌||◌, not, length};
 ghost use Rattle.std.specs.List.{list_any};
-ghost use Rattle.rail_track.specs.Passages.{has_passage};
 ghost use Rattle.rail_track.specs.FirstRefusals.{first_failing};
 ghost use Rattle.rail_base.specs.NameForms.{same_name};
 ghost use Rattle.rail_routes.specs.declared.items.Step.{Step};
 ghost use Rattle.rail_routes.specs.Net.{guards};
-ghost use Rattle.rail_routes.specs.RouteRules.{repeat_tests, way_from, step_tests, begins, ends};
+ghost use Rattle.rail_routes.specs.RouteRules.{repeat_tests, way_from, step_tests, begins, ends, leads_from};
 
 use crate::items::{Post, Role, Step};
 use rail_base::{Name, Reason};
@@ -96,14 +95,14 @@ fn step_refusal(track: &Track, end: &Post, start: Name, steps: &[Step]) -> Optio
 
 /// Whether the step does not lead on from the joint, or is the last and does not end at the post.
 fn leads_wrong(track: &Track, end: &Post, joint: Name, step: &Step, is_last: bool) -> bool
-    ensures { result ≡ not (same_name joint step.now.from && has_passage track.now step.now.section step.now.from step.now.to && (not is_last || ends end.now step.now)) }
+    ensures { result ≡ not (leads_from track.now joint step.now && (not is_last || ends end.now step.now)) }
 {
     !(leads_on(track, joint, step) && (!is_last || ends(end, step)))
 }
 
 /// Whether the step leads on from the joint, over a passage of its section.
 fn leads_on(track: &Track, joint: Name, step: &Step) -> bool
-    ensures { result ≡ (same_name joint step.now.from && has_passage track.now step.now.section step.now.from step.now.to) }
+    ensures { result ≡ leads_from track.now joint step.now }
 {
     joint == step.from && track.passage(step.section, step.from, step.to)
 }

@@ -1,6 +1,6 @@
 //! Whether the routes of an itinerary follow one another.
 
-ghost use Rattle.std.specs.Prelude.{◌≡◌, ◌<◌, ◌≤◌, length, map, get_or, position, IsTrue};
+ghost use Rattle.std.specs.Prelude.{◌≡◌, ◌<◌, ◌≤◌, length, get_or, position, IsTrue};
 ghost use Rattle.rail_base.specs.declared.limits.TheConstants.{ITINERARY_ROUTES, ROUTE_SECTIONS};
 ghost use Rattle.rail_track.specs.FirstRefusals.{first_failing};
 ghost use Rattle.rail_routes.specs.Net.{guards};

@@ -1,8 +1,8 @@
 //! The tables that a scene spells.
 
-ghost use Rattle.std.specs.Prelude.{◌≡◌, ◌+◌, ◌<◌, ◌≤◌, ◌&&◌, nat_le, map, drop, get_or, length, None, IsTrue, IfOk};
+ghost use Rattle.std.specs.Prelude.{◌≡◌, ◌+◌, ◌<◌, map, drop, get_or, length, None, IsTrue, IfOk};
 ghost use Rattle.std.specs.List.{list_all, list_any};
-ghost use Rattle.rail_base.specs.NameForms.{is_name, same_name};
+ghost use Rattle.rail_base.specs.NameForms.{same_name};
 ghost use Rattle.rail_base.specs.declared.plant.SectionRow.{SectionRow};
 ghost use Rattle.rail_base.specs.declared.plant.TrainKind.{TrainKind};
 ghost use Rattle.rail_base.specs.declared.plant.TrainRow.{TrainRow};
@@ -145,7 +145,8 @@ fn moves_over(alloc: Global, network: &Network, names: &[Name]) -> Result<Vec<Mo
 fn turn_after(network: &Network, names: &[Name], index: usize) -> Option<TurnRow>
     requires known { IsTrue (are_known network.now names.now) }
     requires within { index < length names.now }
-    ensures { result ≡ turn_before network.now (get_or (routes_of network.now names.now) index no_route) (drop (index + 1) (routes_of network.now names.now)) }
+    ensures { result ≡ let routes = routes_of network.now names.now in
+        turn_before network.now (get_or routes index no_route) (drop (index + 1) routes) }
 {
     if index + 1 == names.len() {
         return None;

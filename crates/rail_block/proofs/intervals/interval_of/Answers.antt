@@ -1,13 +1,18 @@
-use Rattle.std.proofs.Common.{ap}
-use Rattle.rail_block.specs.declared.times.MoveTimes.{MoveTimes}
-use Rattle.rail_block.proofs.Placing.{before, made_at}
+use Rattle.std.proofs.Common.{◌-◌, sym, ap, ◌∙◌}
+use Rattle.rail_rules.specs.Intervals.{interval_of}
+use Rattle.rail_block.specs.declared.moves.KnownMove.{KnownMove}
+use Rattle.rail_block.specs.CarriedTimes.{next_at, times_at}
 use Rattle.rail_block.proofs.intervals.interval_of.Goals as goal
 
 pub returns : goal.returns
 returns c = λ adms h.
-    let section = c.section_of_step.ensures.section in
-    let place = before c.args.place c.requires.first in
-    let begun = ap (λ (times : MoveTimes). times.admitted) (made_at c.args.plant.now c.args.train adms c.args.place c.args.times.now c.requires.first h.times) in
-    let ended = c.end_of.ensures adms h in
-    let parts = c.parts_of.ensures adms h in
-    λ k. record { section = section k; train = c.args.train; place = place k; begin = begun k; «end» = ended k; parts = parts k }
+    let of_step = c.new-known_step.ensures in
+    let of_move = c.new-known.ensures in
+    let plant = ap (λ (known : KnownMove). known.plant.now) of_step.of ∙ of_move.plant in
+    let t = ap (λ (known : KnownMove). known.train) of_step.of ∙ of_move.train in
+    let place = ap (λ (known : KnownMove). known.place) of_step.of ∙ of_move.place in
+    c.interval.ensures adms (record {
+      times = h.times ∙ (λ k. times_at (sym plant k) (sym t k) adms (sym place k));
+      next = h.next ∙ (λ k. next_at (sym plant k) (sym t k) adms (sym place k));
+    })
+    ∙ (λ k. interval_of (plant k) (t k) adms (place k - 1) (of_step.step k - 1))

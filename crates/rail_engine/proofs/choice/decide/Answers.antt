@@ -1,13 +1,13 @@
-use Rattle.std.proofs.Common.{◌≡◌, ◌∷◌, false, Some, refl, sym, ap, ◌∙◌, subst}
+use Rattle.std.proofs.Common.{◌∷◌, Some, refl, sym, ap, ◌∙◌, subst}
 use Rattle.rail_queue.specs.Queue.{Queue}
 use Rattle.rail_queue.specs.Order.{first_time_of, is_sorted}
 use Rattle.rail_rules.specs.FcfsAlone.{fcfs_alone, seats}
 use Rattle.rail_rules.specs.Plant.{Plant}
 use Rattle.rail_state.proofs.CallerLemmas.{first_obeys}
 use Rattle.rail_ledger.specs.Ledgers.{line_in}
-use Rattle.rail_ledger.proofs.CallerLemmas.{deciding_at, hold_none}
+use Rattle.rail_ledger.proofs.CallerLemmas.{deciding_at}
 use Rattle.rail_engine.specs.Engines.{IsOfRun}
-use Rattle.rail_engine.proofs.Obeying.{box_is, run_stays}
+use Rattle.rail_engine.proofs.Obeying.{box_is}
 use Rattle.rail_engine.proofs.choice.decide.Goals as goal
 
 pub admit-requires-clause-running : goal.admit-requires-clause-running

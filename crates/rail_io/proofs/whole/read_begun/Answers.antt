@@ -14,7 +14,15 @@ loop-filled-preserved g c =
     record {
       within = within;
       moved = omega (arith, c.in_ok-count.ensures.counts, c.loop-filled.invariant.moved);
-      read = read_more _ _ _ c.loop-filled.bytes.items (take c.loop-filled.filled c.deref_mut.result.now) c.read.new.into _ _ c.loop-filled.filled c.in_ok-count.count c.make_room.new.bytes.len c.loop-filled.invariant.read front_is (length-take-le _ _ room) c.in_ok-count.ensures.moves (grind (arith, common_steps)) within;
+      read = read_more _ _ _
+          c.loop-filled.bytes.items
+          (take c.loop-filled.filled c.deref_mut.result.now)
+          c.read.new.into _ _ c.loop-filled.filled c.in_ok-count.count c.make_room.new.bytes.len
+          c.loop-filled.invariant.read front_is
+          (length-take-le _ _ room)
+          c.in_ok-count.ensures.moves
+          (grind (arith, common_steps))
+          within;
       begun = cc c.in_ok-count.ensures.begun_stays;
       told = cc c.in_ok-count.ensures.told_stays;
       failed = cc c.in_ok-count.ensures.ok_keeps_failed;

@@ -1,4 +1,4 @@
-use Rattle.std.proofs.Common.{◌≡◌, ℕ, replicate, ap, ◌∙◌, arith}
+use Rattle.std.proofs.Common.{ℕ, replicate, ap, ◌∙◌, arith}
 use Rattle.rail_ledger.proofs.ledger.places_outside.Goals as goal
 
 pub returns-in-Ok-clause-positions : goal.returns-in-Ok-clause-positions

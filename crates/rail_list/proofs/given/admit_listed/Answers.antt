@@ -23,7 +23,11 @@ returns-then-not-are_known-clause-exact c =
     let list = c.args.list.now in
     let none : completes plan (after s c.args.train) list ≡ false =
     false_from_ne_true (completes plan (after s c.args.train) list) (λ completing.
-    false≢true (sym (sym c.are_known.ensures ∙ c.if-not-are_known.true) ∙ all_known (length c.args.moves.now) list (completing_listed plan (after s c.args.train) list (length c.args.moves.now) (long_after s c.args.train ∙ made_long c.args.moves.now c.args.places.now c.requires.made) completing))) in
+    false≢true
+    (sym (sym c.are_known.ensures ∙ c.if-not-are_known.true)
+    ∙ all_known (length c.args.moves.now) list
+    (completing_listed plan (after s c.args.train) list (length c.args.moves.now)
+    (long_after s c.args.train ∙ made_long c.args.moves.now c.args.places.now c.requires.made) completing))) in
     sym (and_right (not (eqb (length list) 0)) (completes plan (after s c.args.train) list) none)
 
 pub replace-requires : goal.replace-requires

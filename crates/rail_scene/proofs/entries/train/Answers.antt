@@ -11,5 +11,5 @@ pub returns-clause-fit : goal.returns-clause-fit
 returns-clause-fit c =
     let entry = c.in_ok-entry.entry in
     let early : nat_le entry INPUT_TIME ≡ true = le-leb entry INPUT_TIME (time_within INPUT_TIME entry (text_at ENTRY (view c.args.table.now)) c.in_ok-entry.ensures) in
-    let few : is_within ITINERARY_ROUTES (length c.from_vec.result) ≡ true = ap (λ (names : List (List ℕ)). is_within ITINERARY_ROUTES (length names)) c.from_vec.ensures ∙ c.in-Ok.ensures.count in
+    let few : is_within ITINERARY_ROUTES (length c.from_vec.result) ≡ true = ap (λ (names : List (List ℕ)). is_within ITINERARY_ROUTES (length names)) c.from_vec.ensures ∙ c.in_ok-routes.ensures.count in
     λ i. early i && few i

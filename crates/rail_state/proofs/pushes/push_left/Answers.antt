@@ -8,11 +8,11 @@ use Rattle.rail_state.proofs.pushes.push_left.Goals as goal
 
 pub returns-clause-counted : goal.returns-clause-counted
 returns-clause-counted c = λ adms long entering q.
-    let plant = c.args.plant.now in
-    let t = c.args.train in
-    let m = c.args.place - 1 in
-    let j = c.args.step - 1 in
+    let plant = c.args.step.now.of.now.plant.now in
+    let t = c.args.step.now.of.now.train in
+    let m = c.args.step.now.of.now.place - 1 in
+    let j = c.args.step.now.step - 1 in
     let leaves = sym c.does_stand.ensures ∙ c.if-does_stand.false in
-    let left = entering ∙ ap (enter plant t adms m) (before c.args.step c.requires.first_step) ∙ left_entering plant t adms m j c.moves.ensures.accepted (omega (arith, c.requires.first, c.requires.last)) leaves in
+    let left = entering ∙ ap (enter plant t adms m) (before c.args.step.now.step c.args.step.now.first) ∙ left_entering plant t adms m j c.args.step.now.of.now.accepted (omega (arith, c.args.step.now.of.now.first, c.args.step.now.of.now.last)) leaves in
     let line = left_line plant t adms m j c.args.section c.end_when_left-ended.result leaves (c.end_when_left-ended.ensures leaves adms left) in
     omega (arith, c.push.ensures.counted q, ap (λ (e : Event). count_by q (e ∷ [])) c.event_of_section.ensures, ap (tally (λ e. q (event_of e))) line)

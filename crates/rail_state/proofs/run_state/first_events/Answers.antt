@@ -1,4 +1,4 @@
-use Rattle.std.proofs.Common.{◌≡◌, ℕ, ◌+◌, true, List, [], ◌∷◌, length, ap, ◌∙◌, arith}
+use Rattle.std.proofs.Common.{ℕ, ◌+◌, true, List, [], ◌∷◌, length, ap, ◌∙◌, arith}
 use Rattle.std.specs.Prelude.{count_by}
 use Rattle.rail_laws_front.proofs.CallerLemmas.{length-listed}
 use Rattle.rail_rules.specs.Plant.{trains}

@@ -1,4 +1,4 @@
-use Rattle.std.proofs.Common.{◌≡◌, ℕ, ◌+◌, Bool, List, [], ◌∷◌, length}
+use Rattle.std.proofs.Common.{◌≡◌, ◌+◌, Bool, [], ◌∷◌, length}
 use Rattle.std.specs.Prelude.{count_by}
 use Rattle.rail_rules.specs.Numbers.{gather}
 use Rattle.rail_queue.specs.declared.event.Event.{Event}

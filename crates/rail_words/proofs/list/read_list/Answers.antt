@@ -3,6 +3,7 @@ use Rattle.std.specs.Str.Lines.{lines}
 use Rattle.rail_place.specs.Tables.{moves_in}
 use Rattle.rail_rules.specs.Moves.{Moves}
 use Rattle.rail_track.specs.FirstRefusals.{first_failing}
+use Rattle.rail_track.proofs.CallerLemmas.{passed_up}
 use Rattle.rail_words.specs.Lists.{Listed, lines_tests, after_lines}
 use Rattle.rail_words.proofs.Judging.{accepted_line, answers_lines}
 use Rattle.rail_words.proofs.list.read_list.Goals as goal
@@ -14,19 +15,20 @@ loop-line-preserved c =
     let here : lines c.loop-line.text.now ≡ c.in-Some.line.now ∷ lines c.in-Some.rest.now = c.in-Some.ensures.lines in
     record {
       refusals = c.loop-line.invariant.refusals ∙ ap (λ ls. first_failing (lines_tests c.args.names.now.trains.keys plan c.loop-line.file n ls)) here
-          ∙ accepted_line c.args.names.now.trains.keys plan c.loop-line.file n c.in-Some.line.now (lines c.in-Some.rest.now) c.in-Ok.ensures.accepted
-          ∙ ap (λ (f : Listed). first_failing (lines_tests c.args.names.now.trains.keys plan f (n + 1) (lines c.in-Some.rest.now))) (sym c.in-Ok.ensures.listed);
+          ∙ accepted_line c.args.names.now.trains.keys plan c.loop-line.file n c.in-Some.line.now (lines c.in-Some.rest.now) c.in_ok-read_line.ensures.accepted
+          ∙ ap (λ (f : Listed). first_failing (lines_tests c.args.names.now.trains.keys plan f (n + 1) (lines c.in-Some.rest.now))) (sym c.in_ok-read_line.ensures.listed);
       listed = c.loop-line.invariant.listed ∙ ap (λ ls. after_lines c.args.names.now.trains.keys c.loop-line.file n ls) here
-          ∙ ap (λ (f : Listed). after_lines c.args.names.now.trains.keys f (n + 1) (lines c.in-Some.rest.now)) (sym c.in-Ok.ensures.listed);
-      fit = c.in-Ok.ensures.list;
+          ∙ ap (λ (f : Listed). after_lines c.args.names.now.trains.keys f (n + 1) (lines c.in-Some.rest.now)) (sym c.in_ok-read_line.ensures.listed);
+      fit = c.in_ok-read_line.ensures.list;
       counted = omega (arith, c.loop-line.invariant.counted, c.in-Some.ensures.less);
     }
 
-pub returns-in-Err-clause-refused : goal.returns-in-Err-clause-refused
-returns-in-Err-clause-refused c =
+pub returns-in_err-read_line-clause-refused : goal.returns-in_err-read_line-clause-refused
+returns-in_err-read_line-clause-refused c =
     let plan : Moves = moves_in c.args.moves.now in
     let n : ℕ = c.loop-line.number + 1 in
     let here : lines c.loop-line.text.now ≡ c.in-Some.line.now ∷ lines c.in-Some.rest.now = c.in-Some.ensures.lines in
-    answers_lines c.args.names.now.trains.keys plan c.loop-line.file n c.in-Some.line.now (lines c.in-Some.rest.now) _ c.in-Err.fault
+    passed_up c.from_residual-in_err-read_line.result _ _ c.from_residual-in_err-read_line.ensures.1
+    (answers_lines c.args.names.now.trains.keys plan c.loop-line.file n c.in-Some.line.now (lines c.in-Some.rest.now) _ _
     (c.loop-line.invariant.refusals ∙ ap (λ ls. first_failing (lines_tests c.args.names.now.trains.keys plan c.loop-line.file n ls)) here)
-    c.in-Err.ensures.refused
+    c.in_err-read_line.ensures.refused)

@@ -1,7 +1,7 @@
 use Rattle.std.proofs.Common.{◌≡◌, ◌≤◌, ◌*◌, ◌+◌, arith}
 use Rattle.std.proofs.lemmas.Nat.{mul-le}
 use Rattle.rail_state.proofs.CallerLemmas.{bound_small}
-use Rattle.rail_laws_front.proofs.CallerLemmas.{accepted_parts}
+use Rattle.rail_rules.proofs.CallerLemmas.{accepted_parts}
 use Rattle.rail_cli.proofs.commands.run.most_steps.Goals as goal
 
 small : (c : goal.After-from) → c.event_bound.result * (c.from.result + 1) ≤ 1000000 * 300

@@ -14,7 +14,16 @@ use Rattle.rail_consequence.proofs.analyst.Worksheet.make_safe_legs.Goals as goa
 use Rattle.rail_consequence.proofs.analyst.Worksheet.make_safe_legs.Goals.{then-make_safe_leg, else-make_safe_leg}
 
 -- no safe leg of one train more
-none_more : (plan : Moves) (b c : Work) (n i : ℕ) (trains : List ℕ) → i < length trains → n ≡ get_or trains i n → IsBack b c → ((u p : ℕ) → is_in u (take i trains) ≡ true → is_leg plan b.places.positions (record { train = u; place = p }) ≡ true → is_safe plan b.places.positions (record { train = u; place = p }) ≡ false) → ((p : ℕ) → is_leg plan b.places.positions (record { train = n; place = p }) ≡ true → is_safe plan b.places.positions (record { train = n; place = p }) ≡ false) → (u p : ℕ) → is_in u (take (i + 1) trains) ≡ true → is_leg plan c.places.positions (record { train = u; place = p }) ≡ true → is_safe plan c.places.positions (record { train = u; place = p }) ≡ false
+none_more : (plan : Moves) (b c : Work) (n i : ℕ) (trains : List ℕ) → i < length trains
+    → n ≡ get_or trains i n → IsBack b c
+    → ((u p : ℕ) → is_in u (take i trains) ≡ true
+    → is_leg plan b.places.positions (record { train = u; place = p }) ≡ true
+    → is_safe plan b.places.positions (record { train = u; place = p }) ≡ false)
+    → ((p : ℕ) → is_leg plan b.places.positions (record { train = n; place = p }) ≡ true
+    → is_safe plan b.places.positions (record { train = n; place = p }) ≡ false)
+    → (u p : ℕ) → is_in u (take (i + 1) trains) ≡ true
+    → is_leg plan c.places.positions (record { train = u; place = p }) ≡ true
+    → is_safe plan c.places.positions (record { train = u; place = p }) ≡ false
 none_more plan b c n i trains lt at back before here u p found is =
     let leg_of : ℕ → Leg = λ v. record { train = v; place = p } in
     let was : is_leg plan b.places.positions (leg_of u) ≡ true = ap (λ s. is_leg plan s (leg_of u)) (sym back.positions) ∙ is in

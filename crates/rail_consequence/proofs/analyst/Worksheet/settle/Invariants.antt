@@ -9,7 +9,9 @@ use Rattle.rail_consequence.proofs.analyst.Worksheet.settle.Given as goal
 abbrev pub invariant-loop-made : goal.invariant-loop-made
 invariant-loop-made l = record {
   held : (u x : ℕ) → is_in u l.inside ≡ true → stop_at l.self.stops l.level u ≡ Some x → (u ≢ l.train) × (stop_at l.fn.self.stops l.above u ≡ Some x) × (get_or l.fn.self.places.owners x None ≡ None → ⊥);
-  freed : (i x u y : ℕ) → l.from ≤ i → i < l.made → is_in x ((moves_in l.moves).claim l.train i) ≡ true → own_of l.fn.self.needs l.train x ≡ 0 → trains_of l.fn.self.needs x ≡ 1 → is_in u l.inside ≡ true → stop_at l.self.stops l.level u ≡ Some y → own_of l.fn.self.needs u x ≡ 0;
+  freed : (i x u y : ℕ) → l.from ≤ i → i < l.made → is_in x ((moves_in l.moves).claim l.train i) ≡ true
+      → own_of l.fn.self.needs l.train x ≡ 0 → trains_of l.fn.self.needs x ≡ 1 → is_in u l.inside ≡ true
+      → stop_at l.self.stops l.level u ≡ Some y → own_of l.fn.self.needs u x ≡ 0;
   kept : (m u : ℕ) → m ≢ l.level → u < TRAINS → stop_at l.self.stops m u ≡ stop_at l.fn.self.stops m u;
   rest : l.self ≡ record l.fn.self { stops = l.self.stops };
 }

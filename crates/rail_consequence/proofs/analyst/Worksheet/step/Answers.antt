@@ -49,4 +49,8 @@ returns-clause-ready c =
     let legal : is_legal plan own.places.positions t ≡ true = ap (λ (w : Work). is_legal plan w.places.positions t) same ∙ c.requires.legal in
     let needed = next_is (plan.claim t) c.need.result.now c.position-place.result (place_of own.places.positions t) c.need.ensures.sections c.position-place.ensures in
     let P : List ℕ → Type 0 = λ xs. IsMore c.subtract.new.self own.needs t (λ x. times x xs) in
-    ready_step table own t c.advance.new.self c.subtract.new.self c.self.inside.stops c.push_reserved.new.self.items (ready_as table own c.args.self.now same c.requires.ready) inside legal c.advance.ensures.made c.advance.ensures.positions (subst P needed c.subtract.ensures) c.push_reserved.ensures.items
+    ready_step table own t c.advance.new.self c.subtract.new.self c.self.inside.stops c.push_reserved.new.self.items
+    (ready_as table own c.args.self.now same c.requires.ready)
+    inside legal c.advance.ensures.made c.advance.ensures.positions
+    (subst P needed c.subtract.ensures)
+    c.push_reserved.ensures.items

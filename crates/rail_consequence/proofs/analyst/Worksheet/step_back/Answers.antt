@@ -106,7 +106,11 @@ returns-clause-ready c =
     let earlier = c.pop.new.self.items in
     let t = c.in-Some.train in
     let last = last_move table own earlier t ready c.in-Some.ensures.items in
-    ready_back table own earlier t ready c.in-Some.ensures.items c.retreat.new.self c.add.new.self c.self.inside.stops earlier c.need.result.now c.retreat.ensures.made c.retreat.ensures.positions (needed_back table own earlier t ready c.in-Some.ensures.items c.need.result.now c.position-place.result c.need.ensures.sections c.position-place.ensures) c.add.ensures refl
+    ready_back table own earlier t ready c.in-Some.ensures.items c.retreat.new.self c.add.new.self c.self.inside.stops
+    earlier c.need.result.now c.retreat.ensures.made c.retreat.ensures.positions
+    (needed_back table own earlier t ready c.in-Some.ensures.items c.need.result.now c.position-place.result
+    c.need.ensures.sections c.position-place.ensures)
+    c.add.ensures refl
 
 pub returns-clause-positions : goal.returns-clause-positions
 returns-clause-positions c =

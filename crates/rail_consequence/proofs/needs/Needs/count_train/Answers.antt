@@ -19,6 +19,16 @@ add-requires-clause-room c =
     let back : i + 1 - 1 ≡ i = omega arith in
     let needed : (x : ℕ) → times x c.need.result.now ≡ times x (plan.claim t i) = λ x. ap (times x) (c.need.ensures.sections ∙ ap (plan.claim t) back) in
     record {
-      own = λ x lt. omega (arith, needed x, own_more c.args.self.now c.loop-made.self t x (needs_between plan t p i) c.loop-made.invariant lt, needs_within plan t p i (plan.moves t) x c.loop-made.auto.made (omega (arith, c.loop-made-test.true, c.places-made-end.ensures)), left_entered plan t p x (omega (arith, c.if-place-eq0.false)), c.requires.own x lt);
+      own = λ x lt.
+          omega (
+            arith,
+            needed x,
+            own_more c.args.self.now c.loop-made.self t x (needs_between plan t p i) c.loop-made.invariant lt,
+            needs_within plan t p i (plan.moves t)
+                x c.loop-made.auto.made
+                (omega (arith, c.loop-made-test.true, c.places-made-end.ensures)),
+            left_entered plan t p x (omega (arith, c.if-place-eq0.false)),
+            c.requires.own x lt,
+          );
       trains = λ x lt. omega (arith, trains_more c.args.self.now c.loop-made.self t x (needs_between plan t p i) c.loop-made.invariant lt, c.requires.trains x lt);
     }

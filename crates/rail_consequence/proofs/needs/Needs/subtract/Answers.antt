@@ -21,4 +21,13 @@ subtract_one-requires-clause-trains c =
     let xs = c.args.sections.now in
     let i = c.loop-section.section-index in
     let within = c.requires.in_range x (in_at x xs i c.loop-section-test.true c.section-item.is) in
-    trains_less c.loop-section.self c.args.self.now c.args.train x (λ (y : ℕ). times y (take i xs)) c.loop-section.invariant within (omega (arith, own_more c.loop-section.self c.args.self.now c.args.train x (λ (y : ℕ). times y (take i xs)) c.loop-section.invariant within, times_within x xs i c.loop-section-test.true c.section-item.is, c.requires.own x within)) (c.requires.trains x within)
+    trains_less c.loop-section.self c.args.self.now c.args.train x (λ (y : ℕ). times y (take i xs))
+    c.loop-section.invariant within
+    (omega (
+      arith,
+      own_more c.loop-section.self c.args.self.now c.args.train x (λ (y : ℕ). times y (take i xs))
+          c.loop-section.invariant within,
+      times_within x xs i c.loop-section-test.true c.section-item.is,
+      c.requires.own x within,
+    ))
+    (c.requires.trains x within)

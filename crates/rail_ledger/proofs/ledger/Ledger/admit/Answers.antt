@@ -3,9 +3,8 @@ use Rattle.std.specs.Prelude.{IsTrue}
 use Rattle.rail_base.specs.declared.history.What.{What}
 use Rattle.rail_base.specs.declared.history.What.TheVariants.{Admit}
 use Rattle.rail_base.specs.declared.history.Note.{Note}
-use Rattle.rail_block.specs.declared.times.MoveTimes.{MoveTimes}
 use Rattle.rail_rules.specs.FcfsAlone.{fcfs_alone}
-use Rattle.rail_rules.specs.Fronts.{Front, Line}
+use Rattle.rail_rules.specs.Fronts.{Line}
 use Rattle.rail_rules.specs.Causes.{place}
 use Rattle.rail_rules.specs.Orders.{input_of}
 use Rattle.rail_rules.specs.Plant.{claimed}
@@ -48,7 +47,9 @@ admit-requires-clause-givable c =
     let has : HasList front old mid c.args.train c.in_ok-note.note = c.in_ok-note.ensures.found.1 front at in (
       front,
       subst (λ (r : Ledger). IsGivable r.plant front r.state.trains r.state.instant c.args.train) (sym (alike_ledger old mid c.in_ok-note.ensures.alike c.in_ok-note.ensures.found.0))
-          (givable front old at c.requires.going (c.requires.deciding front at) c.args.train (admissible fcfs_alone old.plant front old.state at.rep still (c.requires.deciding front at) c.args.train next c.in_ok-note.note mid.kept.trains has.noted) c.in_ok-note.note mid.kept.trains (may_keep fcfs_alone old.plant front old.state at.rep still (c.requires.deciding front at) c.args.train next c.in_ok-note.note mid.kept.trains has.noted)),
+          (givable front old at c.requires.going (c.requires.deciding front at) c.args.train
+          (admissible fcfs_alone old.plant front old.state at.rep still
+          (c.requires.deciding front at) c.args.train next c.in_ok-note.note mid.kept.trains has.noted) c.in_ok-note.note mid.kept.trains (may_keep fcfs_alone old.plant front old.state at.rep still (c.requires.deciding front at) c.args.train next c.in_ok-note.note mid.kept.trains has.noted)),
     )
 
 pub admit-requires-clause-room : goal.admit-requires-clause-room

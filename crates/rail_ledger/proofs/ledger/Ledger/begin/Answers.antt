@@ -1,4 +1,4 @@
-use Rattle.std.proofs.Common.{◌≡◌, ◌+◌, replicate, refl, ap, ◌∙◌, arith}
+use Rattle.std.proofs.Common.{replicate, refl, ap, ◌∙◌, arith}
 use Rattle.rail_ledger.proofs.Starting.{new_stands}
 use Rattle.rail_ledger.proofs.ledger.Ledger.begin.Goals as goal
 

@@ -1,4 +1,3 @@
-use Rattle.std.proofs.Common.{refl}
 use Rattle.rail_ledger.proofs.Going.{ended_at}
 use Rattle.rail_ledger.proofs.ledger.Ledger.end.Goals as goal
 

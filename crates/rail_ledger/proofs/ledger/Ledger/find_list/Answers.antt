@@ -12,7 +12,8 @@ pub admit_by_list-requires-clause-completes : goal.admit_by_list-requires-clause
 admit_by_list-requires-clause-completes c = list_completes c.moves-moves.result.now c.requires.running.front c.args.self.now c.moves-moves.ensures.moves c.requires.running.at
 
 pub admit_by_list-requires-clause-legal : goal.admit_by_list-requires-clause-legal
-admit_by_list-requires-clause-legal c = legal_next c.moves-moves.result.now c.requires.running.front c.args.self.now c.moves-moves.ensures.moves c.requires.running.at (c.requires.deciding c.requires.running.front c.requires.running.at) c.args.train (c.requires.next c.requires.running.front c.requires.running.at)
+admit_by_list-requires-clause-legal c = legal_next c.moves-moves.result.now c.requires.running.front c.args.self.now c.moves-moves.ensures.moves c.requires.running.at
+    (c.requires.deciding c.requires.running.front c.requires.running.at) c.args.train (c.requires.next c.requires.running.front c.requires.running.at)
 
 pub returns-in-Some-clause-found : goal.returns-in-Some-clause-found
 returns-in-Some-clause-found c = (

@@ -1,5 +1,4 @@
-use Rattle.std.proofs.Common.{◌≡◌, ◌<◌, ℕ, ◌+◌, ◌∷◌, ap, sym, subst, arith}
-use Rattle.rail_base.specs.declared.history.What.TheVariants.{Hold}
+use Rattle.std.proofs.Common.{ℕ, ◌∷◌, ap, sym, subst, arith}
 use Rattle.rail_rules.specs.Fronts.{Line, is_hold}
 use Rattle.rail_state.specs.TrainStates.{state_of}
 use Rattle.rail_state.proofs.CallerLemmas.{cause_known}

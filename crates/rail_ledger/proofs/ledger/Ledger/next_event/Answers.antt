@@ -1,9 +1,8 @@
-use Rattle.std.proofs.Common.{◌≡◌, ◌∷◌, sym, ap, ◌∙◌, subst, refl}
-use Rattle.rail_base.specs.declared.history.Entry.{Entry}
-use Rattle.rail_rules.specs.Fronts.{Line, is_admission, is_hold}
+use Rattle.std.proofs.Common.{◌∷◌, sym, ap, ◌∙◌, subst}
+use Rattle.rail_rules.specs.Fronts.{Line}
 use Rattle.rail_ledger.specs.declared.ledger.Ledger.{Ledger}
 use Rattle.rail_ledger.specs.Ledgers.{IsAt, listed_in}
-use Rattle.rail_ledger.proofs.Going.{happened_at, idle_now, ready_now}
+use Rattle.rail_ledger.proofs.Going.{happened_at, ready_now}
 use Rattle.rail_ledger.proofs.ledger.Ledger.next_event.Goals as goal
 
 pub happen-what-requires-clause-ready : goal.happen-what-requires-clause-ready
@@ -16,4 +15,5 @@ returns-clause-line c = λ front at.
     let said = c.happen-what.ensures in
     subst (λ (line : Line). IsAt (line ∷ front) (record old { state = after }))
     (λ i. record { entry = record { at = c.in_ok-event.event.at; what = sym said.what i }; trains = listed_in (sym c.requires.unlisted i) old.kept.trains old.remaining.items })
-    (happened_at front old at c.requires.going c.requires.may c.in_ok-event.event c.pop.new.self.events c.in_ok-event.ensures.next c.in_ok-event.ensures.least after (ap (λ q. q.events) said.queue) (ap (λ q. q.spare) said.queue ∙ c.in_ok-event.ensures.spare) said.holders said.many said.trains said.instant said.going said.settled)
+    (happened_at front old at c.requires.going c.requires.may c.in_ok-event.event c.pop.new.self.events c.in_ok-event.ensures.next c.in_ok-event.ensures.least after
+    (ap (λ q. q.events) said.queue) (ap (λ q. q.spare) said.queue ∙ c.in_ok-event.ensures.spare) said.holders said.many said.trains said.instant said.going said.settled)

@@ -1,4 +1,4 @@
-use Rattle.std.proofs.Common.{◌≡◌, ℕ, ◌+◌, ◌≤◌, ◌∷◌, length, false, sym, ◌∙◌, subst}
+use Rattle.std.proofs.Common.{◌≡◌, ℕ, ◌+◌, ◌≤◌, ◌∷◌, length, sym, ◌∙◌, subst}
 use Rattle.rail_rules.specs.Fronts.{Line}
 use Rattle.rail_state.specs.Representation.{IsAdmitLine}
 use Rattle.rail_ledger.specs.declared.ledger.Listed.{Listed}
@@ -29,19 +29,27 @@ returns-then-is_occupied-clause-refused c = λ front at.
 
 pub keep_given-requires-clause-next : goal.keep_given-requires-clause-next
 keep_given-requires-clause-next c = λ front at.
-    admissible_in_place front c.args.self.now at c.requires.going c.is_in_place.ensures.sorted c.args.at c.args.train c.args.place c.args.note c.args.list.now c.args.held (c.requires.held front at) (sym c.is_in_place.ensures.exact ∙ c.if-not-is_in_place.false) (sym c.is_occupied.ensures ∙ c.if-is_occupied.false)
+    admissible_in_place front c.args.self.now at c.requires.going c.is_in_place.ensures.sorted c.args.at c.args.train c.args.place c.args.note c.args.list.now c.args.held
+    (c.requires.held front at) (sym c.is_in_place.ensures.exact ∙ c.if-not-is_in_place.false) (sym c.is_occupied.ensures ∙ c.if-is_occupied.false)
 
 pub returns-then-not-keep_given-clause-refused : goal.returns-then-not-keep_given-clause-refused
 returns-then-not-keep_given-clause-refused c = λ front at.
-    let refused = refused_list front c.args.self.now at c.requires.going c.is_in_place.ensures.sorted c.args.at c.args.train c.args.place c.args.note c.args.list.now c.args.held (c.requires.held front at) (sym c.is_in_place.ensures.exact ∙ c.if-not-is_in_place.false) (sym c.is_occupied.ensures ∙ c.if-is_occupied.false) (sym (c.keep_given.ensures.exact front at) ∙ c.if-not-keep_given.true) in
+    let refused = refused_list front c.args.self.now at c.requires.going c.is_in_place.ensures.sorted c.args.at c.args.train c.args.place c.args.note c.args.list.now c.args.held
+    (c.requires.held front at) (sym c.is_in_place.ensures.exact ∙ c.if-not-is_in_place.false) (sym c.is_occupied.ensures ∙ c.if-is_occupied.false)
+    (sym (c.keep_given.ensures.exact front at) ∙ c.if-not-keep_given.true) in
     (refused.0, sym refused.1)
 
 pub admit-requires-clause-givable : goal.admit-requires-clause-givable
 admit-requires-clause-givable c =
     let front = c.requires.running.front in
     let at = c.requires.running.at in
-    let old : Ledger = c.args.self.now in
-    (front, subst (λ (r : Ledger). IsGivable r.plant front r.state.trains r.state.instant c.args.train) (sym c.keep_given.ensures.lists) (can_give front old at c.requires.going c.is_in_place.ensures.sorted c.args.at c.args.train c.args.place c.args.note c.args.list.now c.args.held (c.requires.held front at) (sym c.is_in_place.ensures.exact ∙ c.if-not-is_in_place.false) (sym c.is_occupied.ensures ∙ c.if-is_occupied.false) (sym (c.keep_given.ensures.exact front at) ∙ c.if-not-keep_given.false)))
+    let old : Ledger = c.args.self.now in (
+      front,
+      subst (λ (r : Ledger). IsGivable r.plant front r.state.trains r.state.instant c.args.train) (sym c.keep_given.ensures.lists)
+          (can_give front old at c.requires.going c.is_in_place.ensures.sorted c.args.at c.args.train c.args.place c.args.note c.args.list.now c.args.held (c.requires.held front at)
+          (sym c.is_in_place.ensures.exact ∙ c.if-not-is_in_place.false) (sym c.is_occupied.ensures ∙ c.if-is_occupied.false)
+          (sym (c.keep_given.ensures.exact front at) ∙ c.if-not-keep_given.false)),
+    )
 
 pub admit-requires-clause-room : goal.admit-requires-clause-room
 admit-requires-clause-room c =
@@ -53,7 +61,9 @@ returns-clause-taken c = λ _ front at.
     let mid : Ledger = c.keep_given.new.self in
     let t : ℕ = c.args.train in
     let same : mid ≡ record old { places = mid.places; kept = mid.kept } = c.keep_given.ensures.lists in
-    let givable_now = can_give front old at c.requires.going c.is_in_place.ensures.sorted c.args.at c.args.train c.args.place c.args.note c.args.list.now c.args.held (c.requires.held front at) (sym c.is_in_place.ensures.exact ∙ c.if-not-is_in_place.false) (sym c.is_occupied.ensures ∙ c.if-is_occupied.false) (sym (c.keep_given.ensures.exact front at) ∙ c.if-not-keep_given.false) in
+    let givable_now = can_give front old at c.requires.going c.is_in_place.ensures.sorted c.args.at c.args.train c.args.place c.args.note c.args.list.now c.args.held
+    (c.requires.held front at) (sym c.is_in_place.ensures.exact ∙ c.if-not-is_in_place.false) (sym c.is_occupied.ensures ∙ c.if-is_occupied.false)
+    (sym (c.keep_given.ensures.exact front at) ∙ c.if-not-keep_given.false) in
     let after : RunState = c.admit.new.self in
     let given = c.admit.ensures.given front (subst (λ (r : Ledger). IsGivable r.plant front r.state.trains r.state.instant t) (sym same) givable_now) in
     let admits = subst (λ (r : Ledger). IsAdmitLine r.plant front t given.0 given.1 r.state after) same given.2 in
@@ -62,4 +72,6 @@ returns-clause-taken c = λ _ front at.
     let line : Line = admission c.args.at t c.args.place c.args.note c.args.list.now in
     subst (λ (r : Ledger). IsAt (line ∷ front) (record r { state = after; listed = c.list_with-self.result })) (sym same)
     (subst (λ (l : Listed). IsAt (line ∷ front) (record old { places = mid.places; kept = mid.kept; state = after; listed = l })) (sym c.list_with-self.ensures)
-    (given_at front old at c.requires.going c.is_in_place.ensures.sorted c.args.at c.args.train c.args.place c.args.note c.args.list.now c.args.held (c.requires.held front at) (sym c.is_in_place.ensures.exact ∙ c.if-not-is_in_place.false) (sym c.is_occupied.ensures ∙ c.if-is_occupied.false) (sym (c.keep_given.ensures.exact front at) ∙ c.if-not-keep_given.false) mid.places mid.kept after has room given.0 given.1 admits))
+    (given_at front old at c.requires.going c.is_in_place.ensures.sorted c.args.at c.args.train c.args.place c.args.note c.args.list.now c.args.held (c.requires.held front at)
+    (sym c.is_in_place.ensures.exact ∙ c.if-not-is_in_place.false) (sym c.is_occupied.ensures ∙ c.if-is_occupied.false)
+    (sym (c.keep_given.ensures.exact front at) ∙ c.if-not-keep_given.false) mid.places mid.kept after has room given.0 given.1 admits))

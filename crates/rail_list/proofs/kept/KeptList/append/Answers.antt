@@ -13,7 +13,11 @@ use Rattle.rail_list.proofs.Appending.{appended_completes, completing_fits, comp
 use Rattle.rail_list.proofs.kept.KeptList.append.Goals as goal
 
 -- the old list plays after the train's first move exactly where the appended list completes
-exact : (table : List MoveLists) (now : State) (list read : List ℕ) (t : ℕ) → IsMadeFor table now → t < length table → is_legal (moves_in table) now.positions t ≡ true → place_of now.positions t ≡ 0 → completes (moves_in table) now.positions list ≡ true → read ≡ list → plays (moves_in table) (after now.positions t) read ≡ completes (moves_in table) (after now.positions t) (list ++ replicate ((moves_in table).moves t - 1) t)
+exact : (table : List MoveLists) (now : State) (list read : List ℕ) (t : ℕ) → IsMadeFor table now
+    → t < length table → is_legal (moves_in table) now.positions t ≡ true → place_of now.positions t ≡ 0
+    → completes (moves_in table) now.positions list ≡ true → read ≡ list
+    → plays (moves_in table) (after now.positions t) read
+    ≡ completes (moves_in table) (after now.positions t) (list ++ replicate ((moves_in table).moves t - 1) t)
 exact table now list read t made lt legal out done is =
     let plan : Moves = moves_in table in
     let s = now.positions in

@@ -10,7 +10,10 @@ use Rattle.rail_place.proofs.Making.{made_as, made_long, place_read, bar_ahead, 
 use Rattle.rail_place.proofs.places.Places.legal.Goals as goal
 
 -- what bars the move is the first needed section that has an owner
-found : (table : List MoveLists) (s now : State) (t k place m : ℕ) (xs : List ℕ) → s ≡ now → IsMadeFor table now → t < length table → k ≡ t → place ≡ get_or s.positions k place → place < (moves_in table).moves t → m ≡ place → xs ≡ (moves_in table).claim t m → bar_of (moves_in table) now.positions t ≡ first_owned_in s.owners xs
+found : (table : List MoveLists) (s now : State) (t k place m : ℕ) (xs : List ℕ) → s ≡ now
+    → IsMadeFor table now → t < length table → k ≡ t → place ≡ get_or s.positions k place
+    → place < (moves_in table).moves t → m ≡ place → xs ≡ (moves_in table).claim t m
+    → bar_of (moves_in table) now.positions t ≡ first_owned_in s.owners xs
 found table s now t k place m xs same made lt index is more at needed =
     let here : IsMadeFor table s = made_as table s now same made in
     let lt_s : t < length s.positions = omega (arith, made_long table s here) in
@@ -21,7 +24,14 @@ found table s now t k place m xs same made lt index is more at needed =
 pub returns-in-Some-clause-exact : goal.returns-in-Some-clause-exact
 returns-in-Some-clause-exact c =
     let s : State = record { positions = c.self.inside.positions.items; owners = c.self.inside.owners.items; played = c.self.inside.played } in
-    found c.args.moves.now s c.args.self.now c.args.train c.from.result c.index-place.result.now (c.index-place.result.now + 1 - 1) c.need.result.now c.self.view_is c.requires.made c.requires.train (c.from.ensures ∙ c.train.view_is) c.index-place.ensures (omega (arith, c.places.ensures)) (omega arith) c.need.ensures.sections
+    found c.args.moves.now s c.args.self.now c.args.train c.from.result c.index-place.result.now
+    (c.index-place.result.now + 1 - 1)
+    c.need.result.now c.self.view_is c.requires.made c.requires.train
+    (c.from.ensures ∙ c.train.view_is)
+    c.index-place.ensures
+    (omega (arith, c.places.ensures))
+    (omega arith)
+    c.need.ensures.sections
     ∙ sym c.first_owned.ensures ∙ c.in-Some.is
 
 pub returns-in-Some-clause-legal : goal.returns-in-Some-clause-legal
@@ -33,7 +43,14 @@ returns-in-Some-clause-legal c = (
 pub returns-in-None-clause-exact : goal.returns-in-None-clause-exact
 returns-in-None-clause-exact c =
     let s : State = record { positions = c.self.inside.positions.items; owners = c.self.inside.owners.items; played = c.self.inside.played } in
-    found c.args.moves.now s c.args.self.now c.args.train c.from.result c.index-place.result.now (c.index-place.result.now + 1 - 1) c.need.result.now c.self.view_is c.requires.made c.requires.train (c.from.ensures ∙ c.train.view_is) c.index-place.ensures (omega (arith, c.places.ensures)) (omega arith) c.need.ensures.sections
+    found c.args.moves.now s c.args.self.now c.args.train c.from.result c.index-place.result.now
+    (c.index-place.result.now + 1 - 1)
+    c.need.result.now c.self.view_is c.requires.made c.requires.train
+    (c.from.ensures ∙ c.train.view_is)
+    c.index-place.ensures
+    (omega (arith, c.places.ensures))
+    (omega arith)
+    c.need.ensures.sections
     ∙ sym c.first_owned.ensures ∙ c.in-None.is
 
 pub returns-in-None-clause-legal : goal.returns-in-None-clause-legal

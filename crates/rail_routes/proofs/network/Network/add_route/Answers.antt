@@ -28,7 +28,16 @@ count_each-requires-2-clause-fits c =
     let steps : c.as_slice-3.result.now ≡ route.steps = c.as_slice-3.ensures ∙ ap (λ (r : Route). r.steps) last in
     rw steps (λ name.
     let kept : times same_name c.reserve-2.new.self name ≡ times same_name c.self.inside.runs name = ap (λ es. unwrap_or (lookup (same_name name) es) 0) c.reserve-2.ensures.entries in
-    omega (arith, kept, c.self.invariant.run name, c.self.invariant.sound.distinct.few_routes, runs_of-le name routes (sound_short (lists_of c.self.inside) c.self.invariant.sound), short_length route fits.1, count_by-le-length (same_name name) (sections_of route), length-map route.steps (λ (step : Step). step.section)))
+    omega (
+      arith,
+      kept,
+      c.self.invariant.run name,
+      c.self.invariant.sound.distinct.few_routes,
+      runs_of-le name routes (sound_short (lists_of c.self.inside) c.self.invariant.sound),
+      short_length route fits.1,
+      count_by-le-length (same_name name) (sections_of route),
+      length-map route.steps (λ (step : Step). step.section),
+    ))
 
 pub invariant_of-self-2 : goal.invariant_of-self-2
 invariant_of-self-2 c =

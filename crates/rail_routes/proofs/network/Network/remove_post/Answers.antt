@@ -44,8 +44,10 @@ returns-clause-removed c =
 
 pub returns-in_default-or-clause-sound : goal.returns-in_default-or-clause-sound
 returns-in_default-or-clause-sound c =
-    rw (c.remove-portal.ensures.rest, c.remove-signal.ensures.rest, c.remove-board.ensures.rest) (sound_without_post (lists_of c.self.inside) c.args.name c.self.invariant.sound (unused (lists_of c.self.inside) c.args.name (ap (λ (net : Net). post_removal net c.args.name) c.self.view_is ∙ sym c.in_default.ensures)))
+    rw (c.remove-portal.ensures.rest, c.remove-signal.ensures.rest, c.remove-board.ensures.rest)
+    (sound_without_post (lists_of c.self.inside) c.args.name c.self.invariant.sound (unused (lists_of c.self.inside) c.args.name (ap (λ (net : Net). post_removal net c.args.name) c.self.view_is ∙ sym c.in_default.ensures)))
 
 pub returns-clause-sound : goal.returns-clause-sound
 returns-clause-sound c =
-    rw (c.remove-portal.ensures.rest, c.remove-signal.ensures.rest, c.remove-board.ensures.rest) (sound_without_post (lists_of c.self.inside) c.args.name c.self.invariant.sound (unused (lists_of c.self.inside) c.args.name (ap (λ (net : Net). post_removal net c.args.name) c.self.view_is ∙ sym c.in_default.ensures)))
+    rw (c.remove-portal.ensures.rest, c.remove-signal.ensures.rest, c.remove-board.ensures.rest)
+    (sound_without_post (lists_of c.self.inside) c.args.name c.self.invariant.sound (unused (lists_of c.self.inside) c.args.name (ap (λ (net : Net). post_removal net c.args.name) c.self.view_is ∙ sym c.in_default.ensures)))

@@ -16,7 +16,8 @@ pub invariant_of-self : goal.invariant_of-self
 invariant_of-self c =
     let is = c.self.invariant in
     record {
-      sound = sound_after_removal (lists_of c.self.inside) c.args.name _ c.remove_section.result is.sound (ap (λ (net : Net). section_removal net c.args.name) c.self.view_is ∙ sym c.in_default.ensures) c.remove_section.ensures.sound c.remove_section.ensures.removed c.remove_section.ensures.rest c.remove_section.ensures.unchanged;
+      sound = sound_after_removal (lists_of c.self.inside) c.args.name _ c.remove_section.result is.sound (ap (λ (net : Net). section_removal net c.args.name) c.self.view_is ∙ sym c.in_default.ensures)
+          c.remove_section.ensures.sound c.remove_section.ensures.removed c.remove_section.ensures.rest c.remove_section.ensures.unchanged;
       run = is.run;
       turned = is.turned;
       routed = is.routed;
@@ -24,4 +25,5 @@ invariant_of-self c =
 
 pub returns-clause-sound : goal.returns-clause-sound
 returns-clause-sound c =
-    sound_after_removal (lists_of c.self.inside) c.args.name _ c.remove_section.result c.self.invariant.sound (ap (λ (net : Net). section_removal net c.args.name) c.self.view_is ∙ sym c.in_default.ensures) c.remove_section.ensures.sound c.remove_section.ensures.removed c.remove_section.ensures.rest c.remove_section.ensures.unchanged
+    sound_after_removal (lists_of c.self.inside) c.args.name _ c.remove_section.result c.self.invariant.sound (ap (λ (net : Net). section_removal net c.args.name) c.self.view_is ∙ sym c.in_default.ensures)
+    c.remove_section.ensures.sound c.remove_section.ensures.removed c.remove_section.ensures.rest c.remove_section.ensures.unchanged

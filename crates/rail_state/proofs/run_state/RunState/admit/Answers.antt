@@ -1,13 +1,15 @@
-use Rattle.std.proofs.Common.{◌≡◌, ◌⊎◌, ℕ, ◌+◌, ◌<◌, ◌^◌, List, [], ◌∷◌, ◌++◌, length, Option, false, true, refl, sym, ap, ◌∙◌, subst, arith}
+use Rattle.std.proofs.Common.{◌≡◌, ◌⊎◌, ℕ, ◌+◌, ◌-◌, ◌<◌, ◌^◌, Bool, List, [], ◌∷◌, ◌++◌, length, Option, false, true, refl, sym, ap, ◌∙◌, subst, arith}
 use Rattle.std.proofs.lemmas.List.{length-append}
 use Rattle.rail_block.specs.declared.times.MoveTimes.{MoveTimes}
 use Rattle.rail_block.specs.CarriedTimes.{AreBelow, times_at}
+use Rattle.rail_block.specs.KnownMoves.{own_times}
+use Rattle.rail_queue.specs.declared.event.Event.{Event}
 use Rattle.rail_laws_run.specs.HolderTables.{taken_by}
 use Rattle.rail_state.specs.declared.train.TrainState.{TrainState}
 use Rattle.rail_rules.specs.Fronts.{Front, admissions}
-use Rattle.rail_rules.specs.Plant.{is_forced, moves, needed}
+use Rattle.rail_rules.specs.Plant.{Plant, is_forced, moves, needed}
 use Rattle.rail_rules.specs.Times.{stop_time}
-use Rattle.rail_state.proofs.GivenMoves.{next_place, next_times, pushed_at}
+use Rattle.rail_state.proofs.GivenMoves.{ArePushed, as_made, next_place, next_times, pushed_at}
 use Rattle.rail_state.proofs.run_state.RunState.admit.Goals as goal
 
 pub push_move-arrival-requires-clause-times : goal.push_move-arrival-requires-clause-times
@@ -31,18 +33,25 @@ returns-clause-given c = λ front givable.
     let are_times = next_times plant front c.args.self.now.trains now t train_state times givable c.get.ensures c.times_of-times.ensures.times in
     let long : length adms ≡ next = omega (arith, length-append (admissions front t) (now ∷ []), at.after) in
     let made : times ≡ times_at plant t adms next = are_times ∙ ap (times_at plant t adms) (sym at.after) in
-    let H : ℕ → ℕ → Type 0 = λ at p. (is_forced plant t p ≡ false) × (p < moves plant t) × (at ≡ stop_time plant t times.free_run) in
-    let N : ℕ → Type 0 = λ p. (is_forced plant t p ≡ true) ⊎ (p ≡ moves plant t) in (
+    let known = c.new-known.result in
+    let of = c.new-known.ensures in
+    let long_known : length adms ≡ known.place = long ∙ sym of.place in
+    let made_known : times ≡ own_times known adms = made ∙ (λ k. times_at (sym of.plant k) (sym of.train k) adms (sym of.place k)) in
+    let H : ℕ → Plant → ℕ → ℕ → Type 0 = λ at plant t p. (is_forced plant t p ≡ false) × (p < moves plant t) × (at ≡ stop_time plant t times.free_run) in
+    let N : Plant → ℕ → ℕ → Type 0 = λ plant t p. (is_forced plant t p ≡ true) ⊎ (p ≡ moves plant t) in
+    let before : List Event = c.args.self.now.queue.events in
+    let after : List Event = c.push_move-arrival.new.queue.events in
+    let E : (Event → Bool) → Plant → ℕ → ℕ → Type 0 = λ q plant t p. ArePushed plant t adms times arrival q before after p (p - 1) in (
       times,
       arrival,
       record {
-        pushed = λ q. pushed_at plant front t next adms times arrival q c.args.self.now.queue.events c.push_move-arrival.new.queue.events at (c.push_move-arrival.ensures.counted adms long made q);
+        pushed = λ q. pushed_at plant front t next adms times arrival q before after at (as_made (E q) of.plant of.train of.place (c.push_move-arrival.ensures.counted adms long_known made_known q));
         are_times = are_times;
-        deferred = λ when is. subst (H when) at.after (c.push_move-arrival.ensures.deferred when is);
-        not_deferred = λ is. subst N at.after (c.push_move-arrival.ensures.not_deferred is);
+        deferred = λ when is. as_made (H when) of.plant of.train (of.place ∙ at.after) (c.push_move-arrival.ensures.deferred when is);
+        not_deferred = λ is. as_made N of.plant of.train (of.place ∙ at.after) (c.push_move-arrival.ensures.not_deferred is);
         many = c.admit.ensures.length;
         trains = λ u lt. c.admit.ensures.trains u (omega (arith, lt, givable.many));
-        holders = c.take_sections.ensures ∙ ap (λ m. taken_by c.args.self.now.holders (needed plant t m) t) at.before;
+        holders = c.take_sections.ensures ∙ (λ k. taken_by c.args.self.now.holders (needed (of.plant k) (of.train k) (of.place k - 1)) (of.train k)) ∙ ap (λ m. taken_by c.args.self.now.holders (needed plant t m) t) at.before;
         time = refl;
         going = refl;
         settled = refl;

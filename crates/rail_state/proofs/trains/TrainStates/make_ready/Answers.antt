@@ -7,4 +7,5 @@ use Rattle.rail_state.proofs.trains.TrainStates.make_ready.Goals as goal
 pub invariant_of-self : goal.invariant_of-self
 invariant_of-self c =
     let train_state : TrainState = record c.index_mut-train_state.result.now { waits = true } in
-    watched_at c.self.inside.rows.items c.deref.result.now c.self.inside.watched c.watch.new.watched c.args.train c.from.result train_state c.self.invariant c.deref.ensures.value (omega arith) (omega (arith, ap length c.self.view_is)) refl (λ x off. absurd (false≢true (sym off))) c.watch.ensures.watched c.watch.ensures.room
+    watched_at c.self.inside.rows.items c.deref.result.now c.self.inside.watched c.watch.new.watched c.args.train c.from.result train_state c.self.invariant c.deref.ensures.value
+    (omega arith) (omega (arith, ap length c.self.view_is)) refl (λ x off. absurd (false≢true (sym off))) c.watch.ensures.watched c.watch.ensures.room

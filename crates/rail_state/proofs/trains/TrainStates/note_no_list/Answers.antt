@@ -8,4 +8,5 @@ use Rattle.rail_state.proofs.trains.TrainStates.note_no_list.Goals as goal
 pub invariant_of-self : goal.invariant_of-self
 invariant_of-self c =
     let train_state : TrainState = record c.index_mut-train_state.result.now { known = Some NoList } in
-    watched_at c.self.inside.rows.items c.deref.result.now c.self.inside.watched c.watch.new.watched c.args.train c.from.result train_state c.self.invariant c.deref.ensures.value (omega arith) (omega (arith, ap length c.self.view_is)) (or_right train_state.waits true refl) (λ x _. refl) c.watch.ensures.watched c.watch.ensures.room
+    watched_at c.self.inside.rows.items c.deref.result.now c.self.inside.watched c.watch.new.watched c.args.train c.from.result train_state c.self.invariant c.deref.ensures.value
+    (omega arith) (omega (arith, ap length c.self.view_is)) (or_right train_state.waits true refl) (λ x _. refl) c.watch.ensures.watched c.watch.ensures.room

@@ -28,7 +28,13 @@ invariant_of-self-2 c =
     let section = c.in-Some.section in
     rw c.remove.ensures.rest record {
       sound = IsSoundTrack-without (is_named c.args.name) sections c.self.invariant.sound;
-      counted = λ joint. omega (arith, ap (count_by (same_name joint)) (map-id section.joints), taken_out (is_named c.args.name) sections section c.self.invariant.sound (sym c.in-Some.ensures.item) joint, c.self.invariant.counted joint, rw c.as_slice.ensures at (c.discount_each.ensures.discounted joint));
+      counted = λ joint. omega (
+        arith,
+        ap (count_by (same_name joint)) (map-id section.joints),
+        taken_out (is_named c.args.name) sections section c.self.invariant.sound (sym c.in-Some.ensures.item) joint,
+        c.self.invariant.counted joint,
+        rw c.as_slice.ensures at (c.discount_each.ensures.discounted joint),
+      );
     }
 
 pub returns-in_default-clause-sound : goal.returns-in_default-clause-sound

@@ -1,0 +1,218 @@
+//! What the top call answers.
+mod cases;
+mod pieces;
+
+use cases::{AMONG, CASES};
+use pieces::piece;
+use rail_base::{Seq, Word};
+use rail_cli::{Status, rail};
+use rail_io::{File, MemoryShelf, MemorySink};
+use std::alloc::{AllocError, Global};
+
+#[test]
+fn answers_the_words(rt: HostRuntime) {
+    let other = first_other(rt.alloc(), CASES, true);
+    assert!(rt; other.is_none(), "{other:?}");
+}
+
+#[test]
+fn runs_with_these_lines_among_others(rt: HostRuntime) {
+    let other = first_other(rt.alloc(), AMONG, false);
+    assert!(rt; other.is_none(), "{other:?}");
+}
+
+/// The first of the cases that is answered otherwise than it says. Its output is whole, or has the lines in
+/// this order among others.
+fn first_other(alloc: Global, cases: &str, is_whole: bool) -> Option<&str> {
+    for case in cases.split("== ").skip(1) {
+        if !holds(alloc, case, is_whole).unwrap_or(false) {
+            return Some(case);
+        }
+    }
+    None
+}
+
+/// What a case wants to be answered.
+#[derive(Clone, Copy)]
+struct Want<'a> {
+    status: &'a str,
+    output: &'a str,
+    is_whole: bool,
+}
+
+/// Whether the case is answered as it says.
+fn holds(alloc: Global, case: &str, is_whole: bool) -> Option<bool> {
+    let (head, output) = case.split_once("\n")?;
+    let (asked, status) = head.rsplit_once(" / ")?;
+    let (words, rest) = asked.split_once(" / ")?;
+    let (files, call) = rest.rsplit_once(" / ")?;
+    let want = Want {
+        status,
+        output,
+        is_whole,
+    };
+    match shelf_of(alloc, files, call) {
+        Some(mut shelf) => Some(is_answered(alloc, words, &mut shelf, call, want)),
+        None => None,
+    }
+}
+
+/// Whether the words are answered so, over these files.
+fn is_answered(
+    alloc: Global,
+    words: &str,
+    shelf: &mut MemoryShelf,
+    call: &str,
+    want: Want,
+) -> bool {
+    match sink_of(alloc, call) {
+        Ok(mut sink) => match words_of(alloc, words) {
+            Ok(words) => is_told(rail(alloc, &words, shelf, &mut sink), &sink, want),
+            Err(_) => false,
+        },
+        Err(_) => false,
+    }
+}
+
+/// Whether the status has this text, and the output is the one that is wanted.
+fn is_told(status: Status, sink: &MemorySink, want: Want) -> bool {
+    let mut text = [0; 64];
+    let length = status.text(&mut text);
+    match sink.bytes() {
+        Some(bytes) => &text[..length] == want.status.as_bytes() && is_output(bytes, want),
+        None => false,
+    }
+}
+
+/// Whether the output is the one that is wanted.
+fn is_output(bytes: &[u8], want: Want) -> bool {
+    if want.is_whole {
+        return bytes == want.output.as_bytes();
+    }
+    match str::from_utf8(bytes) {
+        Ok(output) => has_lines(output, want.output),
+        Err(_) => false,
+    }
+}
+
+/// Whether the output has the lines in this order.
+fn has_lines(output: &str, lines: &str) -> bool {
+    let mut rest = output;
+    for line in lines.lines() {
+        match rest.split_once(line) {
+            Some((_, behind)) => rest = behind,
+            None => return false,
+        }
+    }
+    true
+}
+
+/// The sink in which the call fails, if it is one of the sink.
+fn sink_of(alloc: Global, call: &str) -> Result<MemorySink, AllocError> {
+    let fails = fails(alloc, call, "sink")?;
+    match MemorySink::with_room(alloc, 4096, fails) {
+        Ok(sink) => Ok(sink),
+        Err(_) => Err(AllocError),
+    }
+}
+
+/// The shelf with the files `scene` and `list`, in which the call fails, if it is one of the shelf.
+fn shelf_of(alloc: Global, files: &str, call: &str) -> Option<MemoryShelf> {
+    let (scene, list) = files.split_once(" / ")?;
+    let fails = fails(alloc, call, "shelf").ok()?;
+    let files = files_of(alloc, scene, list).ok()?;
+    Some(MemoryShelf::new(files, fails))
+}
+
+fn files_of(alloc: Global, scene: &str, list: &str) -> Result<Vec<File>, AllocError> {
+    let mut files = Vec::new(alloc);
+    files.push(file(alloc, "scene", scene_of(alloc, scene)?)?)?;
+    files.push(file(alloc, "list", list_of(alloc, list)?)?)?;
+    Ok(files)
+}
+
+fn file(alloc: Global, name: &str, text: String) -> Result<File, AllocError> {
+    Ok(File {
+        name: word(alloc, name)?,
+        bytes: Seq::from_vec(text.into_bytes()),
+    })
+}
+
+fn word(alloc: Global, text: &str) -> Result<Word, AllocError> {
+    Ok(Word::from_string(String::from_str(alloc, text)?))
+}
+
+fn words_of(alloc: Global, line: &str) -> Result<Vec<Word>, AllocError> {
+    let mut words = Vec::new(alloc);
+    for text in line.split_whitespace() {
+        words.push(word(alloc, text)?)?;
+    }
+    Ok(words)
+}
+
+/// The calls of this object that fail: the one of this number, where the call is one of the object.
+fn fails(alloc: Global, call: &str, object: &str) -> Result<Vec<u64>, AllocError> {
+    let number = match call.split_once(" ") {
+        Some((name, number)) if name == object => number.parse().unwrap_or(0),
+        _ => 0,
+    };
+    Ok(vec![in alloc; number]?)
+}
+
+/// The scene file of these pieces.
+fn scene_of(alloc: Global, names: &str) -> Result<String, AllocError> {
+    let mut text = String::new(alloc);
+    for name in names.split_whitespace() {
+        push_piece(alloc, &mut text, name)?;
+    }
+    Ok(text)
+}
+
+/// Adds a piece: `~N` is a comment of so many bytes, and `+N` are so many sections, which touch nowhere.
+fn push_piece(alloc: Global, text: &mut String, name: &str) -> Result<(), AllocError> {
+    if let Some(length) = name.strip_prefix("~") {
+        return push_comment(text, number(length));
+    }
+    if let Some(count) = name.strip_prefix("+") {
+        return push_sections(alloc, text, number(count));
+    }
+    text.push_str(piece(name))
+}
+
+/// The list file of these lines; `~N` is a comment of so many bytes.
+fn list_of(alloc: Global, lines: &str) -> Result<String, AllocError> {
+    let mut text = String::new(alloc);
+    for line in lines.split(", ") {
+        push_line(&mut text, line)?;
+    }
+    Ok(text)
+}
+
+fn push_line(text: &mut String, line: &str) -> Result<(), AllocError> {
+    if let Some(length) = line.strip_prefix("~") {
+        return push_comment(text, number(length));
+    }
+    text.push_str(line)?;
+    text.push_str("\n")
+}
+
+fn number(text: &str) -> u32 {
+    text.parse().unwrap_or(0)
+}
+
+fn push_comment(text: &mut String, length: u32) -> Result<(), AllocError> {
+    for _ in 0..length {
+        text.push('#')?;
+    }
+    Ok(())
+}
+
+fn push_sections(alloc: Global, text: &mut String, count: u32) -> Result<(), AllocError> {
+    text.push_str("version = 1\nrelease = 20\n")?;
+    for n in 0..count {
+        text.push_str("[[section]]\nkind = \"plain\"\nlength = 1000\nspeed = 90\n")?;
+        let names = format!(in alloc; "name = \"S{n}\"\njoints = [\"a{n}\", \"b{n}\"]\n")?;
+        text.push_str(&names)?;
+    }
+    Ok(())
+}

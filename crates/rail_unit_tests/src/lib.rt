@@ -1,0 +1,31 @@
+//! Tests of the public calls of single crates: each call on its happy path, and the refusals that no
+//! worked row shows.
+//!
+//! They stand here and not beside the calls because a crate with tests is proved twice, and every test
+//! function is proved too. The expected values come from the rules of operation in `docs/OPERATION.md` and
+//! from `docs/FORMATS.md`, never from the program. What needs private items, the system's files, is tested
+//! in `rail_io` itself. Nothing stands on this crate.
+#![tactic(auto)]
+
+#[cfg(test)]
+mod analysis;
+#[cfg(test)]
+mod events;
+#[cfg(test)]
+mod ground;
+#[cfg(test)]
+mod holders;
+#[cfg(test)]
+mod kept_lists;
+#[cfg(test)]
+mod lines;
+#[cfg(test)]
+mod networks;
+#[cfg(test)]
+mod scenes;
+#[cfg(test)]
+mod times;
+#[cfg(test)]
+mod tracks;
+#[cfg(test)]
+mod words;

@@ -1,0 +1,208 @@
+//! Small scene files, each with the answer that the rules give it by hand.
+mod cases;
+mod pieces;
+
+use cases::CASES;
+use pieces::{OTHERS, ROOT, STATION, TRACK};
+use rail_base::{Fault, Name, Time, TrainKind};
+use rail_routes::{Network, Route, Step};
+use rail_scene::{Scene, SceneTrain, read_scene};
+use rail_track::{Section, SectionKind};
+use std::alloc::{AllocError, Global};
+
+#[test]
+fn tells_the_first_refusal(rt: HostRuntime) {
+    let other = first_other(rt.alloc(), CASES);
+    assert!(rt; other.is_none(), "{other:?}");
+}
+
+/// The first of the cases that is told otherwise than its first line says.
+fn first_other(alloc: Global, cases: &str) -> Option<&str> {
+    for case in cases.split("== ").skip(1) {
+        if !holds(alloc, case).unwrap_or(false) {
+            return Some(case);
+        }
+    }
+    None
+}
+
+/// Whether the case is told as its first line says.
+fn holds(alloc: Global, case: &str) -> Option<bool> {
+    let (head, text) = case.split_once("\n")?;
+    let (start, want) = head.split_once(": ")?;
+    let (before, after) = match start {
+        "root" => (ROOT, ""),
+        "track" => (TRACK, ""),
+        "station" => (STATION, OTHERS),
+        _ => ("", ""),
+    };
+    let file = format!(in alloc; "{before}{text}{after}").ok()?;
+    Some(is_told(alloc, file.as_bytes(), want))
+}
+
+/// Whether the file with these bytes is told so: as read, or by the reason, part, item and step of its
+/// refusal.
+fn is_told(alloc: Global, bytes: &[u8], want: &str) -> bool {
+    match told(alloc, bytes) {
+        Ok(answer) => answer.as_str() == want,
+        Err(_) => false,
+    }
+}
+
+/// The answer to the file with these bytes.
+fn told(alloc: Global, bytes: &[u8]) -> Result<String, AllocError> {
+    match read_scene(alloc, bytes) {
+        Ok(scene) => {
+            drop(scene);
+            String::from_str(alloc, "read")
+        }
+        Err(Fault::Refused(refusal)) => {
+            let (reason, part) = (refusal.reason, refusal.part);
+            let (item, step) = (refusal.item, refusal.step);
+            format!(in alloc; "{reason:?} {part:?} {item} {step}")
+        }
+        Err(Fault::OutOfMemory) => String::from_str(alloc, "out of memory"),
+    }
+}
+
+#[test]
+fn refuses_bytes_that_are_no_toml(rt: HostRuntime) {
+    let cut: &[u8] = b"version = 1\n[[section";
+    assert!(rt; is_told(rt.alloc(), cut, "NotToml Bytes 0 0"));
+    let no_text: &[u8] = b"version = 1\nrelease = 20 # \xff\n";
+    assert!(rt; is_told(rt.alloc(), no_text, "NotToml Bytes 0 0"));
+}
+
+#[test]
+fn reads_as_many_sections_as_the_limit(rt: HostRuntime) {
+    assert!(rt; is_told_filled(rt.alloc(), "", "read"));
+    assert!(rt; is_told_filled(rt.alloc(), SECTION, "TooMany Section 513 0"));
+}
+
+/// A section whose values are all wrong.
+const SECTION: &str = "[[section]]\nname = ''\nkind = ''\nlength = 0\nspeed = 0\njoints = []\n";
+
+/// Whether a file with as many sections as the limit, and this text behind them, is told so.
+fn is_told_filled(alloc: Global, behind: &str, want: &str) -> bool {
+    let mut text = String::new(alloc);
+    match push_filled(&mut text, behind) {
+        Ok(()) => is_told(alloc, text.as_bytes(), want),
+        Err(_) => false,
+    }
+}
+
+/// Adds a scene with as many sections as the limit, and this text behind them.
+fn push_filled(text: &mut String, behind: &str) -> Result<(), AllocError> {
+    text.push_str(ROOT)?;
+    for number in 0..512u32 {
+        write!(
+            text,
+            "[[section]]\nname = 's{number}'\nkind = 'plain'\nlength = 1\nspeed = 1\njoints = ['a{number}', 'b{number}']\n"
+        )?;
+    }
+    text.push_str(behind)
+}
+
+#[test]
+fn reads_what_is_spelled(rt: HostRuntime) {
+    assert!(rt; reads_the_track(rt.alloc()));
+}
+
+/// Whether the track is read as its file spells it.
+fn reads_the_track(alloc: Global) -> bool {
+    match read_scene(alloc, TRACK.as_bytes()) {
+        Ok(scene) => {
+            let is_read = is_the_track(&scene);
+            drop(scene);
+            is_read
+        }
+        Err(_) => false,
+    }
+}
+
+/// Whether the scene is what its file spells, with a depth, a policy and a priority that the file leaves
+/// out.
+fn is_the_track(scene: &Scene) -> bool {
+    scene.release == 20
+        && scene.depth == 1
+        && is(scene.policy, b"fcfs")
+        && is_the_network(&scene.network)
+        && are_the_kinds(scene.kinds.as_slice())
+        && are_the_trains(scene.trains.as_slice())
+}
+
+fn is_the_network(network: &Network) -> bool {
+    are_the_counts(network)
+        && are_the_sections(network.sections())
+        && are_the_routes(network.routes())
+}
+
+fn are_the_counts(network: &Network) -> bool {
+    [3, 2, 2, 1, 1, 1]
+        == [
+            network.sections().len(),
+            network.portals().len(),
+            network.signals().len(),
+            network.boards().len(),
+            network.turns().len(),
+            network.routes().len(),
+        ]
+}
+
+fn are_the_sections(sections: &[Section]) -> bool {
+    let [_, points, _] = sections else {
+        return false;
+    };
+    is(points.name, b"P")
+        && points.kind == SectionKind::Points
+        && points.length == 50
+        && points.speed == 90
+        && are_the_joints(points.joints.as_slice())
+}
+
+fn are_the_joints(joints: &[Name]) -> bool {
+    match joints {
+        [tip, left, right] => is(*tip, b"b") && is(*left, b"c") && is(*right, b"d"),
+        _ => false,
+    }
+}
+
+fn are_the_routes(routes: &[Route]) -> bool {
+    match routes {
+        [route] => {
+            is(route.from, b"West")
+                && is(route.to, b"East")
+                && are_the_steps(route.steps.as_slice())
+        }
+        _ => false,
+    }
+}
+
+fn are_the_steps(steps: &[Step]) -> bool {
+    match steps {
+        [_, _, step] => is(step.section, b"C") && is(step.from, b"c") && is(step.to, b"e"),
+        _ => false,
+    }
+}
+
+fn are_the_kinds(kinds: &[TrainKind]) -> bool {
+    match kinds {
+        [kind] => kind.length == 90 && kind.speed == 90 && kind.start == 100 && kind.stop == 50,
+        _ => false,
+    }
+}
+
+fn are_the_trains(trains: &[SceneTrain]) -> bool {
+    let [train] = trains else {
+        return false;
+    };
+    let [route] = train.routes.as_slice() else {
+        return false;
+    };
+    is(train.kind, b"k") && train.entry == Time(1_200) && train.priority == 0 && is(*route, b"r")
+}
+
+/// Whether the bytes spell the name.
+fn is(name: Name, bytes: &[u8]) -> bool {
+    name.as_bytes() == bytes
+}
