@@ -1,13 +1,17 @@
 -- What a form answers, put together from what its parts answer.
-use Rattle.std.proofs.Common.{◌≡◌, ℕ, ◌≤◌, ltb, cond, List, length, Option, Some, None, sym, ap, subst, ⊎_elim, arith}
+use Rattle.std.proofs.Common.{◌≡◌, ◌≢◌, ℕ, ◌≤◌, ltb, cond, List, length, Option, Some, None, Result, Ok, Err, IsErrAnd, refl, ◌∙◌, ◌⊎◌, inl, inr, sym, ap, subst, ⊎_elim, arith}
 use Rattle.std.proofs.lemmas.Bool.{cases_Bool, ltb-true}
+use Rattle.std.proofs.lemmas.Option.{none-some, same_Some}
 use Rattle.rail_base.specs.declared.limits.TheConstants.{FILE_BYTES}
 use Rattle.rail_base.specs.declared.refusals.Refusal.{Refusal}
 use Rattle.rail_rules.specs.Numbers.{or_else}
 use Rattle.rail_io.specs.Writes.{Adds, AddsPrefix}
 use Rattle.rail_cli.specs.declared.status.Status.{Status}
-use Rattle.rail_cli.specs.Answers.{IsAnswer, plant_in}
-use Rattle.rail_cli.specs.Files.{too_large, too_many_bytes}
+use Rattle.rail_cli.specs.declared.status.Status.TheVariants.{Done, Usage, Refused, ReadFault, WriteFault, OutOfMemory, CheckedNo}
+use Rattle.rail_cli.specs.Answers.{Decides, IsAnswer, plant_in}
+use Rattle.rail_io.specs.declared.shelf.Shelf.{Ghosts}
+use Rattle.rail_cli.specs.Files.{IsFileAnswer, too_large, too_many_bytes}
+use Rattle.rail_cli.specs.Promises.{ended}
 use Rattle.rail_cli.specs.Plays.{play_refusal, play_text}
 
 -- a file that is short enough is not refused for its size
@@ -28,3 +32,61 @@ play_answer before now status bytes listed scene list is_scene is_list short_sce
     IsAnswer (or_else (too_large 1 scene) (or_else (too_large 2 list) (play_refusal scene list))) (Adds before now (play_text (plant_in scene) list)) (AddsPrefix before now (play_text (plant_in scene) list)) status in
     let whole : Answer scene list = answer_after _ _ _ _ status short_scene (answer_after _ _ _ _ status short_list answer) in
     subst (λ xs. Answer xs listed) is_scene (subst (λ xs. Answer scene xs) is_list whole)
+
+-- nothing is decided where nothing is refused
+pub none_decides : (first : Option Refusal) (status : Status) → first ≡ None → Decides first status
+none_decides first status none = subst (λ (o : Option Refusal). Decides o status) (sym none) tt
+
+-- the first refusal decides, also where it is that of a part that goes before all others
+pub first_decides : (first later : Option Refusal) (whole part : Type 0) (status : Status) → IsAnswer (or_else first later) whole part status → Decides first status
+first_decides None later whole part status answer = tt
+first_decides (Some first) later whole part Done answer = absurd (none-some first (sym answer.0))
+first_decides (Some first) later whole part Usage answer = tt
+first_decides (Some first) later whole part (Refused refusal) answer = sym (same_Some first refusal answer)
+first_decides (Some first) later whole part ReadFault answer = tt
+first_decides (Some first) later whole part WriteFault answer = absurd (none-some first (sym answer.0))
+first_decides (Some first) later whole part OutOfMemory answer = tt
+first_decides (Some first) later whole part (CheckedNo line law) answer = tt
+
+pub answer_decides : (first : Option Refusal) (whole part : Type 0) (status : Status) → IsAnswer first whole part status → Decides first status
+answer_decides None whole part status answer = tt
+answer_decides (Some first) whole part status answer = first_decides (Some first) None whole part status answer
+
+-- what is answered where a file was not read
+pub file_answer : {S : Type 0} (shelf : Ghosts S) (number : ℕ) (file : List ℕ) (before now : S) (bytes : List ℕ) (later : Option Refusal) (whole part : Type 0) (status : Status)
+    → IsFileAnswer shelf number file before now status → shelf.told before file ≡ Some bytes → IsAnswer (or_else (too_large number bytes) later) whole part status
+file_answer shelf number file before now bytes later whole part Done is told = absurd is
+file_answer shelf number file before now bytes later whole part Usage is told = absurd is
+file_answer shelf number file before now bytes later whole part (Refused refusal) is told = ap (λ (o : Option Refusal). or_else o later) (is.larger bytes told)
+file_answer shelf number file before now bytes later whole part ReadFault is told = tt
+file_answer shelf number file before now bytes later whole part WriteFault is told = absurd is
+file_answer shelf number file before now bytes later whole part OutOfMemory is told = tt
+file_answer shelf number file before now bytes later whole part (CheckedNo line law) is told = absurd is
+
+-- where it was not for its size, nothing else is decided against
+pub unread_decides : {S : Type 0} (shelf : Ghosts S) (number : ℕ) (file : List ℕ) (before now : S) (first : Option Refusal) (status : Status)
+    → IsFileAnswer shelf number file before now status → status ≢ Refused (too_many_bytes number) → Decides first status
+unread_decides shelf number file before now None status is other = tt
+unread_decides shelf number file before now (Some first) Done is other = absurd is
+unread_decides shelf number file before now (Some first) Usage is other = absurd is
+unread_decides shelf number file before now (Some first) (Refused refusal) is other = absurd (other (ap Refused is.is))
+unread_decides shelf number file before now (Some first) ReadFault is other = tt
+unread_decides shelf number file before now (Some first) WriteFault is other = absurd is
+unread_decides shelf number file before now (Some first) OutOfMemory is other = tt
+unread_decides shelf number file before now (Some first) (CheckedNo line law) is other = absurd is
+
+-- a command that ends with a status
+pub ended_with : (end : Result (Unit {0}) Status) (status : Status) → IsErrAnd end (λ other. other ≡ status) → ended end ≡ status
+ended_with (Ok done) status is = absurd is
+ended_with (Err other) status is = is
+
+-- where nothing is refused and no call failed, all is done, or memory is wanting
+pub complete_answer : (first : Option Refusal) (whole part : Type 0) (status : Status) → IsAnswer first whole part status → first ≡ None
+    → (status ≡ ReadFault → ⊥) → (status ≡ WriteFault → ⊥) → (status ≡ Done) ⊎ (status ≡ OutOfMemory)
+complete_answer first whole part Done answer none read write = inl refl
+complete_answer first whole part Usage answer none read write = absurd answer
+complete_answer first whole part (Refused refusal) answer none read write = absurd (none-some refusal (sym none ∙ answer))
+complete_answer first whole part ReadFault answer none read write = absurd (read refl)
+complete_answer first whole part WriteFault answer none read write = absurd (write refl)
+complete_answer first whole part OutOfMemory answer none read write = inr refl
+complete_answer first whole part (CheckedNo line law) answer none read write = absurd answer

@@ -1,12 +1,15 @@
 -- The words of a form.
-use Rattle.std.proofs.Common.{◌≡◌, ℕ, List, [], ◌∷◌, Option, sym, ap, ◌∙◌, subst}
+use Rattle.std.proofs.Common.{◌≡◌, ◌⊎◌, ℕ, List, [], ◌∷◌, Option, sym, ap, ◌∙◌, subst}
 use Rattle.std.proofs.lemmas.Option.{same_Some}
 use Rattle.std.specs.Option.{option_map_or}
 use Rattle.rail_words.specs.declared.forms.Form.{Form}
+use Rattle.rail_words.specs.declared.forms.Form.TheVariants as form
 use Rattle.rail_words.specs.Forms.{IsForm}
 use Rattle.rail_cli.specs.declared.status.Status.{Status}
+use Rattle.rail_cli.specs.declared.status.Status.TheVariants.{Done, ReadFault, WriteFault, OutOfMemory}
 use Rattle.rail_cli.specs.Answers.{Told}
-use Rattle.rail_cli.specs.Forms.{AnswersForm, files_named, files_of}
+use Rattle.rail_cli.specs.Forms.{AnswersForm, IsAcceptedInput, files_named, files_of}
+use Rattle.rail_cli.proofs.Answers.{complete_answer}
 
 -- words ask for one form at most
 one_form : (form other : Form) (words : List (List ℕ)) → IsForm form words → IsForm other words → form ≡ other
@@ -22,3 +25,29 @@ form_answered form words told before now status is h other asked = subst (λ f. 
 pub files_of_form : (form : Form) (words : List (List ℕ)) → IsForm form words → files_of form words ≡ files_named words
 files_of_form form [] h = absurd h
 files_of_form form (verb ∷ others) h = sym (ap (λ (o : Option Form). option_map_or (λ (form : Form). files_of form (verb ∷ others)) o []) h.0)
+
+-- a command whose input is accepted is done, unless a call failed or memory is wanting
+pub complete_form : (form : Form) (words : List (List ℕ)) (told : Told) (before now : Option (List ℕ)) (status : Status)
+    → AnswersForm form words told before now status → IsAcceptedInput form words told → (status ≡ ReadFault → ⊥) → (status ≡ WriteFault → ⊥)
+    → (status ≡ Done) ⊎ (status ≡ OutOfMemory)
+complete_form form.Run (verb ∷ scene ∷ []) told before now status answer ok read write = complete_answer _ _ _ status (answer ok.0 ok.1) ok.2 read write
+complete_form form.Run [] told before now status answer ok read write = absurd ok
+complete_form form.Run (verb ∷ []) told before now status answer ok read write = absurd ok
+complete_form form.Run (verb ∷ scene ∷ other ∷ more) told before now status answer ok read write = absurd ok
+complete_form form.Infra (verb ∷ scene ∷ []) told before now status answer ok read write = complete_answer _ _ _ status (answer ok.0 ok.1) ok.2 read write
+complete_form form.Infra [] told before now status answer ok read write = absurd ok
+complete_form form.Infra (verb ∷ []) told before now status answer ok read write = absurd ok
+complete_form form.Infra (verb ∷ scene ∷ other ∷ more) told before now status answer ok read write = absurd ok
+complete_form form.Play (verb ∷ scene ∷ list ∷ []) told before now status answer ok read write =
+    complete_answer _ _ _ status (answer.both ok.0 ok.1 ok.2 ok.3) ok.4 read write
+complete_form form.Play [] told before now status answer ok read write = absurd ok
+complete_form form.Play (verb ∷ []) told before now status answer ok read write = absurd ok
+complete_form form.Play (verb ∷ scene ∷ []) told before now status answer ok read write = absurd ok
+complete_form form.Play (verb ∷ scene ∷ list ∷ other ∷ more) told before now status answer ok read write = absurd ok
+complete_form form.Check words told before now status answer ok read write = absurd ok
+complete_form form.Stairs words told before now status answer ok read write = absurd ok
+complete_form form.Report words told before now status answer ok read write = absurd ok
+complete_form form.Capacity words told before now status answer ok read write = absurd ok
+complete_form form.Edit words told before now status answer ok read write = absurd ok
+complete_form form.Gen words told before now status answer ok read write = absurd ok
+complete_form form.Scene words told before now status answer ok read write = absurd ok

@@ -1,6 +1,6 @@
 -- How many lines a history has at most, hold lines with them.
-use Rattle.std.proofs.Common.{◌≡◌, ◌≢◌, ℕ, zero, suc, ◌+◌, ◌*◌, ◌<◌, ◌≤◌, Bool, true, false, not, cond, eqb, ltb, ◌&&◌, [], ◌∷◌, length, refl, sym, ap, ◌∙◌, subst, arith, ⊎_elim}
-use Rattle.std.proofs.lemmas.Bool.{and_parts, cond_both, cases_eq, ltb-true, false≢true, eq-eqb}
+use Rattle.std.proofs.Common.{◌≡◌, ℕ, zero, suc, ◌+◌, ◌*◌, ◌<◌, ◌≤◌, Bool, true, false, not, cond, eqb, ltb, ◌&&◌, [], ◌∷◌, length, refl, ap, arith, ⊎_elim}
+use Rattle.std.proofs.lemmas.Bool.{and_parts, cases_eq, ltb-true, false≢true, eq-eqb}
 use Rattle.rail_base.specs.declared.history.What.{What}
 use Rattle.rail_base.specs.declared.history.What.TheVariants.{Free, Arrive, Enter, Out, Ready, Told, Untold, Admit, Hold, End}
 use Rattle.rail_rules.specs.LineCounts.{holds_train, lines_that}
@@ -12,7 +12,7 @@ use Rattle.rail_rules.specs.Causes.{is_ready, is_told_so, place}
 use Rattle.rail_rules.specs.Lawful.{is_lawful}
 use Rattle.rail_rules.specs.Orders.{Input, is_cancelled, told}
 use Rattle.rail_laws_front.specs.Premises.{IsWellFormed}
-use Rattle.rail_laws_front.specs.Views.{Follows, Holds, is_event}
+use Rattle.rail_laws_front.specs.Views.{Follows, is_event}
 use Rattle.rail_laws_front.specs.Views.Follows.{by_event, by_admission, by_hold, by_end}
 use Rattle.rail_laws_front.proofs.CallerLemmas.{known_train, lawful_before, lawful_last}
 

@@ -1,18 +1,16 @@
 -- What is written of a run so far.
-use Rattle.std.proofs.Common.{◌≡◌, ℕ, zero, suc, ◌+◌, ◌*◌, ◌<◌, ◌≤◌, true, ◌&&◌, eqb, List, [], ◌∷◌, length, Option, refl, sym, ap, ◌∙◌, subst, arith}
+use Rattle.std.proofs.Common.{◌≡◌, ℕ, ◌+◌, ◌*◌, ◌≤◌, true, List, [], ◌∷◌, length, Option, refl, sym, ap, ◌∙◌, subst, arith}
 use Rattle.std.proofs.lemmas.Bool.{and_parts, and_from, eqb-true}
 use Rattle.std.proofs.lemmas.List.{nil_from_length}
 use Rattle.rail_base.specs.declared.history.Entry.{Entry}
-use Rattle.rail_base.specs.declared.history.Note.{Note}
 use Rattle.rail_base.specs.declared.history.Note.TheVariants.{Pulled, Appended, Fresh}
 use Rattle.rail_base.specs.declared.history.What.{What}
 use Rattle.rail_base.specs.declared.history.What.TheVariants.{Free, Arrive, Enter, Out, Ready, Told, Untold, Admit, Hold, End}
-use Rattle.rail_history.specs.Lines.{brought, brought_by_note, line_of}
+use Rattle.rail_history.specs.Lines.{brought, line_of}
 use Rattle.rail_io.specs.Writes.{Adds, AddsPrefix}
 use Rattle.rail_io.proofs.CallerLemmas.{Adds-same, Adds-append, AddsPrefix-append}
-use Rattle.rail_rules.specs.Accepted.{is_accepted}
 use Rattle.rail_rules.specs.Fronts.{Front, Line, has_ended}
-use Rattle.rail_rules.specs.Lawful.{is_bare, is_lawful, note_fits}
+use Rattle.rail_rules.specs.Lawful.{is_bare, is_lawful}
 use Rattle.rail_rules.specs.Plant.{Plant, bound, trains}
 use Rattle.rail_rules.specs.RunHistories.{is_run}
 use Rattle.rail_rules.specs.Texts.{text, line_text}
@@ -109,6 +107,7 @@ module _ (old engine : Ledger) (front : Front) (entry : Entry) (plant : Plant) (
   pub in_part : (before now then : Option (List ℕ)) → Adds before now (text old.plant front)
       → AddsPrefix now then (line_text plant (line_of entry list)) → IsRunInPart old.plant before then
   in_part before now then so_far more = subst (λ (p : Plant). IsRunInPart p before then) same (record {
+    accepted = stands.at.rep.accepted;
     front = line_in engine entry ∷ front;
     run = stands.of_run;
     safe = safe_run engine.plant stands.at.rep.accepted (line_in engine entry ∷ front) stands.of_run;
@@ -122,6 +121,7 @@ all_written engine front before now stands ended adds =
     let history = and_from (is_run (run_input engine.plant) seats front) (has_ended front) stands.of_run ended in
     let end = all_left engine.plant stands.at.rep.accepted front history in
     record {
+      accepted = stands.at.rep.accepted;
       front = front;
       history = history;
       safe = safe_run engine.plant stands.at.rep.accepted front stands.of_run;

@@ -1,5 +1,5 @@
 -- Texts that are written one after another.
-use Rattle.std.proofs.Common.{◌≡◌, ◌≤◌, List, ℕ, Bool, true, false, [], ◌++◌, Result, Ok, Err, IsErr, IsErrAnd, sym, ap, ◌∙◌, arith}
+use Rattle.std.proofs.Common.{◌≡◌, ◌≤◌, List, ℕ, [], ◌++◌, Result, Ok, Err, IsErr, IsErrAnd, sym, ap, ◌∙◌, arith}
 use Rattle.std.proofs.lemmas.Bool.{false≢true}
 use Rattle.rail_io.specs.FaultCounts.{Rose}
 use Rattle.rail_io.specs.declared.sink.Sink.{Ghosts}

@@ -30,6 +30,15 @@ IsAnswer first whole part WriteFault = (first ≡ None) × part
 IsAnswer first whole part OutOfMemory = Unit {0}
 IsAnswer first whole part (CheckedNo line law) = ⊥
 
+-- what the first refusal of a part of the input decides, whatever the rest is: where it is one, nothing is written and
+-- no other refusal is told
+abbrev pub Decides : Option Refusal → Status → Type 0
+Decides None status = Unit {0}
+Decides (Some first) Done = ⊥
+Decides (Some first) (Refused refusal) = refusal ≡ first
+Decides (Some first) WriteFault = ⊥
+Decides (Some first) status = Unit {0}
+
 -- the same of a text, all of which is added, or a first part of it
 abbrev pub IsTextAnswer : Option Refusal → List ℕ → Option (List ℕ) → Option (List ℕ) → Status → Type 0
 IsTextAnswer first text before now status = IsAnswer first (Adds before now text) (AddsPrefix before now text) status

@@ -1,5 +1,5 @@
 -- The files of a command, and why one is not read.
-use Rattle.std.specs.Prelude.{◌≡◌, ◌⊎◌, ℕ, ◌<◌, Bool, true, false, not, cond, nat_lt, length, List, [], ◌∷◌, Option, Some, None}
+use Rattle.std.specs.Prelude.{◌≡◌, ◌⊎◌, ℕ, suc, ◌<◌, Bool, true, false, not, cond, nat_lt, length, List, [], ◌∷◌, Option, Some, None}
 use Rattle.rail_base.specs.declared.limits.TheConstants.{FILE_BYTES}
 use Rattle.rail_base.specs.declared.refusals.Refusal.{Refusal}
 use Rattle.rail_base.specs.declared.refusals.Part.{Part}
@@ -18,10 +18,16 @@ too_many_bytes number = record { reason = TooMany; part = File; item = number; s
 abbrev pub too_large : ℕ → List ℕ → Option Refusal
 too_large number bytes = cond (nat_lt FILE_BYTES (length bytes)) (Some (too_many_bytes number)) None
 
--- one of the files has this name
-abbrev pub IsOneOf : List (List ℕ) → Option (List ℕ) → Type 0
-IsOneOf [] name = ⊥
-IsOneOf (file ∷ files) name = (name ≡ Some file) ⊎ IsOneOf files name
+-- where the bytes of the file of this number are told, they are no more than a file may have
+abbrev pub FitsWhereTold : (List ℕ → Option (List ℕ)) → ℕ → List ℕ → Type 0
+FitsWhereTold told number file = (bytes : List ℕ) → told file ≡ Some bytes → too_large number bytes ≡ None
+
+-- a call failed at one of the files, which are numbered from this number on; no file before it is too large where its
+-- bytes are told
+abbrev pub IsOneOf : (List ℕ → Option (List ℕ)) → ℕ → List (List ℕ) → Option (List ℕ) → Type 0
+IsOneOf told number [] failed = ⊥
+IsOneOf told number (file ∷ files) failed =
+    (failed ≡ Some file) ⊎ (FitsWhereTold told number file × IsOneOf told (suc number) files failed)
 
 -- the last of the files
 abbrev pub last_file : List (List ℕ) → Option (List ℕ)
@@ -29,10 +35,11 @@ last_file [] = None
 last_file (file ∷ []) = Some file
 last_file (file ∷ next ∷ files) = last_file (next ∷ files)
 
--- a fault of reading: the count of faults rose, and the failed name is that of one of the files
+-- a fault of reading: the count of faults rose, and the failed name is that of one of the files, none before which
+-- is refused for its size
 pub record IsReadFault {S : Type 0} (shelf : Ghosts S) (files : List (List ℕ)) (before now : S) : Type 0 where
   pub rose : Rose (shelf.faults before) (shelf.faults now)
-  pub named : IsOneOf files (shelf.failed now)
+  pub named : IsOneOf (shelf.told before) 1 files (shelf.failed now)
 
 -- the file of this name was begun and read to its end, and no call failed at it
 pub record IsRead {S : Type 0} (shelf : Ghosts S) (file : List ℕ) (now : S) : Type 0 where

@@ -1,15 +1,17 @@
 -- The forms: which files the words of each name, and what is answered to them.
-use Rattle.std.specs.Prelude.{◌≡◌, ℕ, List, [], ◌∷◌, Option}
+use Rattle.std.specs.Prelude.{◌≡◌, ℕ, List, [], ◌∷◌, Option, Some, None}
 use Rattle.std.specs.Option.{option_map_or}
 use Rattle.rail_words.specs.Forms.{form_named}
 use Rattle.rail_words.specs.declared.forms.Form.{Form}
 use Rattle.rail_words.specs.declared.forms.Form.TheVariants as form
 use Rattle.rail_cli.specs.declared.status.Status.{Status}
 use Rattle.rail_cli.specs.declared.status.Status.TheVariants.{Refused}
-use Rattle.rail_cli.specs.Answers.{Told, not_yet}
-use Rattle.rail_cli.specs.Runs.{AnswersRun}
+use Rattle.rail_rules.specs.Numbers.{or_else}
+use Rattle.rail_cli.specs.Files.{too_large}
+use Rattle.rail_cli.specs.Answers.{Told, not_yet, plant_refusal}
+use Rattle.rail_cli.specs.Runs.{AnswersRun, run_refusal}
 use Rattle.rail_cli.specs.Infra.{AnswersInfra}
-use Rattle.rail_cli.specs.Plays.{AnswersPlay}
+use Rattle.rail_cli.specs.Plays.{AnswersPlay, play_refusal}
 
 -- what is answered to words of the form; forms that are not built are refused before any file
 abbrev pub AnswersForm : Form → List (List ℕ) → Told → Option (List ℕ) → Option (List ℕ) → Status → Type 0
@@ -17,6 +19,17 @@ AnswersForm form.Run (verb ∷ scene ∷ []) told before now status = AnswersRun
 AnswersForm form.Infra (verb ∷ scene ∷ []) told before now status = AnswersInfra scene told before now status
 AnswersForm form.Play (verb ∷ scene ∷ list ∷ []) told before now status = AnswersPlay scene list told before now status
 AnswersForm form words told before now status = status ≡ Refused not_yet
+
+-- nothing is refused in what words of the form name: the bytes of the files are told, and accepted
+abbrev pub IsAcceptedInput : Form → List (List ℕ) → Told → Type 0
+IsAcceptedInput form.Run (verb ∷ scene ∷ []) told = (bytes : List ℕ) × (told scene ≡ Some bytes)
+    × (or_else (too_large 1 bytes) (run_refusal bytes) ≡ None)
+IsAcceptedInput form.Infra (verb ∷ scene ∷ []) told = (bytes : List ℕ) × (told scene ≡ Some bytes)
+    × (or_else (too_large 1 bytes) (plant_refusal bytes) ≡ None)
+IsAcceptedInput form.Play (verb ∷ scene ∷ list ∷ []) told = (bytes : List ℕ) × (listed : List ℕ)
+    × (told scene ≡ Some bytes) × (told list ≡ Some listed)
+    × (or_else (too_large 1 bytes) (or_else (too_large 2 listed) (play_refusal bytes listed)) ≡ None)
+IsAcceptedInput form words told = ⊥
 
 -- the files that words of the form name, in the order in which they are read; a form that is not built reads none
 abbrev pub files_of : Form → List (List ℕ) → List (List ℕ)

@@ -1,12 +1,12 @@
 -- What every form promises beside its answer, by the status that it ends with.
-use Rattle.std.specs.Prelude.{◌≡◌, ◌≢◌, ℕ, ◌≤◌, Bool, true, false, List, [], Result, Ok, Err, IfSome, OnOk, OnErr}
+use Rattle.std.specs.Prelude.{◌≡◌, ◌≢◌, ◌⊎◌, ℕ, ◌≤◌, Bool, true, false, List, [], Result, Ok, Err, IfSome, OnOk, OnErr}
 use Rattle.rail_io.specs.FaultCounts.{Rose}
 use Rattle.rail_io.specs.Writes.{Adds, AddsPrefix}
 use Rattle.rail_io.specs.declared.shelf.Shelf.{Ghosts as ShelfGhosts}
 use Rattle.rail_io.specs.declared.sink.Sink.{Ghosts as SinkGhosts}
 use Rattle.rail_io.specs.declared.sink.Failed.{Failed}
 use Rattle.rail_cli.specs.declared.status.Status.{Status}
-use Rattle.rail_cli.specs.declared.status.Status.TheVariants.{Done, Usage, ReadFault, WriteFault}
+use Rattle.rail_cli.specs.declared.status.Status.TheVariants.{Done, Usage, ReadFault, WriteFault, OutOfMemory}
 use Rattle.rail_cli.specs.Files.{IsRead, IsReadFault, comes_of_files, last_file}
 
 -- the status of a command that ended so
@@ -46,6 +46,12 @@ pub record WritesAnswer {O : Type 0} (sink : SinkGhosts O) (before now : O) (sta
   -- nothing was written
   pub unwritten : may_write status ≡ false → now ≡ before
   pub faults_never_fall : sink.faults before ≤ sink.faults now
+
+-- where the input is accepted and no count of faults rose, the command was done, or memory was wanting
+abbrev pub IsComplete : {S O : Type 0} → ShelfGhosts S → SinkGhosts O → Type 0 → S → S → O → O → Status → Type 0
+IsComplete shelf sink accepted before now out_before out_now status = accepted
+    → (Rose (shelf.faults before) (shelf.faults now) → ⊥) → (Rose (sink.faults out_before) (sink.faults out_now) → ⊥)
+    → (status ≡ Done) ⊎ (status ≡ OutOfMemory)
 
 -- what a form that reads these files in this order promises beside its answer
 pub record KeepsPromise {S O : Type 0} (shelf : ShelfGhosts S) (sink : SinkGhosts O) (files : List (List ℕ))

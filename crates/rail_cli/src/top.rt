@@ -4,8 +4,8 @@ ghost use Rattle.std.specs.Prelude.{◌≡◌, ◌↔◌};
 ghost use Rattle.rail_words.specs.Forms.{IsForm};
 ghost use Rattle.rail_words.specs.declared.forms.Form.{Form};
 ghost use Rattle.rail_cli.specs.declared.status.Status.TheVariants as status;
-ghost use Rattle.rail_cli.specs.Forms.{AnswersForm, files_named, files_of};
-ghost use Rattle.rail_cli.specs.Promises.{KeepsPromise, ReadsFiles, WritesAnswer, ended};
+ghost use Rattle.rail_cli.specs.Forms.{AnswersForm, IsAcceptedInput, files_named, files_of};
+ghost use Rattle.rail_cli.specs.Promises.{IsComplete, KeepsPromise, ReadsFiles, WritesAnswer, ended};
 
 use crate::commands::{infra, play, run};
 use crate::status::{NOT_YET, Status};
@@ -20,8 +20,11 @@ use std::alloc::Global;
 /// What a run promises is `IsRun` in `specs/Runs.antt`, which the clause `answer` comes to: `run` that ends
 /// `Done` has added the text of one history in which every event line is the due one, blocking intervals of
 /// one section never overlap, the kept list brings every train inside to its exit after every line, each hold
-/// line names the true cause, a repaired list goes before a fresh one, every train has left at the end, and
-/// there are exactly as many lines as the bound says, hold lines aside.
+/// line names the true cause, the policy is obeyed, each ready train waits for a stated true cause whenever
+/// time goes on, a repaired list goes before a fresh one, every train has left at the end, and there are
+/// exactly as many lines as the bound says, hold lines aside.
+///
+/// A command whose input is accepted is done where no count of faults rose, unless memory is wanting.
 ///
 /// `Usage` comes exactly where the words are not in the table of words, and before any file. A refusal is
 /// the first one in the order of refusals. `ReadFault` and `WriteFault` come only where the count of
@@ -30,6 +33,8 @@ pub fn rail<S: Shelf, O: Sink>(alloc: Global, words: &[Word], shelf: &mut S, out
     ensures usage { (result ≡ status.Usage) ↔ ((form : Form) → IsForm form words.now → ⊥) }
     ensures answer { (form : Form) → IsForm form words.now
         → AnswersForm form words.now (S.told shelf.old) (O.written out.old) (O.written out.new) result }
+    ensures complete { (form : Form) → IsForm form words.now
+        → IsComplete S.Shelf O.Sink (IsAcceptedInput form words.now (S.told shelf.old)) shelf.old shelf.new out.old out.new result }
     ensures reads { ReadsFiles S.Shelf (files_named words.now) shelf.old shelf.new result }
     ensures writes { WritesAnswer O.Sink out.old out.new result }
 {

@@ -1,8 +1,10 @@
 //! What is kept of a run, and how it goes on line by line.
 
-ghost use Rattle.std.specs.Prelude.{◌≡◌, ◌≢◌, ◌⊎◌, ℕ, suc, ◌<◌, ◌≤◌, [], ◌∷◌, List, Some, None, true, false, length, replicate, IsTrue, IsNone, IfOk, IfSome};
+ghost use Rattle.std.specs.Prelude.{◌≡◌, ◌≢◌, ◌⊎◌, ℕ, suc, ◌<◌, ◌≤◌, [], ◌∷◌, List, Some, None, true, false, length, replicate, vec_capacity, IsTrue, IsNone, IfOk, IfSome};
 ghost use Rattle.rail_ledger.specs.Ledgers.{AreAlike, ContinuesRun, GivesEntry, HasList, HasTried, IsAt, IsDeciding, IsNextTrain, IsOther, IsSettled, IsSomewhere, MayGoOn, StandsAsBefore, list_in, list_with, untried};
 ghost use Rattle.rail_ledger.specs.declared.ledger.Listed.TheVariants as which;
+ghost use Rattle.rail_base.specs.declared.limits.TheConstants.{TRAINS};
+ghost use Rattle.rail_list.specs.KeptLists.{HasRoomFor};
 ghost use Rattle.rail_place.specs.Made.{IsMadeFor};
 ghost use Rattle.rail_queue.specs.Order.{first_time_of, is_sorted};
 ghost use Rattle.rail_rules.specs.Fronts.{Front, is_hold};
@@ -48,19 +50,15 @@ impl Ledger {
         ensures plant { IfOk result (λ ledger. ledger.plant ≡ plant) }
         ensures begun { IfOk result (λ ledger. (IsAt [] ledger) × (ledger.listed ≡ which.Nothing)) }
     {
-        let moves = plant.moves();
-        let places = places_outside(alloc, moves)?;
-        let kept = KeptList::new(alloc, moves)?;
-        let analyst = Analyst::new(alloc, moves)?;
         let state = RunState::new(alloc, &plant)?;
-        let remaining = Vec::with_capacity(alloc, TRAINS)?;
+        let lists = lists_of(alloc, plant.moves())?;
         Ok(Ledger {
             plant,
             state,
-            places,
-            kept,
-            analyst,
-            remaining,
+            places: lists.places,
+            kept: lists.kept,
+            analyst: lists.analyst,
+            remaining: lists.remaining,
             listed: Listed::Nothing,
         })
     }
@@ -259,6 +257,37 @@ pub(crate) fn list_with(note: Note) -> Listed
         Note::Fresh => Listed::Kept,
         Note::Pulled | Note::Appended => Listed::Nothing,
     }
+}
+
+/// What a ledger keeps of lists, made in a function of its own: where memory is not found nothing but lists
+/// has to be given back there.
+#[derive(Drop)]
+struct Lists {
+    places: Places,
+    kept: KeptList,
+    analyst: Analyst,
+    remaining: Vec<TrainNo>,
+}
+
+/// The lists before the first line, with room for all moves and all trains.
+fn lists_of(alloc: Global, moves: &Moves) -> Result<Lists, OutOfMemory>
+    ensures made { IfOk result (λ lists. IsMadeFor moves.now lists.places) }
+    ensures positions { IfOk result (λ lists. lists.places.positions ≡ replicate {A = ℕ} (length moves.now) 0) }
+    ensures kept { IfOk result (λ lists. lists.kept.trains ≡ []) }
+    ensures room { IfOk result (λ lists. HasRoomFor moves.now lists.kept) }
+    ensures remaining { IfOk result (λ lists. lists.remaining.items ≡ []) }
+    ensures capacity { IfOk result (λ lists. TRAINS ≤ vec_capacity lists.remaining) }
+{
+    let kept = KeptList::new(alloc, moves)?;
+    let remaining = Vec::with_capacity(alloc, TRAINS)?;
+    let places = places_outside(alloc, moves)?;
+    let analyst = Analyst::new(alloc, moves)?;
+    Ok(Lists {
+        places,
+        kept,
+        analyst,
+        remaining,
+    })
 }
 
 /// The places of all trains before their entries.

@@ -21,6 +21,50 @@ fn runs_with_these_lines_among_others(rt: HostRuntime) {
     assert!(rt; other.is_none(), "{other:?}");
 }
 
+#[test]
+fn runs_the_same_twice(rt: HostRuntime) {
+    assert!(rt; is_same_twice(rt.alloc()));
+}
+
+/// Whether the scene in which a list needs a free leg is run with the same output twice.
+fn is_same_twice(alloc: Global) -> bool {
+    match shelf_of(alloc, "one-free-leg opposed / ", "sure 0") {
+        Some(mut shelf) => match sink_of(alloc, "sure 0") {
+            Ok(mut first) => match sink_of(alloc, "sure 0") {
+                Ok(mut second) => runs_same(alloc, &mut shelf, &mut first, &mut second),
+                Err(_) => false,
+            },
+            Err(_) => false,
+        },
+        None => false,
+    }
+}
+
+/// Whether both outputs come to have the same history of the scene.
+fn runs_same(
+    alloc: Global,
+    shelf: &mut MemoryShelf,
+    first: &mut MemorySink,
+    second: &mut MemorySink,
+) -> bool {
+    match words_of(alloc, "run scene") {
+        Ok(words) => {
+            let once = rail(alloc, &words, shelf, first);
+            let again = rail(alloc, &words, shelf, second);
+            once == Status::Done && again == Status::Done && have_same(first, second)
+        }
+        Err(_) => false,
+    }
+}
+
+/// Whether both outputs have the same bytes.
+fn have_same(first: &MemorySink, second: &MemorySink) -> bool {
+    match (first.bytes(), second.bytes()) {
+        (Some(first), Some(second)) => !first.is_empty() && first == second,
+        _ => false,
+    }
+}
+
 /// The first of the cases that is answered otherwise than it says. Its output is whole, or has the lines in
 /// this order among others.
 fn first_other(alloc: Global, cases: &str, is_whole: bool) -> Option<&str> {

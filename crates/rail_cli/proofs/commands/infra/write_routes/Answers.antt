@@ -1,9 +1,9 @@
-use Rattle.std.proofs.Common.{◌+◌, drop, sym, subst, List, ℕ, arith}
+use Rattle.std.proofs.Common.{sym, subst, List, ℕ, arith}
 use Rattle.rail_routes.specs.declared.items.Route.{Route}
 use Rattle.rail_cli.specs.Infra.{route_lines}
 use Rattle.rail_cli.specs.Promises.{WritesText}
-use Rattle.rail_cli.proofs.InfraTexts.{line_more, lines_whole}
-use Rattle.rail_cli.proofs.Writes.{both_written, none_written, part_written}
+use Rattle.rail_cli.proofs.InfraTexts.{lines_whole}
+use Rattle.rail_cli.proofs.Writes.{both_written, part_written}
 use Rattle.rail_cli.proofs.commands.infra.write_routes.Goals as goal
 
 pub returns-in_err-write_route : goal.returns-in_err-write_route

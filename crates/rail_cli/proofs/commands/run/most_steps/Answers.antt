@@ -1,4 +1,4 @@
-use Rattle.std.proofs.Common.{◌≡◌, ◌≤◌, ◌*◌, ◌+◌, arith}
+use Rattle.std.proofs.Common.{◌≤◌, ◌*◌, ◌+◌, arith}
 use Rattle.std.proofs.lemmas.Nat.{mul-le}
 use Rattle.rail_state.proofs.CallerLemmas.{bound_small}
 use Rattle.rail_rules.proofs.CallerLemmas.{accepted_parts}

@@ -1,9 +1,8 @@
-use Rattle.std.proofs.Common.{◌≡◌, None, refl, sym, ap, ◌∙◌, subst}
+use Rattle.std.proofs.Common.{None, refl, sym, ap, subst}
 use Rattle.rail_rules.specs.Plant.{Plant}
 use Rattle.rail_cli.specs.declared.status.Status.{Status}
-use Rattle.rail_cli.specs.declared.status.Status.TheVariants.{WriteFault}
 use Rattle.rail_cli.specs.Answers.{IsAnswer}
-use Rattle.rail_cli.specs.Promises.{ended, is_of_bytes}
+use Rattle.rail_cli.specs.Promises.{is_of_bytes}
 use Rattle.rail_cli.specs.Runs.{IsRun, IsRunInPart}
 use Rattle.rail_cli.proofs.Writes.{all_written, ended-failed, fault_written}
 use Rattle.rail_cli.proofs.commands.run.run_plant.Goals as goal

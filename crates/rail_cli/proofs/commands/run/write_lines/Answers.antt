@@ -1,4 +1,4 @@
-use Rattle.std.proofs.Common.{◌≤◌, ◌*◌, ◌+◌, refl, ap, ◌∙◌, subst, arith}
+use Rattle.std.proofs.Common.{◌*◌, ◌+◌, refl, ap, ◌∙◌, subst, arith}
 use Rattle.rail_rules.specs.Plant.{Plant, bound, trains}
 use Rattle.rail_cli.specs.Runs.{IsRun, IsRunInPart}
 use Rattle.rail_cli.proofs.Progress.{none_so_far, one_more, in_part, all_written, next_writable, few_lines}

@@ -1,5 +1,4 @@
-use Rattle.std.proofs.Common.{◌≡◌, ◌≤◌, ◌*◌, ◌+◌}
-use Rattle.rail_rules.specs.Plant.{bound, trains}
+use Rattle.std.proofs.Common.{◌≡◌, ◌≤◌}
 use Rattle.rail_cli.proofs.Progress.{IsSoFar}
 use Rattle.rail_cli.proofs.commands.run.write_lines.Given as goal
 
