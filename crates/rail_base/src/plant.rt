@@ -24,7 +24,7 @@ pub struct SectionRow {
 }
 
 /// A train with its moves in order, one for each route of its itinerary.
-#[derive(Debug, Drop)]
+#[derive(Debug)]
 pub struct TrainRow {
     pub name: Name,
     pub kind: TrainKind,
@@ -33,6 +33,18 @@ pub struct TrainRow {
     /// 0 is the most important.
     pub priority: u8,
     pub moves: Seq<MoveRow>,
+}
+
+impl Drop for TrainRow {
+    fn drop(self) {
+        let TrainRow {
+            name: _,
+            kind: _,
+            entry: _,
+            priority: _,
+            moves: _moves,
+        } = self;
+    }
 }
 
 /// What the trains of one kind have in common.
@@ -50,7 +62,7 @@ pub struct TrainKind {
 }
 
 /// A move: a route, from the post at which it begins.
-#[derive(Debug, Drop)]
+#[derive(Debug)]
 pub struct MoveRow {
     /// The needed sections in route order.
     pub sections: Seq<SectionNo>,
@@ -62,6 +74,18 @@ pub struct MoveRow {
     pub approach: u32,
     /// The turn at the end of the move, where there is one.
     pub turn: Option<TurnRow>,
+}
+
+impl Drop for MoveRow {
+    fn drop(self) {
+        let MoveRow {
+            sections: _sections,
+            setting: _,
+            watching: _,
+            approach: _,
+            turn: _,
+        } = self;
+    }
 }
 
 /// A change of direction at the end of a move.

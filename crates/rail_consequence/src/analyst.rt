@@ -137,12 +137,8 @@ fn stands_inside(moves: &Moves, places: &Places, train: TrainNo) -> bool
 impl Worksheet {
     /// A worksheet, with all the memory that it ever takes.
     fn new(alloc: Global, moves: &Moves) -> Result<Worksheet, OutOfMemory> {
-        let outside = vec![in alloc; 0u16; usize::from(moves.trains())]?;
-        let Ok(places) = Places::new(alloc, moves, &outside) else {
-            return Err(OutOfMemory);
-        };
         Ok(Worksheet {
-            places,
+            places: Places::outside(alloc, moves)?,
             needs: Needs::new(alloc)?,
             stops: Stops::new(alloc)?,
             list: Vec::with_capacity(alloc, LIST_TRAINS)?,

@@ -280,7 +280,7 @@ fn lists_of(alloc: Global, moves: &Moves) -> Result<Lists, OutOfMemory>
 {
     let kept = KeptList::new(alloc, moves)?;
     let remaining = Vec::with_capacity(alloc, TRAINS)?;
-    let places = places_outside(alloc, moves)?;
+    let places = Places::outside(alloc, moves)?;
     let analyst = Analyst::new(alloc, moves)?;
     Ok(Lists {
         places,
@@ -288,16 +288,4 @@ fn lists_of(alloc: Global, moves: &Moves) -> Result<Lists, OutOfMemory>
         analyst,
         remaining,
     })
-}
-
-/// The places of all trains before their entries.
-fn places_outside(alloc: Global, moves: &Moves) -> Result<Places, OutOfMemory>
-    ensures made { IfOk result (IsMadeFor moves.now) }
-    ensures positions { IfOk result (λ places. places.positions ≡ replicate {A = ℕ} (length moves.now) 0) }
-{
-    let outside = vec![in alloc; 0u16; usize::from(moves.trains())]?;
-    match Places::new(alloc, moves, &outside) {
-        Ok(places) => Ok(places),
-        Err(_) => Err(OutOfMemory),
-    }
 }

@@ -12,8 +12,9 @@ use rail_consequence::Analyst;
 use rail_place::{Moves, Places};
 
 /// Makes the train's next move on the places where a list is known that brings every train inside to its
-/// exit after it, and keeps that list: the repaired one, or else a fresh one that the analysis finds with at
-/// most `depth` free legs. `None` where no list is known; then places and list are as before.
+/// exit after it, and keeps such a list: the repaired one, or else, where some list of legs with at most
+/// `depth` free ones does so, a fresh one that completes. `None` where no list is known; then places and
+/// list are as before.
 pub fn admit_by_list(
     moves: &Moves,
     places: &mut Places,

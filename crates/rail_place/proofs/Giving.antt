@@ -1,7 +1,7 @@
 -- The table of owners: giving sections to a train, and the first section that has an owner.
-use Rattle.std.proofs.Common.{◌≡◌, ℕ, zero, suc, ◌+◌, ◌<◌, ◌≤◌, true, false, eqb, List, [], ◌∷◌, length, get_or, set, drop, Option, Some, None, refl, sym, ap, ◌∙◌, ⊎_elim, arith}
+use Rattle.std.proofs.Common.{◌≡◌, ℕ, zero, suc, ◌+◌, ◌<◌, true, false, eqb, List, [], ◌∷◌, length, get_or, set, drop, Option, Some, None, refl, sym, ap, ◌∙◌, ⊎_elim, arith}
 use Rattle.std.proofs.lemmas.Bool.{or_parts, or_cases, or_right, cases_Bool, false≢true, eqb-true, eqb-false}
-use Rattle.std.proofs.lemmas.List.{get_or-set_same, get_or-set_other, length-set, drop_more, drop_all}
+use Rattle.std.proofs.lemmas.List.{get_or-set_same, get_or-set_other, length-set, drop_more}
 use Rattle.rail_rules.specs.Numbers.{is_in, or_else}
 use Rattle.rail_rules.proofs.CallerLemmas.{is_in-head}
 use Rattle.rail_place.specs.declared.barring.Barred.TheVariants.{Held}

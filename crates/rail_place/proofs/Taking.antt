@@ -1,7 +1,7 @@
 -- Which trains would hold each section, train by train and section by section.
-use Rattle.std.proofs.Common.{◌≡◌, ◌↔◌, ℕ, ◌+◌, ◌<◌, ◌≤◌, true, false, cond, eqb, List, [], ◌∷◌, length, get_or, set, drop, map, Option, Some, None, refl, sym, ap, ◌∙◌, subst, ⊎_elim, arith}
+use Rattle.std.proofs.Common.{◌≡◌, ◌↔◌, ℕ, zero, suc, ◌+◌, ◌<◌, ◌≤◌, true, false, cond, eqb, List, [], ◌∷◌, length, get_or, set, map, replicate, Option, Some, None, refl, sym, ap, ◌∙◌, subst, ⊎_elim, arith}
 use Rattle.std.proofs.lemmas.Bool.{or_parts, or_cases, cases_lt, cases_eq, cases_Bool, false≢true, eqb-true, eqb-false, eq-eqb, ne_eqb, cond-true, cond-false}
-use Rattle.std.proofs.lemmas.List.{get_or-set_same, get_or-set_other, get_or_past, get_or-map, length-set, length-map, drop_more}
+use Rattle.std.proofs.lemmas.List.{get_or-set_same, get_or-set_other, get_or_past, get_or-map, length-set, length-map, length-replicate}
 use Rattle.std.proofs.lemmas.Option.{none-some, same_Some}
 use Rattle.rail_base.specs.declared.limits.TheConstants.{SECTIONS}
 use Rattle.rail_rules.specs.Numbers.{is_in}
@@ -150,6 +150,28 @@ made_new table s hs owners h long within room at told single =
       moves = h;
       valid = told_valid (moves_in table) s owners long (λ t lt. within t (omega (arith, long))) all;
       room = ap length at ∙ length-map hs owner_in ∙ room;
+      counted = omega arith;
+      told = all;
+    }
+
+nothing_else : {A : Type 0} (a : A) (n i : ℕ) → get_or (replicate n a) i a ≡ a
+nothing_else a zero i = refl
+nothing_else a (suc n) zero = refl
+nothing_else a (suc n) (suc i) = nothing_else a n i
+
+-- where every train is at place 0, nobody holds a section
+holds_nothing : (plan : Moves) (n u x : ℕ) → holds plan (replicate n 0) u x ≡ false
+holds_nothing plan n u x = ap (λ m. is_in x (stand plan u m)) (nothing_else {A = ℕ} 0 n u)
+
+pub made_outside : (table : List MoveLists) → IsTable table → IsMadeFor table (record { positions = replicate (length table) 0; owners = replicate SECTIONS None; played = 0 })
+made_outside table h =
+    let n = length table in
+    let all : (x u : ℕ) → (get_or (replicate SECTIONS None) x None ≡ Some u) ↔ (holds (moves_in table) (replicate n 0) u x ≡ true) = λ x u.
+    ((λ owner. absurd (none-some u (sym (nothing_else {A = Option ℕ} None SECTIONS x) ∙ owner))), (λ held. absurd (false≢true (sym (holds_nothing (moves_in table) n u x) ∙ held)))) in
+    record {
+      moves = h;
+      valid = told_valid (moves_in table) (replicate n 0) (replicate SECTIONS None) (length-replicate {A = ℕ} n 0) (λ t lt. rw (nothing_else {A = ℕ} 0 n t) omega arith) all;
+      room = length-replicate {A = Option ℕ} SECTIONS None;
       counted = omega arith;
       told = all;
     }

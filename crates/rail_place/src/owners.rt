@@ -1,11 +1,19 @@
 //! The table from each section to the train that holds it.
 
-ghost use Rattle.std.specs.Prelude.{◌≡◌, ℕ, ◌<◌, length, IsTrue};
+ghost use Rattle.std.specs.Prelude.{◌≡◌, ℕ, ◌<◌, length, replicate, None, IsTrue, IfOk};
 ghost use Rattle.rail_rules.specs.Numbers.{is_in};
 ghost use Rattle.rail_place.specs.Owners.{first_owned_in, given};
 
 use crate::barring::Barred;
 use rail_base::{SectionNo, TrainNo};
+use std::alloc::{AllocError, Global};
+
+/// The table of so many sections in which none is held.
+pub fn no_owners(alloc: Global, sections: usize) -> Result<Vec<Option<TrainNo>>, AllocError>
+    ensures { IfOk result (λ owners. owners.items ≡ replicate sections None) }
+{
+    vec![in alloc; None; sections]
+}
 
 /// Gives each of the sections to the train.
 pub fn hold(owners: &mut Vec<Option<TrainNo>>, sections: &[SectionNo], train: TrainNo)

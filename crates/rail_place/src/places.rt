@@ -1,4 +1,4 @@
-ghost use Rattle.std.specs.Prelude.{◌≡◌, ℕ, ◌+◌, ◌-◌, ◌<◌, ◌≤◌, ◌^◌, ◌↔◌, ◌≢◌, List, min, length, get_or, set, IsTrue, IsOk, IfOk, IfErr, MatchResult, Some, None, slice_index};
+ghost use Rattle.std.specs.Prelude.{◌≡◌, ℕ, ◌+◌, ◌-◌, ◌<◌, ◌≤◌, ◌^◌, ◌↔◌, ◌≢◌, List, min, length, replicate, get_or, set, IsTrue, IsOk, IfOk, IfErr, MatchResult, Some, None, slice_index};
 ghost use Rattle.rail_rules.specs.Numbers.{are_apart};
 ghost use Rattle.rail_rules.specs.Moves.{stand};
 ghost use Rattle.rail_rules.specs.Places.{after, is_legal, place_of};
@@ -10,9 +10,9 @@ ghost use Rattle.rail_place.specs.Overlaps.{IsFault};
 use crate::barring::{Barred, PlacesFault};
 use crate::holdings::{holdings_of, owners_of};
 use crate::moves::Moves;
-use crate::owners::{first_owned, hold, release};
-use rail_base::limits::TRAINS;
-use rail_base::{SectionNo, TrainNo};
+use crate::owners::{first_owned, hold, no_owners, release};
+use rail_base::limits::{SECTIONS, TRAINS};
+use rail_base::{OutOfMemory, SectionNo, TrainNo};
 use std::alloc::Global;
 use std::marker::Model;
 
@@ -57,6 +57,21 @@ impl Places {
         Ok(Places {
             positions: room,
             owners,
+            played: 0,
+        })
+    }
+
+    /// Places with every train outside, nothing played.
+    pub fn outside(alloc: Global, moves: &Moves) -> Result<Places, OutOfMemory>
+        ensures made { IfOk result (IsMadeFor moves.now) }
+        ensures positions { IfOk result (λ places. places.positions ≡ replicate {A = ℕ} (length moves.now) 0) }
+        ensures played { IfOk result (λ places. places.played ≡ 0) }
+    {
+        let mut positions = Vec::with_capacity(alloc, TRAINS)?;
+        positions.resize(usize::from(moves.trains()), 0)?;
+        Ok(Places {
+            positions,
+            owners: no_owners(alloc, SECTIONS)?,
             played: 0,
         })
     }
