@@ -289,8 +289,8 @@ class Specs:
         for definition in module.definitions.values():
             definition.lines += len(definition.text)
             if definition.kind == "pub data":
-                made = [re.match(r"  (\S+) : ", line) for line in definition.text[1:]]
-                module.constructors.update({it[1]: definition.name for it in made if it})
+                made = [re.match(r"  (\S[^:]*?) : ", line) for line in definition.text[1:]]
+                module.constructors.update({name: definition.name for it in made if it for name in it[1].split()})
         return module
 
     def meaning(self, imports, module=None):

@@ -183,6 +183,8 @@ class Page:
             value = item.body.partition("=")[2].strip()
             shown = " = " + value if re.fullmatch(r"[\w *+()]{1,40}", value) else ""
             found[str(self.path(source.path))].add("`%s`%s" % (item.name, shown))
+        if not found:
+            return [], 0
         parts = ["", "### Constants of the programs", "", "| File | Constants |", "|---|---|"]
         parts += ["| `%s` | %s |" % (path, "; ".join(sorted(names))) for path, names in sorted(found.items())]
         return parts, sum(map(len, found.values()))

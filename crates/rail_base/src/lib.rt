@@ -23,7 +23,8 @@ pub use clock::{read_time, write_time};
 pub use history::{Cause, Entry, Note, What};
 pub use intervals::{Interval, Parts};
 pub use laws::{
-    a_text_stands_for_one_time, a_time_written_is_read_as_itself, two_times_are_written_apart,
+    a_text_stands_for_one_time, a_time_written_is_read_as_itself,
+    the_limits_are_those_of_the_formats, two_times_are_written_apart,
 };
 pub use names::Names;
 pub use numbers::{SectionNo, Time, TrainNo, ceil_div};

@@ -1,6 +1,6 @@
 -- The files of a command, and why one is not read.
 use Rattle.std.specs.Prelude.{◌≡◌, ◌⊎◌, ℕ, suc, ◌<◌, Bool, true, false, not, cond, nat_lt, length, List, [], ◌∷◌, Option, Some, None}
-use Rattle.rail_base.specs.declared.limits.TheConstants.{FILE_BYTES}
+use Rattle.rail_base.specs.Limits.{most, FileBytes}
 use Rattle.rail_base.specs.declared.refusals.Refusal.{Refusal}
 use Rattle.rail_base.specs.declared.refusals.Part.{Part}
 use Rattle.rail_base.specs.declared.refusals.Reason.TheVariants.{TooMany}
@@ -16,7 +16,7 @@ too_many_bytes number = record { reason = TooMany; part = File; item = number; s
 
 -- why bytes of the file of this number are refused before they are read: they are more than a file may have
 abbrev pub too_large : ℕ → List ℕ → Option Refusal
-too_large number bytes = cond (nat_lt FILE_BYTES (length bytes)) (Some (too_many_bytes number)) None
+too_large number bytes = cond (nat_lt (most FileBytes) (length bytes)) (Some (too_many_bytes number)) None
 
 -- where the bytes of the file of this number are told, they are no more than a file may have
 abbrev pub FitsWhereTold : (List ℕ → Option (List ℕ)) → ℕ → List ℕ → Type 0
@@ -50,7 +50,7 @@ pub record IsRead {S : Type 0} (shelf : Ghosts S) (file : List ℕ) (now : S) : 
 -- the file is too large: more bytes were moved than a file may have, and where its bytes are told they are more
 pub record IsTooLarge {S : Type 0} (shelf : Ghosts S) (number : ℕ) (file : List ℕ) (before now : S) (answer : Refusal) : Type 0 where
   pub is : answer ≡ too_many_bytes number
-  pub over : FILE_BYTES < shelf.moved now
+  pub over : most FileBytes < shelf.moved now
   pub larger : (bytes : List ℕ) → shelf.told before file ≡ Some bytes → too_large number bytes ≡ Some answer
 
 -- why the file of this name, which has this number, was not read

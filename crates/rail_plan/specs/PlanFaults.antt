@@ -1,7 +1,7 @@
 -- Which tables are planned, and their faults.
 use Rattle.std.specs.Prelude.{◌≡◌, ℕ, zero, suc, ◌-◌, ◌≤◌, Bool, not, cond, nat_le, List, [], length, map, sum_by, Option, Some, None, IsTrue}
 use Rattle.std.specs.List.{find, list_all}
-use Rattle.rail_base.specs.declared.limits.TheConstants.{SECTIONS, TRAINS, RELEASE, DEPTH}
+use Rattle.rail_base.specs.Limits.{most, Sections, Trains, ReleaseTime, Depth}
 use Rattle.rail_base.specs.declared.plant.Tables.{Tables}
 use Rattle.rail_base.specs.declared.plant.SectionRow.{SectionRow}
 use Rattle.rail_base.specs.declared.plant.TrainRow.{TrainRow}
@@ -19,10 +19,10 @@ bare tables = record { tables = tables; calls = [] }
 -- tables within the limits and ranges, with distinct names of sections and of trains; each move runs over known
 -- sections and none twice, each turn is at a step of its move, and none is after a train's last move
 pub record IsPlannable (tables : Tables) : Type 0 where
-  pub few_sections : length tables.sections ≤ SECTIONS
-  pub few_trains : length tables.trains ≤ TRAINS
-  pub release : tables.release ≤ RELEASE
-  pub depth : tables.depth ≤ DEPTH
+  pub few_sections : length tables.sections ≤ most Sections
+  pub few_trains : length tables.trains ≤ most Trains
+  pub release : tables.release ≤ most ReleaseTime
+  pub depth : tables.depth ≤ most Depth
   pub sections : IsTrue (list_all is_section_in_range tables.sections)
   pub section_names : IsTrue (are_distinct_names (map (λ (row : SectionRow). row.name) tables.sections))
   pub train_names : IsTrue (are_distinct_names (map (λ (row : TrainRow). row.name) tables.trains))

@@ -2,7 +2,7 @@
 use Rattle.std.specs.Prelude.{ℕ, ◌+◌, Bool, true, false, not, ◌||◌, ◌&&◌, List, [], ◌∷◌, ◌++◌, Option, Some, length, take, nat_le, ◌-◌}
 use Rattle.std.specs.List.{list_any}
 use Rattle.rail_base.specs.NameForms.{same_name}
-use Rattle.rail_base.specs.declared.limits.TheConstants.{ROUTES, ROUTE_SECTIONS}
+use Rattle.rail_base.specs.Limits.{most, Routes, RouteSections}
 use Rattle.rail_base.specs.declared.refusals.Reason.TheVariants.{TooMany, Range, Repeated, Unknown, RouteRepeat, RouteBroken}
 use Rattle.rail_track.specs.declared.section.NetFault.{NetFault}
 use Rattle.rail_track.specs.declared.section.Section.{Section}
@@ -82,8 +82,8 @@ rule_tests net route =
 -- the tests of a new route, in their order
 abbrev pub route_tests : Net → Route → List (Test NetFault)
 route_tests net route =
-    refused_where TooMany 0 (nat_le ROUTES (length net.routes))
-    ∷ refused_where Range 4 (not (is_within ROUTE_SECTIONS (length route.steps)))
+    refused_where TooMany 0 (nat_le (most Routes) (length net.routes))
+    ∷ refused_where Range 4 (not (is_within (most RouteSections) (length route.steps)))
     ∷ refused_where Repeated 1 (list_any (is_route route.name) net.routes)
     ∷ rule_tests net route
 

@@ -2,7 +2,7 @@
 use Rattle.std.specs.Prelude.{ℕ, Bool, true, false, not, ◌&&◌, ◌||◌, List, [], ◌∷◌, Option, Some, length, nat_le, IsTrue}
 use Rattle.std.specs.List.{list_any, list_all}
 use Rattle.rail_base.specs.NameForms.{same_name}
-use Rattle.rail_base.specs.declared.limits.TheConstants.{SETTING, WATCHING, APPROACH, TURN_TIME, ROUTE_SECTIONS}
+use Rattle.rail_base.specs.Limits.{most, SettingTime, WatchingTime, ApproachTime, TurnTime, RouteSections}
 use Rattle.rail_track.specs.declared.section.Section.{Section}
 use Rattle.rail_track.specs.SectionRules.{is_within}
 use Rattle.rail_track.specs.Lists.{are_apart}
@@ -29,7 +29,8 @@ same_role role other = false
 abbrev pub is_timed : Post → Bool
 is_timed post =
     not (has_times post.role)
-    || (is_within SETTING post.setting && nat_le post.watching WATCHING && nat_le post.approach APPROACH)
+    || (is_within (most SettingTime) post.setting && nat_le post.watching (most WatchingTime)
+    && nat_le post.approach (most ApproachTime))
 
 -- a post of the role is formed as the role asks, has its times in range, and stands where it may
 abbrev pub is_sound_post : Role → List Section → Post → Bool
@@ -37,7 +38,7 @@ is_sound_post role sections post = same_role role post.role && is_formed post &&
 
 -- the time of the turn is in range, its arriving post is there, and it leads as turns may
 abbrev pub is_sound_turn : Net → Turn → Bool
-is_sound_turn net turn = nat_le turn.time TURN_TIME && list_any (is_post turn.arriving) (posts net) && turns_well net turn
+is_sound_turn net turn = nat_le turn.time (most TurnTime) && list_any (is_post turn.arriving) (posts net) && turns_well net turn
 
 -- the steps run over one section
 abbrev pub have_one_section : Step → Step → Bool
@@ -56,7 +57,7 @@ lead_between sections begin end steps = false
 -- the route has few enough steps, over different sections, which lead from its first post to its last
 abbrev pub is_sound_route : Net → Route → Bool
 is_sound_route net route =
-    is_within ROUTE_SECTIONS (length route.steps) && are_apart have_one_section route.steps
+    is_within (most RouteSections) (length route.steps) && are_apart have_one_section route.steps
     && lead_between net.sections (post_named route.from net) (post_named route.to net) route.steps
 
 -- a sound network is distinct, and each of its posts, turns and routes is sound in it

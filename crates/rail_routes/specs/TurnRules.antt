@@ -2,7 +2,7 @@
 use Rattle.std.specs.Prelude.{Bool, not, ◌&&◌, List, [], ◌∷◌, Option, length, nat_le}
 use Rattle.std.specs.List.{list_any}
 use Rattle.rail_base.specs.NameForms.{same_name}
-use Rattle.rail_base.specs.declared.limits.TheConstants.{TURNS, TURN_TIME}
+use Rattle.rail_base.specs.Limits.{most, Turns, TurnTime}
 use Rattle.rail_base.specs.declared.refusals.Reason.TheVariants.{TooMany, Range, Repeated, Unknown, PostPlace}
 use Rattle.rail_track.specs.declared.section.NetFault.{NetFault}
 use Rattle.rail_track.specs.FirstRefusals.{Test, first_failing, refused_where}
@@ -19,8 +19,8 @@ turns_well net turn =
 -- the tests of a new turn, in their order
 abbrev pub turn_tests : Net → Turn → List (Test NetFault)
 turn_tests net turn =
-    refused_where TooMany 0 (nat_le TURNS (length net.turns))
-    ∷ refused_where Range 3 (not (nat_le turn.time TURN_TIME))
+    refused_where TooMany 0 (nat_le (most Turns) (length net.turns))
+    ∷ refused_where Range 3 (not (nat_le turn.time (most TurnTime)))
     ∷ refused_where Repeated 1 (list_any (is_turn turn.arriving turn.leaving) net.turns)
     ∷ refused_where Unknown 1 (not (list_any (is_post turn.arriving) (posts net)))
     ∷ refused_where Unknown 2 (not (list_any (is_post turn.leaving) (posts net)))

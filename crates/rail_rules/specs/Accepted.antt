@@ -2,7 +2,7 @@
 use Rattle.std.specs.Prelude.{ℕ, suc, ◌-◌, ◌==◌, Bool, true, not, ◌&&◌, ◌||◌, nat_lt, nat_le, is_some, List, [], ◌∷◌, length, map, sum_by, Option, Some, None}
 use Rattle.std.specs.List.{list_any, list_all}
 use Rattle.rail_base.specs.NameForms.{is_name}
-use Rattle.rail_base.specs.declared.limits.TheConstants.{SECTIONS, TRAINS, ROUTE_SECTIONS, ITINERARY_ROUTES, COMMANDS, POLICIES, DEPTH, INPUT_TIME, SECTION_LENGTH, TRAIN_LENGTH, SPEED, SETTING, WATCHING, APPROACH, TURN_TIME, RELEASE, START, STOP}
+use Rattle.rail_base.specs.Limits.{most, Sections, Trains, RouteSections, ItineraryRoutes, Commands, Policies, Depth, InputTime, SectionLength, TrainLength, Speed, SettingTime, WatchingTime, ApproachTime, TurnTime, ReleaseTime, StartSupplement, StopSupplement}
 use Rattle.rail_base.specs.declared.plant.SectionRow.{SectionRow}
 use Rattle.rail_base.specs.declared.plant.TrainRow.{TrainRow}
 use Rattle.rail_base.specs.declared.plant.TrainKind.{TrainKind}
@@ -33,30 +33,30 @@ are_distinct_names (name ∷ names) = not (list_any (same_numbers name) names) &
 
 -- a section within the ranges
 abbrev pub is_section_in_range : SectionRow → Bool
-is_section_in_range row = is_name row.name && is_from_one SECTION_LENGTH row.length && is_from_one SPEED row.speed
+is_section_in_range row = is_name row.name && is_from_one (most SectionLength) row.length && is_from_one (most Speed) row.speed
 
 -- a train kind within the ranges
 abbrev pub is_kind_in_range : TrainKind → Bool
-is_kind_in_range kind = is_from_one TRAIN_LENGTH kind.length && is_from_one SPEED kind.speed && nat_le kind.start START
-    && nat_le kind.stop STOP
+is_kind_in_range kind = is_from_one (most TrainLength) kind.length && is_from_one (most Speed) kind.speed
+    && nat_le kind.start (most StartSupplement) && nat_le kind.stop (most StopSupplement)
 
 -- a turn at a step of the move, within the ranges
 abbrev pub is_turn_in_range : ℕ → Option TurnRow → Bool
 is_turn_in_range steps None = true
-is_turn_in_range steps (Some turn) = is_from_one steps turn.step && nat_le turn.time TURN_TIME
+is_turn_in_range steps (Some turn) = is_from_one steps turn.step && nat_le turn.time (most TurnTime)
 
 -- a move over known sections, none of them twice, within the ranges
 abbrev pub is_move_in_range : ℕ → MoveRow → Bool
-is_move_in_range sections row = is_from_one ROUTE_SECTIONS (length row.sections)
+is_move_in_range sections row = is_from_one (most RouteSections) (length row.sections)
     && list_all (λ x. nat_lt x sections) row.sections && are_distinct row.sections
-    && is_from_one SETTING row.setting && nat_le row.watching WATCHING && nat_le row.approach APPROACH
+    && is_from_one (most SettingTime) row.setting && nat_le row.watching (most WatchingTime) && nat_le row.approach (most ApproachTime)
     && is_turn_in_range (length row.sections) row.turn
 
 -- a train within the ranges, without a turn after its last move
 abbrev pub is_train_in_range : Plant → ℕ → Bool
-is_train_in_range plant t = is_name (train plant t).name && is_kind_in_range (train plant t).kind && nat_le (train plant t).entry INPUT_TIME
-    && nat_le (train plant t).priority 255 && is_from_one ITINERARY_ROUTES (moves plant t)
-    && list_all (is_move_in_range (length plant.tables.sections)) (train plant t).moves
+is_train_in_range plant t = is_name (train plant t).name && is_kind_in_range (train plant t).kind
+    && nat_le (train plant t).entry (most InputTime) && nat_le (train plant t).priority 255
+    && is_from_one (most ItineraryRoutes) (moves plant t) && list_all (is_move_in_range (length plant.tables.sections)) (train plant t).moves
     && not (is_some (move_row plant t (moves plant t - 1)).turn)
 
 -- the train is no longer than the sections of each of its routes before the last one
@@ -68,14 +68,15 @@ does_fit plant t = all_below
 -- a time of an input, where there is one, within the limit
 abbrev pub is_time_in_range : Option ℕ → Bool
 is_time_in_range None = true
-is_time_in_range (Some time) = nat_le time INPUT_TIME
+is_time_in_range (Some time) = nat_le time (most InputTime)
 
 -- a call at the end of a move: within the ranges; a call that is no stop has no dwell; at the last
 -- place it is no stop and has no departure; at a place with a turn it is a stop
 abbrev pub is_call_in_range : Bool → Bool → Option Call → Bool
 is_call_in_range last turns None = true
-is_call_in_range last turns (Some call) = is_time_in_range call.arrival && is_time_in_range call.departure && nat_le call.dwell INPUT_TIME
-    && (call.stops || (call.dwell == 0)) && not (last && (call.stops || is_some call.departure)) && not (turns && not call.stops)
+is_call_in_range last turns (Some call) = is_time_in_range call.arrival && is_time_in_range call.departure
+    && nat_le call.dwell (most InputTime) && (call.stops || (call.dwell == 0))
+    && not (last && (call.stops || is_some call.departure)) && not (turns && not call.stops)
 
 -- the calls of a train
 abbrev pub are_calls_in_range : Plant → ℕ → Bool
@@ -86,8 +87,8 @@ are_calls_in_range plant t = all_below
 -- a plant that may be run: within the limits and ranges, with distinct names; each train fits its
 -- routes, and no train would stand on a section that its next move needs
 abbrev pub is_accepted : Plant → Bool
-is_accepted plant = nat_le (length plant.tables.sections) SECTIONS && nat_le (trains plant) TRAINS
-    && nat_le plant.tables.release RELEASE && nat_le plant.tables.depth DEPTH
+is_accepted plant = nat_le (length plant.tables.sections) (most Sections) && nat_le (trains plant) (most Trains)
+    && nat_le plant.tables.release (most ReleaseTime) && nat_le plant.tables.depth (most Depth)
     && list_all is_section_in_range plant.tables.sections
     && are_distinct_names (map (λ (row : SectionRow). row.name) plant.tables.sections)
     && are_distinct_names (map (λ (row : TrainRow). row.name) plant.tables.trains)
@@ -110,12 +111,12 @@ is_order_in_range plant (Priority t n) = nat_lt t (trains plant) && nat_le n 255
 -- commands for the plant in order of time, none of them before the given time
 abbrev pub are_commands_in_range : Plant → ℕ → List Command → Bool
 are_commands_in_range plant earliest [] = true
-are_commands_in_range plant earliest (command ∷ commands) = nat_le earliest command.at && nat_le command.at INPUT_TIME
+are_commands_in_range plant earliest (command ∷ commands) = nat_le earliest command.at && nat_le command.at (most InputTime)
     && is_order_in_range plant command.what
     && are_commands_in_range plant command.at commands
 
 -- an input that may be run: an accepted plant, commands for it, and a deck of policies with distinct names, one of which is in force first
 abbrev pub is_accepted_input : Input → Bool
-is_accepted_input input = is_accepted input.plant && nat_le (length input.commands) COMMANDS
+is_accepted_input input = is_accepted input.plant && nat_le (length input.commands) (most Commands)
     && are_commands_in_range input.plant 0 input.commands
-    && is_from_one POLICIES (length input.deck) && are_distinct_names input.deck && nat_lt input.force (length input.deck)
+    && is_from_one (most Policies) (length input.deck) && are_distinct_names input.deck && nat_lt input.force (length input.deck)

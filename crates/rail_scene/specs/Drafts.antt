@@ -1,7 +1,7 @@
 -- A scene that is being read: what stands in it when the next item comes.
 use Rattle.std.specs.Prelude.{◌+◌, Bool, List, [], ◌∷◌, ◌++◌, map, length, nat_le}
 use Rattle.toml.specs.Data.{Data}
-use Rattle.rail_base.specs.declared.limits.TheConstants.{SECTIONS, POSTS, TURNS, ROUTES, KINDS, TRAINS}
+use Rattle.rail_base.specs.Limits.{most, Sections, Posts, Turns, Routes, Kinds, Trains}
 use Rattle.rail_base.specs.declared.refusals.Reason.TheVariants.{TooMany}
 use Rattle.rail_track.specs.declared.section.NetFault.{NetFault}
 use Rattle.rail_track.specs.SectionRules.{section_tests}
@@ -29,18 +29,18 @@ empty_draft = record {
 
 -- the posts of all roles together are at their limit
 abbrev pub are_posts_full : Net → Bool
-are_posts_full net = nat_le POSTS (length net.portals + length net.signals + length net.boards)
+are_posts_full net = nat_le (most Posts) (length net.portals + length net.signals + length net.boards)
 
 -- the list takes no further item
 abbrev pub is_full : ListPart → Draft → Bool
-is_full Section draft = nat_le SECTIONS (length draft.network.sections)
+is_full Section draft = nat_le (most Sections) (length draft.network.sections)
 is_full Portal draft = are_posts_full draft.network
 is_full Signal draft = are_posts_full draft.network
 is_full Board draft = are_posts_full draft.network
-is_full Turn draft = nat_le TURNS (length draft.network.turns)
-is_full Route draft = nat_le ROUTES (length draft.network.routes)
-is_full Kind draft = nat_le KINDS (length draft.kinds)
-is_full Train draft = nat_le TRAINS (length draft.trains)
+is_full Turn draft = nat_le (most Turns) (length draft.network.turns)
+is_full Route draft = nat_le (most Routes) (length draft.network.routes)
+is_full Kind draft = nat_le (most Kinds) (length draft.kinds)
+is_full Train draft = nat_le (most Trains) (length draft.trains)
 
 -- the tests of the item of a table beside those that stand already
 abbrev pub place_tests : ListPart → Draft → Data → List (Test NetFault)

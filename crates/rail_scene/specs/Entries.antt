@@ -10,8 +10,9 @@ use Rattle.rail_routes.specs.declared.items.Turn.{Turn}
 use Rattle.rail_routes.specs.declared.items.Route.{Route}
 use Rattle.rail_routes.specs.declared.items.Step.{Step}
 use Rattle.rail_scene.specs.declared.keys.Key.{Key}
-use Rattle.rail_scene.specs.declared.keys.TheConstants.{NAME, SECTION_KIND, SECTION_LENGTH, SPEED, JOINTS, JOINT, SETTING, WATCHING, APPROACH, AHEAD, ARRIVING, LEAVING, TURN_TIME, FROM, TO, PATH, TRAIN_LENGTH, START, STOP, TRAIN_KIND, ENTRY, PRIORITY, ROUTES}
+use Rattle.rail_scene.specs.declared.keys.KeyName.TheVariants as word
 use Rattle.rail_scene.specs.declared.scene.SceneTrain.{SceneTrain}
+use Rattle.rail_scene.specs.Keys.{key_of}
 use Rattle.rail_scene.specs.Fields.{name_at, number_at, kind_at, time_at, elements_at, names_in}
 
 -- the name at a key
@@ -29,52 +30,40 @@ spelled_names key node = names_in (elements_at key node)
 -- the section of a table
 abbrev pub section_of : Data → Section
 section_of node = record {
-  name = spelled_name NAME node;
-  kind = unwrap_or (kind_at SECTION_KIND node) Plain;
-  length = spelled_number SECTION_LENGTH node;
-  speed = spelled_number SPEED node;
-  joints = spelled_names JOINTS node;
+  name = spelled_name (key_of word.Name) node;
+  kind = unwrap_or (kind_at (key_of word.SectionKind) node) Plain;
+  length = spelled_number (key_of word.SectionLength) node;
+  speed = spelled_number (key_of word.Speed) node;
+  joints = spelled_names (key_of word.Joints) node;
 }
 
 -- the portal of a table
 abbrev pub portal_of : Data → Post
 portal_of node = record {
-  name = spelled_name NAME node;
+  name = spelled_name (key_of word.Name) node;
   role = role.Portal;
-  joint = spelled_name JOINT node;
+  joint = spelled_name (key_of word.Joint) node;
   ahead = None;
-  setting = spelled_number SETTING node;
-  watching = spelled_number WATCHING node;
-  approach = spelled_number APPROACH node;
+  setting = spelled_number (key_of word.Setting) node;
+  watching = spelled_number (key_of word.Watching) node;
+  approach = spelled_number (key_of word.Approach) node;
 }
 
--- the signal of a table
+-- the signal of a table, which is a portal's but for its role and its section ahead
 abbrev pub signal_of : Data → Post
-signal_of node = record {
-  name = spelled_name NAME node;
-  role = role.Signal;
-  joint = spelled_name JOINT node;
-  ahead = Some (spelled_name AHEAD node);
-  setting = spelled_number SETTING node;
-  watching = spelled_number WATCHING node;
-  approach = spelled_number APPROACH node;
-}
+signal_of node = record (portal_of node) { role = role.Signal; ahead = Some (spelled_name (key_of word.Ahead) node) }
 
 -- the board of a table, which has no times
 abbrev pub board_of : Data → Post
-board_of node = record {
-  name = spelled_name NAME node;
-  role = role.Board;
-  joint = spelled_name JOINT node;
-  ahead = None;
-  setting = 0;
-  watching = 0;
-  approach = 0;
-}
+board_of node = record (portal_of node) { role = role.Board; setting = 0; watching = 0; approach = 0 }
 
 -- the turn of a table
 abbrev pub turn_of : Data → Turn
-turn_of node = record { arriving = spelled_name ARRIVING node; leaving = spelled_name LEAVING node; time = spelled_number TURN_TIME node }
+turn_of node = record {
+  arriving = spelled_name (key_of word.Arriving) node;
+  leaving = spelled_name (key_of word.Leaving) node;
+  time = spelled_number (key_of word.Time) node;
+}
 
 -- the steps from a joint on, over sections and joints in turn
 abbrev pub steps_from : List ℕ → List (List ℕ) → List Step
@@ -90,28 +79,28 @@ steps_of (joint ∷ names) = steps_from joint names
 -- the route of a table
 abbrev pub route_of : Data → Route
 route_of node = record {
-  name = spelled_name NAME node;
-  from = spelled_name FROM node;
-  to = spelled_name TO node;
-  steps = steps_of (spelled_names PATH node);
+  name = spelled_name (key_of word.Name) node;
+  from = spelled_name (key_of word.From) node;
+  to = spelled_name (key_of word.To) node;
+  steps = steps_of (spelled_names (key_of word.Path) node);
 }
 
 -- the train kind of a table
 abbrev pub kind_of : Data → TrainKind
 kind_of node = record {
-  name = spelled_name NAME node;
-  length = spelled_number TRAIN_LENGTH node;
-  speed = spelled_number SPEED node;
-  start = spelled_number START node;
-  stop = spelled_number STOP node;
+  name = spelled_name (key_of word.Name) node;
+  length = spelled_number (key_of word.TrainLength) node;
+  speed = spelled_number (key_of word.Speed) node;
+  start = spelled_number (key_of word.Start) node;
+  stop = spelled_number (key_of word.Stop) node;
 }
 
 -- the train of a table
 abbrev pub train_of : Data → SceneTrain
 train_of node = record {
-  name = spelled_name NAME node;
-  kind = spelled_name TRAIN_KIND node;
-  entry = unwrap_or (time_at ENTRY node) 0;
-  priority = spelled_number PRIORITY node;
-  routes = spelled_names ROUTES node;
+  name = spelled_name (key_of word.Name) node;
+  kind = spelled_name (key_of word.TrainKind) node;
+  entry = unwrap_or (time_at (key_of word.Entry) node) 0;
+  priority = spelled_number (key_of word.Priority) node;
+  routes = spelled_names (key_of word.Routes) node;
 }

@@ -5,7 +5,7 @@ use Rattle.std.specs.Option.{option_map_or}
 use Rattle.toml.specs.Data.{Data, Items, no_items, item, get, as_str, as_integer, as_array}
 use Rattle.rail_base.specs.NameForms.{is_name, same_name}
 use Rattle.rail_base.specs.Clock.{time_text}
-use Rattle.rail_base.specs.declared.limits.TheConstants.{INPUT_TIME, ROUTE_SECTIONS}
+use Rattle.rail_base.specs.Limits.{most, InputTime, RouteSections}
 use Rattle.rail_track.specs.SectionRules.{joint_count, is_within}
 use Rattle.rail_track.specs.declared.section.SectionKind.{SectionKind}
 use Rattle.rail_track.specs.declared.section.SectionKind.TheVariants.{Plain, Points, Crossing, Slip}
@@ -13,8 +13,8 @@ use Rattle.rail_scene.specs.declared.keys.Bounds.{Bounds}
 use Rattle.rail_scene.specs.declared.keys.Form.{Form}
 use Rattle.rail_scene.specs.declared.keys.Form.TheVariants.{Whole}
 use Rattle.rail_scene.specs.declared.keys.Key.{Key}
-use Rattle.rail_scene.specs.declared.keys.TheConstants.{SECTION_KIND}
-use Rattle.rail_scene.specs.Keys.{text_of}
+use Rattle.rail_scene.specs.declared.keys.KeyName.TheVariants as word
+use Rattle.rail_scene.specs.Keys.{text_of, key_of}
 
 -- the value of a key
 abbrev pub value_at : Key → Data → Option Data
@@ -83,7 +83,7 @@ time_up_to (suc limit) text = if spells_time text (suc limit) then Some (suc lim
 
 -- the time at a key, up to the greatest of an input
 abbrev pub time_at : Key → Data → Option ℕ
-time_at key node = option_and_then (time_up_to INPUT_TIME) (text_at key node)
+time_at key node = option_and_then (time_up_to (most InputTime)) (text_at key node)
 
 -- the elements of an array in order
 abbrev pub listed : Items → List Data
@@ -108,8 +108,8 @@ names_in values = map (λ value. unwrap_or (name_in value) []) values
 
 -- a section of this table has so many joints; where its kind is none, any number will do
 abbrev pub is_joint_count : Data → ℕ → Bool
-is_joint_count node n = option_map_or (λ kind. n == joint_count kind) (kind_at SECTION_KIND node) true
+is_joint_count node n = option_map_or (λ kind. n == joint_count kind) (kind_at (key_of word.SectionKind) node) true
 
 -- so many joints and sections in turn are a path: an odd number, with at least one section and not too many
 abbrev pub is_path_count : ℕ → Bool
-is_path_count n = is_within ROUTE_SECTIONS (n / 2) && n % 2 == 1
+is_path_count n = is_within (most RouteSections) (n / 2) && n % 2 == 1

@@ -1,70 +1,96 @@
 -- The keys of the tables of a scene file.
-use Rattle.std.specs.Prelude.{ℕ, List, codes}
+use Rattle.std.specs.Prelude.{ℕ, Bool, true, false, List, [], ◌∷◌, map, codes}
+use Rattle.rail_base.specs.Limits.{most, SectionLength, TrainLength, Speed, SettingTime, WatchingTime, ApproachTime, TurnTime, ReleaseTime, StartSupplement, StopSupplement, Depth}
 use Rattle.rail_base.specs.declared.refusals.Part.{Part}
 use Rattle.rail_base.specs.declared.refusals.Part.TheVariants as part
+use Rattle.rail_scene.specs.declared.keys.Form.{Form}
+use Rattle.rail_scene.specs.declared.keys.Form.TheVariants as form
 use Rattle.rail_scene.specs.declared.keys.Key.{Key}
 use Rattle.rail_scene.specs.declared.keys.KeyName.{KeyName}
 use Rattle.rail_scene.specs.declared.keys.KeyName.TheVariants as word
 use Rattle.rail_scene.specs.declared.keys.ListPart.{ListPart}
 use Rattle.rail_scene.specs.declared.keys.ListPart.TheVariants.{Section, Portal, Signal, Board, Turn, Route, Kind, Train}
-use Rattle.rail_scene.specs.declared.keys.TheConstants.{SECTION_LIST, PORTAL_LIST, SIGNAL_LIST, BOARD_LIST, TURN_LIST, ROUTE_LIST, KIND_LIST, TRAIN_LIST, SECTION_KEYS, PORTAL_KEYS, SIGNAL_KEYS, BOARD_KEYS, TURN_KEYS, ROUTE_KEYS, KIND_KEYS, TRAIN_KEYS}
+
+-- a whole number from the one to the other, and the first where the key is absent
+abbrev pub whole : ℕ → ℕ → Form
+whole low high = form.Whole (record { low = low; high = high; default = low })
+
+-- the table of the keys: how a key is written, what its value has to be, and whether it has to be there; lengths in
+-- metres, speeds in km/h, times in tenths of a second
+abbrev pub key_row : KeyName → List ℕ × Form × Bool
+key_row word.Version = (codes "version", whole 1 1, true)
+key_row word.Release = (codes "release", whole 0 (most ReleaseTime), true)
+key_row word.Depth = (codes "depth", form.Whole (record { low = 0; high = most Depth; default = 1 }), false)
+key_row word.Policy = (codes "policy", form.Policy, false)
+key_row word.Section = (codes "section", form.Tables, false)
+key_row word.Portal = (codes "portal", form.Tables, false)
+key_row word.Signal = (codes "signal", form.Tables, false)
+key_row word.Board = (codes "board", form.Tables, false)
+key_row word.Turn = (codes "turn", form.Tables, false)
+key_row word.Route = (codes "route", form.Tables, false)
+key_row word.Kind = (codes "kind", form.Tables, false)
+key_row word.Train = (codes "train", form.Tables, false)
+key_row word.Name = (codes "name", form.Name, true)
+key_row word.SectionKind = (codes "kind", form.Choice, true)
+key_row word.SectionLength = (codes "length", whole 1 (most SectionLength), true)
+key_row word.Speed = (codes "speed", whole 1 (most Speed), true)
+key_row word.Joints = (codes "joints", form.Joints, true)
+key_row word.Joint = (codes "joint", form.Name, true)
+key_row word.Setting = (codes "setting", whole 1 (most SettingTime), true)
+key_row word.Watching = (codes "watching", whole 0 (most WatchingTime), true)
+key_row word.Approach = (codes "approach", whole 0 (most ApproachTime), true)
+key_row word.Ahead = (codes "ahead", form.Name, true)
+key_row word.Arriving = (codes "arriving", form.Name, true)
+key_row word.Leaving = (codes "leaving", form.Name, true)
+key_row word.Time = (codes "time", whole 0 (most TurnTime), true)
+key_row word.From = (codes "from", form.Name, true)
+key_row word.To = (codes "to", form.Name, true)
+key_row word.Path = (codes "path", form.Path, true)
+key_row word.TrainLength = (codes "length", whole 1 (most TrainLength), true)
+key_row word.Start = (codes "start", whole 0 (most StartSupplement), true)
+key_row word.Stop = (codes "stop", whole 0 (most StopSupplement), true)
+key_row word.TrainKind = (codes "kind", form.Name, true)
+key_row word.Entry = (codes "entry", form.Time, true)
+key_row word.Priority = (codes "priority", whole 0 255, false)
+key_row word.Routes = (codes "routes", form.Itinerary, true)
 
 -- the text of a key
 abbrev pub text_of : KeyName → List ℕ
-text_of word.Version = codes "version"
-text_of word.Release = codes "release"
-text_of word.Depth = codes "depth"
-text_of word.Policy = codes "policy"
-text_of word.Section = codes "section"
-text_of word.Portal = codes "portal"
-text_of word.Signal = codes "signal"
-text_of word.Board = codes "board"
-text_of word.Turn = codes "turn"
-text_of word.Route = codes "route"
-text_of word.Kind = codes "kind"
-text_of word.Train = codes "train"
-text_of word.Name = codes "name"
-text_of word.Length = codes "length"
-text_of word.Speed = codes "speed"
-text_of word.Joints = codes "joints"
-text_of word.Joint = codes "joint"
-text_of word.Setting = codes "setting"
-text_of word.Watching = codes "watching"
-text_of word.Approach = codes "approach"
-text_of word.Ahead = codes "ahead"
-text_of word.Arriving = codes "arriving"
-text_of word.Leaving = codes "leaving"
-text_of word.Time = codes "time"
-text_of word.From = codes "from"
-text_of word.To = codes "to"
-text_of word.Path = codes "path"
-text_of word.Start = codes "start"
-text_of word.Stop = codes "stop"
-text_of word.Entry = codes "entry"
-text_of word.Priority = codes "priority"
-text_of word.Routes = codes "routes"
+text_of name = (key_row name).0
+
+-- a key by its row of the table
+abbrev pub key_of : KeyName → Key
+key_of name = record { name = name; form = (key_row name).1; required = (key_row name).2 }
+
+-- the lists in the order in which they are read
+abbrev pub list_parts : List ListPart
+list_parts = Section ∷ Portal ∷ Signal ∷ Board ∷ Turn ∷ Route ∷ Kind ∷ Train ∷ []
 
 -- the key of the root that has the list
 abbrev pub list_key : ListPart → Key
-list_key Section = SECTION_LIST
-list_key Portal = PORTAL_LIST
-list_key Signal = SIGNAL_LIST
-list_key Board = BOARD_LIST
-list_key Turn = TURN_LIST
-list_key Route = ROUTE_LIST
-list_key Kind = KIND_LIST
-list_key Train = TRAIN_LIST
+list_key Section = key_of word.Section
+list_key Portal = key_of word.Portal
+list_key Signal = key_of word.Signal
+list_key Board = key_of word.Board
+list_key Turn = key_of word.Turn
+list_key Route = key_of word.Route
+list_key Kind = key_of word.Kind
+list_key Train = key_of word.Train
+
+-- the keys of the root
+abbrev pub root_keys : List Key
+root_keys = key_of word.Version ∷ key_of word.Release ∷ key_of word.Depth ∷ key_of word.Policy ∷ map list_key list_parts
 
 -- the keys of a table in the list
 abbrev pub keys_of : ListPart → List Key
-keys_of Section = SECTION_KEYS
-keys_of Portal = PORTAL_KEYS
-keys_of Signal = SIGNAL_KEYS
-keys_of Board = BOARD_KEYS
-keys_of Turn = TURN_KEYS
-keys_of Route = ROUTE_KEYS
-keys_of Kind = KIND_KEYS
-keys_of Train = TRAIN_KEYS
+keys_of Section = map key_of (word.Name ∷ word.SectionKind ∷ word.SectionLength ∷ word.Speed ∷ word.Joints ∷ [])
+keys_of Portal = map key_of (word.Name ∷ word.Joint ∷ word.Setting ∷ word.Watching ∷ word.Approach ∷ [])
+keys_of Signal = map key_of (word.Name ∷ word.Joint ∷ word.Ahead ∷ word.Setting ∷ word.Watching ∷ word.Approach ∷ [])
+keys_of Board = map key_of (word.Name ∷ word.Joint ∷ [])
+keys_of Turn = map key_of (word.Arriving ∷ word.Leaving ∷ word.Time ∷ [])
+keys_of Route = map key_of (word.Name ∷ word.From ∷ word.To ∷ word.Path ∷ [])
+keys_of Kind = map key_of (word.Name ∷ word.TrainLength ∷ word.Speed ∷ word.Start ∷ word.Stop ∷ [])
+keys_of Train = map key_of (word.Name ∷ word.TrainKind ∷ word.Entry ∷ word.Priority ∷ word.Routes ∷ [])
 
 -- the part of a refusal in the list
 abbrev pub part_of : ListPart → Part

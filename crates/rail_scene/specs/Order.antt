@@ -12,8 +12,7 @@ use Rattle.rail_track.specs.declared.section.NetFault.TheVariants.{Refused, OutO
 use Rattle.rail_track.specs.FirstRefusals.{Test, first_failing}
 use Rattle.rail_scene.specs.declared.draft.Draft.{Draft}
 use Rattle.rail_scene.specs.declared.keys.ListPart.{ListPart}
-use Rattle.rail_scene.specs.declared.keys.TheConstants.{ROOT_KEYS, LIST_PARTS}
-use Rattle.rail_scene.specs.Keys.{list_key, keys_of, part_of}
+use Rattle.rail_scene.specs.Keys.{list_parts, list_key, root_keys, keys_of, part_of}
 use Rattle.rail_scene.specs.Fields.{elements_at}
 use Rattle.rail_scene.specs.Forms.{form_tests}
 use Rattle.rail_scene.specs.Values.{value_tests}
@@ -52,7 +51,7 @@ forms_of root (part ∷ parts) = list_forms part 1 (elements_at (list_key part) 
 
 -- the forms of all tables: the root, then its lists
 unfoldable pub scene_forms : Data → List (Test Refusal)
-scene_forms root = located Root 0 (form_tests ROOT_KEYS root) ++ forms_of root LIST_PARTS
+scene_forms root = located Root 0 (form_tests root_keys root) ++ forms_of root list_parts
 
 -- the values of the tables of a list, numbered from n, each beside the items before it
 abbrev pub list_values : ListPart → ℕ → Draft → List Data → List (Test Refusal)
@@ -75,15 +74,15 @@ with_lists root (part ∷ parts) draft = with_lists root parts (with_items part 
 
 -- the values of all lists of a root
 unfoldable pub lists_values : Data → List (Test Refusal)
-lists_values root = values_of root empty_draft LIST_PARTS
+lists_values root = values_of root empty_draft list_parts
 
 -- the draft that all lists of a root fill
 unfoldable pub lists_draft : Data → Draft
-lists_draft root = with_lists root LIST_PARTS empty_draft
+lists_draft root = with_lists root list_parts empty_draft
 
 -- the values of all tables: the root, then its lists
 unfoldable pub scene_values : Data → List (Test Refusal)
-scene_values root = located Root 0 (value_tests 1 ROOT_KEYS root) ++ lists_values root
+scene_values root = located Root 0 (value_tests 1 root_keys root) ++ lists_values root
 
 -- the bytes are TOML
 abbrev pub toml_test : List ℕ → Test Refusal

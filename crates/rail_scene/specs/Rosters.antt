@@ -1,7 +1,7 @@
 -- The train kinds and the trains of a scene.
 use Rattle.std.specs.Prelude.{◌≤◌, List, [], ◌∷◌, length, IsTrue}
 use Rattle.std.specs.List.{list_all, list_any}
-use Rattle.rail_base.specs.declared.limits.TheConstants.{KINDS, TRAINS}
+use Rattle.rail_base.specs.Limits.{most, Kinds, Trains}
 use Rattle.rail_base.specs.declared.refusals.Reason.TheVariants.{Repeated}
 use Rattle.rail_base.specs.declared.plant.TrainKind.{TrainKind}
 use Rattle.rail_track.specs.declared.section.NetFault.{NetFault}
@@ -12,13 +12,13 @@ use Rattle.rail_scene.specs.Scenes.{is_fit_kind, is_fit_train, is_one_kind, is_o
 
 -- few enough kinds, each fit and of a name of its own
 pub record AreKinds (kinds : List TrainKind) : Type 0 where
-  pub few : length kinds ≤ KINDS
+  pub few : length kinds ≤ most Kinds
   pub fit : IsTrue (list_all is_fit_kind kinds)
   pub apart : IsTrue (are_apart is_one_kind kinds)
 
 -- few enough trains, each fit and of a name of its own
 pub record AreTrains (trains : List SceneTrain) : Type 0 where
-  pub few : length trains ≤ TRAINS
+  pub few : length trains ≤ most Trains
   pub fit : IsTrue (list_all is_fit_train trains)
   pub apart : IsTrue (are_apart is_one_train trains)
 

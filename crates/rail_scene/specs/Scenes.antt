@@ -2,7 +2,7 @@
 use Rattle.std.specs.Prelude.{◌≤◌, ◌&&◌, Bool, length, IsTrue, nat_le}
 use Rattle.std.specs.List.{list_all}
 use Rattle.rail_base.specs.NameForms.{same_name}
-use Rattle.rail_base.specs.declared.limits.TheConstants.{RELEASE, DEPTH, KINDS, TRAINS, TRAIN_LENGTH, SPEED, START, STOP, INPUT_TIME, ITINERARY_ROUTES}
+use Rattle.rail_base.specs.Limits.{most, ReleaseTime, Depth, Kinds, Trains, TrainLength, Speed, StartSupplement, StopSupplement, InputTime, ItineraryRoutes}
 use Rattle.rail_base.specs.declared.plant.TrainKind.{TrainKind}
 use Rattle.rail_track.specs.SectionRules.{is_within}
 use Rattle.rail_track.specs.Lists.{are_apart}
@@ -11,11 +11,13 @@ use Rattle.rail_scene.specs.declared.scene.SceneTrain.{SceneTrain}
 
 -- the numbers of a train kind are in range
 abbrev pub is_fit_kind : TrainKind → Bool
-is_fit_kind kind = is_within TRAIN_LENGTH kind.length && is_within SPEED kind.speed && nat_le kind.start START && nat_le kind.stop STOP
+is_fit_kind kind =
+    is_within (most TrainLength) kind.length && is_within (most Speed) kind.speed
+    && nat_le kind.start (most StartSupplement) && nat_le kind.stop (most StopSupplement)
 
 -- the train enters within the time of an input, and its itinerary has at least one route and not too many
 abbrev pub is_fit_train : SceneTrain → Bool
-is_fit_train train = nat_le train.entry INPUT_TIME && is_within ITINERARY_ROUTES (length train.routes)
+is_fit_train train = nat_le train.entry (most InputTime) && is_within (most ItineraryRoutes) (length train.routes)
 
 -- two kinds, or two trains, have one name
 abbrev pub is_one_kind : TrainKind → TrainKind → Bool
@@ -27,10 +29,10 @@ is_one_train train other = same_name train.name other.name
 
 -- a scene keeps the limits and ranges, and no two of its kinds and no two of its trains have one name
 pub record IsScene (scene : Scene) : Type 0 where
-  pub release : scene.release ≤ RELEASE
-  pub depth : scene.depth ≤ DEPTH
-  pub few_kinds : length scene.kinds ≤ KINDS
-  pub few_trains : length scene.trains ≤ TRAINS
+  pub release : scene.release ≤ most ReleaseTime
+  pub depth : scene.depth ≤ most Depth
+  pub few_kinds : length scene.kinds ≤ most Kinds
+  pub few_trains : length scene.trains ≤ most Trains
   pub kinds : IsTrue (list_all is_fit_kind scene.kinds)
   pub trains : IsTrue (list_all is_fit_train scene.trains)
   pub kinds_apart : IsTrue (are_apart is_one_kind scene.kinds)

@@ -1,13 +1,13 @@
 //! The tables of a scene file: which keys each has, in which order, and of which form.
 //!
-//! The reader and the definitions of a scene cite these constants alone, so that a key, its range or
-//! its default is changed here and nowhere else.
+//! The reader cites these constants alone. The contracts here say that they are the keys of the format, which stand in
+//! a table of the definitions, `key_row` in `specs/Keys.antt`.
 ghost use Rattle.std.specs.Prelude.{◌≡◌};
 ghost use Rattle.rail_scene.specs.Keys.{text_of, list_key, keys_of, part_of};
 
 use rail_base::{Part, limits};
 
-/// The word that a key is written as.
+/// Which key it is. Two keys of different tables that are written alike and are of one form are one.
 #[derive(Clone, Copy)]
 pub(crate) enum KeyName {
     Version,
@@ -23,7 +23,8 @@ pub(crate) enum KeyName {
     Kind,
     Train,
     Name,
-    Length,
+    SectionKind,
+    SectionLength,
     Speed,
     Joints,
     Joint,
@@ -37,8 +38,10 @@ pub(crate) enum KeyName {
     From,
     To,
     Path,
+    TrainLength,
     Start,
     Stop,
+    TrainKind,
     Entry,
     Priority,
     Routes,
@@ -63,7 +66,8 @@ impl KeyName {
             KeyName::Kind => "kind",
             KeyName::Train => "train",
             KeyName::Name => "name",
-            KeyName::Length => "length",
+            KeyName::SectionKind => "kind",
+            KeyName::SectionLength => "length",
             KeyName::Speed => "speed",
             KeyName::Joints => "joints",
             KeyName::Joint => "joint",
@@ -77,8 +81,10 @@ impl KeyName {
             KeyName::From => "from",
             KeyName::To => "to",
             KeyName::Path => "path",
+            KeyName::TrainLength => "length",
             KeyName::Start => "start",
             KeyName::Stop => "stop",
+            KeyName::TrainKind => "kind",
             KeyName::Entry => "entry",
             KeyName::Priority => "priority",
             KeyName::Routes => "routes",
@@ -220,12 +226,15 @@ pub(crate) const RELEASE: Key = Key {
     required: true,
 };
 
+/// Depth of the analysis where a scene names none.
+const DEFAULT_DEPTH: u32 = 1;
+
 pub(crate) const DEPTH: Key = Key {
     name: KeyName::Depth,
     form: Form::Whole(Bounds {
         low: 0,
         high: limits::DEPTH as u32,
-        default: 1,
+        default: DEFAULT_DEPTH,
     }),
     required: false,
 };
@@ -307,13 +316,13 @@ pub(crate) const NAME: Key = Key {
 };
 
 pub(crate) const SECTION_KIND: Key = Key {
-    name: KeyName::Kind,
+    name: KeyName::SectionKind,
     form: Form::Choice,
     required: true,
 };
 
 pub(crate) const SECTION_LENGTH: Key = Key {
-    name: KeyName::Length,
+    name: KeyName::SectionLength,
     form: Form::Whole(Bounds {
         low: 1,
         high: limits::SECTION_LENGTH,
@@ -439,7 +448,7 @@ pub(crate) const PATH: Key = Key {
 pub(crate) const ROUTE_KEYS: [Key; 4] = [NAME, FROM, TO, PATH];
 
 pub(crate) const TRAIN_LENGTH: Key = Key {
-    name: KeyName::Length,
+    name: KeyName::TrainLength,
     form: Form::Whole(Bounds {
         low: 1,
         high: limits::TRAIN_LENGTH,
@@ -472,7 +481,7 @@ pub(crate) const STOP: Key = Key {
 pub(crate) const KIND_KEYS: [Key; 5] = [NAME, TRAIN_LENGTH, SPEED, START, STOP];
 
 pub(crate) const TRAIN_KIND: Key = Key {
-    name: KeyName::Kind,
+    name: KeyName::TrainKind,
     form: Form::Name,
     required: true,
 };

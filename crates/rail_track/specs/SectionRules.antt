@@ -2,7 +2,7 @@
 use Rattle.std.specs.Prelude.{ℕ, Bool, not, ◌==◌, ◌&&◌, ◌||◌, List, ◌∷◌, Option, length, count_by, nat_le}
 use Rattle.std.specs.List.{list_any}
 use Rattle.rail_base.specs.NameForms.{same_name}
-use Rattle.rail_base.specs.declared.limits.TheConstants.{SECTIONS, SECTION_LENGTH, SPEED}
+use Rattle.rail_base.specs.Limits.{most, Sections, SectionLength, Speed}
 use Rattle.rail_base.specs.declared.refusals.Reason.TheVariants.{TooMany, Range, Repeated, JointCrowded}
 use Rattle.rail_track.specs.declared.section.NetFault.{NetFault}
 use Rattle.rail_track.specs.declared.section.Section.{Section}
@@ -34,9 +34,9 @@ joint_tests is_closed joints =
 -- the tests of a new section beside these, in their order
 abbrev pub section_tests : List Section → (List ℕ → Bool) → Section → List (Test NetFault)
 section_tests sections is_closed section =
-    refused_where TooMany 0 (nat_le SECTIONS (length sections))
-    ∷ refused_where Range 3 (not (is_within SECTION_LENGTH section.length))
-    ∷ refused_where Range 4 (not (is_within SPEED section.speed))
+    refused_where TooMany 0 (nat_le (most Sections) (length sections))
+    ∷ refused_where Range 3 (not (is_within (most SectionLength) section.length))
+    ∷ refused_where Range 4 (not (is_within (most Speed) section.speed))
     ∷ refused_where Range 5 (not (length section.joints == joint_count section.kind))
     ∷ refused_where Repeated 1 (list_any (is_named section.name) sections)
     ∷ joint_tests is_closed section.joints

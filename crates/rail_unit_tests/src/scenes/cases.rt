@@ -1,9 +1,75 @@
 //! Texts of scene files, each with the answer that the rules give it by hand.
 
+/// The text with cases of lists that have one item more than their limit: the last one, whose values are all wrong, is
+/// refused for that. Their names are of octal digits: of two, and of three.
+macro_rules! with_full_lists {
+    ($text:literal, [$($digit:literal)*], $digits:tt) => {
+        with_full_lists!(@two $text, [$($digit)*], [$($digit $digits)*])
+    };
+    (@two $text:literal, [$($digit:literal)*], $twos:tt) => {
+        with_full_lists!(@all $text, $twos, [$($digit $twos)*])
+    };
+    (
+        @all $text:literal,
+        [$($c:literal [$($d:literal)*])*],
+        [$($e:literal [$($f:literal [$($g:literal)*])*])*]
+    ) => {
+        concat!(
+            $text,
+            "== root: TooMany Kind 129 0\nkind = [\n",
+            $($(
+                "{name='k", $c, $d, "',length=1,speed=1,start=0,stop=0},\n",
+                "{name='l", $c, $d, "',length=1,speed=1,start=0,stop=0},\n",
+            )*)*
+            "{name='',length=0,speed=0,start=-1,stop=-1}]\n",
+            "== root: TooMany Train 129 0\ntrain = [\n",
+            $($(
+                "{name='t", $c, $d, "',kind='k',entry='00:00:00',routes=['r']},\n",
+                "{name='u", $c, $d, "',kind='k',entry='00:00:00',routes=['r']},\n",
+            )*)*
+            "{name='',kind='',entry='',routes=[]}]\n",
+            "== root: TooMany Board 512 0\nsection = [\n",
+            "{name='p',kind='plain',length=1,speed=1,joints=['p','q']},\n",
+            $($(
+                "{name='s", $c, $d, "',kind='slip',length=1,speed=1,",
+                "joints=['", $c, $d, "0','", $c, $d, "1','", $c, $d, "2','", $c, $d, "3']},\n",
+                "{name='x", $c, $d, "',kind='slip',length=1,speed=1,",
+                "joints=['", $c, $d, "4','", $c, $d, "5','", $c, $d, "6','", $c, $d, "7']},\n",
+            )*)*
+            "]\nportal = [{name='p',joint='p',setting=1,watching=0,approach=0}]\nboard = [\n",
+            $($($( "{name='", $e, $f, $g, "',joint='", $e, $f, $g, "'},\n", )*)*)*
+            "]\n",
+            "== root: TooMany Turn 513 0\nsection = [\n",
+            $(
+                "{name='m", $c, "',kind='plain',length=1,speed=1,joints=['m", $c, "','n", $c, "']},\n",
+                "{name='n", $c, "',kind='plain',length=1,speed=1,joints=['n", $c, "','o", $c, "']},\n",
+                $( "{name='", $c, $d, "',kind='plain',length=1,speed=1,joints=['", $c, $d, "','z", $c, $d, "']},\n", )*
+            )*
+            "]\nsignal = [\n",
+            $( "{name='n", $c, "',joint='n", $c, "',ahead='n", $c, "',setting=1,watching=0,approach=0},\n", )*
+            "]\nboard = [\n",
+            $($( "{name='", $c, $d, "',joint='", $c, $d, "'},\n", )*)*
+            "]\nturn = [\n",
+            $($($( "{arriving='", $e, $f, "',leaving='n", $g, "',time=0},\n", )*)*)*
+            "{arriving='',leaving='',time=-1}]\n",
+            "== root: TooMany Route 1025 0\n",
+            "section = [{name='A',kind='plain',length=1,speed=1,joints=['a','b']}]\nportal = [\n",
+            "{name='West',joint='a',setting=1,watching=0,approach=0},\n",
+            "{name='East',joint='b',setting=1,watching=0,approach=0}]\nroute = [\n",
+            $($($(
+                "{name='w", $e, $f, $g, "',from='West',to='East',path=['a','A','b']},\n",
+                "{name='e", $e, $f, $g, "',from='East',to='West',path=['b','A','a']},\n",
+            )*)*)*
+            "{name='',from='',to='',path=[]}]\n",
+        )
+    };
+}
+
 /// The cases: what stands around the text, the answer, and the text. Behind the track an item has the
 /// number after those of the track. The station lacks its first route; a seventh section is at a joint
 /// that is in two already.
-pub(super) const CASES: &str = "\
+pub(super) const CASES: &str = with_full_lists!(
+    "\
 == file: KeyMissing Root 0 1
 == file: KeyMissing Root 0 2
 version = 1
@@ -731,6 +797,167 @@ name = 'we1'
 from = 'West'
 to = 'E1'
 path = ['a', 'W', 'b', 'W', 'a']
+== file: read
+version = 1
+release = 0
+depth = 0
+== track: read
+[[signal]]
+name = 'x'
+joint = 'c'
+ahead = 'C'
+setting = 1
+watching = 0
+approach = 0
+== track: Range Signal 3 4
+[[signal]]
+name = 'x'
+joint = 'c'
+ahead = 'C'
+setting = 0
+watching = -1
+approach = -1
+== track: Range Portal 3 4
+[[portal]]
+name = 'x'
+joint = 'd'
+setting = 1
+watching = -1
+approach = -1
+== track: Range Portal 3 5
+[[portal]]
+name = 'x'
+joint = 'd'
+setting = 1
+watching = 0
+approach = -1
+== track: read
+[[turn]]
+arriving = 'T'
+leaving = 'S'
+time = 864000
+== track: Range Turn 2 3
+[[turn]]
+arriving = 'T'
+leaving = 'S'
+time = -1
+== track: read
+[[kind]]
+name = 'l'
+length = 1
+speed = 1
+start = 0
+stop = 0
+== track: Range Kind 2 3
+[[kind]]
+name = 'l'
+length = 1
+speed = 0
+start = -1
+stop = -1
+== track: Range Kind 2 4
+[[kind]]
+name = 'l'
+length = 1
+speed = 1
+start = -1
+stop = -1
+== track: Range Kind 2 5
+[[kind]]
+name = 'l'
+length = 1
+speed = 1
+start = 0
+stop = -1
+== track: read
+[[train]]
+name = 'u'
+kind = 'k'
+entry = '00:00:00'
+routes = ['r']
+priority = 0
+== track: Range Train 2 4
+[[train]]
+name = 'u'
+kind = 'k'
+entry = '00:00:00'
+routes = ['r']
+priority = -1
+== file: read
+version = 1
+release = 0
+section = [
+{ name = 's1', kind = 'plain', length = 1, speed = 1, joints = ['0', '1'] },
+{ name = 's2', kind = 'plain', length = 1, speed = 1, joints = ['1', '2'] },
+{ name = 's3', kind = 'plain', length = 1, speed = 1, joints = ['2', '3'] },
+{ name = 's4', kind = 'plain', length = 1, speed = 1, joints = ['3', '4'] },
+{ name = 's5', kind = 'plain', length = 1, speed = 1, joints = ['4', '5'] },
+{ name = 's6', kind = 'plain', length = 1, speed = 1, joints = ['5', '6'] },
+{ name = 's7', kind = 'plain', length = 1, speed = 1, joints = ['6', '7'] },
+{ name = 's8', kind = 'plain', length = 1, speed = 1, joints = ['7', '8'] },
+{ name = 's9', kind = 'plain', length = 1, speed = 1, joints = ['8', '9'] },
+{ name = 's10', kind = 'plain', length = 1, speed = 1, joints = ['9', '10'] },
+{ name = 's11', kind = 'plain', length = 1, speed = 1, joints = ['10', '11'] },
+{ name = 's12', kind = 'plain', length = 1, speed = 1, joints = ['11', '12'] },
+{ name = 's13', kind = 'plain', length = 1, speed = 1, joints = ['12', '13'] },
+{ name = 's14', kind = 'plain', length = 1, speed = 1, joints = ['13', '14'] },
+{ name = 's15', kind = 'plain', length = 1, speed = 1, joints = ['14', '15'] },
+{ name = 's16', kind = 'plain', length = 1, speed = 1, joints = ['15', '16'] },
+{ name = 's17', kind = 'plain', length = 1, speed = 1, joints = ['16', '17'] },
+{ name = 's18', kind = 'plain', length = 1, speed = 1, joints = ['17', '18'] },
+{ name = 's19', kind = 'plain', length = 1, speed = 1, joints = ['18', '19'] },
+{ name = 's20', kind = 'plain', length = 1, speed = 1, joints = ['19', '20'] },
+{ name = 's21', kind = 'plain', length = 1, speed = 1, joints = ['20', '21'] },
+{ name = 's22', kind = 'plain', length = 1, speed = 1, joints = ['21', '22'] },
+{ name = 's23', kind = 'plain', length = 1, speed = 1, joints = ['22', '23'] },
+{ name = 's24', kind = 'plain', length = 1, speed = 1, joints = ['23', '24'] },
+{ name = 's25', kind = 'plain', length = 1, speed = 1, joints = ['24', '25'] },
+{ name = 's26', kind = 'plain', length = 1, speed = 1, joints = ['25', '26'] },
+{ name = 's27', kind = 'plain', length = 1, speed = 1, joints = ['26', '27'] },
+{ name = 's28', kind = 'plain', length = 1, speed = 1, joints = ['27', '28'] },
+{ name = 's29', kind = 'plain', length = 1, speed = 1, joints = ['28', '29'] },
+{ name = 's30', kind = 'plain', length = 1, speed = 1, joints = ['29', '30'] },
+{ name = 's31', kind = 'plain', length = 1, speed = 1, joints = ['30', '31'] },
+{ name = 's32', kind = 'plain', length = 1, speed = 1, joints = ['31', '32'] },
+]
+[[portal]]
+name = 'West'
+joint = '0'
+setting = 1
+watching = 0
+approach = 0
+[[portal]]
+name = 'East'
+joint = '32'
+setting = 1
+watching = 0
+approach = 0
+[[route]]
+name = 'r'
+from = 'West'
+to = 'East'
+path = [
+'0', 's1', '1', 's2', '2', 's3', '3', 's4', '4', 's5', '5', 's6', '6', 's7', '7', 's8', '8',
+'s9', '9', 's10', '10', 's11', '11', 's12', '12', 's13', '13', 's14', '14', 's15', '15', 's16',
+'16', 's17', '17', 's18', '18', 's19', '19', 's20', '20', 's21', '21', 's22', '22', 's23',
+'23', 's24', '24', 's25', '25', 's26', '26', 's27', '27', 's28', '28', 's29', '29', 's30',
+'30', 's31', '31', 's32', '32'
+]
+== track: Range Route 2 4
+[[route]]
+name = 'q'
+from = 'West'
+to = 'East'
+path = [
+'0', 's1', '1', 's2', '2', 's3', '3', 's4', '4', 's5', '5', 's6', '6', 's7', '7', 's8', '8',
+'s9', '9', 's10', '10', 's11', '11', 's12', '12', 's13', '13', 's14', '14', 's15', '15', 's16',
+'16', 's17', '17', 's18', '18', 's19', '19', 's20', '20', 's21', '21', 's22', '22', 's23',
+'23', 's24', '24', 's25', '25', 's26', '26', 's27', '27', 's28', '28', 's29', '29', 's30',
+'30', 's31', '31', 's32', '32', 's33', '33'
+]
 == file: NotToml Bytes 0 0
 a = [[[[[[[[[[[[[[[[[[[[[[[[[[[[[[[[[[[[[[[[[[[[[[[[[[[[[[[[[[[[[[[[[[[[[[[[[[[[[[[[[[[[[[[[[[[[[[[[[[[[
-";
+",
+    ["0" "1" "2" "3" "4" "5" "6" "7"],
+    ["0" "1" "2" "3" "4" "5" "6" "7"]
+);
