@@ -17,8 +17,6 @@ mod reading;
 mod shelf;
 mod sink;
 mod sure;
-#[cfg(test)]
-mod tests;
 mod whole;
 
 pub use files::{FileShelf, OutSink};

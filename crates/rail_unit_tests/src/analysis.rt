@@ -1,145 +1,22 @@
-//! Small plants by hand: what the player of lists answers, and at which depth a list is found.
-
-ghost use Rattle.std.specs.Prelude.{◌≡◌, ℕ, ◌+◌, ◌<◌, ◌≤◌, ◌∷◌, [], List, length, get_or, IsTrue, IfOk};
-ghost use Rattle.std.specs.List.{list_all, list_any};
-ghost use Rattle.rail_rules.specs.Moves.{is_valid, is_valid_move};
-ghost use Rattle.rail_rules.specs.Numbers.{is_in};
+//! What the player of lists answers, and at which depth a list is found.
 ghost use Rattle.rail_place.specs.Made.{IsMadeFor};
-ghost use Rattle.rail_place.specs.Tables.{moves_in, lists_of};
 
-use rail_base::limits::{ITINERARY_ROUTES, ROUTE_SECTIONS, SECTIONS, TRAINS};
-use rail_base::{SectionNo, Seq, TrainNo};
+use crate::plants::{are_there, moves_of, places_at};
+use rail_base::{SectionNo, TrainNo};
 use rail_consequence::Analyst;
 use rail_place::{Barred, Moves, Places, PlacesFault, Played};
-use std::alloc::{AllocError, Global};
-use std::test::Fail;
+use std::alloc::Global;
 
-fn sections(alloc: Global, numbers: &[u16]) -> Result<Seq<SectionNo>, AllocError> {
-    let mut items = Vec::new(alloc);
-    for number in numbers {
-        items.push(SectionNo(*number)).map_err(AllocError::from)?;
-    }
-    Ok(Seq::from_vec(items))
-}
+const A: TrainNo = TrainNo(0);
 
-fn rows(alloc: Global, lists: &[&[u16]]) -> Result<Vec<Seq<SectionNo>>, AllocError> {
-    let mut rows = Vec::new(alloc);
-    for list in lists {
-        let row = sections(alloc, list)?;
-        rows.push(row).map_err(AllocError::from)?;
-    }
-    Ok(rows)
-}
-
-fn move_is_valid(need: &[Seq<SectionNo>], stand: &[Seq<SectionNo>], made: usize) -> bool
-    requires { made + 1 < length need.now }
-    ensures { IsTrue result → IsTrue (is_valid_move (moves_in (lists_of need.now stand.now ∷ [])) 0 made) }
-{
-    if made >= stand.len() {
-        return false;
-    }
-    let standing = stand[made].as_slice();
-    if standing.is_empty() || share_one(need[made + 1].as_slice(), standing) {
-        return false;
-    }
-    all_in(standing, need[made].as_slice())
-}
-
-/// Some section stands in both.
-fn share_one(needed: &[SectionNo], sections: &[SectionNo]) -> bool
-    ensures { result ≡ list_any (λ x. is_in x sections.now) needed.now }
-{
-    needed.iter().any(|section| stands_in(*section, sections))
-}
-
-fn stands_in(section: SectionNo, sections: &[SectionNo]) -> bool
-    ensures { result ≡ is_in section sections.now }
-{
-    sections.iter().any(|other| *other == section)
-}
-
-fn all_in(sections: &[SectionNo], needed: &[SectionNo]) -> bool
-    ensures { result ≡ list_all (λ x. is_in x needed.now) sections.now }
-{
-    sections.iter().all(|section| stands_in(*section, needed))
-}
-
-fn row_is_valid(need: &[Seq<SectionNo>], stand: &[Seq<SectionNo>]) -> bool
-    ensures { IsTrue result → IsTrue (is_valid (moves_in (lists_of need.now stand.now ∷ []))) }
-{
-    for made in 1..need.len() {
-        if !move_is_valid(need, stand, made - 1) {
-            return false;
-        }
-    }
-    true
-}
-
-fn row_is_small(need: &[Seq<SectionNo>]) -> bool
-    ensures narrow { IsTrue result → (m : ℕ) → length (get_or need.now m []) ≤ ROUTE_SECTIONS }
-    ensures in_range { IsTrue result → (m x : ℕ) → IsTrue (is_in x (get_or need.now m [])) → x < SECTIONS }
-{
-    for row in need {
-        if row.as_slice().len() > ROUTE_SECTIONS || !all_small(row.as_slice()) {
-            return false;
-        }
-    }
-    true
-}
-
-fn all_small(sections: &[SectionNo]) -> bool
-    ensures { IsTrue result → (x : ℕ) → IsTrue (is_in x sections.now) → x < SECTIONS }
-{
-    for section in sections {
-        if usize::from(section.0) >= SECTIONS {
-            return false;
-        }
-    }
-    true
-}
-
-/// Adds a train: the needed sections of its moves, and where it stands after each but the last.
-fn push(alloc: Global, moves: &mut Moves, need: &[&[u16]], stand: &[&[u16]]) -> Result<(), Fail> {
-    let need = rows(alloc, need)?;
-    let stand = rows(alloc, stand)?;
-    let fits = usize::from(moves.trains()) < TRAINS && need.len() <= ITINERARY_ROUTES;
-    if !fits || !row_is_small(&need) || !row_is_valid(&need, &stand) {
-        return Err(Fail::from("no valid moves"));
-    }
-    moves.push_train(alloc, need, stand)?;
-    Ok(())
-}
-
-/// The places with the trains there.
-fn places_at(alloc: Global, moves: &Moves, positions: &[u16]) -> Result<Places, PlacesFault>
-    ensures { IfOk result (IsMadeFor moves.now) }
-{
-    if positions.len() != usize::from(moves.trains()) || !all_within(moves, positions) {
-        return Err(PlacesFault::OutOfMemory);
-    }
-    Places::new(alloc, moves, positions)
-}
-
-fn all_within(moves: &Moves, positions: &[u16]) -> bool
-    requires { length positions.now ≡ length moves.now }
-    ensures { IsTrue result → (t : ℕ) → t < length moves.now → get_or positions.now t 0 ≤ (moves_in moves.now).moves t }
-{
-    let trains = moves.trains();
-    for number in 0..trains {
-        if positions[usize::from(number)] > moves.places(TrainNo(number)) {
-            return false;
-        }
-    }
-    true
-}
+const B: TrainNo = TrainNo(1);
 
 /// What comes of playing the list; index 0 where it names a train that there is not.
 fn play(places: &mut Places, moves: &Moves, list: &[TrainNo]) -> Played
     requires { IsMadeFor moves.now places.old }
     ensures { IsMadeFor moves.now places.new }
 {
-    let trains = moves.trains();
-    if !list.iter().all(|train| train.0 < trains) {
+    if !are_there(moves, list) {
         return Played::Illegal {
             index: 0,
             why: Barred::Outside,
@@ -149,197 +26,122 @@ fn play(places: &mut Places, moves: &Moves, list: &[TrainNo]) -> Played
 }
 
 /// The loop line with the sections W, PW, L1, L2, PE, E: A goes over L1 to the east.
-fn two_trains(
-    alloc: Global,
-    a: &[&[u16]],
-    stands_a: &[&[u16]],
-    b: &[&[u16]],
-    stands_b: &[&[u16]],
-) -> Result<Moves, Fail> {
-    let mut moves = Moves::new(alloc);
-    push(alloc, &mut moves, a, stands_a)?;
-    push(alloc, &mut moves, b, stands_b)?;
-    Ok(moves)
-}
-
-const A: TrainNo = TrainNo(0);
-
-const B: TrainNo = TrainNo(1);
-
 #[test]
-fn plays_lists_at_a_loop(rt: HostRuntime) -> Result<(), Fail> {
-    let alloc = rt.alloc();
-    let moves = two_trains(
-        alloc,
-        &[&[0, 1, 2], &[4, 5]],
-        &[&[2]],
-        &[&[5, 4, 3], &[1, 0]],
-        &[&[3]],
-    )?;
-    let mut both_inside = places_at(alloc, &moves, &[1, 1])?;
-    assert_eq!(rt; play(&mut both_inside, &moves, &[A, B]), Played::Completes);
-    assert_eq!(rt; both_inside.played(), 2);
-    assert_eq!(rt;
-        play(&mut both_inside, &moves, &[B]),
-        Played::Inside { train: A }
-    );
-    assert_eq!(rt;
-        play(&mut both_inside, &moves, &[A, A]),
-        Played::Illegal {
-            index: 2,
-            why: Barred::Out
-        }
-    );
-    assert_eq!(rt; both_inside.played(), 4);
-    let mut both_outside = places_at(alloc, &moves, &[0, 0])?;
-    assert_eq!(rt;
-        play(&mut both_outside, &moves, &[A]),
-        Played::Illegal {
-            index: 1,
-            why: Barred::Outside
-        }
-    );
-    Ok(())
-}
-
-#[test]
-fn names_the_first_holder(rt: HostRuntime) -> Result<(), Fail> {
-    let alloc = rt.alloc();
-    let moves = two_trains(
-        alloc,
-        &[&[0], &[1, 2], &[4, 5]],
-        &[&[0], &[2]],
-        &[&[5, 4, 2], &[1, 0]],
-        &[&[2]],
-    )?;
-    let mut places = places_at(alloc, &moves, &[1, 1])?;
-    let held = Barred::Held {
-        section: SectionNo(2),
-        holder: B,
+fn plays_lists_at_a_loop(rt: HostRuntime) {
+    let Some(moves) = moves_of(rt.alloc(), "012 45/2, 543 10/3") else {
+        panic!(rt; "no moves");
     };
-    assert_eq!(rt;
-        play(&mut places, &moves, &[A]),
-        Played::Illegal {
-            index: 1,
-            why: held
-        }
-    );
+    let Ok(mut both_inside) = places_at(rt.alloc(), &moves, "11") else {
+        panic!(rt; "no places");
+    };
+    assert!(rt; play(&mut both_inside, &moves, &[A, B]) == Played::Completes);
+    assert_eq!(rt; both_inside.played(), 2);
+    let inside = Played::Inside { train: A };
+    assert!(rt; play(&mut both_inside, &moves, &[B]) == inside);
+    let out = Played::Illegal {
+        index: 2,
+        why: Barred::Out,
+    };
+    assert!(rt; play(&mut both_inside, &moves, &[A, A]) == out);
+    assert_eq!(rt; both_inside.played(), 4);
+    let Ok(mut both_outside) = places_at(rt.alloc(), &moves, "00") else {
+        panic!(rt; "no places");
+    };
+    let outside = Played::Illegal {
+        index: 1,
+        why: Barred::Outside,
+    };
+    assert!(rt; play(&mut both_outside, &moves, &[A]) == outside);
+}
+
+#[test]
+fn names_the_first_holder(rt: HostRuntime) {
+    let Some(moves) = moves_of(rt.alloc(), "0 12 45/0 2, 542 10/2") else {
+        panic!(rt; "no moves");
+    };
+    let Ok(mut places) = places_at(rt.alloc(), &moves, "11") else {
+        panic!(rt; "no places");
+    };
+    let held = Played::Illegal {
+        index: 1,
+        why: Barred::Held {
+            section: SectionNo(2),
+            holder: B,
+        },
+    };
+    assert!(rt; play(&mut places, &moves, &[A]) == held);
     let overlap = PlacesFault::Overlap {
         section: SectionNo(2),
         first: A,
         second: B,
     };
-    match places_at(alloc, &moves, &[2, 1]) {
-        Ok(_) => return Err(Fail::from("two trains on one section")),
-        Err(fault) => assert_eq!(rt; fault, overlap),
-    }
-    Ok(())
-}
-
-/// The moves of the trains, in this order.
-fn plant(alloc: Global, trains: &[(&[&[u16]], &[&[u16]])]) -> Result<Moves, Fail> {
-    let mut moves = Moves::new(alloc);
-    for (need, stand) in trains {
-        push(alloc, &mut moves, need, stand)?;
-    }
-    Ok(moves)
-}
-
-fn complete(places: &mut Places, moves: &Moves, list: &[TrainNo]) -> Result<(), Fail>
-    requires { IsMadeFor moves.now places.old }
-    ensures { IsMadeFor moves.now places.new }
-{
-    match play(places, moves, list) {
-        Played::Completes => Ok(()),
-        _ => Err(Fail::from("the list does not complete")),
+    match places_at(rt.alloc(), &moves, "21") {
+        Ok(_) => panic!(rt; "two trains on one section"),
+        Err(fault) => assert!(rt; fault == overlap),
     }
 }
 
-/// The least depth at which a list is found from the places, if any; each list found is played.
-fn depth_that_helps(
-    alloc: Global,
-    trains: &[(&[&[u16]], &[&[u16]])],
-    positions: &[u16],
-) -> Result<Option<u8>, Fail> {
-    let moves = plant(alloc, trains)?;
-    let mut places = places_at(alloc, &moves, positions)?;
-    let mut analyst = Analyst::new(alloc, &moves)?;
-    for depth in 0..3 {
-        if let Some(list) = analyst.find(&moves, &places, depth) {
-            complete(&mut places, &moves, list)?;
-            return Ok(Some(depth));
+/// The trains, the place of each, and the least depth below 3 at which a list is found.
+///
+/// First three trains stand in a ring, and one of them may have a way round over a free track. Then, with
+/// the sections W, PW, L1, L2, PE, C, QW, N1, N2, QE, X, two trains go to the east over L1, C and N1, and
+/// one to the west over N2; and at last a train stands on N1 that can go on to a track that the second
+/// train to the east needs at the end, with the same trains the other way round.
+const DEPTHS: &str = "\
+0 1/0, 1 2/1, 2 0/2: 111: none
+0 3 1/0 3, 1 2/1, 2 0/2: 111: 0
+0 1/0, 1 2/1, 2 0/2: 020: 0
+012 45 67 9a/2 5 7, 012 45 67 9a/2 5 7, a 986543 10/a 3: 211: 1
+012 45 67 9a/2 5 7, 012 45 67 9ak/2 5 7, a 986543 10/a 3, 7 k 2/7 k: 2111: 2
+7 k 2/7 k, a 986543 10/a 3, 012 45 67 9ak/2 5 7, 012 45 67 9a/2 5 7: 1112: 2
+";
+
+#[test]
+fn finds_the_free_legs_that_help(rt: HostRuntime) {
+    let other = first_other(rt.alloc(), DEPTHS);
+    assert!(rt; other.is_none(), "{other:?}");
+}
+
+/// The first of the cases that is answered otherwise than it says.
+fn first_other(alloc: Global, cases: &str) -> Option<&str> {
+    for case in cases.lines() {
+        if !holds(alloc, case).unwrap_or(false) {
+            return Some(case);
         }
     }
-    Ok(None)
+    None
 }
 
-const RING_0: (&[&[u16]], &[&[u16]]) = (&[&[0], &[1]], &[&[0]]);
-
-const RING_1: (&[&[u16]], &[&[u16]]) = (&[&[1], &[2]], &[&[1]]);
-
-const RING_2: (&[&[u16]], &[&[u16]]) = (&[&[2], &[0]], &[&[2]]);
-
-const RING_0_OVER_A_FREE_TRACK: (&[&[u16]], &[&[u16]]) = (&[&[0], &[3], &[1]], &[&[0], &[3]]);
-
-#[test]
-fn finds_the_way_out_of_a_ring_over_a_free_track(rt: HostRuntime) -> Result<(), Fail> {
-    let alloc = rt.alloc();
-    assert_eq!(rt;
-        depth_that_helps(alloc, &[RING_0, RING_1, RING_2], &[1, 1, 1])?,
-        None
-    );
-    assert_eq!(rt;
-        depth_that_helps(
-            alloc,
-            &[RING_0_OVER_A_FREE_TRACK, RING_1, RING_2],
-            &[1, 1, 1]
-        )?,
-        Some(0)
-    );
-    assert_eq!(rt;
-        depth_that_helps(alloc, &[RING_0, RING_1, RING_2], &[0, 2, 0])?,
-        Some(0)
-    );
-    Ok(())
+/// Whether the case is answered as it says.
+fn holds(alloc: Global, case: &str) -> Option<bool> {
+    let (trains, rest) = case.split_once(": ")?;
+    let (positions, depth) = rest.split_once(": ")?;
+    match moves_of(alloc, trains) {
+        Some(moves) => Some(helps_at(alloc, &moves, positions, depth)),
+        None => None,
+    }
 }
 
-// W, PW, L1, L2, PE, C, QW, N1, N2, QE, X: two trains to the east over L1, C and N1, one to the west over N2.
-const EAST: (&[&[u16]], &[&[u16]]) = (
-    &[&[0, 1, 2], &[4, 5], &[6, 7], &[9, 10]],
-    &[&[2], &[5], &[7]],
-);
+/// Whether that is the least depth that helps the trains at these places.
+fn helps_at(alloc: Global, moves: &Moves, positions: &str, depth: &str) -> bool {
+    match places_at(alloc, moves, positions) {
+        Ok(mut places) => match Analyst::new(alloc, moves) {
+            Ok(mut analyst) => is_least(moves, &mut places, &mut analyst, depth.parse().ok()),
+            Err(_) => false,
+        },
+        Err(_) => false,
+    }
+}
 
-const WEST: (&[&[u16]], &[&[u16]]) = (&[&[10], &[9, 8, 6, 5, 4, 3], &[1, 0]], &[&[10], &[3]]);
-// The train stands on N1, and can go on to a track that the second train to the east needs at the end.
-const ASIDE: (&[&[u16]], &[&[u16]]) = (&[&[7], &[20], &[2]], &[&[7], &[20]]);
-
-const EAST_OVER_THE_TRACK: (&[&[u16]], &[&[u16]]) = (
-    &[&[0, 1, 2], &[4, 5], &[6, 7], &[9, 10, 20]],
-    &[&[2], &[5], &[7]],
-);
-
-#[test]
-fn finds_the_free_legs_that_help(rt: HostRuntime) -> Result<(), Fail> {
-    let alloc = rt.alloc();
-    assert_eq!(rt;
-        depth_that_helps(alloc, &[EAST, EAST, WEST], &[2, 1, 1])?,
-        Some(1)
-    );
-    assert_eq!(rt;
-        depth_that_helps(
-            alloc,
-            &[EAST, EAST_OVER_THE_TRACK, WEST, ASIDE],
-            &[2, 1, 1, 1]
-        )?,
-        Some(2)
-    );
-    assert_eq!(rt;
-        depth_that_helps(
-            alloc,
-            &[ASIDE, WEST, EAST_OVER_THE_TRACK, EAST],
-            &[1, 1, 1, 2]
-        )?,
-        Some(2)
-    );
-    Ok(())
+/// Whether at this depth a list is found from the places that completes, and none at a lesser one; of no
+/// depth, whether none is found below 3.
+fn is_least(moves: &Moves, places: &mut Places, analyst: &mut Analyst, want: Option<u8>) -> bool
+    requires { IsMadeFor moves.now places.old }
+{
+    for depth in 0..3 {
+        if let Some(list) = analyst.find(moves, places, depth) {
+            return want == Some(depth) && play(places, moves, list) == Played::Completes;
+        }
+    }
+    want == None
 }

@@ -1,28 +1,39 @@
 use rail_base::{Time, TrainNo};
 use rail_queue::{Class, Event, EventQueue};
-use std::test::Fail;
 
-#[test]
-fn events_come_by_time_class_and_number(rt: HostRuntime) -> Result<(), Fail> {
-    let event = |at: u64, class: Class, number: u16, place: u16| Event {
+fn event(at: u64, class: Class, number: u16, place: u16) -> Event {
+    Event {
         at: Time(at),
         class,
         number,
         place,
         train: TrainNo(0),
+    }
+}
+
+/// The place of the event that comes next.
+fn next_place(queue: &mut EventQueue) -> Option<u16> {
+    match queue.pop() {
+        Some(event) => Some(event.place),
+        None => None,
+    }
+}
+
+#[test]
+fn events_come_by_time_class_and_number(rt: HostRuntime) {
+    let Ok(mut queue) = EventQueue::with_room(rt.alloc(), 4) else {
+        panic!(rt; "no memory");
     };
-    let mut queue = EventQueue::with_room(rt.alloc(), 4)?;
     queue.push(event(20, Class::Free, 1, 1));
     queue.push(event(10, Class::Out, 1, 2));
     queue.push(event(10, Class::Enter, 2, 3));
     queue.push(event(10, Class::Enter, 2, 4));
     assert_eq!(rt; queue.spare(), 0);
     assert_eq!(rt; queue.first_time(), Some(Time(10)));
-    assert_eq!(rt; queue.pop().map(|event| event.place), Some(3));
-    assert_eq!(rt; queue.pop().map(|event| event.place), Some(4));
-    assert_eq!(rt; queue.pop().map(|event| event.place), Some(2));
-    assert_eq!(rt; queue.pop().map(|event| event.place), Some(1));
+    assert_eq!(rt; next_place(&mut queue), Some(3));
+    assert_eq!(rt; next_place(&mut queue), Some(4));
+    assert_eq!(rt; next_place(&mut queue), Some(2));
+    assert_eq!(rt; next_place(&mut queue), Some(1));
     assert_eq!(rt; queue.pop(), None);
     assert_eq!(rt; queue.spare(), 4);
-    Ok(())
 }

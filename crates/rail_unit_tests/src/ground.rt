@@ -2,8 +2,7 @@ use indexmap::IndexSet;
 use rail_base::{
     Name, Names, Reason, SectionNo, Seq, Time, TrainNo, Word, ceil_div, read_time, write_time,
 };
-use std::alloc::Global;
-use std::test::Fail;
+use std::alloc::{AllocError, Global};
 
 #[test]
 fn reads_the_times_of_an_input(rt: HostRuntime) {
@@ -19,7 +18,7 @@ fn reads_the_times_of_an_input(rt: HostRuntime) {
         (b"999999999999:59:59.9", 35_999_999_999_999_999),
     ];
     for (text, time) in cases {
-        assert_eq!(rt; read_time(text), Some(Time(time)), "at {time}");
+        assert!(rt; read_time(text) == Some(Time(time)), "at {time}");
     }
 }
 
@@ -46,7 +45,7 @@ fn refuses_what_is_no_time(rt: HostRuntime) {
         b"\xff0:00:00",
     ];
     for (number, text) in cases.iter().enumerate() {
-        assert_eq!(rt; read_time(text), None, "at {number}");
+        assert!(rt; read_time(text).is_none(), "at {number}");
     }
 }
 
@@ -61,26 +60,32 @@ fn writes_the_canonical_form(rt: HostRuntime) {
         (u64::MAX, b"512409557603043:06:01.5"),
     ];
     for (time, text) in cases {
-        let mut into = [b'#'; 32];
-        let len = write_time(Time(time), &mut into);
-        assert_eq!(rt; into.get(..len), Some(text), "at {time}");
-        assert!(rt;
-            into.iter().skip(len).all(|byte| *byte == b'#'),
-            "at {time}"
-        );
+        assert!(rt; is_written(time, text), "at {time}");
     }
+}
+
+/// Whether the time is written so, and nothing behind it.
+fn is_written(time: u64, text: &[u8]) -> bool {
+    let mut into = [b'#'; 32];
+    let len = write_time(Time(time), &mut into);
+    into.get(..len) == Some(text) && are_untouched(&into, len)
+}
+
+/// Whether the bytes from this number on are as they were.
+fn are_untouched(bytes: &[u8], from: usize) -> bool {
+    for (number, byte) in bytes.iter().enumerate() {
+        if number >= from && *byte != b'#' {
+            return false;
+        }
+    }
+    true
 }
 
 #[test]
 fn reads_the_names(rt: HostRuntime) {
     let names: [&[u8]; 4] = [b"a", b"S12_N-3", b"0", b"abcdefghijklmnop"];
     for (number, bytes) in names.iter().enumerate() {
-        let name = Name::read(bytes);
-        assert_eq!(rt;
-            name.as_ref().map(Name::as_bytes),
-            Some(*bytes),
-            "at {number}"
-        );
+        assert!(rt; is_read(bytes), "at {number}");
     }
     let others: [&[u8]; 6] = [
         b"",
@@ -91,7 +96,15 @@ fn reads_the_names(rt: HostRuntime) {
         b"a\0",
     ];
     for (number, bytes) in others.iter().enumerate() {
-        assert_eq!(rt; Name::read(bytes), None, "at {number}");
+        assert!(rt; Name::read(bytes).is_none(), "at {number}");
+    }
+}
+
+/// Whether the bytes are read as the name that has them.
+fn is_read(bytes: &[u8]) -> bool {
+    match Name::read(bytes) {
+        Some(name) => name.as_bytes() == bytes,
+        None => false,
     }
 }
 
@@ -114,42 +127,68 @@ fn numbers_the_reasons(rt: HostRuntime) {
     }
 }
 
+fn three_numbers(alloc: Global) -> Result<Vec<u16>, AllocError> {
+    Ok(vec![in alloc; 3, 1, 2]?)
+}
+
 #[test]
-fn gives_back_what_a_list_or_a_word_holds(rt: HostRuntime) -> Result<(), Fail> {
-    let alloc = rt.alloc();
-    let items = Seq::from_vec(vec![in alloc; 3_u16, 1, 2]?);
-    assert_eq!(rt; items.as_slice(), [3, 1, 2].as_slice());
-    assert_eq!(rt; items.into_vec().as_slice(), [3, 1, 2].as_slice());
-    let word = Word::from_string(String::from_str(alloc, "fcfs")?);
-    assert_eq!(rt; word.as_str(), "fcfs");
-    Ok(())
+fn gives_back_what_a_list_holds(rt: HostRuntime) {
+    let Ok(items) = three_numbers(rt.alloc()) else {
+        panic!(rt; "no memory");
+    };
+    let items = Seq::from_vec(items);
+    assert!(rt; items.as_slice() == [3, 1, 2].as_slice());
+    assert!(rt; items.into_vec().as_slice() == [3, 1, 2].as_slice());
 }
 
-fn name(bytes: &[u8]) -> Result<Name, Fail> {
-    Ok(Name::read(bytes).ok_or("no name")?)
+#[test]
+fn gives_back_what_a_word_holds(rt: HostRuntime) {
+    let Ok(text) = String::from_str(rt.alloc(), "fcfs") else {
+        panic!(rt; "no memory");
+    };
+    assert!(rt; Word::from_string(text).as_str() == "fcfs");
 }
 
-fn two_names(alloc: Global, first: Name, second: Name) -> Result<IndexSet<Name>, Fail> {
+fn two_names(alloc: Global, first: Name, second: Name) -> Result<IndexSet<Name>, AllocError> {
     let mut names = IndexSet::new(alloc);
     names.insert(first)?;
     names.insert(second)?;
     Ok(names)
 }
 
+/// Names of two sections, and of two trains the other way round.
+fn names_of(alloc: Global, here: Name, there: Name) -> Result<Names, AllocError> {
+    let sections = two_names(alloc, here, there)?;
+    let trains = two_names(alloc, there, here)?;
+    Ok(Names { sections, trains })
+}
+
+/// Whether there are two sections, and this is the number of the one with the name.
+fn is_section(names: &Names, name: Name, want: Option<SectionNo>) -> bool {
+    names.sections.len() == 2 && names.section(name) == want
+}
+
+/// Whether there are two trains, and this is the number of the one with the name.
+fn is_train(names: &Names, name: Name, want: Option<TrainNo>) -> bool {
+    names.trains.len() == 2 && names.train(name) == want
+}
+
 #[test]
-fn finds_numbers_by_name(rt: HostRuntime) -> Result<(), Fail> {
-    let (here, there, absent) = (name(b"A")?, name(b"B")?, name(b"C")?);
-    let names = Names {
-        sections: two_names(rt.alloc(), here, there)?,
-        trains: two_names(rt.alloc(), there, here)?,
+fn finds_numbers_by_name(rt: HostRuntime) {
+    let (Some(here), Some(there), Some(absent)) = (
+        Name::read(b"A"),
+        Name::read(b"B"),
+        Name::read(b"C"),
+    ) else {
+        panic!(rt; "no name");
     };
-    assert_eq!(rt; names.sections.len(), 2);
-    assert_eq!(rt; names.trains.len(), 2);
-    assert_eq!(rt; names.section(here), Some(SectionNo(0)));
-    assert_eq!(rt; names.section(there), Some(SectionNo(1)));
-    assert_eq!(rt; names.section(absent), None);
-    assert_eq!(rt; names.train(here), Some(TrainNo(1)));
-    assert_eq!(rt; names.train(there), Some(TrainNo(0)));
-    assert_eq!(rt; names.train(absent), None);
-    Ok(())
+    let Ok(names) = names_of(rt.alloc(), here, there) else {
+        panic!(rt; "no memory");
+    };
+    assert!(rt; is_section(&names, here, Some(SectionNo(0))));
+    assert!(rt; is_section(&names, there, Some(SectionNo(1))));
+    assert!(rt; is_section(&names, absent, None));
+    assert!(rt; is_train(&names, here, Some(TrainNo(1))));
+    assert!(rt; is_train(&names, there, Some(TrainNo(0))));
+    assert!(rt; is_train(&names, absent, None));
 }

@@ -1,20 +1,16 @@
 //! Four trains on a small plant: to what each list is repaired, and which lists are not.
-
-ghost use Rattle.std.specs.Prelude.{◌≡◌, ℕ, ◌<◌, ◌≤◌, [], ◌∷◌, length, get_or, IsTrue, IfOk, ◌%◌};
+ghost use Rattle.rail_list.specs.KeptLists.{HasRoomFor};
 ghost use Rattle.rail_place.specs.Made.{IsMadeFor};
-ghost use Rattle.rail_place.specs.Tables.{moves_in};
 
-use rail_base::limits::TRAINS;
-use rail_base::{SectionNo, Seq, TrainNo};
+use crate::plants::{are_there, moves_of, places_at, trains_of};
+use rail_base::TrainNo;
 use rail_list::{KeptList, a_completing_list_fits};
 use rail_place::{Moves, Places, Played};
-use std::alloc::{AllocError, Global};
-use std::process::Abort;
-use std::test::Fail;
+use std::alloc::Global;
 
-// For each train the sections of its three moves. It stands on the first and then on the second, and
+// Each train has three moves over one section each. It stands on the first and then on the second, and
 // leaves over the third. Train 0 and train 1 go over section 5, train 3 begins there.
-const PATHS: &str = "051 352 467 568";
+const TRAINS: &str = "0 5 1/0 5, 3 5 2/3 5, 4 6 7/4 6, 5 6 8/5 6";
 
 // The place of each train, the list, the train that moves, whether the list is repaired, and the list
 // afterwards.
@@ -30,161 +26,97 @@ const APPENDS: &str = "1100 0011 2 yes 001122
 0100 11 3 no 11
 0010 22 3 yes 2233";
 
-/// The numbers of the digits.
-fn numbers(alloc: Global, digits: &str) -> Result<Vec<u16>, AllocError> {
-    let mut numbers = Vec::new(alloc);
-    for digit in digits.as_bytes() {
-        numbers
-            .push(u16::from(*digit % 16))
-            .map_err(AllocError::from)?;
-    }
-    Ok(numbers)
+#[test]
+fn pulls_the_first_entry_or_none(rt: HostRuntime) {
+    let other = first_other(rt.alloc(), PULLS);
+    assert!(rt; other.is_none(), "{other:?}");
 }
 
-/// The trains of the digits.
-fn trains_of(alloc: Global, digits: &str) -> Result<Vec<TrainNo>, AllocError> {
-    let mut trains = Vec::new(alloc);
-    for digit in digits.as_bytes() {
-        trains
-            .push(TrainNo(u16::from(*digit % 16)))
-            .map_err(AllocError::from)?;
-    }
-    Ok(trains)
+#[test]
+fn appends_the_moves_left_or_none(rt: HostRuntime) {
+    let other = first_other(rt.alloc(), APPENDS);
+    assert!(rt; other.is_none(), "{other:?}");
 }
 
-/// The section of the digit, alone.
-fn alone(alloc: Global, digit: u8) -> Result<Seq<SectionNo>, AllocError>
-    ensures { IfOk result (λ sections. sections ≡ (digit % 16) ∷ []) }
-{
-    let sections = vec![in alloc; SectionNo(u16::from(digit % 16))]?;
-    Ok(Seq::from_vec(sections))
-}
-
-/// Adds a train with three moves over one section each.
-fn push(alloc: Global, moves: &mut Moves, path: &str) -> Result<(), Fail> {
-    let [first, second, third] = path.as_bytes() else {
-        return Err(Fail::from("no path"));
+#[test]
+fn begins_empty(rt: HostRuntime) {
+    let Some(moves) = moves_of(rt.alloc(), TRAINS) else {
+        panic!(rt; "no moves");
     };
-    let (first, second, third) = (*first, *second, *third);
-    let apart = first % 16 != second % 16 && second % 16 != third % 16;
-    if !apart || usize::from(moves.trains()) >= TRAINS {
-        return Err(Fail::from("no moves"));
-    }
-    let need = vec![in alloc;
-        alone(alloc, first)?,
-        alone(alloc, second)?,
-        alone(alloc, third)?,
-    ]?;
-    let stand = vec![in alloc; alone(alloc, first)?, alone(alloc, second)?]?;
-    moves.push_train(alloc, need, stand)?;
-    Ok(())
+    let Ok(kept) = KeptList::new(rt.alloc(), &moves) else {
+        panic!(rt; "no memory");
+    };
+    assert!(rt; kept.as_slice().is_empty());
 }
 
-fn plant(alloc: Global) -> Result<Moves, Fail> {
-    let mut moves = Moves::new(alloc);
-    for path in PATHS.split(' ') {
-        push(alloc, &mut moves, path)?;
+/// The first of the cases that is answered otherwise than it says.
+fn first_other(alloc: Global, cases: &'static str) -> Option<&'static str> {
+    match moves_of(alloc, TRAINS) {
+        Some(moves) => first_other_on(alloc, &moves, cases),
+        None => Some(TRAINS),
     }
-    Ok(moves)
 }
 
-fn are_within(moves: &Moves, positions: &[u16]) -> bool
-    requires { length positions.now ≡ length moves.now }
-    ensures { IsTrue result → (t : ℕ) → t < length moves.now → get_or positions.now t 0 ≤ (moves_in moves.now).moves t }
-{
-    for number in 0..moves.trains() {
-        if positions[usize::from(number)] > moves.places(TrainNo(number)) {
-            return false;
+fn first_other_on<'a>(alloc: Global, moves: &Moves, cases: &'a str) -> Option<&'a str> {
+    for case in cases.lines() {
+        if !holds(alloc, moves, case).unwrap_or(false) {
+            return Some(case);
         }
     }
-    true
+    None
 }
 
-/// The places with the trains there.
-fn places_at(alloc: Global, moves: &Moves, positions: &[u16]) -> Result<Places, Fail>
-    ensures { IfOk result (IsMadeFor moves.now) }
-{
-    if positions.len() != usize::from(moves.trains()) || !are_within(moves, positions) {
-        return Err(Fail::from("no places"));
-    }
-    match Places::new(alloc, moves, positions) {
-        Ok(places) => Ok(places),
-        Err(_) => Err(Fail::from("an overlap, or no memory")),
+/// Whether the case is answered as it says.
+fn holds(alloc: Global, moves: &Moves, case: &str) -> Option<bool> {
+    let (positions, rest) = case.split_once(" ")?;
+    let (list, rest) = rest.split_once(" ")?;
+    let (train, rest) = rest.split_once(" ")?;
+    let (answer, after) = rest.split_once(" ")?;
+    let train = TrainNo(train.parse().ok()?);
+    let list = trains_of(alloc, list).ok()?;
+    match places_at(alloc, moves, positions) {
+        Ok(mut places) => match KeptList::new(alloc, moves) {
+            Ok(mut kept) => {
+                let told = is_repaired(moves, &mut places, &mut kept, &list, train);
+                Some(told == Some(answer == "yes") && has(alloc, &kept, after))
+            }
+            Err(_) => None,
+        },
+        Err(_) => None,
     }
 }
 
-/// Whether the list is repaired for the next move of the train, and the list afterwards: pulled where
-/// the train is inside, and else appended.
-fn repaired(
-    alloc: Global,
+/// Whether the list is repaired for the next move of the train: pulled where the train is inside, and else
+/// appended. Nothing where the move is not legal, or the list does not complete.
+fn is_repaired(
     moves: &Moves,
-    mut places: Places,
+    places: &mut Places,
+    kept: &mut KeptList,
     list: &[TrainNo],
     train: TrainNo,
-) -> Result<(bool, Vec<TrainNo>), Fail>
-    requires { IsMadeFor moves.now places }
+) -> Option<bool>
+    requires made { IsMadeFor moves.now places.old }
+    requires room { HasRoomFor moves.now kept.old }
 {
-    let trains = moves.trains();
-    if train.0 >= trains || !list.iter().all(|train| train.0 < trains) {
-        return Err(Fail::from("no such train"));
+    if train.0 >= moves.trains() || !are_there(moves, list) {
+        return None;
     }
-    if places.legal(moves, train).is_err() {
-        return Err(Fail::from("the move is not legal"));
+    if places.legal(moves, train).is_err() || places.play(moves, list) != Played::Completes {
+        return None;
     }
-    let Played::Completes = places.play(moves, list) else {
-        return Err(Fail::from("the list does not complete"));
-    };
-    let mut kept = KeptList::new(alloc, moves)?;
     a_completing_list_fits();
     kept.replace(list);
-    let repaired = if places.position(train) == 0 {
-        kept.append(moves, &mut places, train)
+    if places.position(train) == 0 {
+        Some(kept.append(moves, places, train))
     } else {
-        kept.pull(moves, &mut places, train)
-    };
-    Ok((repaired, kept.as_slice().to_vec(alloc)?))
-}
-
-/// Checks each case of the table.
-fn check(rt: &impl Abort, alloc: Global, cases: &str) -> Result<(), Fail> {
-    let moves = plant(alloc)?;
-    for case in cases.split('\n') {
-        let mut words = case.split(' ');
-        let (Some(positions), Some(list), Some(train), Some(answer), Some(after)) = (
-            words.next(),
-            words.next(),
-            words.next(),
-            words.next(),
-            words.next(),
-        ) else {
-            return Err(Fail::from("no case"));
-        };
-        let places = places_at(alloc, &moves, &numbers(alloc, positions)?)?;
-        let list = trains_of(alloc, list)?;
-        let [train] = *trains_of(alloc, train)? else {
-            return Err(Fail::from("no train"));
-        };
-        let (repaired, kept) = repaired(alloc, &moves, places, &list, train)?;
-        assert_eq!(rt; repaired, answer == "yes", "{case}");
-        assert_eq!(rt; kept, trains_of(alloc, after)?, "{case}");
+        Some(kept.pull(moves, places, train))
     }
-    Ok(())
 }
 
-#[test]
-fn pulls_the_first_entry_or_none(rt: HostRuntime) -> Result<(), Fail> {
-    check(&rt, rt.alloc(), PULLS)
-}
-
-#[test]
-fn appends_the_moves_left_or_none(rt: HostRuntime) -> Result<(), Fail> {
-    check(&rt, rt.alloc(), APPENDS)
-}
-
-#[test]
-fn begins_empty(rt: HostRuntime) -> Result<(), Fail> {
-    let moves = plant(rt.alloc())?;
-    let kept = KeptList::new(rt.alloc(), &moves)?;
-    assert!(rt; kept.as_slice().is_empty());
-    Ok(())
+/// Whether the list has the trains of the digits.
+fn has(alloc: Global, kept: &KeptList, digits: &str) -> bool {
+    match trains_of(alloc, digits) {
+        Ok(trains) => kept.as_slice() == trains.as_slice(),
+        Err(_) => false,
+    }
 }

@@ -3,8 +3,8 @@
 //!
 //! They stand here and not beside the calls because a crate with tests is proved twice, and every test
 //! function is proved too. The expected values come from the rules of operation in `docs/OPERATION.md` and
-//! from `docs/FORMATS.md`, never from the program. What needs private items, the system's files, is tested
-//! in `rail_io` itself. Nothing stands on this crate.
+//! from `docs/FORMATS.md`, never from the program. What needs private items, the counts of faults of the
+//! system's files, is tested in `rail_io` itself. Nothing stands on this crate.
 #![tactic(auto)]
 
 #[cfg(test)]
@@ -22,7 +22,11 @@ mod lines;
 #[cfg(test)]
 mod networks;
 #[cfg(test)]
+mod plants;
+#[cfg(test)]
 mod scenes;
+#[cfg(test)]
+mod shelves;
 #[cfg(test)]
 mod times;
 #[cfg(test)]

@@ -6,13 +6,13 @@ ghost use Rattle.rail_rules.specs.Plant.{Plant, trains};
 ghost use Rattle.rail_rules.specs.Writable.{is_known_train, is_writable};
 ghost use Rattle.rail_history.specs.Lines.{line_of};
 
+use crate::plants::trains_of;
+use crate::shelves::alone;
 use indexmap::IndexSet;
-use rail_base::{Entry, Name, Names, Note, Time, TrainNo, What};
+use rail_base::{Entry, Name, Names, Note, OutOfMemory, Time, TrainNo, What};
 use rail_history::write_entry;
 use rail_io::{Failed, MemorySink, Sink, SureSink};
 use std::alloc::{AllocError, Global};
-use std::process::Abort;
-use std::test::Fail;
 
 // The trains of the list by their numbers, what the entry says, the number of the write that fails,
 // whether all was written, and the bytes without the line feed.
@@ -62,17 +62,6 @@ fn names_of(alloc: Global, text: &str) -> Result<IndexSet<Name>, AllocError> {
     Ok(names)
 }
 
-/// The trains of the digits.
-fn trains_of(alloc: Global, digits: &str) -> Result<Vec<TrainNo>, AllocError> {
-    let mut trains = Vec::new(alloc);
-    for digit in digits.as_bytes() {
-        trains
-            .push(TrainNo(u16::from(*digit % 16)))
-            .map_err(AllocError::from)?;
-    }
-    Ok(trains)
-}
-
 /// Whether the train has a name.
 fn is_named(names: &Names, train: TrainNo) -> bool
     ensures { IsTrue result ↔ (train < length names.now.trains.keys) }
@@ -99,63 +88,102 @@ fn write<O: Sink>(names: &Names, word: &str, kept: &[TrainNo], out: &mut O) -> R
     write_entry(names, entry, kept, out)
 }
 
-/// The case is written as it says.
-fn is_written(rt: &impl Abort, alloc: Global, names: &Names, case: &str) -> Result<(), AllocError> {
-    let (list, rest) = case.split_once("/").expect(rt, "a list");
-    let (word, rest) = rest.split_once("/").expect(rt, "a word");
-    let (call, rest) = rest.split_once("/").expect(rt, "a call");
-    let (whole, line) = rest.split_once("/").expect(rt, "an answer");
-    let fails = vec![in alloc; call.parse().unwrap_or(0)]?;
-    let mut sink = MemorySink::with_room(alloc, 100, fails).map_err(|_| AllocError)?;
-    let kept = trains_of(alloc, list)?;
-    let answer = write(names, word, kept.as_slice(), &mut sink);
-    assert_eq!(rt; answer.is_ok(), whole == "yes", "at {case}");
+/// Whether the case is written as it says.
+fn holds(alloc: Global, names: &Names, case: &str) -> Option<bool> {
+    let (list, rest) = case.split_once("/")?;
+    let (word, rest) = rest.split_once("/")?;
+    let (call, rest) = rest.split_once("/")?;
+    let (answer, line) = rest.split_once("/")?;
+    let kept = trains_of(alloc, list).ok()?;
+    let bytes = bytes_of(alloc, line, answer).ok()?;
+    match sink_of(alloc, 100, call) {
+        Ok(mut sink) => {
+            let is_whole = write(names, word, &kept, &mut sink).is_ok();
+            Some(is_whole == (answer == "yes") && sink.bytes() == Some(bytes.as_bytes()))
+        }
+        Err(_) => None,
+    }
+}
+
+/// The bytes of the line, with a line feed where all was written.
+fn bytes_of(alloc: Global, line: &str, answer: &str) -> Result<String, AllocError> {
     let mut bytes = String::from_str(alloc, line)?;
-    if answer.is_ok() {
+    if answer == "yes" {
         bytes.push_str("\n")?;
     }
-    assert_eq!(rt; sink.bytes(), Some(bytes.as_bytes()), "at {case}");
-    Ok(())
+    Ok(bytes)
 }
 
-#[test]
-fn writes_lists(rt: HostRuntime) -> Result<(), Fail> {
-    let alloc = rt.alloc();
-    let names = Names {
-        sections: names_of(alloc, "L1 L2")?,
-        trains: names_of(alloc, "A1 B A2")?,
-    };
-    for case in CASES.split("\n") {
-        is_written(&rt, alloc, &names, case)?;
+/// The sink with so much room in which the call of this number fails.
+fn sink_of(alloc: Global, room: usize, call: &str) -> Result<MemorySink, OutOfMemory> {
+    let fails = alone(alloc, call.parse().unwrap_or(0))?;
+    MemorySink::with_room(alloc, room, fails)
+}
+
+/// The names of two sections, and of the trains of the text.
+fn names_with(alloc: Global, trains: &str) -> Result<Names, AllocError> {
+    let sections = names_of(alloc, "L1 L2")?;
+    let trains = names_of(alloc, trains)?;
+    Ok(Names { sections, trains })
+}
+
+/// The first of the cases that is written otherwise than it says.
+fn first_other(alloc: Global, cases: &'static str) -> Option<&'static str> {
+    match names_with(alloc, "A1 B A2") {
+        Ok(names) => first_other_of(alloc, &names, cases),
+        Err(_) => Some("no memory"),
     }
-    Ok(())
+}
+
+fn first_other_of<'a>(alloc: Global, names: &Names, cases: &'a str) -> Option<&'a str> {
+    for case in cases.lines() {
+        if !holds(alloc, names, case).unwrap_or(false) {
+            return Some(case);
+        }
+    }
+    None
 }
 
 #[test]
-fn hands_a_long_line_on_piece_by_piece(rt: HostRuntime) -> Result<(), Fail> {
-    let alloc = rt.alloc();
-    let names = Names {
-        sections: names_of(alloc, "L1")?,
-        trains: names_of(alloc, "A1 B")?,
-    };
-    let mut kept = Vec::new(alloc);
-    let mut line = String::from_str(alloc, "00:03:40.0 admit B 1 fresh")?;
+fn writes_lists(rt: HostRuntime) {
+    let other = first_other(rt.alloc(), CASES);
+    assert!(rt; other.is_none(), "{other:?}");
+}
+
+/// Adds two trains to the list, and their names to its line.
+fn push_two(kept: &mut Vec<TrainNo>, line: &mut String) -> Result<(), AllocError> {
+    kept.push(TrainNo(0))?;
+    kept.push(TrainNo(1))?;
+    line.push_str(" A1 B")
+}
+
+/// Adds the trains of a long list, and its line.
+fn push_long(kept: &mut Vec<TrainNo>, line: &mut String) -> Result<(), AllocError> {
+    line.push_str("00:03:40.0 admit B 1 fresh")?;
     for _ in 0..200 {
-        kept.push(TrainNo(0)).map_err(AllocError::from)?;
-        kept.push(TrainNo(1)).map_err(AllocError::from)?;
-        line.push_str(" A1 B")?;
+        push_two(kept, line)?;
     }
-    line.push_str("\n")?;
-    let mut sure = SureSink::with_room(alloc, 2000)?;
-    assert_eq!(rt; write(&names, "fresh", kept.as_slice(), &mut sure), Ok(()));
+    line.push_str("\n")
+}
+
+#[test]
+fn hands_a_long_line_on_piece_by_piece(rt: HostRuntime) {
+    let Ok(names) = names_with(rt.alloc(), "A1 B") else {
+        panic!(rt; "no memory");
+    };
+    let mut kept = Vec::new(rt.alloc());
+    let mut line = String::new(rt.alloc());
+    assert!(rt; push_long(&mut kept, &mut line).is_ok());
+    let Ok(mut sure) = SureSink::with_room(rt.alloc(), 2000) else {
+        panic!(rt; "no memory");
+    };
+    assert_eq!(rt; write(&names, "fresh", &kept, &mut sure), Ok(()));
     assert_eq!(rt; sure.bytes(), Some(line.as_bytes()));
-    let mut sink = MemorySink::with_room(alloc, 2000, vec![in alloc; 2]?)?;
-    assert_eq!(rt;
-        write(&names, "fresh", kept.as_slice(), &mut sink),
-        Err(Failed)
-    );
+    let Ok(mut sink) = sink_of(rt.alloc(), 2000, "2") else {
+        panic!(rt; "no memory");
+    };
+    assert_eq!(rt; write(&names, "fresh", &kept, &mut sink), Err(Failed));
     let part = sink.bytes().unwrap_or(b"");
     assert!(rt; !part.is_empty() && part.len() < line.len());
     assert!(rt; line.as_bytes().starts_with(part));
-    Ok(())
 }

@@ -1,11 +1,12 @@
 use rail_base::limits::{SECTION_LENGTH, SPEED, TRAIN_LENGTH};
 use rail_base::{Name, TrainKind};
 use rail_train::{clear_time, run_time};
-use std::test::Fail;
 
 #[test]
-fn takes_the_lesser_speed_and_rounds_up(rt: HostRuntime) -> Result<(), Fail> {
-    let name = Name::read(b"R").ok_or("no name")?;
+fn takes_the_lesser_speed_and_rounds_up(rt: HostRuntime) {
+    let Some(name) = Name::read(b"R") else {
+        panic!(rt; "no name");
+    };
     let rows = [
         (300, 1, 300, 1),
         (90, 1000, 90, 400),
@@ -29,12 +30,13 @@ fn takes_the_lesser_speed_and_rounds_up(rt: HostRuntime) -> Result<(), Fail> {
             "{length} m at {speed}"
         );
     }
-    Ok(())
 }
 
 #[test]
-fn clears_by_the_length_of_the_train(rt: HostRuntime) -> Result<(), Fail> {
-    let name = Name::read(b"R").ok_or("no name")?;
+fn clears_by_the_length_of_the_train(rt: HostRuntime) {
+    let Some(name) = Name::read(b"R") else {
+        panic!(rt; "no name");
+    };
     for (length, speed, want) in [(90, 90, 36), (1000, 90, 400), (90, 160, 36), (90, 70, 47)] {
         let kind = TrainKind {
             name,
@@ -46,5 +48,4 @@ fn clears_by_the_length_of_the_train(rt: HostRuntime) -> Result<(), Fail> {
         assert!(rt; 1 <= length && length <= TRAIN_LENGTH && 1 <= speed && speed <= SPEED);
         assert_eq!(rt; clear_time(&kind, speed), want, "{length} m at {speed}");
     }
-    Ok(())
 }

@@ -1,26 +1,17 @@
 use rail_base::Word;
 use rail_words::{Form, form_of};
 use std::alloc::{AllocError, Global};
-use std::process::Abort;
-use std::test::Fail;
 
-/// The words of the line ask for this form.
-fn is_form(
-    rt: &impl Abort,
-    alloc: Global,
-    line: &str,
-    form: Option<Form>,
-) -> Result<(), AllocError> {
+fn words_of(alloc: Global, line: &str) -> Result<Vec<Word>, AllocError> {
     let mut words = Vec::new(alloc);
     for text in line.split_whitespace() {
         words.push(Word::from_string(String::from_str(alloc, text)?))?;
     }
-    assert_eq!(rt; form_of(&words), form, "{line}");
-    Ok(())
+    Ok(words)
 }
 
 #[test]
-fn tells_the_form(rt: HostRuntime) -> Result<(), Fail> {
+fn tells_the_form(rt: HostRuntime) {
     for (line, form) in [
         ("", None),
         ("run", None),
@@ -45,7 +36,9 @@ fn tells_the_form(rt: HostRuntime) -> Result<(), Fail> {
         ("scene 0", Some(Form::Scene)),
         ("scene +1", None),
     ] {
-        is_form(&rt, rt.alloc(), line, form)?;
+        let Ok(words) = words_of(rt.alloc(), line) else {
+            panic!(rt; "no memory");
+        };
+        assert_eq!(rt; form_of(&words), form, "{line}");
     }
-    Ok(())
 }

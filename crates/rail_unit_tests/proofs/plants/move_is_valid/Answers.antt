@@ -5,7 +5,7 @@ use Rattle.std.specs.List.{list_any, list_all}
 use Rattle.rail_rules.specs.Moves.{Moves, stand, is_valid_move}
 use Rattle.rail_rules.specs.Numbers.{is_in, are_apart}
 use Rattle.rail_place.specs.Tables.{moves_in, lists_of}
-use Rattle.rail_unit_tests.proofs.analysis.move_is_valid.Goals as goal
+use Rattle.rail_unit_tests.proofs.plants.move_is_valid.Goals as goal
 
 valid_move : (need stands : List (List ℕ)) (m : ℕ) (standing needed next : List ℕ) → m + 1 < length need
     → standing ≡ get_or stands m [] → needed ≡ get_or need m [] → next ≡ get_or need (m + 1) []

@@ -1,7 +1,7 @@
 use Rattle.std.proofs.Common.{◌≡◌, ℕ, ◌<◌, ◌≤◌, [], true, length, get_or}
 use Rattle.rail_base.specs.declared.limits.TheConstants.{ROUTE_SECTIONS, SECTIONS}
 use Rattle.rail_rules.specs.Numbers.{is_in}
-use Rattle.rail_unit_tests.proofs.analysis.row_is_small.Given as goal
+use Rattle.rail_unit_tests.proofs.plants.row_is_small.Given as goal
 
 abbrev pub invariant-loop-row : goal.invariant-loop-row
 invariant-loop-row l = record {
