@@ -33,6 +33,13 @@ impl<R: Files + Drop> FileShelf<R> {
         }
     }
 
+    /// How many calls failed; at 2^64 - 1 it stands still.
+    pub fn faults(&self) -> u64
+        ensures { result ≡ ⟦<FileShelf<R> as Shelf>⟧.faults self.now }
+    {
+        self.reading.faults()
+    }
+
     /// Moves the next bytes, as many as the count of moved bytes has room for. `None` where the
     /// count has no room, and where the system fails.
     fn next_bytes(&mut self, into: &mut [u8]) -> Option<usize>
@@ -99,7 +106,6 @@ impl<R: Files + Drop> Shelf for FileShelf<R> {
 #[derive(Drop)]
 pub struct OutSink<R> {
     access: R,
-    /// How many calls failed; at its last value it stands still.
     faults: u64,
 }
 
@@ -109,6 +115,13 @@ impl<R: Print + Drop> OutSink<R> {
         ensures no_fault { ⟦<OutSink<R> as Sink>⟧.faults result ≡ 0 }
     {
         OutSink { access, faults: 0 }
+    }
+
+    /// How many calls failed; at 2^64 - 1 it stands still.
+    pub fn faults(&self) -> u64
+        ensures { result ≡ ⟦<OutSink<R> as Sink>⟧.faults self.now }
+    {
+        self.faults
     }
 }
 
@@ -126,92 +139,5 @@ impl<R: Print + Drop> Sink for OutSink<R> {
                 Err(Failed)
             }
         }
-    }
-}
-
-// The counts of faults alone, which no public call shows; what is read and written is tested in
-// `rail_unit_tests`.
-#[cfg(test)]
-mod tests {
-    use super::*;
-    use crate::whole::{read_whole, write_whole};
-    use std::fmt::Display;
-    use std::{env, io};
-
-    /// Whether the file is read or not, and the count of faults is then this.
-    fn counts<R: Files + Drop>(
-        alloc: Global,
-        shelf: &mut FileShelf<R>,
-        name: &str,
-        limit: u64,
-        want: (bool, u64),
-    ) -> bool {
-        let is_read = read_whole(alloc, shelf, name, limit).is_ok();
-        (is_read, shelf.reading.faults()) == want
-    }
-
-    #[test]
-    fn counts_faults_of_files(rt: HostRuntime) {
-        let Ok(folder) = env::temp_dir(&rt) else {
-            panic!(rt; "no folder");
-        };
-        let Ok(path) = folder.as_path().join(rt.alloc(), "rail-files.txt") else {
-            panic!(rt; "no memory");
-        };
-        let Some(name) = path.as_path().to_str() else {
-            panic!(rt; "a path that is no text");
-        };
-        assert!(rt; fs::write(&rt, name, "three lines\n\n.").is_ok());
-        let mut shelf = FileShelf::new(&rt);
-        let is_read = counts(rt.alloc(), &mut shelf, name, 14, (true, 0));
-        let is_too_large = counts(rt.alloc(), &mut shelf, name, 13, (false, 0));
-        assert!(rt; fs::remove_file(&rt, name).is_ok());
-        assert!(rt; is_read);
-        assert!(rt; is_too_large);
-        // The file is absent, and a folder is no file.
-        assert!(rt; counts(rt.alloc(), &mut shelf, name, 14, (false, 1)));
-        assert!(rt; counts(rt.alloc(), &mut shelf, "/", 14, (false, 2)));
-    }
-
-    /// An output that takes so many bytes of each piece, or fails.
-    #[derive(Drop)]
-    struct Taking(Option<usize>);
-
-    impl Print for Taking {
-        fn print<D: Display + Drop>(&self, _value: D) -> io::Result<()> {
-            Ok(())
-        }
-
-        fn println<D: Display + Drop>(&self, _value: D) -> io::Result<()> {
-            Ok(())
-        }
-
-        fn write_all(&self, _bytes: &[u8]) -> io::Result<()> {
-            Ok(())
-        }
-
-        fn write_some(&self, bytes: &[u8]) -> io::Result<usize> {
-            match self.0 {
-                Some(most) => Ok(bytes.len().min(most)),
-                None => Err(io::Error::from(io::ErrorKind::BrokenPipe)),
-            }
-        }
-    }
-
-    /// How many faults the output counts when a line is written to it.
-    fn faults_of(most: Option<usize>) -> u64 {
-        let mut out = OutSink::new(Taking(most));
-        let _ = write_whole(&mut out, b"one line\n");
-        out.faults
-    }
-
-    #[test]
-    fn counts_faults_of_an_output(rt: HostRuntime) {
-        let mut out = OutSink::new(&rt);
-        assert!(rt; write_whole(&mut out, b"one line\n").is_ok());
-        assert!(rt; out.faults == 0);
-        assert!(rt; faults_of(Some(4)) == 0);
-        assert!(rt; faults_of(Some(0)) == 1);
-        assert!(rt; faults_of(None) == 1);
     }
 }

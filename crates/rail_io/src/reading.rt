@@ -50,7 +50,6 @@ impl Reading {
     }
 
     /// How many calls failed.
-    #[cfg(test)]
     pub(crate) fn faults(&self) -> u64
         ensures { result ≡ self.now.faults }
     {

@@ -181,7 +181,7 @@ fn writes_without_fault(rt: HostRuntime) {
 }
 
 /// Whether the file is read with this text, is too large for a lesser limit, and is a fault when it is
-/// taken away, as a folder is.
+/// taken away, as a folder is; and whether the faults alone are counted.
 fn is_read_back(rt: &HostRuntime, name: &str, text: &str) -> bool {
     let length = text.len() as u64;
     let mut shelf = FileShelf::new(rt);
@@ -194,11 +194,13 @@ fn is_read_back(rt: &HostRuntime, name: &str, text: &str) -> bool {
         length.saturating_sub(1),
         Err(ReadWhole::TooLarge),
     );
+    let is_without_fault = shelf.faults() == 0;
     let is_removed = fs::remove_file(rt, name).is_ok();
     let fault = Err(ReadWhole::ReadFault);
     let is_absent = reads(rt.alloc(), &mut shelf, name, length, fault);
     let is_no_file = reads(rt.alloc(), &mut shelf, "/", length, fault);
-    is_written && is_read && is_too_large && is_removed && is_absent && is_no_file
+    let is_counted = is_without_fault && shelf.faults() == 2;
+    is_written && is_read && is_too_large && is_removed && is_absent && is_no_file && is_counted
 }
 
 #[test]
@@ -241,17 +243,19 @@ impl Print for Taking {
     }
 }
 
-/// Whether a line is written so to an output that takes so many bytes of each piece, or fails.
-fn is_taken(most: Option<usize>, want: Result<(), Failed>) -> bool {
+/// Whether a line is written so to an output that takes so many bytes of each piece, or fails, and the
+/// count of faults is this then.
+fn is_taken(most: Option<usize>, want: Result<(), Failed>, faults: u64) -> bool {
     let mut out = OutSink::new(Taking(most));
-    write_lines(&mut out, &["one line\n"]) == want
+    write_lines(&mut out, &["one line\n"]) == want && out.faults() == faults
 }
 
 #[test]
 fn writes_out(rt: HostRuntime) {
     let mut out = OutSink::new(&rt);
     assert!(rt; write_lines(&mut out, &["one line\n"]) == Ok(()));
-    assert!(rt; is_taken(Some(4), Ok(())));
-    assert!(rt; is_taken(Some(0), Err(Failed)));
-    assert!(rt; is_taken(None, Err(Failed)));
+    assert!(rt; out.faults() == 0);
+    assert!(rt; is_taken(Some(4), Ok(()), 0));
+    assert!(rt; is_taken(Some(0), Err(Failed), 1));
+    assert!(rt; is_taken(None, Err(Failed), 1));
 }
