@@ -1,5 +1,8 @@
 -- Refusals.
-use Rattle.std.specs.Prelude.{ℕ}
+use Rattle.std.specs.Prelude.{◌≡◌, ℕ, Option, Some}
+use Rattle.rail_base.specs.declared.refusals.Fault.{Fault}
+use Rattle.rail_base.specs.declared.refusals.Fault.TheVariants.{Refused, OutOfMemory}
+use Rattle.rail_base.specs.declared.refusals.Refusal.{Refusal}
 use Rattle.rail_base.specs.declared.refusals.Reason.{Reason}
 use Rattle.rail_base.specs.declared.refusals.Reason.TheVariants.{NotToml, KeyMissing, WrongKind, KeyUnknown, BadName, Repeated, Unknown, Range, JointCrowded, PostPlace, RouteBroken, RouteRepeat, ItineraryBroken, NotPortal, TooLong, SelfBlocked, TooMany, TimetableForm, TimetableValue, InUse, UnknownPolicy, CommandForm, CommandName, CommandOrder, HistoryForm, LineEmpty, WindowEmpty, SnapshotForm, SnapshotOther, NoPath, EditForm, NothingToUndo, NothingToRedo, ListForm, ListName, ListPlaces, RerouteForm, RerouteName, NotYet}
 
@@ -44,3 +47,8 @@ number_of ListPlaces = 36
 number_of RerouteForm = 37
 number_of RerouteName = 38
 number_of NotYet = 39
+
+-- a fault answers the first refusal, if it is that refusal; want of memory may stand in place of any answer
+abbrev pub AnswersFirst : Option Refusal → Fault → Type 0
+AnswersFirst first (Refused refusal) = first ≡ Some refusal
+AnswersFirst first OutOfMemory = Unit {0}

@@ -2,7 +2,7 @@
 
 ghost use Rattle.std.specs.Prelude.{◌≡◌, None, IfOk, IfErr, OnOk};
 ghost use Rattle.rail_scene.specs.SpelledScenes.{spelled_scene};
-ghost use Rattle.rail_words.specs.ListAnswers.{Answers};
+ghost use Rattle.rail_base.specs.Refusals.{AnswersFirst};
 ghost use Rattle.rail_cli.specs.Answers.{plant_in, plant_refusal};
 
 use rail_base::Fault;
@@ -22,7 +22,7 @@ pub fn read_plant(alloc: Global, bytes: &[u8]) -> Result<Planned, Fault>
     ensures accepted { OnOk result (plant_refusal bytes.now ≡ None) }
     ensures scene { IfOk result (λ planned. planned.scene ≡ spelled_scene bytes.now) }
     ensures plant { IfOk result (λ planned. planned.plant ≡ plant_in bytes.now) }
-    ensures refused { IfErr result (Answers (plant_refusal bytes.now)) }
+    ensures refused { IfErr result (AnswersFirst (plant_refusal bytes.now)) }
 {
     let scene = read_scene(alloc, bytes)?;
     let plant = compile(alloc, &scene)?;

@@ -16,7 +16,8 @@ use Rattle.rail_scene.specs.Keys.{list_key, part_of}
 use Rattle.rail_scene.specs.Fields.{elements_at}
 use Rattle.rail_scene.specs.Entries.{section_of, portal_of, signal_of, board_of, turn_of, route_of, kind_of, train_of}
 use Rattle.rail_scene.specs.Drafts.{item_tests, with_items}
-use Rattle.rail_scene.specs.Order.{located, list_values, values_of, with_lists, fault_at, item_number, AnswersScene}
+use Rattle.rail_base.specs.Refusals.{AnswersFirst}
+use Rattle.rail_scene.specs.Order.{located, list_values, values_of, with_lists, fault_at, item_number}
 use Rattle.rail_scene.proofs.Segments.{passed_on, scene_before}
 use Rattle.rail_scene.proofs.Locating.{located_none, answers_located}
 use Rattle.rail_scene.proofs.Views.{view_more}
@@ -56,10 +57,10 @@ module _ (part : ListPart) (draft : Draft) (tables : List Value) (i : ℕ) (tabl
   more : first_failing (list_values part (i + 1) draft (map view (drop i tables))) ≡ first_failing (located (part_of part) (i + 1) own ++ rest)
   more = view_more (λ ys. first_failing (list_values part (i + 1) draft ys)) tables i table within is
 
-  pub value_stop : (fault : NetFault) → Answers (first_failing own) fault → AnswersScene (first_failing (list_values part (i + 1) draft (map view (drop i tables)))) (fault_at (part_of part) (item_number (i + 1)) fault)
+  pub value_stop : (fault : NetFault) → Answers (first_failing own) fault → AnswersFirst (first_failing (list_values part (i + 1) draft (map view (drop i tables)))) (fault_at (part_of part) (item_number (i + 1)) fault)
   value_stop fault answers =
       let placed = fault_at (part_of part) (item_number (i + 1)) fault in
-      subst (λ first. AnswersScene first placed) (sym more) (scene_before (located (part_of part) (i + 1) own) rest placed (answers_located (part_of part) (i + 1) own fault answers))
+      subst (λ first. AnswersFirst first placed) (sym more) (scene_before (located (part_of part) (i + 1) own) rest placed (answers_located (part_of part) (i + 1) own fault answers))
 
   pub value_pass : first_failing own ≡ None → first_failing (list_values part (i + 1) draft (map view (drop i tables))) ≡ first_failing rest
   value_pass none = more ∙ passed_on (located (part_of part) (i + 1) own) rest (located_none (part_of part) (i + 1) own none)
@@ -83,8 +84,8 @@ module _ (root : Data) (draft : Draft) (parts : List ListPart) (i : ℕ) (d : Li
         at_drop_more (λ ys. first_failing (values_of root draft ys)) parts i d within
         ∙ ap (λ ys. first_failing (list_values part 1 draft ys ++ values_of root (with_items part ys draft) (drop (i + 1) parts))) (sym stand)
 
-    pub values_stop : (fault : Fault) → AnswersScene (first_failing (list_values part 1 draft nodes)) fault → AnswersScene (first_failing (values_of root draft (drop i parts))) fault
-    values_stop fault answers = subst (λ first. AnswersScene first fault) (sym unfolded) (scene_before (list_values part 1 draft nodes) later fault answers)
+    pub values_stop : (fault : Fault) → AnswersFirst (first_failing (list_values part 1 draft nodes)) fault → AnswersFirst (first_failing (values_of root draft (drop i parts))) fault
+    values_stop fault answers = subst (λ first. AnswersFirst first fault) (sym unfolded) (scene_before (list_values part 1 draft nodes) later fault answers)
 
     pub values_pass : first_failing (list_values part 1 draft nodes) ≡ None → first_failing (values_of root draft (drop i parts)) ≡ first_failing later
     values_pass none = unfolded ∙ passed_on (list_values part 1 draft nodes) later none

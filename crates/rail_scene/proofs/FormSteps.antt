@@ -12,7 +12,8 @@ use Rattle.rail_scene.specs.declared.keys.ListPart.{ListPart}
 use Rattle.rail_scene.specs.Keys.{list_key, keys_of, part_of}
 use Rattle.rail_scene.specs.Fields.{value_at, elements_at}
 use Rattle.rail_scene.specs.Forms.{key_test, key_tests, form_tests}
-use Rattle.rail_scene.specs.Order.{located, list_forms, forms_of, fault_at, item_number, AnswersScene}
+use Rattle.rail_base.specs.Refusals.{AnswersFirst}
+use Rattle.rail_scene.specs.Order.{located, list_forms, forms_of, fault_at, item_number}
 use Rattle.rail_scene.proofs.Segments.{passed_on, stopped, scene_before}
 use Rattle.rail_scene.proofs.Locating.{located_none, answers_located}
 use Rattle.rail_scene.proofs.Views.{view_more}
@@ -25,13 +26,13 @@ keys_stop keys i d node fault within is =
 
 module _ (part : ListPart) (tables : List Value) (i : ℕ) (table : Value) (within : i < length tables) (is : table ≡ get_or tables i table) where
   pub form_stop : (fault : NetFault) → Answers (first_failing (form_tests (keys_of part) (view table))) fault
-      → AnswersScene (first_failing (list_forms part (i + 1) (map view (drop i tables)))) (fault_at (part_of part) (item_number (i + 1)) fault)
+      → AnswersFirst (first_failing (list_forms part (i + 1) (map view (drop i tables)))) (fault_at (part_of part) (item_number (i + 1)) fault)
   form_stop fault answers =
       let here = located (part_of part) (i + 1) (form_tests (keys_of part) (view table)) in
       let rest = list_forms part (i + 1 + 1) (map view (drop (i + 1) tables)) in
       let more : first_failing (list_forms part (i + 1) (map view (drop i tables))) ≡ first_failing (here ++ rest) = view_more (λ ys. first_failing (list_forms part (i + 1) ys)) tables i table within is in
       let answered = answers_located (part_of part) (i + 1) (form_tests (keys_of part) (view table)) fault answers in
-      subst (λ first. AnswersScene first (fault_at (part_of part) (item_number (i + 1)) fault)) (sym more) (scene_before here rest (fault_at (part_of part) (item_number (i + 1)) fault) answered)
+      subst (λ first. AnswersFirst first (fault_at (part_of part) (item_number (i + 1)) fault)) (sym more) (scene_before here rest (fault_at (part_of part) (item_number (i + 1)) fault) answered)
 
   pub form_pass : first_failing (form_tests (keys_of part) (view table)) ≡ None → first_failing (list_forms part (i + 1) (map view (drop i tables))) ≡ first_failing (list_forms part (i + 1 + 1) (map view (drop (i + 1) tables)))
   form_pass none =
@@ -52,8 +53,8 @@ module _ (root : Data) (parts : List ListPart) (i : ℕ) (d : ListPart) (within 
         at_drop_more (λ ys. first_failing (forms_of root ys)) parts i d within
         ∙ ap (λ ys. first_failing (list_forms part 1 ys ++ forms_of root (drop (i + 1) parts))) (sym stand)
 
-    pub list_stop : (fault : Fault) → AnswersScene (first_failing (list_forms part 1 nodes)) fault → AnswersScene (first_failing (forms_of root (drop i parts))) fault
-    list_stop fault answers = subst (λ first. AnswersScene first fault) (sym more) (scene_before (list_forms part 1 nodes) (forms_of root (drop (i + 1) parts)) fault answers)
+    pub list_stop : (fault : Fault) → AnswersFirst (first_failing (list_forms part 1 nodes)) fault → AnswersFirst (first_failing (forms_of root (drop i parts))) fault
+    list_stop fault answers = subst (λ first. AnswersFirst first fault) (sym more) (scene_before (list_forms part 1 nodes) (forms_of root (drop (i + 1) parts)) fault answers)
 
     pub list_pass : first_failing (list_forms part 1 nodes) ≡ None → first_failing (forms_of root (drop i parts)) ≡ first_failing (forms_of root (drop (i + 1) parts))
     list_pass none = more ∙ passed_on (list_forms part 1 nodes) (forms_of root (drop (i + 1) parts)) none

@@ -5,7 +5,8 @@ use Rattle.rail_base.specs.declared.refusals.Reason.{Reason}
 use Rattle.rail_track.specs.declared.section.NetFault.{NetFault}
 use Rattle.rail_track.specs.declared.section.NetFault.TheVariants.{Refused, OutOfMemory}
 use Rattle.rail_track.specs.FirstRefusals.{Test, first_failing, Answers}
-use Rattle.rail_scene.specs.Order.{located, located_as, item_number, fault_at, AnswersScene}
+use Rattle.rail_base.specs.Refusals.{AnswersFirst}
+use Rattle.rail_scene.specs.Order.{located, located_as, item_number, fault_at}
 
 none_as : (part : Part) (n : ℕ) (fails : Bool) (answer : NetFault) (ts : List (Test NetFault)) → (first_failing ts ≡ None → first_failing (located part n ts) ≡ None)
     → cond fails (Some answer) (first_failing ts) ≡ None → first_failing (located_as part n fails answer ++ located part n ts) ≡ None
@@ -31,6 +32,6 @@ module _ (part : Part) (n : ℕ) (reason : Reason) (step : ℕ) where
   located_some (t ∷ ts) is = some_as t.fails t.answer ts (located_some ts) is
 
 -- a fault that answers the tests of a table answers them at its place
-pub answers_located : (part : Part) (n : ℕ) (ts : List (Test NetFault)) (f : NetFault) → Answers (first_failing ts) f → AnswersScene (first_failing (located part n ts)) (fault_at part (item_number n) f)
+pub answers_located : (part : Part) (n : ℕ) (ts : List (Test NetFault)) (f : NetFault) → Answers (first_failing ts) f → AnswersFirst (first_failing (located part n ts)) (fault_at part (item_number n) f)
 answers_located part n ts (Refused reason step) is = located_some part n reason step ts is
 answers_located part n ts OutOfMemory is = tt

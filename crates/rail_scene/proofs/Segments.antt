@@ -9,7 +9,7 @@ use Rattle.rail_track.specs.declared.section.NetFault.{NetFault}
 use Rattle.rail_track.specs.declared.section.NetFault.TheVariants.{Refused, OutOfMemory}
 use Rattle.rail_track.specs.FirstRefusals.{Test, first_failing, Answers}
 use Rattle.rail_track.proofs.CallerLemmas.{first_failing-append}
-use Rattle.rail_scene.specs.Order.{AnswersScene}
+use Rattle.rail_base.specs.Refusals.{AnswersFirst}
 
 -- where the first segment passes, the next decides
 pub passed_on : {R : Type 0} (ts us : List (Test R)) → first_failing ts ≡ None → first_failing (ts ++ us) ≡ first_failing us
@@ -31,18 +31,18 @@ pub answers_after : (ts us : List (Test NetFault)) (f : NetFault) → first_fail
 answers_after ts us (Refused reason step) none is = passed_on ts us none ∙ is
 answers_after ts us OutOfMemory none is = tt
 
-pub scene_before : (ts us : List (Test Refusal)) (f : Fault) → AnswersScene (first_failing ts) f → AnswersScene (first_failing (ts ++ us)) f
+pub scene_before : (ts us : List (Test Refusal)) (f : Fault) → AnswersFirst (first_failing ts) f → AnswersFirst (first_failing (ts ++ us)) f
 scene_before ts us (fault.Refused refusal) is = stopped ts us refusal is
 scene_before ts us fault.OutOfMemory is = tt
 
-pub scene_after : (ts us : List (Test Refusal)) (f : Fault) → first_failing ts ≡ None → AnswersScene (first_failing us) f → AnswersScene (first_failing (ts ++ us)) f
+pub scene_after : (ts us : List (Test Refusal)) (f : Fault) → first_failing ts ≡ None → AnswersFirst (first_failing us) f → AnswersFirst (first_failing (ts ++ us)) f
 scene_after ts us (fault.Refused refusal) none is = passed_on ts us none ∙ is
 scene_after ts us fault.OutOfMemory none is = tt
 
 -- what is answered of the second segment is answered of both, where the first passes
 pub result_after : {T : Type 0} (ts us : List (Test Refusal)) (r : Result T Fault) → first_failing ts ≡ None
-    → OnOk r (first_failing us ≡ None) → IfErr r (AnswersScene (first_failing us))
-    → OnOk r (first_failing (ts ++ us) ≡ None) × IfErr r (AnswersScene (first_failing (ts ++ us)))
+    → OnOk r (first_failing us ≡ None) → IfErr r (AnswersFirst (first_failing us))
+    → OnOk r (first_failing (ts ++ us) ≡ None) × IfErr r (AnswersFirst (first_failing (ts ++ us)))
 result_after ts us (Ok x) none accepted refused = (both_passed ts us none accepted, tt)
 result_after ts us (Err f) none accepted refused = (tt, scene_after ts us f none refused)
 

@@ -10,7 +10,8 @@ use Rattle.rail_track.specs.FirstRefusals.{Test, first_failing, Answers}
 use Rattle.rail_scene.specs.declared.keys.TheConstants.{ROOT_KEYS}
 use Rattle.rail_scene.specs.Values.{value_tests}
 use Rattle.rail_scene.specs.SpelledScenes.{root_of}
-use Rattle.rail_scene.specs.Order.{located, fault_at, lists_values, scene_values, scene_forms, toml_test, scene_refusal, AnswersScene}
+use Rattle.rail_base.specs.Refusals.{AnswersFirst}
+use Rattle.rail_scene.specs.Order.{located, fault_at, lists_values, scene_values, scene_forms, toml_test, scene_refusal}
 use Rattle.rail_scene.proofs.Segments.{both_passed, scene_before, scene_after}
 use Rattle.rail_scene.proofs.Locating.{located_none, answers_located}
 
@@ -25,11 +26,11 @@ module _ (root : Data) where
   unfolding scene_values
   values_none a b = both_passed (located Root 0 own) lists (located_none Root 0 own a) b
 
-  pub at_root : (fault : NetFault) → Answers (first_failing own) fault → AnswersScene (first_failing (scene_values root)) (fault_at Root 0 fault)
+  pub at_root : (fault : NetFault) → Answers (first_failing own) fault → AnswersFirst (first_failing (scene_values root)) (fault_at Root 0 fault)
   unfolding scene_values
   at_root fault answers = scene_before (located Root 0 own) lists (fault_at Root 0 fault) (answers_located Root 0 own fault answers)
 
-  pub at_lists : first_failing own ≡ None → (fault : Fault) → AnswersScene (first_failing lists) fault → AnswersScene (first_failing (scene_values root)) fault
+  pub at_lists : first_failing own ≡ None → (fault : Fault) → AnswersFirst (first_failing lists) fault → AnswersFirst (first_failing (scene_values root)) fault
   unfolding scene_values
   at_lists none fault answers = scene_after (located Root 0 own) lists fault (located_none Root 0 own none) answers
 
@@ -47,19 +48,19 @@ module _ (bytes : List ℕ) where
   unfolding scene_refusal
   none a b c = both_passed (first ++ forms) values (both_passed first forms a b) c
 
-  pub at_toml : (fault : Fault) → AnswersScene (first_failing first) fault → AnswersScene (scene_refusal bytes) fault
+  pub at_toml : (fault : Fault) → AnswersFirst (first_failing first) fault → AnswersFirst (scene_refusal bytes) fault
   unfolding scene_refusal
   at_toml fault answers = scene_before (first ++ forms) values fault (scene_before first forms fault answers)
 
-  pub at_forms : first_failing first ≡ None → (fault : Fault) → AnswersScene (first_failing forms) fault → AnswersScene (scene_refusal bytes) fault
+  pub at_forms : first_failing first ≡ None → (fault : Fault) → AnswersFirst (first_failing forms) fault → AnswersFirst (scene_refusal bytes) fault
   unfolding scene_refusal
   at_forms a fault answers = scene_before (first ++ forms) values fault (scene_after first forms fault a answers)
 
-  pub at_values : first_failing first ≡ None → first_failing forms ≡ None → (fault : Fault) → AnswersScene (first_failing values) fault → AnswersScene (scene_refusal bytes) fault
+  pub at_values : first_failing first ≡ None → first_failing forms ≡ None → (fault : Fault) → AnswersFirst (first_failing values) fault → AnswersFirst (scene_refusal bytes) fault
   unfolding scene_refusal
   at_values a b fault answers = scene_after (first ++ forms) values fault (both_passed first forms a b) answers
 
   pub read_result : {T : Type 0} (r : Result T Fault) → first_failing first ≡ None → first_failing forms ≡ None
-      → OnOk r (first_failing values ≡ None) → IfErr r (AnswersScene (first_failing values)) → OnOk r (scene_refusal bytes ≡ None) × IfErr r (AnswersScene (scene_refusal bytes))
+      → OnOk r (first_failing values ≡ None) → IfErr r (AnswersFirst (first_failing values)) → OnOk r (scene_refusal bytes ≡ None) × IfErr r (AnswersFirst (scene_refusal bytes))
   read_result (Ok x) a b accepted refused = (none a b accepted, tt)
   read_result (Err fault) a b accepted refused = (tt, at_values a b fault refused)

@@ -91,8 +91,3 @@ abbrev pub compile_refusal : Scene → Option Refusal
 compile_refusal scene =
     option_or (first_failing (trains_tests scene 1 scene.trains))
     (option_and_then (λ why. refusal_in (fault_for why)) (fault_of (tables_of scene)))
-
--- a fault answers the first refusal, if it is that refusal; want of memory may stand in place of any answer
-abbrev pub IsAnswer : Option Refusal → Fault → Type 0
-IsAnswer first (fault.Refused refusal) = first ≡ Some refusal
-IsAnswer first fault.OutOfMemory = Unit {0}

@@ -95,8 +95,3 @@ scene_tests bytes = toml_test bytes ∷ scene_forms (root_of bytes) ++ scene_val
 -- why a scene file is refused
 unfoldable pub scene_refusal : List ℕ → Option Refusal
 scene_refusal bytes = first_failing (scene_tests bytes)
-
--- a fault answers the first refusal, if it is that refusal; want of memory may stand in place of any answer
-abbrev pub AnswersScene : Option Refusal → Fault → Type 0
-AnswersScene first (fault.Refused refusal) = first ≡ Some refusal
-AnswersScene first fault.OutOfMemory = Unit {0}

@@ -5,7 +5,8 @@ ghost use Rattle.rail_rules.specs.Accepted.{is_accepted};
 ghost use Rattle.rail_base.specs.declared.refusals.Fault.TheVariants.{Refused};
 ghost use Rattle.rail_scene.specs.Scenes.{IsScene};
 ghost use Rattle.rail_scene.specs.Itineraries.{plant_of_scene};
-ghost use Rattle.rail_scene.specs.CompileRefusals.{IsAnswer, compile_refusal, fault_for, of_train};
+ghost use Rattle.rail_base.specs.Refusals.{AnswersFirst};
+ghost use Rattle.rail_scene.specs.CompileRefusals.{compile_refusal, fault_for, of_train};
 
 use crate::compiling::itineraries::of_train;
 use crate::compiling::kinds::kind_names;
@@ -34,7 +35,7 @@ pub fn compile(alloc: Global, scene: &Scene) -> Result<Plant, Fault>
     ensures accepted { OnOk result (compile_refusal scene.now ≡ None) }
     ensures spelled { IfOk result (λ plant. plant ≡ plant_of_scene scene.now) }
     ensures valid { IfOk result (λ plant. IsTrue (is_accepted plant)) }
-    ensures refused { IfErr result (IsAnswer (compile_refusal scene.now)) }
+    ensures refused { IfErr result (AnswersFirst (compile_refusal scene.now)) }
 {
     let kinds = kind_names(alloc, scene.kinds.as_slice())?;
     if let Some(refusal) = trains_refusal(scene, &kinds) {

@@ -27,7 +27,8 @@ pub(crate) struct Draft {
 
 impl Draft {
     ghost use Rattle.rail_scene.specs.Drafts.{empty_draft, is_full, are_posts_full, own_tests, item_tests, with_items};
-    ghost use Rattle.rail_scene.specs.Order.{list_values, values_of, with_lists, AnswersScene};
+    ghost use Rattle.rail_base.specs.Refusals.{AnswersFirst};
+    ghost use Rattle.rail_scene.specs.Order.{list_values, values_of, with_lists};
 
     /// A scene without items. It takes no memory.
     pub(crate) fn new(alloc: Global) -> Draft
@@ -49,7 +50,7 @@ impl Draft {
     ) -> Result<(), Fault>
         ensures accepted { OnOk result (first_failing (values_of (view root.now) self.old parts.now) ≡ None) }
         ensures added { OnOk result (self.new ≡ with_lists (view root.now) parts.now self.old) }
-        ensures refused { IfErr result (AnswersScene (first_failing (values_of (view root.now) self.old parts.now))) }
+        ensures refused { IfErr result (AnswersFirst (first_failing (values_of (view root.now) self.old parts.now))) }
     {
         for part in parts {
             self.add_list(alloc, *part, elements_at(root, part.key()))?;
@@ -61,7 +62,7 @@ impl Draft {
     fn add_list(&mut self, alloc: Global, part: ListPart, tables: &[Value]) -> Result<(), Fault>
         ensures accepted { OnOk result (first_failing (list_values part 1 self.old (map view tables.now)) ≡ None) }
         ensures added { OnOk result (self.new ≡ with_items part (map view tables.now) self.old) }
-        ensures refused { IfErr result (AnswersScene (first_failing (list_values part 1 self.old (map view tables.now)))) }
+        ensures refused { IfErr result (AnswersFirst (first_failing (list_values part 1 self.old (map view tables.now)))) }
     {
         for (index, table) in tables.iter().enumerate() {
             match self.add(alloc, part, table) {

@@ -8,7 +8,8 @@ ghost use Rattle.rail_base.specs.declared.refusals.Reason.TheVariants.{KeyMissin
 ghost use Rattle.rail_track.specs.FirstRefusals.{first_failing};
 ghost use Rattle.rail_scene.specs.Fields.{value_at};
 ghost use Rattle.rail_scene.specs.Forms.{is_list_of, is_string, is_table, is_of, is_known, has_unknown, form_tests, key_tests, key_test};
-ghost use Rattle.rail_scene.specs.Order.{located, list_forms, forms_of, scene_forms, AnswersScene};
+ghost use Rattle.rail_base.specs.Refusals.{AnswersFirst};
+ghost use Rattle.rail_scene.specs.Order.{located, list_forms, forms_of, scene_forms};
 
 use crate::fields::{elements_at, value_at};
 use crate::keys::{Form, Key, LIST_PARTS, ListPart, ROOT_KEYS};
@@ -21,7 +22,7 @@ use toml::{Table, Value};
 /// told, as a key that is missing, a value of another kind, or a key that is unknown.
 pub(crate) fn check_forms(root: &Value) -> Result<(), Fault>
     ensures accepted { OnOk result (first_failing (scene_forms (view root.now)) ≡ None) }
-    ensures refused { IfErr result (AnswersScene (first_failing (scene_forms (view root.now)))) }
+    ensures refused { IfErr result (AnswersFirst (first_failing (scene_forms (view root.now)))) }
 {
     match form_fault(root, &ROOT_KEYS) {
         Some(fault) => Err(located(Part::Root, 0, fault)),
@@ -32,7 +33,7 @@ pub(crate) fn check_forms(root: &Value) -> Result<(), Fault>
 /// Whether the tables of the lists are of their form.
 fn check_lists(root: &Value, parts: &[ListPart]) -> Result<(), Fault>
     ensures accepted { OnOk result (first_failing (forms_of (view root.now) parts.now) ≡ None) }
-    ensures refused { IfErr result (AnswersScene (first_failing (forms_of (view root.now) parts.now))) }
+    ensures refused { IfErr result (AnswersFirst (first_failing (forms_of (view root.now) parts.now))) }
 {
     for part in parts {
         check_list(*part, elements_at(root, part.key()))?;
@@ -43,7 +44,7 @@ fn check_lists(root: &Value, parts: &[ListPart]) -> Result<(), Fault>
 /// Whether the tables of a list are of their form.
 fn check_list(part: ListPart, tables: &[Value]) -> Result<(), Fault>
     ensures accepted { OnOk result (first_failing (list_forms part 1 (map view tables.now)) ≡ None) }
-    ensures refused { IfErr result (AnswersScene (first_failing (list_forms part 1 (map view tables.now)))) }
+    ensures refused { IfErr result (AnswersFirst (first_failing (list_forms part 1 (map view tables.now)))) }
 {
     for (index, table) in tables.iter().enumerate() {
         match form_fault(table, part.keys()) {

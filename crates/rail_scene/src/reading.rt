@@ -8,7 +8,8 @@ ghost use Rattle.rail_scene.specs.Scenes.{IsScene};
 ghost use Rattle.rail_scene.specs.Fields.{policy_at};
 ghost use Rattle.rail_scene.specs.Entries.{spelled_number};
 ghost use Rattle.rail_scene.specs.Values.{value_tests};
-ghost use Rattle.rail_scene.specs.Order.{scene_refusal, scene_values, lists_values, lists_draft, AnswersScene, toml_test};
+ghost use Rattle.rail_base.specs.Refusals.{AnswersFirst};
+ghost use Rattle.rail_scene.specs.Order.{scene_refusal, scene_values, lists_values, lists_draft, toml_test};
 ghost use Rattle.rail_scene.specs.SpelledScenes.{spelled_scene, scene_of, root_of};
 
 use crate::draft::Draft;
@@ -43,7 +44,7 @@ pub fn read_scene(alloc: Global, bytes: &[u8]) -> Result<Scene, Fault>
     ensures accepted { OnOk result (scene_refusal bytes.now ≡ None) }
     ensures spelled { IfOk result (λ scene. scene ≡ spelled_scene bytes.now) }
     ensures kept { IfOk result IsScene }
-    ensures refused { IfErr result (AnswersScene (scene_refusal bytes.now)) }
+    ensures refused { IfErr result (AnswersFirst (scene_refusal bytes.now)) }
 {
     let root = read_root(alloc, bytes)?;
     check_forms(&root)?;
@@ -54,7 +55,7 @@ pub fn read_scene(alloc: Global, bytes: &[u8]) -> Result<Scene, Fault>
 pub(crate) fn read_root(alloc: Global, bytes: &[u8]) -> Result<Value, Fault>
     ensures accepted { OnOk result (first_failing (toml_test bytes.now ∷ []) ≡ None) }
     ensures root { IfOk result (λ root. view root ≡ root_of bytes.now) }
-    ensures refused { IfErr result (AnswersScene (first_failing (toml_test bytes.now ∷ []))) }
+    ensures refused { IfErr result (AnswersFirst (first_failing (toml_test bytes.now ∷ []))) }
 {
     match toml::table_from_slice(alloc, bytes) {
         Ok(table) => Ok(Value::Table(table)),
@@ -78,7 +79,7 @@ fn read_values(alloc: Global, root: &Value) -> Result<Scene, Fault>
     ensures accepted { OnOk result (first_failing (scene_values (view root.now)) ≡ None) }
     ensures spelled { IfOk result (λ scene. scene ≡ scene_of (view root.now)) }
     ensures kept { IfOk result IsScene }
-    ensures refused { IfErr result (AnswersScene (first_failing (scene_values (view root.now)))) }
+    ensures refused { IfErr result (AnswersFirst (first_failing (scene_values (view root.now)))) }
 {
     let header = match read_header(root) {
         Ok(header) => header,
@@ -92,7 +93,7 @@ fn read_values(alloc: Global, root: &Value) -> Result<Scene, Fault>
 fn read_lists(alloc: Global, root: &Value) -> Result<Draft, Fault>
     ensures accepted { OnOk result (first_failing (lists_values (view root.now)) ≡ None) }
     ensures draft { IfOk result (λ draft. draft ≡ lists_draft (view root.now)) }
-    ensures refused { IfErr result (AnswersScene (first_failing (lists_values (view root.now)))) }
+    ensures refused { IfErr result (AnswersFirst (first_failing (lists_values (view root.now)))) }
 {
     let mut draft = Draft::new(alloc);
     match draft.add_lists(alloc, root, &LIST_PARTS) {

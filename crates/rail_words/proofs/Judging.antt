@@ -13,7 +13,8 @@ use Rattle.rail_track.proofs.CallerLemmas.{first_failing-append}
 use Rattle.rail_words.specs.Lists.{Listed, knows, number_of_train, train_of, with_moves, is_comment, sets, moves_trains, asked_tests, line_refusal, line_tests, lines_tests, after_line, words}
 use Rattle.rail_base.specs.declared.refusals.Fault.{Fault}
 use Rattle.rail_base.specs.declared.refusals.Fault.TheVariants.{Refused, OutOfMemory}
-use Rattle.rail_words.specs.ListAnswers.{Answers, IsListFor}
+use Rattle.rail_base.specs.Refusals.{AnswersFirst}
+use Rattle.rail_words.specs.ListAnswers.{IsListFor}
 use Rattle.rail_words.specs.Verbs.{verb_of}
 use Rattle.rail_words.specs.declared.checking.Verb.TheVariants.{Comment, At, Move, Other}
 use Rattle.rail_words.proofs.Parts.{found_at}
@@ -86,6 +87,6 @@ both_on_ok (Err e) a b f = tt
 -- what answers a line answers the lines from it on
 pub answers_lines : (names : List (List ℕ)) (plan : Moves) (listed : Listed) (n : ℕ) (line : List ℕ) (lines : List (List ℕ)) (first : Option Refusal) (fault : Fault) →
     first ≡ first_failing (lines_tests names plan listed n (line ∷ lines)) →
-    Answers (line_refusal names plan listed n line) fault → Answers first fault
+    AnswersFirst (line_refusal names plan listed n line) fault → AnswersFirst first fault
 answers_lines names plan listed n line lines first (Refused r) is answer = is ∙ refused_line_first names plan listed n line lines r answer
 answers_lines names plan listed n line lines first OutOfMemory is answer = tt

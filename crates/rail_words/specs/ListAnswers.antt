@@ -11,11 +11,6 @@ use Rattle.rail_rules.specs.Moves.{Moves}
 use Rattle.rail_place.specs.Tables.{moves_in, MoveLists}
 use Rattle.rail_words.specs.Lists.{Listed, knows, number_of_train, train_of}
 
--- a fault answers the first refusal, if it is that refusal; want of memory may stand in place of any answer
-abbrev pub Answers : Option Refusal → Fault → Type 0
-Answers first (Refused refusal) = first ≡ Some refusal
-Answers first OutOfMemory = Unit {0}
-
 -- a line is refused for this reason
 abbrev pub refusal_at : Reason → ℕ → Fault
 refusal_at reason n = Refused (record { reason = reason; part = Line; item = n; step = 0 })

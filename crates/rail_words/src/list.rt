@@ -4,7 +4,8 @@ ghost use Rattle.rail_base.specs.NameForms.{is_name};
 ghost use Rattle.rail_place.specs.Tables.{moves_in};
 ghost use Rattle.rail_rules.specs.Moves.{Moves as plan_of_moves};
 ghost use Rattle.rail_words.specs.Lists.{after_line, asked_refusal, knows, line_refusal, list_line_refusal, listed_in, moves_trains, nothing_listed, number_of_train, sets, train_of, with_moves, with_position, words};
-ghost use Rattle.rail_words.specs.ListAnswers.{Answers, IsListFor, IsPosition, IsRefusedMoves, IsRefusedPosition, refusal_at};
+ghost use Rattle.rail_base.specs.Refusals.{AnswersFirst};
+ghost use Rattle.rail_words.specs.ListAnswers.{IsListFor, IsPosition, IsRefusedMoves, IsRefusedPosition, refusal_at};
 
 use crate::checking::{Verb, are_known, are_names, read_position, train_of, verb_of};
 use crate::cutting::{next_line, next_word};
@@ -83,7 +84,7 @@ impl ListFile {
         ensures accepted { OnOk result (line_refusal names.now.trains.keys (moves_in moves.now) self.old number line.now ≡ None) }
         ensures listed { OnOk result (self.new ≡ after_line names.now.trains.keys self.old number (words line.now)) }
         ensures list { OnOk result (IsListFor moves.now self.new) }
-        ensures refused { IfErr result (Answers (line_refusal names.now.trains.keys (moves_in moves.now) self.old number line.now)) }
+        ensures refused { IfErr result (AnswersFirst (line_refusal names.now.trains.keys (moves_in moves.now) self.old number line.now)) }
     {
         let Some((verb, args)) = next_word(line) else {
             return Ok(());
@@ -112,7 +113,7 @@ impl ListFile {
         ensures listed { OnOk result (self.new ≡ with_position names.now.trains.keys self.old number (words args.now)) }
         ensures list { OnOk result (IsListFor moves.now self.new) }
         ensures refused { (verb : List ℕ) → sets verb ≡ true →
-            IfErr result (Answers (asked_refusal names.now.trains.keys (moves_in moves.now) self.old number verb (words args.now))) }
+            IfErr result (AnswersFirst (asked_refusal names.now.trains.keys (moves_in moves.now) self.old number verb (words args.now))) }
     {
         if self.is_moving {
             return Err(refusal_at(Reason::ListForm, number));
@@ -131,7 +132,7 @@ impl ListFile {
         ensures listed { OnOk result (self.new ≡ with_moves names.now.trains.keys self.old (words args.now)) }
         ensures known { OnOk result (list_all (knows names.now.trains.keys) (words args.now) ≡ true) }
         ensures refused { (plan : plan_of_moves) (verb : List ℕ) → sets verb ≡ false → moves_trains verb ≡ true →
-            IfErr result (Answers (asked_refusal names.now.trains.keys plan self.old number verb (words args.now))) }
+            IfErr result (AnswersFirst (asked_refusal names.now.trains.keys plan self.old number verb (words args.now))) }
     {
         if !are_names(args) {
             return Err(refusal_at(Reason::ListForm, number));
@@ -233,7 +234,7 @@ pub fn read_list(
     ensures accepted { OnOk result (list_line_refusal names.now.trains.keys (moves_in moves.now) (length moves.now) bytes.now ≡ None) }
     ensures listed { IfOk result (λ file. file ≡ listed_in names.now.trains.keys (length moves.now) bytes.now) }
     ensures list { IfOk result (IsListFor moves.now) }
-    ensures refused { IfErr result (Answers (list_line_refusal names.now.trains.keys (moves_in moves.now) (length moves.now) bytes.now)) }
+    ensures refused { IfErr result (AnswersFirst (list_line_refusal names.now.trains.keys (moves_in moves.now) (length moves.now) bytes.now)) }
 {
     let mut file = ListFile::new(alloc, moves.trains())?;
     let mut text = bytes;

@@ -5,7 +5,8 @@ use Rattle.rail_track.proofs.CallerLemmas.{answers_first}
 use Rattle.rail_scene.specs.declared.keys.Key.{Key}
 use Rattle.rail_scene.specs.Keys.{keys_of, part_of}
 use Rattle.rail_scene.specs.Forms.{form_tests}
-use Rattle.rail_scene.specs.Order.{fault_at, item_number, AnswersScene}
+use Rattle.rail_base.specs.Refusals.{AnswersFirst}
+use Rattle.rail_scene.specs.Order.{fault_at, item_number}
 use Rattle.rail_scene.proofs.FormSteps.{form_stop, form_pass}
 use Rattle.rail_scene.proofs.forms.check_list.Goals as goal
 
@@ -18,7 +19,7 @@ returns-in-Some-clause-refused c =
     let found : first_failing (form_tests (keys_of part) (view table)) ≡ Some fault = ap (λ (keys : List Key). first_failing (form_tests keys (view table))) (sym c.keys.ensures) ∙ sym c.in-Some.ensures in
     let stops = form_stop part c.args.tables.now i table c.loop-index-test.true c.index-tables-index.is fault (answers_first (first_failing (form_tests (keys_of part) (view table))) fault found) in
     let placed : c.located.result ≡ fault_at (part_of part) (item_number (i + 1)) fault = c.located.ensures ∙ (λ k. fault_at (c.part.ensures k) (c.item_number.ensures k) fault) in
-    rw placed (subst (λ first. AnswersScene first (fault_at (part_of part) (item_number (i + 1)) fault)) c.loop-index.invariant stops)
+    rw placed (subst (λ first. AnswersFirst first (fault_at (part_of part) (item_number (i + 1)) fault)) c.loop-index.invariant stops)
 
 pub loop-index-preserved : goal.loop-index-preserved
 loop-index-preserved c =

@@ -3,14 +3,15 @@ use Rattle.toml.specs.View.{view}
 use Rattle.rail_track.specs.FirstRefusals.{first_failing}
 use Rattle.rail_scene.specs.declared.draft.Draft.{Draft}
 use Rattle.rail_scene.specs.declared.keys.TheConstants.{LIST_PARTS}
-use Rattle.rail_scene.specs.Order.{values_of, with_lists, lists_values, lists_draft, AnswersScene}
+use Rattle.rail_base.specs.Refusals.{AnswersFirst}
+use Rattle.rail_scene.specs.Order.{values_of, with_lists, lists_values, lists_draft}
 use Rattle.rail_scene.proofs.reading.read_lists.Goals as goal
 
 pub returns-in-Err-clause-refused : goal.returns-in-Err-clause-refused
 unfolding lists_values
 returns-in-Err-clause-refused c =
     let root = view c.args.root.now in
-    subst (λ (draft : Draft). AnswersScene (first_failing (values_of root draft LIST_PARTS)) c.in-Err.fault) c.new-draft.ensures c.in-Err.ensures.refused
+    subst (λ (draft : Draft). AnswersFirst (first_failing (values_of root draft LIST_PARTS)) c.in-Err.fault) c.new-draft.ensures c.in-Err.ensures.refused
 
 pub returns-in-Ok-clause-accepted : goal.returns-in-Ok-clause-accepted
 unfolding lists_values

@@ -5,7 +5,8 @@ use Rattle.rail_track.specs.FirstRefusals.{first_failing}
 use Rattle.rail_track.proofs.CallerLemmas.{passed_up}
 use Rattle.rail_scene.specs.declared.scene.Scene.{Scene}
 use Rattle.rail_scene.specs.SpelledScenes.{spelled_scene, scene_of}
-use Rattle.rail_scene.specs.Order.{scene_forms, scene_values, AnswersScene}
+use Rattle.rail_base.specs.Refusals.{AnswersFirst}
+use Rattle.rail_scene.specs.Order.{scene_forms, scene_values}
 use Rattle.rail_scene.proofs.Whole.{at_toml, at_forms, read_result}
 use Rattle.rail_scene.proofs.reading.read_scene.Goals as goal
 
@@ -20,7 +21,7 @@ returns-clause-accepted c =
     let r = c.read_values.result in
     let forms = subst (λ (d : Data). first_failing (scene_forms d) ≡ None) root c.in_ok-check_forms.ensures.accepted in
     let accepted = subst (λ (d : Data). OnOk r (first_failing (scene_values d) ≡ None)) root c.read_values.ensures.accepted in
-    let refused = subst (λ (d : Data). IfErr r (AnswersScene (first_failing (scene_values d)))) root c.read_values.ensures.refused in
+    let refused = subst (λ (d : Data). IfErr r (AnswersFirst (first_failing (scene_values d)))) root c.read_values.ensures.refused in
     (read_result c.args.bytes.now r c.in_ok-root.ensures.accepted forms accepted refused).0
 
 pub returns-clause-refused : goal.returns-clause-refused
@@ -29,7 +30,7 @@ returns-clause-refused c =
     let r = c.read_values.result in
     let forms = subst (λ (d : Data). first_failing (scene_forms d) ≡ None) root c.in_ok-check_forms.ensures.accepted in
     let accepted = subst (λ (d : Data). OnOk r (first_failing (scene_values d) ≡ None)) root c.read_values.ensures.accepted in
-    let refused = subst (λ (d : Data). IfErr r (AnswersScene (first_failing (scene_values d)))) root c.read_values.ensures.refused in
+    let refused = subst (λ (d : Data). IfErr r (AnswersFirst (first_failing (scene_values d)))) root c.read_values.ensures.refused in
     (read_result c.args.bytes.now r c.in_ok-root.ensures.accepted forms accepted refused).1
 
 pub returns-clause-spelled : goal.returns-clause-spelled
@@ -41,4 +42,4 @@ pub returns-in_err-check_forms-clause-refused : goal.returns-in_err-check_forms-
 returns-in_err-check_forms-clause-refused c =
     passed_up c.from_residual-in_err-check_forms.result _ _ c.from_residual-in_err-check_forms.ensures.1
     (at_forms c.args.bytes.now c.in_ok-root.ensures.accepted _
-    (subst (λ (d : Data). AnswersScene (first_failing (scene_forms d)) c.in_err-check_forms.field-0.0) c.in_ok-root.ensures.root c.in_err-check_forms.ensures.refused))
+    (subst (λ (d : Data). AnswersFirst (first_failing (scene_forms d)) c.in_err-check_forms.field-0.0) c.in_ok-root.ensures.root c.in_err-check_forms.ensures.refused))

@@ -4,7 +4,8 @@ use Rattle.rail_track.specs.FirstRefusals.{first_failing}
 use Rattle.rail_scene.specs.declared.draft.Draft.{Draft}
 use Rattle.rail_scene.specs.Keys.{part_of}
 use Rattle.rail_scene.specs.Drafts.{with_items}
-use Rattle.rail_scene.specs.Order.{fault_at, item_number, list_values, AnswersScene}
+use Rattle.rail_base.specs.Refusals.{AnswersFirst}
+use Rattle.rail_scene.specs.Order.{fault_at, item_number, list_values}
 use Rattle.rail_scene.proofs.Drafting.{value_stop, value_pass, draft_pass}
 use Rattle.rail_scene.proofs.draft.Draft.add_list.Goals as goal
 
@@ -15,7 +16,7 @@ returns-in-Err-clause-refused c =
     let fault = c.in-Err.fault in
     let stops = value_stop part c.loop-index.self c.args.tables.now i c.index-tables-index.result c.loop-index-test.true c.index-tables-index.is fault c.in-Err.ensures.refused in
     let placed : c.located.result ≡ fault_at (part_of part) (item_number (i + 1)) fault = c.located.ensures ∙ (λ k. fault_at (c.part.ensures k) (c.item_number.ensures k) fault) in
-    rw placed (subst (λ first. AnswersScene first (fault_at (part_of part) (item_number (i + 1)) fault)) c.loop-index.invariant.0 stops)
+    rw placed (subst (λ first. AnswersFirst first (fault_at (part_of part) (item_number (i + 1)) fault)) c.loop-index.invariant.0 stops)
 
 pub loop-index-preserved : goal.loop-index-preserved
 loop-index-preserved c =

@@ -4,15 +4,16 @@ use Rattle.toml.specs.View.{view}
 use Rattle.rail_track.specs.FirstRefusals.{first_failing}
 use Rattle.rail_track.proofs.CallerLemmas.{passed_up}
 use Rattle.rail_scene.specs.declared.draft.Draft.{Draft}
-use Rattle.rail_scene.specs.Order.{values_of, with_lists, AnswersScene}
+use Rattle.rail_base.specs.Refusals.{AnswersFirst}
+use Rattle.rail_scene.specs.Order.{values_of, with_lists}
 use Rattle.rail_scene.proofs.Drafting.{values_stop, values_pass, lists_pass}
 use Rattle.rail_scene.proofs.draft.Draft.add_lists.Goals as goal
 
 pub returns-in_err-add_list-clause-refused : goal.returns-in_err-add_list-clause-refused
 returns-in_err-add_list-clause-refused c =
     let result = c.from_residual.result in
-    subst (λ first. IfErr result (AnswersScene first)) c.loop-part.invariant.0
-    (passed_up result _ (AnswersScene _) c.from_residual.ensures.1
+    subst (λ first. IfErr result (AnswersFirst first)) c.loop-part.invariant.0
+    (passed_up result _ (AnswersFirst _) c.from_residual.ensures.1
     (values_stop (view c.args.root.now) c.loop-part.self c.args.parts.now c.loop-part.part-index _ c.loop-part-test.true c.key.result _ c.key.ensures c.elements_at.ensures _ c.in_err-add_list.ensures.refused))
 
 pub loop-part-preserved : goal.loop-part-preserved
