@@ -1,5 +1,5 @@
 -- The limits of what is accepted.
-use Rattle.std.specs.Prelude.{ℕ}
+use Rattle.std.specs.Prelude.{ℕ, Bool, ◌&&◌, nat_le}
 
 -- what is limited: numbers of things, sizes of files and texts, lengths and speeds, times
 pub data Limit : Type 0 where
@@ -37,3 +37,7 @@ most TurnTime = 864_000  -- tenths of a second
 most ReleaseTime = 6_000  -- tenths of a second
 most StartSupplement = 6_000  -- tenths of a second, of a train kind
 most StopSupplement = 6_000  -- tenths of a second, of a train kind
+
+-- a number from 1 to a limit
+abbrev pub is_from_one : ℕ → ℕ → Bool
+is_from_one limit n = nat_le 1 n && nat_le n limit

@@ -2,7 +2,8 @@
 
 ghost use Rattle.std.specs.Prelude.{◌≡◌, ◌+◌, ◌-◌, ◌<◌, ◌≤◌, ◌^◌, length, IsTrue};
 ghost use Rattle.rail_base.specs.declared.limits.TheConstants.{ROUTE_SECTIONS, SECTION_LENGTH, SPEED, START, STOP, TRAIN_LENGTH};
-ghost use Rattle.rail_rules.specs.Accepted.{is_accepted, is_from_one, is_move_in_range};
+ghost use Rattle.rail_base.specs.Limits.{is_from_one};
+ghost use Rattle.rail_rules.specs.Accepted.{is_accepted, is_move_in_range};
 ghost use Rattle.rail_rules.specs.Moves.{stand};
 ghost use Rattle.rail_rules.specs.Plant.{move_row, moves, moves_of, run_over, section, step_section, steps, train, trains};
 ghost use Rattle.rail_rules.specs.Times.{clearing, start_loss};

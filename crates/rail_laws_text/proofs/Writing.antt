@@ -12,7 +12,8 @@ use Rattle.rail_base.specs.declared.history.What.TheVariants.{Told, Untold}
 use Rattle.rail_base.specs.declared.history.Note.{Note}
 use Rattle.rail_base.specs.declared.history.Note.TheVariants.{Pulled, Appended, Fresh}
 use Rattle.rail_base.specs.declared.history.Cause.{Cause}
-use Rattle.rail_rules.specs.Accepted.{is_accepted, is_accepted_input, are_commands_in_range, is_from_one, are_distinct_names}
+use Rattle.rail_base.specs.Limits.{is_from_one}
+use Rattle.rail_rules.specs.Accepted.{is_accepted, is_accepted_input, are_commands_in_range, are_distinct_names}
 use Rattle.rail_rules.specs.Places.{completes, place_of}
 use Rattle.rail_rules.specs.Plant.{Plant, trains, moves, moves_of}
 use Rattle.rail_rules.specs.Fronts.{Line, Front, admissions, kept, kept_after, places, same_entry}

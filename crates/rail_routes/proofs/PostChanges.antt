@@ -6,7 +6,7 @@ use Rattle.std.proofs.lemmas.List.Folds.{find-append, list_any-append}
 use Rattle.rail_base.specs.NameForms.{same_name}
 use Rattle.rail_base.specs.declared.limits.TheConstants.{SETTING, WATCHING, APPROACH, TURN_TIME, ROUTE_SECTIONS}
 use Rattle.rail_track.specs.declared.section.Section.{Section}
-use Rattle.rail_track.specs.SectionRules.{is_within}
+use Rattle.rail_base.specs.Limits.{is_from_one}
 use Rattle.rail_track.specs.Lists.{are_apart}
 use Rattle.rail_track.proofs.CallerLemmas.{all_passed, same_name-comm, same_from_name, list_all-without}
 use Rattle.rail_routes.specs.declared.items.Post.{Post}
@@ -53,7 +53,7 @@ module _ (net other : Net) where
 
   route_same : (route : Route) → other.sections ≡ net.sections → IsSameNamed net other route.from → IsSameNamed net other route.to → is_sound_route other route ≡ is_sound_route net route
   route_same route sections from to =
-      λ i. is_within ROUTE_SECTIONS (length route.steps) && are_apart have_one_section route.steps && lead_between (sections i) (post_same route.from from i) (post_same route.to to i) route.steps
+      λ i. is_from_one ROUTE_SECTIONS (length route.steps) && are_apart have_one_section route.steps && lead_between (sections i) (post_same route.from from i) (post_same route.to to i) route.steps
 
 -- a name that is there is another than one that is not
 other_name : (net : Net) (known fresh : List ℕ) → list_any (is_post known) (posts net) ≡ true → list_any (is_post fresh) (posts net) ≡ false → same_name known fresh ≡ false
@@ -124,7 +124,7 @@ module _ (net : Net) (post : Post) (is : IsSoundNetwork net) (formed : is_formed
   new_post : (role : Role) → post.role ≡ role → is_sound_post role net.sections post ≡ true
   new_post role own =
       let a = all_passed (post_tests net post) none in
-      let in_time : is_timed post ≡ true = timed (has_times post.role) (is_within SETTING post.setting) (nat_le post.watching WATCHING) (nat_le post.approach APPROACH) a.1.0 a.1.1.0 a.1.1.1.0 in
+      let in_time : is_timed post ≡ true = timed (has_times post.role) (is_from_one SETTING post.setting) (nat_le post.watching WATCHING) (nat_le post.approach APPROACH) a.1.0 a.1.1.0 a.1.1.1.0 in
       let placed : stands_well net.sections post ≡ true = not_false (stands_well net.sections post) (both_false (not (stands_well net.sections post)) (is_taken net post) a.1.1.1.1.1.1.0).0 in
       λ i. (ap (same_role role) own ∙ self role) i && formed i && in_time i && placed i
     where

@@ -9,7 +9,7 @@ use Rattle.rail_base.specs.declared.limits.TheConstants.{ROUTES, ROUTE_SECTIONS}
 use Rattle.rail_routes.specs.declared.items.Step.{Step}
 use Rattle.rail_routes.specs.declared.items.Turn.{Turn}
 use Rattle.rail_routes.specs.declared.items.Route.{Route}
-use Rattle.rail_track.specs.SectionRules.{is_within}
+use Rattle.rail_base.specs.Limits.{is_from_one}
 use Rattle.rail_track.proofs.CallerLemmas.{all_passed}
 use Rattle.rail_routes.specs.Net.{Net}
 use Rattle.rail_routes.specs.RouteRules.{route_tests, route_refusal}
@@ -42,7 +42,7 @@ pub route_fits : (net : Net) (route : Route) → route_refusal net route ≡ Non
 route_fits net route none =
     let a = all_passed (route_tests net route) none in
     let room : nat_le ROUTES (length net.routes) ≡ false = a.0 in
-    let within : is_within ROUTE_SECTIONS (length route.steps) ≡ true = not_false (is_within ROUTE_SECTIONS (length route.steps)) a.1.0 in
+    let within : is_from_one ROUTE_SECTIONS (length route.steps) ≡ true = not_false (is_from_one ROUTE_SECTIONS (length route.steps)) a.1.0 in
     (grind (arith, nat_tests), second (nat_le 1 (length route.steps)) (is_short route) within)
   where
     second : (b c : Bool) → (b && c) ≡ true → c ≡ true

@@ -5,7 +5,7 @@ use Rattle.std.proofs.lemmas.List.{length_push}
 use Rattle.rail_base.specs.declared.limits.TheConstants.{TURN_TIME, ROUTE_SECTIONS}
 use Rattle.rail_base.specs.declared.refusals.Reason.TheVariants.{RouteRepeat}
 use Rattle.rail_track.specs.declared.section.Section.{Section}
-use Rattle.rail_track.specs.SectionRules.{is_within}
+use Rattle.rail_base.specs.Limits.{is_from_one}
 use Rattle.rail_track.specs.Lists.{without, are_apart}
 use Rattle.rail_track.specs.FirstRefusals.{Test, tests_over, refused_where}
 use Rattle.rail_track.specs.Sound.{IsSoundTrack}
@@ -98,7 +98,7 @@ way_leads sections None end steps first last passed = cc
 new_route : (net : Net) (route : Route) → route_refusal net route ≡ None → is_sound_route net route ≡ true
 new_route net route none =
     let a = all_passed (route_tests net route) none in
-    let within : is_within ROUTE_SECTIONS (length route.steps) ≡ true = not_false (is_within ROUTE_SECTIONS (length route.steps)) a.1.0 in
+    let within : is_from_one ROUTE_SECTIONS (length route.steps) ≡ true = not_false (is_from_one ROUTE_SECTIONS (length route.steps)) a.1.0 in
     let rules = a.1.1.1 in
     let from = sym (list_any-find (is_post route.from) (posts net)) ∙ not_false (list_any (is_post route.from) (posts net)) rules.0 in
     let to = sym (list_any-find (is_post route.to) (posts net)) ∙ not_false (list_any (is_post route.to) (posts net)) rules.1.0 in
@@ -132,5 +132,5 @@ pub sound_short : (net : Net) → IsSoundNetwork net → list_all is_short net.r
 sound_short net is =
     all_more is_short (is_sound_route net)
     (λ route h. (both_true (nat_le 1 (length route.steps)) (is_short route)
-    (both_true (is_within ROUTE_SECTIONS (length route.steps)) (are_apart have_one_section route.steps)
-    (both_true (is_within ROUTE_SECTIONS (length route.steps) && are_apart have_one_section route.steps) (lead_between net.sections (post_named route.from net) (post_named route.to net) route.steps) h).0).0).1) net.routes is.routes
+    (both_true (is_from_one ROUTE_SECTIONS (length route.steps)) (are_apart have_one_section route.steps)
+    (both_true (is_from_one ROUTE_SECTIONS (length route.steps) && are_apart have_one_section route.steps) (lead_between net.sections (post_named route.from net) (post_named route.to net) route.steps) h).0).0).1) net.routes is.routes

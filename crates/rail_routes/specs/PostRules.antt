@@ -2,12 +2,11 @@
 use Rattle.std.specs.Prelude.{ℕ, ◌+◌, Bool, true, false, not, ◌==◌, ◌&&◌, ◌||◌, List, [], ◌∷◌, Option, length, nat_le, is_some}
 use Rattle.std.specs.List.{list_any}
 use Rattle.std.specs.Option.{option_map_or}
-use Rattle.rail_base.specs.Limits.{most, Posts, SettingTime, WatchingTime, ApproachTime}
+use Rattle.rail_base.specs.Limits.{is_from_one, most, Posts, SettingTime, WatchingTime, ApproachTime}
 use Rattle.rail_base.specs.declared.refusals.Reason.TheVariants.{TooMany, Range, Repeated, Unknown, PostPlace}
 use Rattle.rail_track.specs.declared.section.NetFault.{NetFault}
 use Rattle.rail_track.specs.declared.section.Section.{Section}
 use Rattle.rail_track.specs.Joints.{is_named, sections_at, section_has}
-use Rattle.rail_track.specs.SectionRules.{is_within}
 use Rattle.rail_track.specs.FirstRefusals.{Test, first_failing, refused_where}
 use Rattle.rail_routes.specs.declared.items.Post.{Post}
 use Rattle.rail_routes.specs.declared.items.Role.{Role}
@@ -73,7 +72,7 @@ is_astray sections post = option_map_or (λ ahead. not (list_any (is_named ahead
 abbrev pub post_tests : Net → Post → List (Test NetFault)
 post_tests net post =
     refused_where TooMany 0 (nat_le (most Posts) (length net.portals + length net.signals + length net.boards))
-    ∷ refused_where Range (time_key post.role) (has_times post.role && not (is_within (most SettingTime) post.setting))
+    ∷ refused_where Range (time_key post.role) (has_times post.role && not (is_from_one (most SettingTime) post.setting))
     ∷ refused_where Range (time_key post.role + 1) (has_times post.role && not (nat_le post.watching (most WatchingTime)))
     ∷ refused_where Range (time_key post.role + 2) (has_times post.role && not (nat_le post.approach (most ApproachTime)))
     ∷ refused_where Repeated 1 (list_any (is_post post.name) (posts net))

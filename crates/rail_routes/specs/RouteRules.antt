@@ -2,12 +2,11 @@
 use Rattle.std.specs.Prelude.{ℕ, ◌+◌, Bool, true, false, not, ◌||◌, ◌&&◌, List, [], ◌∷◌, ◌++◌, Option, Some, length, take, nat_le, ◌-◌}
 use Rattle.std.specs.List.{list_any}
 use Rattle.rail_base.specs.NameForms.{same_name}
-use Rattle.rail_base.specs.Limits.{most, Routes, RouteSections}
+use Rattle.rail_base.specs.Limits.{is_from_one, most, Routes, RouteSections}
 use Rattle.rail_base.specs.declared.refusals.Reason.TheVariants.{TooMany, Range, Repeated, Unknown, RouteRepeat, RouteBroken}
 use Rattle.rail_track.specs.declared.section.NetFault.{NetFault}
 use Rattle.rail_track.specs.declared.section.Section.{Section}
 use Rattle.rail_track.specs.Joints.{is_named, section_has}
-use Rattle.rail_track.specs.SectionRules.{is_within}
 use Rattle.rail_track.specs.Passages.{has_passage}
 use Rattle.rail_track.specs.FirstRefusals.{Test, first_failing, tests_over, refused_where}
 use Rattle.rail_routes.specs.declared.items.Post.{Post}
@@ -83,7 +82,7 @@ rule_tests net route =
 abbrev pub route_tests : Net → Route → List (Test NetFault)
 route_tests net route =
     refused_where TooMany 0 (nat_le (most Routes) (length net.routes))
-    ∷ refused_where Range 4 (not (is_within (most RouteSections) (length route.steps)))
+    ∷ refused_where Range 4 (not (is_from_one (most RouteSections) (length route.steps)))
     ∷ refused_where Repeated 1 (list_any (is_route route.name) net.routes)
     ∷ rule_tests net route
 

@@ -2,9 +2,8 @@
 use Rattle.std.specs.Prelude.{ℕ, Bool, true, false, not, ◌&&◌, ◌||◌, List, [], ◌∷◌, Option, Some, length, nat_le, IsTrue}
 use Rattle.std.specs.List.{list_any, list_all}
 use Rattle.rail_base.specs.NameForms.{same_name}
-use Rattle.rail_base.specs.Limits.{most, SettingTime, WatchingTime, ApproachTime, TurnTime, RouteSections}
+use Rattle.rail_base.specs.Limits.{is_from_one, most, SettingTime, WatchingTime, ApproachTime, TurnTime, RouteSections}
 use Rattle.rail_track.specs.declared.section.Section.{Section}
-use Rattle.rail_track.specs.SectionRules.{is_within}
 use Rattle.rail_track.specs.Lists.{are_apart}
 use Rattle.rail_routes.specs.declared.items.Post.{Post}
 use Rattle.rail_routes.specs.declared.items.Role.{Role}
@@ -29,7 +28,7 @@ same_role role other = false
 abbrev pub is_timed : Post → Bool
 is_timed post =
     not (has_times post.role)
-    || (is_within (most SettingTime) post.setting && nat_le post.watching (most WatchingTime)
+    || (is_from_one (most SettingTime) post.setting && nat_le post.watching (most WatchingTime)
     && nat_le post.approach (most ApproachTime))
 
 -- a post of the role is formed as the role asks, has its times in range, and stands where it may
@@ -57,7 +56,7 @@ lead_between sections begin end steps = false
 -- the route has few enough steps, over different sections, which lead from its first post to its last
 abbrev pub is_sound_route : Net → Route → Bool
 is_sound_route net route =
-    is_within (most RouteSections) (length route.steps) && are_apart have_one_section route.steps
+    is_from_one (most RouteSections) (length route.steps) && are_apart have_one_section route.steps
     && lead_between net.sections (post_named route.from net) (post_named route.to net) route.steps
 
 -- a sound network is distinct, and each of its posts, turns and routes is sound in it

@@ -14,7 +14,8 @@ use Rattle.rail_base.specs.declared.plant.TurnRow.{TurnRow}
 use Rattle.rail_rules.specs.Numbers.{all_below}
 use Rattle.rail_rules.specs.Moves.{is_valid}
 use Rattle.rail_rules.specs.Plant.{Plant, no_move, no_section, section, trains, train, moves, move_row, moves_of, call_after}
-use Rattle.rail_rules.specs.Accepted.{is_from_one, are_distinct, are_distinct_names, is_section_in_range, is_kind_in_range, is_turn_in_range, is_move_in_range, is_train_in_range, is_time_in_range, is_call_in_range, does_fit, are_calls_in_range, is_accepted}
+use Rattle.rail_base.specs.Limits.{is_from_one}
+use Rattle.rail_rules.specs.Accepted.{are_distinct, are_distinct_names, is_section_in_range, is_kind_in_range, is_turn_in_range, is_move_in_range, is_train_in_range, is_time_in_range, is_call_in_range, does_fit, are_calls_in_range, is_accepted}
 use Rattle.rail_rules.proofs.Below.{all_below_at}
 
 -- a test that all items pass is passed by the item at an index
@@ -25,7 +26,7 @@ list_all_get p (x ∷ xs) (suc i) d all lt = list_all_get p xs i d (and_parts (p
 
 -- a number from 1 to a limit
 pub from_one : (limit n : ℕ) → is_from_one limit n ≡ true → (0 < n) × (n ≤ limit)
-from_one limit n h = let both = and_parts (ltb 0 n) (leb n limit) h in (ltb-true 0 n both.0, leb-true n limit both.1)
+from_one limit n h = let both = and_parts (leb 1 n) (leb n limit) h in (leb-true 1 n both.0, leb-true n limit both.1)
 
 -- the parts of the test of a plant
 pub record IsAccepted (plant : Plant) : Type 0 where

@@ -2,7 +2,7 @@
 use Rattle.std.specs.Prelude.{ℕ, suc, ◌-◌, ◌==◌, Bool, true, not, ◌&&◌, ◌||◌, nat_lt, nat_le, is_some, List, [], ◌∷◌, length, map, sum_by, Option, Some, None}
 use Rattle.std.specs.List.{list_any, list_all}
 use Rattle.rail_base.specs.NameForms.{is_name}
-use Rattle.rail_base.specs.Limits.{most, Sections, Trains, RouteSections, ItineraryRoutes, Commands, Policies, Depth, InputTime, SectionLength, TrainLength, Speed, SettingTime, WatchingTime, ApproachTime, TurnTime, ReleaseTime, StartSupplement, StopSupplement}
+use Rattle.rail_base.specs.Limits.{is_from_one, most, Sections, Trains, RouteSections, ItineraryRoutes, Commands, Policies, Depth, InputTime, SectionLength, TrainLength, Speed, SettingTime, WatchingTime, ApproachTime, TurnTime, ReleaseTime, StartSupplement, StopSupplement}
 use Rattle.rail_base.specs.declared.plant.SectionRow.{SectionRow}
 use Rattle.rail_base.specs.declared.plant.TrainRow.{TrainRow}
 use Rattle.rail_base.specs.declared.plant.TrainKind.{TrainKind}
@@ -16,10 +16,6 @@ use Rattle.rail_rules.specs.Numbers.{all_below, is_in, same_numbers}
 use Rattle.rail_rules.specs.Moves.{is_valid}
 use Rattle.rail_rules.specs.Plant.{Plant, section, trains, train, moves, move_row, moves_of, call_after}
 use Rattle.rail_rules.specs.Orders.{Input}
-
--- a number from 1 to a limit
-abbrev pub is_from_one : ℕ → ℕ → Bool
-is_from_one limit n = nat_lt 0 n && nat_le n limit
 
 -- no number stands twice
 abbrev pub are_distinct : List ℕ → Bool

@@ -11,11 +11,11 @@ use Rattle.rail_base.specs.declared.limits.TheConstants.{ROUTE_SECTIONS, SETTING
 use Rattle.rail_base.specs.declared.plant.MoveRow.{MoveRow}
 use Rattle.rail_base.specs.declared.plant.TurnRow.{TurnRow}
 use Rattle.rail_rules.specs.Numbers.{is_in}
-use Rattle.rail_rules.specs.Accepted.{is_from_one, are_distinct, is_turn_in_range, is_move_in_range}
+use Rattle.rail_base.specs.Limits.{is_from_one}
+use Rattle.rail_rules.specs.Accepted.{are_distinct, is_turn_in_range, is_move_in_range}
 use Rattle.rail_rules.specs.Plant.{no_move}
 use Rattle.rail_track.specs.declared.section.Section.{Section}
 use Rattle.rail_track.specs.declared.section.SectionKind.TheVariants.{Plain}
-use Rattle.rail_track.specs.SectionRules.{is_within}
 use Rattle.rail_track.specs.Joints.{is_named}
 use Rattle.rail_track.specs.Lists.{are_apart}
 use Rattle.rail_routes.specs.declared.items.Post.{Post}
@@ -31,11 +31,6 @@ use Rattle.rail_routes.specs.Sound.{same_role, have_one_section, is_timed, is_so
 use Rattle.rail_scene.specs.Itineraries.{no_post, may_leave, turn_to, turn_row, turn_between, turn_before, number_of, move_over, moves_over}
 use Rattle.rail_scene.proofs.CompileFinds.{found_passes, position_some, some_unwrapped}
 use Rattle.rail_scene.proofs.CompileRoutes.{is_known_step, sound_route, leads_from}
-
-pub from_within : (limit n : ℕ) → is_within limit n ≡ true → is_from_one limit n ≡ true
-from_within limit n h =
-    let parts = and_parts (leb 1 n) (leb n limit) h in
-    and_from (ltb 0 n) (leb n limit) (lt-ltb 0 n (omega (arith, leb-true 1 n parts.0))) parts.1
 
 -- the number of a known section
 pub record IsNumber (sections : List Section) (name : List ℕ) (n : ℕ) : Type 0 where
@@ -116,16 +111,16 @@ posts_timed net h =
 
 -- a post that has times has them in range
 pub record HasTimes (post : Post) : Type 0 where
-  pub setting : is_within SETTING post.setting ≡ true
+  pub setting : is_from_one SETTING post.setting ≡ true
   pub watching : leb post.watching WATCHING ≡ true
   pub approach : leb post.approach APPROACH ≡ true
 
 has_times_in_range : (post : Post) → has_times post.role ≡ true → is_timed post ≡ true → HasTimes post
 has_times_in_range post has timed =
-    let within : Bool = is_within SETTING post.setting && leb post.watching WATCHING && leb post.approach APPROACH in
+    let within : Bool = is_from_one SETTING post.setting && leb post.watching WATCHING && leb post.approach APPROACH in
     let all : within ≡ true = ap (λ b. not b || within) (sym has) ∙ timed in
-    let two = and_parts (is_within SETTING post.setting && leb post.watching WATCHING) (leb post.approach APPROACH) all in
-    let one = and_parts (is_within SETTING post.setting) (leb post.watching WATCHING) two.0 in
+    let two = and_parts (is_from_one SETTING post.setting && leb post.watching WATCHING) (leb post.approach APPROACH) all in
+    let one = and_parts (is_from_one SETTING post.setting) (leb post.watching WATCHING) two.0 in
     record { setting = one.0; watching = one.1; approach = two.1 }
 
 -- a turn at a step of the route is fine
@@ -134,7 +129,7 @@ with_step turn steps None short within = refl
 with_step turn steps (Some j) short within =
     let lt : j < length steps = within j refl in
     and_from (is_from_one (length steps) (j + 1)) (leb turn.time TURN_TIME)
-    (and_from (ltb 0 (j + 1)) (leb (j + 1) (length steps)) (lt-ltb 0 (j + 1) (omega arith)) (le-leb (j + 1) (length steps) (omega arith)))
+    (and_from (leb 1 (j + 1)) (leb (j + 1) (length steps)) (le-leb 1 (j + 1) (omega arith)) (le-leb (j + 1) (length steps) (omega arith)))
     short
 
 no_step : Step
@@ -177,7 +172,7 @@ move_fine net h route turn sound fine =
     let p1 : c1 ≡ true = and_from (ltb 0 (length numbers)) (leb (length numbers) ROUTE_SECTIONS) (lt-ltb 0 (length numbers) (omega (arith, count, facts.some_step))) (le-leb (length numbers) ROUTE_SECTIONS (omega (arith, count, facts.few_steps))) in
     let p2 = and_from c1 c2 p1 (numbers_known net route.steps way.known) in
     let p3 = and_from (c1 && c2) c3 p2 (numbers_distinct net route.steps way.known facts.apart) in
-    let p4 = and_from (c1 && c2 && c3) c4 p3 (from_within SETTING post.setting times.setting) in
+    let p4 = and_from (c1 && c2 && c3) c4 p3 times.setting in
     let p5 = and_from (c1 && c2 && c3 && c4) c5 p4 times.watching in
     let p6 = and_from (c1 && c2 && c3 && c4 && c5) c6 p5 times.approach in
     and_from (c1 && c2 && c3 && c4 && c5 && c6) c7 p6 (ap (λ k. is_turn_in_range k turn) count ∙ fine)

@@ -8,7 +8,7 @@ use Rattle.rail_base.specs.declared.limits.TheConstants.{ROUTE_SECTIONS}
 use Rattle.rail_track.specs.declared.section.Section.{Section}
 use Rattle.rail_track.specs.Joints.{is_named, section_named}
 use Rattle.rail_track.specs.Passages.{passages, leads, has_passage}
-use Rattle.rail_track.specs.SectionRules.{is_within}
+use Rattle.rail_base.specs.Limits.{is_from_one}
 use Rattle.rail_track.specs.Lists.{are_apart}
 use Rattle.rail_routes.specs.declared.items.Post.{Post}
 use Rattle.rail_routes.specs.declared.items.Role.{Role}
@@ -30,7 +30,7 @@ pub record IsRoute (net : Net) (route : Route) : Type 0 where
 
 pub sound_route : (net : Net) (route : Route) → is_sound_route net route ≡ true → IsRoute net route
 sound_route net route h =
-    let within : Bool = is_within ROUTE_SECTIONS (length route.steps) in
+    let within : Bool = is_from_one ROUTE_SECTIONS (length route.steps) in
     let apart : Bool = are_apart have_one_section route.steps in
     let leads : Bool = lead_between net.sections (post_named route.from net) (post_named route.to net) route.steps in
     let two = and_parts (within && apart) leads h in

@@ -10,10 +10,11 @@ use Rattle.rail_base.specs.declared.plant.SectionRow.{SectionRow}
 use Rattle.rail_base.specs.declared.plant.TrainRow.{TrainRow}
 use Rattle.rail_base.specs.declared.plant.TrainKind.{TrainKind}
 use Rattle.rail_rules.specs.Plant.{no_kind, no_train, no_move, train}
-use Rattle.rail_rules.specs.Accepted.{is_from_one, are_distinct_names, is_section_in_range, is_kind_in_range, is_move_in_range, is_train_in_range}
+use Rattle.rail_base.specs.Limits.{is_from_one}
+use Rattle.rail_rules.specs.Accepted.{are_distinct_names, is_section_in_range, is_kind_in_range, is_move_in_range, is_train_in_range}
 use Rattle.rail_rules.proofs.CallerLemmas.{all_below_from}
 use Rattle.rail_track.specs.declared.section.Section.{Section}
-use Rattle.rail_track.specs.SectionRules.{is_within, joint_count, stands_twice}
+use Rattle.rail_track.specs.SectionRules.{joint_count, stands_twice}
 use Rattle.rail_track.specs.Sound.{is_fit}
 use Rattle.rail_track.specs.FirstRefusals.{first_failing}
 use Rattle.rail_routes.specs.declared.items.Route.{Route}
@@ -28,7 +29,7 @@ use Rattle.rail_scene.specs.CompileRefusals.{is_known, are_known, trains_tests}
 use Rattle.rail_scene.specs.Typed.{is_named_row, is_typed_row}
 use Rattle.rail_scene.proofs.CompileFinds.{is_some-find, found_passes, all_at, some_unwrapped}
 use Rattle.rail_scene.proofs.CompileNames.{distinct_from_apart}
-use Rattle.rail_scene.proofs.CompileMoves.{from_within, moves_fine, length-moves_over, last_turn}
+use Rattle.rail_scene.proofs.CompileMoves.{moves_fine, length-moves_over, last_turn}
 use Rattle.rail_scene.proofs.CompileTrains.{IsUnrefused, unrefused_at}
 
 -- names as a map of a map
@@ -42,8 +43,8 @@ sections_fine [] fit named = refl
 sections_fine (section ∷ rest) fit named =
     let fits = and_parts (is_fit section) (list_all is_fit rest) fit in
     let names = and_parts (is_name section.name) (list_all is_named_row (map section_row rest)) named in
-    let long : Bool = is_within SECTION_LENGTH section.length in
-    let fast : Bool = is_within SPEED section.speed in
+    let long : Bool = is_from_one SECTION_LENGTH section.length in
+    let fast : Bool = is_from_one SPEED section.speed in
     let joined : Bool = length section.joints == joint_count section.kind in
     let once : Bool = not (list_any (stands_twice section.joints) section.joints) in
     let three = and_parts (long && fast && joined) once fits.0 in
@@ -51,8 +52,8 @@ sections_fine (section ∷ rest) fit named =
     let one = and_parts long fast two.0 in
     and_from (is_section_in_range (section_row section)) (list_all is_section_in_range (map section_row rest))
     (and_from (is_name section.name && is_from_one SECTION_LENGTH section.length) (is_from_one SPEED section.speed)
-    (and_from (is_name section.name) (is_from_one SECTION_LENGTH section.length) names.0 (from_within SECTION_LENGTH section.length one.0))
-    (from_within SPEED section.speed one.1))
+    (and_from (is_name section.name) (is_from_one SECTION_LENGTH section.length) names.0 one.0)
+    one.1)
     (sections_fine rest fits.1 names.1)
 
 -- known routes of a sound network are sound
@@ -71,8 +72,8 @@ kind_fine kinds name fit known =
     let kind : TrainKind = kind_of kinds name in
     let test : TrainKind → Bool = λ k. same_name name k.name in
     let found : find test kinds ≡ Some kind = some_unwrapped (find test kinds) no_kind (is_some-find test kinds ∙ known) in
-    let long : Bool = is_within TRAIN_LENGTH kind.length in
-    let fast : Bool = is_within SPEED kind.speed in
+    let long : Bool = is_from_one TRAIN_LENGTH kind.length in
+    let fast : Bool = is_from_one SPEED kind.speed in
     let start : Bool = leb kind.start START in
     let stop : Bool = leb kind.stop STOP in
     let three = and_parts (long && fast && start) stop (found_passes test is_fit_kind kinds kind found fit) in
@@ -80,7 +81,7 @@ kind_fine kinds name fit known =
     let one = and_parts long fast two.0 in
     and_from (is_from_one TRAIN_LENGTH kind.length && is_from_one SPEED kind.speed && start) stop
     (and_from (is_from_one TRAIN_LENGTH kind.length && is_from_one SPEED kind.speed) start
-    (and_from (is_from_one TRAIN_LENGTH kind.length) (is_from_one SPEED kind.speed) (from_within TRAIN_LENGTH kind.length one.0) (from_within SPEED kind.speed one.1))
+    (and_from (is_from_one TRAIN_LENGTH kind.length) (is_from_one SPEED kind.speed) one.0 one.1)
     two.1)
     three.1
 
@@ -92,7 +93,7 @@ module _ (scene : Scene) (h : IsScene scene) (sound : IsSoundNetwork scene.netwo
       let row : TrainRow = train_row scene given in
       let n : ℕ = length (map section_row net.sections) in
       let routes : List Route = routes_of net given.routes in
-      let fits = and_parts (leb given.entry INPUT_TIME) (is_within ITINERARY_ROUTES (length given.routes)) fit in
+      let fits = and_parts (leb given.entry INPUT_TIME) (is_from_one ITINERARY_ROUTES (length given.routes)) fit in
       let types = and_parts (is_name row.name) (leb row.priority 255) typed in
       let count : length row.moves ≡ length given.routes = length-moves_over net routes ∙ length-map given.routes (route_of net) in
       let moves_are : list_all (is_move_in_range n) row.moves ≡ true =
@@ -109,7 +110,7 @@ module _ (scene : Scene) (h : IsScene scene) (sound : IsSoundNetwork scene.netwo
       let p2 = and_from b1 b2 types.0 (kind_fine scene.kinds given.kind h.kinds unrefused.kind) in
       let p3 = and_from (b1 && b2) b3 p2 fits.0 in
       let p4 = and_from (b1 && b2 && b3) b4 p3 types.1 in
-      let p5 = and_from (b1 && b2 && b3 && b4) b5 p4 (ap (is_from_one ITINERARY_ROUTES) count ∙ from_within ITINERARY_ROUTES (length given.routes) fits.1) in
+      let p5 = and_from (b1 && b2 && b3 && b4) b5 p4 (ap (is_from_one ITINERARY_ROUTES) count ∙ fits.1) in
       let p6 = and_from (b1 && b2 && b3 && b4 && b5) b6 p5 moves_are in
       subst P (sym at) (and_from (b1 && b2 && b3 && b4 && b5 && b6) b7 p6 (last_turn net routes))
 

@@ -5,8 +5,8 @@ use Rattle.std.specs.Option.{option_map_or}
 use Rattle.toml.specs.Data.{Data, Items, no_items, item, get, as_str, as_integer, as_array}
 use Rattle.rail_base.specs.NameForms.{is_name, same_name}
 use Rattle.rail_base.specs.Clock.{time_text}
-use Rattle.rail_base.specs.Limits.{most, InputTime, RouteSections}
-use Rattle.rail_track.specs.SectionRules.{joint_count, is_within}
+use Rattle.rail_base.specs.Limits.{is_from_one, most, InputTime, RouteSections}
+use Rattle.rail_track.specs.SectionRules.{joint_count}
 use Rattle.rail_track.specs.declared.section.SectionKind.{SectionKind}
 use Rattle.rail_track.specs.declared.section.SectionKind.TheVariants.{Plain, Points, Crossing, Slip}
 use Rattle.rail_scene.specs.declared.keys.Bounds.{Bounds}
@@ -112,4 +112,4 @@ is_joint_count node n = option_map_or (λ kind. n == joint_count kind) (kind_at 
 
 -- so many joints and sections in turn are a path: an odd number, with at least one section and not too many
 abbrev pub is_path_count : ℕ → Bool
-is_path_count n = is_within (most RouteSections) (n / 2) && n % 2 == 1
+is_path_count n = is_from_one (most RouteSections) (n / 2) && n % 2 == 1

@@ -2,9 +2,8 @@
 use Rattle.std.specs.Prelude.{◌≤◌, ◌&&◌, Bool, length, IsTrue, nat_le}
 use Rattle.std.specs.List.{list_all}
 use Rattle.rail_base.specs.NameForms.{same_name}
-use Rattle.rail_base.specs.Limits.{most, ReleaseTime, Depth, Kinds, Trains, TrainLength, Speed, StartSupplement, StopSupplement, InputTime, ItineraryRoutes}
+use Rattle.rail_base.specs.Limits.{is_from_one, most, ReleaseTime, Depth, Kinds, Trains, TrainLength, Speed, StartSupplement, StopSupplement, InputTime, ItineraryRoutes}
 use Rattle.rail_base.specs.declared.plant.TrainKind.{TrainKind}
-use Rattle.rail_track.specs.SectionRules.{is_within}
 use Rattle.rail_track.specs.Lists.{are_apart}
 use Rattle.rail_scene.specs.declared.scene.Scene.{Scene}
 use Rattle.rail_scene.specs.declared.scene.SceneTrain.{SceneTrain}
@@ -12,12 +11,12 @@ use Rattle.rail_scene.specs.declared.scene.SceneTrain.{SceneTrain}
 -- the numbers of a train kind are in range
 abbrev pub is_fit_kind : TrainKind → Bool
 is_fit_kind kind =
-    is_within (most TrainLength) kind.length && is_within (most Speed) kind.speed
+    is_from_one (most TrainLength) kind.length && is_from_one (most Speed) kind.speed
     && nat_le kind.start (most StartSupplement) && nat_le kind.stop (most StopSupplement)
 
 -- the train enters within the time of an input, and its itinerary has at least one route and not too many
 abbrev pub is_fit_train : SceneTrain → Bool
-is_fit_train train = nat_le train.entry (most InputTime) && is_within (most ItineraryRoutes) (length train.routes)
+is_fit_train train = nat_le train.entry (most InputTime) && is_from_one (most ItineraryRoutes) (length train.routes)
 
 -- two kinds, or two trains, have one name
 abbrev pub is_one_kind : TrainKind → TrainKind → Bool

@@ -1,9 +1,8 @@
 -- Whether the values of a table are names and in range.
 use Rattle.std.specs.Prelude.{ℕ, ◌+◌, Bool, not, List, [], ◌∷◌, ◌++◌, length, is_some}
 use Rattle.toml.specs.Data.{Data}
-use Rattle.rail_base.specs.Limits.{most, ItineraryRoutes}
+use Rattle.rail_base.specs.Limits.{is_from_one, most, ItineraryRoutes}
 use Rattle.rail_base.specs.declared.refusals.Reason.TheVariants.{BadName, Range}
-use Rattle.rail_track.specs.SectionRules.{is_within}
 use Rattle.rail_track.specs.declared.section.NetFault.{NetFault}
 use Rattle.rail_track.specs.FirstRefusals.{Test, refused_where}
 use Rattle.rail_scene.specs.declared.keys.Form.{Form}
@@ -24,7 +23,7 @@ tests_by Time n key node = refused_where Range n (not (is_some (time_at key node
 tests_by (Whole bounds) n key node = refused_where Range n (not (is_some (number_at key node))) ∷ []
 tests_by Joints n key node = list_tests n (is_joint_count node (length (elements_at key node))) (elements_at key node)
 tests_by Path n key node = list_tests n (is_path_count (length (elements_at key node))) (elements_at key node)
-tests_by Itinerary n key node = list_tests n (is_within (most ItineraryRoutes) (length (elements_at key node))) (elements_at key node)
+tests_by Itinerary n key node = list_tests n (is_from_one (most ItineraryRoutes) (length (elements_at key node))) (elements_at key node)
 tests_by Tables n key node = []
 
 -- the tests of the values of the keys, which are numbered from n

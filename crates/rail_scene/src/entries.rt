@@ -4,7 +4,8 @@ ghost use Rattle.toml.specs.View.{view};
 ghost use Rattle.rail_base.specs.declared.refusals.Reason.TheVariants.{BadName, Range};
 ghost use Rattle.rail_track.specs.declared.section.NetFault.{NetFault};
 ghost use Rattle.rail_track.specs.declared.section.NetFault.TheVariants.{Refused, OutOfMemory};
-ghost use Rattle.rail_track.specs.SectionRules.{joint_count, is_within};
+ghost use Rattle.rail_base.specs.Limits.{is_from_one};
+ghost use Rattle.rail_track.specs.SectionRules.{joint_count};
 ghost use Rattle.rail_track.specs.FirstRefusals.{Answers, first_failing};
 ghost use Rattle.rail_scene.specs.declared.keys.TheConstants.{SECTION_KEYS, PORTAL_KEYS, SIGNAL_KEYS, BOARD_KEYS, TURN_KEYS, ROUTE_KEYS, KIND_KEYS, TRAIN_KEYS};
 ghost use Rattle.rail_scene.specs.Fields.{name_in, name_at, number_at, kind_at, time_at, elements_at, are_names, names_in, is_path_count};
@@ -312,7 +313,7 @@ pub(crate) fn train_kind(table: &Value) -> Result<TrainKind, NetFault>
 /// The names of the routes of an itinerary.
 fn read_itinerary(alloc: Global, table: &Value, step: u32) -> Result<Vec<Name>, NetFault>
     ensures names { IfOk result (λ names. names.items ≡ spelled_names ROUTES (view table.now)) }
-    ensures count { IfOk result (λ names. is_within ITINERARY_ROUTES (length names.items) ≡ true) }
+    ensures count { IfOk result (λ names. is_from_one ITINERARY_ROUTES (length names.items) ≡ true) }
     ensures accepted { OnOk result (first_failing (tests_by Form.Itinerary step ROUTES (view table.now)) ≡ None) }
     ensures refused { IfErr result (Answers (first_failing (tests_by Form.Itinerary step ROUTES (view table.now)))) }
 {

@@ -9,7 +9,8 @@ use Rattle.rail_base.specs.NameForms.{same_name}
 use Rattle.rail_track.specs.declared.section.Section.{Section}
 use Rattle.rail_track.specs.Lists.{without}
 use Rattle.rail_track.specs.Joints.{is_named, has_joint, sections_at, is_full}
-use Rattle.rail_track.specs.SectionRules.{stands_twice, is_within, joint_count, section_tests}
+use Rattle.rail_base.specs.Limits.{is_from_one}
+use Rattle.rail_track.specs.SectionRules.{stands_twice, joint_count, section_tests}
 use Rattle.rail_track.specs.FirstRefusals.{first_failing}
 use Rattle.rail_base.specs.declared.limits.TheConstants.{SECTIONS, SECTION_LENGTH, SPEED}
 use Rattle.rail_base.specs.declared.refusals.Reason.TheVariants.{JointCrowded}
@@ -94,8 +95,8 @@ accepted sections is_closed section none =
     let d = c.1 in
     let e = d.1 in
     let joints = neither (stands_twice section.joints) is_closed section.joints (none_fails JointCrowded (λ joint. stands_twice section.joints joint || is_closed joint) 1 section.joints e.1) in
-    let length_fits = not_false (is_within SECTION_LENGTH section.length) b.0 in
-    let speed_fits = not_false (is_within SPEED section.speed) c.0 in
+    let length_fits = not_false (is_from_one SECTION_LENGTH section.length) b.0 in
+    let speed_fits = not_false (is_from_one SPEED section.speed) c.0 in
     let joints_fit = not_false (length section.joints == joint_count section.kind) d.0 in
     record {
       few = let room : nat_le SECTIONS (length sections) ≡ false = a.0 in grind (arith, nat_tests);

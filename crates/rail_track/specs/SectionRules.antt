@@ -2,7 +2,7 @@
 use Rattle.std.specs.Prelude.{ℕ, Bool, not, ◌==◌, ◌&&◌, ◌||◌, List, ◌∷◌, Option, length, count_by, nat_le}
 use Rattle.std.specs.List.{list_any}
 use Rattle.rail_base.specs.NameForms.{same_name}
-use Rattle.rail_base.specs.Limits.{most, Sections, SectionLength, Speed}
+use Rattle.rail_base.specs.Limits.{is_from_one, most, Sections, SectionLength, Speed}
 use Rattle.rail_base.specs.declared.refusals.Reason.TheVariants.{TooMany, Range, Repeated, JointCrowded}
 use Rattle.rail_track.specs.declared.section.NetFault.{NetFault}
 use Rattle.rail_track.specs.declared.section.Section.{Section}
@@ -18,10 +18,6 @@ joint_count Points = 3
 joint_count Crossing = 4
 joint_count Slip = 4
 
--- the number lies from 1 to the limit
-abbrev pub is_within : ℕ → ℕ → Bool
-is_within limit n = nat_le 1 n && nat_le n limit
-
 -- the joint stands twice among the joints
 abbrev pub stands_twice : List (List ℕ) → List ℕ → Bool
 stands_twice joints joint = nat_le 2 (count_by (same_name joint) joints)
@@ -35,8 +31,8 @@ joint_tests is_closed joints =
 abbrev pub section_tests : List Section → (List ℕ → Bool) → Section → List (Test NetFault)
 section_tests sections is_closed section =
     refused_where TooMany 0 (nat_le (most Sections) (length sections))
-    ∷ refused_where Range 3 (not (is_within (most SectionLength) section.length))
-    ∷ refused_where Range 4 (not (is_within (most Speed) section.speed))
+    ∷ refused_where Range 3 (not (is_from_one (most SectionLength) section.length))
+    ∷ refused_where Range 4 (not (is_from_one (most Speed) section.speed))
     ∷ refused_where Range 5 (not (length section.joints == joint_count section.kind))
     ∷ refused_where Repeated 1 (list_any (is_named section.name) sections)
     ∷ joint_tests is_closed section.joints

@@ -1,17 +1,17 @@
 -- Sound tracks.
 use Rattle.std.specs.Prelude.{ℕ, ◌≤◌, Bool, not, ◌==◌, ◌&&◌, List, length, IsTrue}
 use Rattle.std.specs.List.{list_any, list_all}
-use Rattle.rail_base.specs.Limits.{most, Sections, SectionLength, Speed}
+use Rattle.rail_base.specs.Limits.{is_from_one, most, Sections, SectionLength, Speed}
 use Rattle.rail_track.specs.declared.section.Section.{Section}
 use Rattle.rail_track.specs.Lists.{are_apart}
 use Rattle.rail_track.specs.Joints.{sections_at}
 use Rattle.rail_base.specs.NameForms.{same_name}
-use Rattle.rail_track.specs.SectionRules.{joint_count, is_within, stands_twice}
+use Rattle.rail_track.specs.SectionRules.{joint_count, stands_twice}
 
 -- the numbers of the section are in range, and its joints are as many as its kind has, each another
 abbrev pub is_fit : Section → Bool
 is_fit section =
-    is_within (most SectionLength) section.length && is_within (most Speed) section.speed
+    is_from_one (most SectionLength) section.length && is_from_one (most Speed) section.speed
     && length section.joints == joint_count section.kind && not (list_any (stands_twice section.joints) section.joints)
 
 -- the sections have one name

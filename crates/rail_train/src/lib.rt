@@ -5,7 +5,7 @@
 #![tactic(auto)]
 
 ghost use Rattle.std.specs.Prelude.{◌≡◌, min, IsTrue};
-ghost use Rattle.rail_rules.specs.Accepted.{is_from_one};
+ghost use Rattle.rail_base.specs.Limits.{is_from_one};
 ghost use Rattle.rail_train.specs.RunningTimes.{time_over};
 
 pub use rail_base::TrainKind;

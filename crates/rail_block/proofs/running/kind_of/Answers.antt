@@ -1,7 +1,7 @@
 use Rattle.std.proofs.Common.{ap, ◌∙◌, arith}
 use Rattle.rail_base.specs.declared.limits.TheConstants.{SPEED, TRAIN_LENGTH}
 use Rattle.rail_base.specs.declared.plant.TrainRow.{TrainRow}
-use Rattle.rail_rules.specs.Accepted.{is_from_one}
+use Rattle.rail_base.specs.Limits.{is_from_one}
 use Rattle.rail_block.proofs.Limits.{train_in_range}
 use Rattle.rail_block.proofs.running.kind_of.Goals as goal
 
