@@ -22,14 +22,27 @@ use rail_base::Name;
 pub(crate) fn leads(section: &Section, from: Name, to: Name) -> bool
     ensures { result ≡ list_any (leads from to) (passages section.now.kind section.now.joints) }
 {
-    let between = |p: Name, q: Name| from == p && to == q || from == q && to == p;
     match (section.kind, section.joints.as_slice()) {
-        (SectionKind::Plain, [p, q]) => between(*p, *q),
-        (SectionKind::Points, [tip, p, q]) => between(*tip, *p) || between(*tip, *q),
-        (SectionKind::Crossing, [p, q, r, s]) => between(*p, *q) || between(*r, *s),
+        (SectionKind::Plain, [p, q]) => joins(*p, *q, from, to),
+        (SectionKind::Points, [tip, p, q]) => {
+            joins(*tip, *p, from, to) || joins(*tip, *q, from, to)
+        }
+        (SectionKind::Crossing, [p, q, r, s]) => {
+            joins(*p, *q, from, to) || joins(*r, *s, from, to)
+        }
         (SectionKind::Slip, [p, q, r, s]) => {
-            between(*p, *q) || between(*r, *s) || between(*p, *s) || between(*r, *q)
+            joins(*p, *q, from, to)
+                || joins(*r, *s, from, to)
+                || joins(*p, *s, from, to)
+                || joins(*r, *q, from, to)
         }
         _ => false,
     }
+}
+
+/// Whether the passage between these two ends leads from the one joint to the other, either way.
+fn joins(end: Name, other_end: Name, from: Name, to: Name) -> bool
+    ensures { result ≡ leads from to (end, other_end) }
+{
+    from == end && to == other_end || from == other_end && to == end
 }

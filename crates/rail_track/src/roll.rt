@@ -19,10 +19,16 @@ pub trait Keyed<K> {
 
 /// Items in order, each found by its key, of which no two are equal. Contracts see it as the list of
 /// the items.
-#[derive(Drop)]
 pub struct Roll<K: Eq + Hash, T: Keyed<K>> {
     items: Vec<T>,
     keys: IndexSet<K>,
+}
+
+/// Written out, so that it is proved once, and not at each place where a roll is let go.
+impl<K: Eq + Hash + Drop, T: Keyed<K> + Drop> Drop for Roll<K, T> {
+    fn drop(self) {
+        let Roll { items: _, keys: _ } = self;
+    }
 }
 
 impl<K: Eq + Hash, T: Keyed<K>> Model for Roll<K, T> {
@@ -57,7 +63,8 @@ impl<K: Eq + Hash + Drop, T: Keyed<K> + Drop> Roll<K, T> {
     pub fn into_vec(self) -> Vec<T>
         ensures { result.items ≡ self }
     {
-        self.items
+        let Roll { items, keys: _ } = self;
+        items
     }
 
     /// Whether an item has the key.
