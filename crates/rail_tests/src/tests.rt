@@ -13,7 +13,6 @@ use rail_scene::{compile, read_scene};
 use scenes::{LOOP, TURN};
 use std::alloc::Global;
 use std::process::Abort;
-use std::test::Fail;
 
 /// The only train of a row.
 const A: TrainNo = TrainNo(0);
@@ -31,11 +30,12 @@ fn plant_of(alloc: Global, text: &str) -> Result<Plant, Fault> {
 /// tenths of a second, turns, and goes back over PW and W; the start supplement is 100, and its whole
 /// length clears a section in 400. It is admitted as soon as it is ready, and then when PW is given free.
 #[test]
-fn turns_at_the_station(rt: HostRuntime) -> Result<(), Fail> {
-    let plant = plant_of(rt.alloc(), TURN)?;
+fn turns_at_the_station(rt: HostRuntime) {
+    let Ok(plant) = plant_of(rt.alloc(), TURN) else {
+        panic!(rt; "no plant");
+    };
     runs_in_time(&rt, &plant);
     blocks_where_it_stands(&rt, &plant);
-    Ok(())
 }
 
 /// The times of its two moves.
@@ -53,23 +53,15 @@ fn both_moves(rt: &impl Abort, plant: &Plant) -> (MoveTimes, MoveTimes)
     assert_eq!(rt; plant.move_row(A, 2).sections.as_slice().len(), 2);
     // Setting, watching and approach are 10, 10 and 100 before its entry.
     let entry = entry_times(plant, A);
-    assert_eq!(rt;
-        (entry.free_run, entry.next_ready),
-        (Time(1_200), Time(1_080))
-    );
+    assert!(rt; entry.free_run == Time(1_200) && entry.next_ready == Time(1_080));
     // It passes the portal at its entry time and is at E1 after 820. The signal W1 is to be clear 20
     // before it would depart.
     let first = times_of(plant, A, 1, Time(1_080), &entry);
-    assert_eq!(rt;
-        (first.passes, first.go, first.free_run, first.next_ready),
-        (true, Time(1_200), Time(2_020), Time(2_000))
-    );
+    assert!(rt; first.passes && first.go == Time(1_200));
+    assert!(rt; first.free_run == Time(2_020) && first.next_ready == Time(2_000));
     // It starts 20 after the admission, and its head is at the portal after 100, 20 and 400.
     let second = times_of(plant, A, 2, Time(2_040), &first);
-    assert_eq!(rt;
-        (second.passes, second.go, second.free_run),
-        (false, Time(2_060), Time(2_580))
-    );
+    assert!(rt; !second.passes && second.go == Time(2_060) && second.free_run == Time(2_580));
     (first, second)
 }
 
@@ -119,7 +111,7 @@ fn blocks_where_it_stands(rt: &impl Abort, plant: &Plant) {
         end: Some(Time(2_580)),
         parts,
     };
-    assert_eq!(rt; interval_of(plant, A, 1, 3, &first, Some(&second)), closed);
+    assert!(rt; interval_of(plant, A, 1, 3, &first, Some(&second)) == closed);
     let open = Interval {
         end: None,
         parts: Parts {
@@ -128,7 +120,7 @@ fn blocks_where_it_stands(rt: &impl Abort, plant: &Plant) {
         },
         ..closed
     };
-    assert_eq!(rt; interval_of(plant, A, 1, 3, &first, None), open);
+    assert!(rt; interval_of(plant, A, 1, 3, &first, None) == open);
 }
 
 /// The second train of a row.
@@ -137,9 +129,13 @@ const B: TrainNo = TrainNo(1);
 /// Two trains that pass each other at a loop: the kept list has the moves that are left of those inside,
 /// and no line brings a list of its own.
 #[test]
-fn keeps_the_moves_that_are_left(rt: HostRuntime) -> Result<(), Fail> {
-    let plant = plant_of(rt.alloc(), LOOP)?;
-    let mut engine = Engine::begin(rt.alloc(), plant)?;
+fn keeps_the_moves_that_are_left(rt: HostRuntime) {
+    let Ok(plant) = plant_of(rt.alloc(), LOOP) else {
+        panic!(rt; "no plant");
+    };
+    let Ok(mut engine) = Engine::begin(rt.alloc(), plant) else {
+        panic!(rt; "no memory");
+    };
     assert_eq!(rt; engine.plant().moves().trains(), 2);
     assert!(rt; engine.kept().is_empty());
     is_admitted(&rt, &mut engine, A, 1, &[A]);
@@ -148,12 +144,11 @@ fn keeps_the_moves_that_are_left(rt: HostRuntime) -> Result<(), Fail> {
     is_admitted(&rt, &mut engine, B, 2, &[]);
     assert!(rt; next_admission(&mut engine).is_none());
     assert!(rt; engine.step().is_none());
-    Ok(())
 }
 
 /// The next admission is that of this move of the train, after which the kept list is this.
 fn is_admitted(rt: &impl Abort, engine: &mut Engine, train: TrainNo, place: u16, kept: &[TrainNo]) {
-    assert_eq!(rt; next_admission(engine), Some((train, place)));
+    assert!(rt; next_admission(engine) == Some((train, place)));
     assert!(rt; engine.kept() == kept);
     assert!(rt; engine.listed().is_empty());
 }

@@ -5,9 +5,21 @@ mod pieces;
 use cases::{AMONG, CASES};
 use pieces::piece;
 use rail_base::{Seq, Word};
-use rail_cli::{Status, rail};
+use rail_cli::{HELP, Status, VERSION, rail};
 use rail_io::{File, MemoryShelf, MemorySink};
 use std::alloc::{AllocError, Global};
+
+#[test]
+fn names_the_forms_that_are_built(rt: HostRuntime) {
+    for form in [
+        "rail run SCENE ",
+        "rail infra SCENE ",
+        "rail play SCENE LIST ",
+    ] {
+        assert!(rt; HELP.contains(form), "{form}");
+    }
+    assert_eq!(rt; VERSION, "rail 0.1.0\n");
+}
 
 #[test]
 fn answers_the_words(rt: HostRuntime) {
