@@ -7,7 +7,7 @@ use Rattle.rail_base.specs.declared.refusals.Part.TheVariants.{Root}
 use Rattle.rail_base.specs.declared.refusals.Refusal.{Refusal}
 use Rattle.rail_track.specs.declared.section.NetFault.{NetFault}
 use Rattle.rail_track.specs.FirstRefusals.{Test, first_failing, Answers}
-use Rattle.rail_scene.specs.declared.keys.TheConstants.{ROOT_KEYS}
+use Rattle.rail_scene.specs.Keys.{root_keys}
 use Rattle.rail_scene.specs.Values.{value_tests}
 use Rattle.rail_scene.specs.SpelledScenes.{root_of}
 use Rattle.rail_base.specs.Refusals.{AnswersFirst}
@@ -17,7 +17,7 @@ use Rattle.rail_scene.proofs.Locating.{located_none, answers_located}
 
 module _ (root : Data) where
   abbrev own : List (Test NetFault)
-  own = value_tests 1 ROOT_KEYS root
+  own = value_tests 1 root_keys root
 
   abbrev lists : List (Test Refusal)
   lists = lists_values root

@@ -49,7 +49,7 @@ portal_of node = record {
   approach = spelled_number (key_of word.Approach) node;
 }
 
--- the signal of a table, which is a portal's but for its role and its section ahead
+-- the signal of a table: as a portal, but for its role and its section ahead
 abbrev pub signal_of : Data → Post
 signal_of node = record (portal_of node) { role = role.Signal; ahead = Some (spelled_name (key_of word.Ahead) node) }
 

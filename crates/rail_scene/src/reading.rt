@@ -3,7 +3,8 @@ ghost use Rattle.std.specs.Prelude.{◌≡◌, ◌∷◌, [], ◌≤◌, None, u
 ghost use Rattle.toml.specs.View.{view};
 ghost use Rattle.rail_base.specs.declared.limits.TheConstants as limit;
 ghost use Rattle.rail_track.specs.FirstRefusals.{first_failing, Answers};
-ghost use Rattle.rail_scene.specs.declared.keys.TheConstants.{ROOT_KEYS};
+ghost use Rattle.rail_scene.specs.declared.keys.KeyName.TheVariants as word;
+ghost use Rattle.rail_scene.specs.Keys.{key_of, root_keys};
 ghost use Rattle.rail_scene.specs.Scenes.{IsScene};
 ghost use Rattle.rail_scene.specs.Fields.{policy_at};
 ghost use Rattle.rail_scene.specs.Entries.{spelled_number};
@@ -145,13 +146,13 @@ struct Header {
 
 /// What the root says beside its lists.
 fn read_header(root: &Value) -> Result<Header, NetFault>
-    ensures accepted { OnOk result (first_failing (value_tests 1 ROOT_KEYS (view root.now)) ≡ None) }
-    ensures release { IfOk result (λ header. header.release ≡ spelled_number RELEASE (view root.now)) }
-    ensures depth { IfOk result (λ header. header.depth ≡ spelled_number DEPTH (view root.now)) }
-    ensures policy { IfOk result (λ header. header.policy ≡ unwrap_or (policy_at POLICY (view root.now)) []) }
+    ensures accepted { OnOk result (first_failing (value_tests 1 root_keys (view root.now)) ≡ None) }
+    ensures release { IfOk result (λ header. header.release ≡ spelled_number (key_of word.Release) (view root.now)) }
+    ensures depth { IfOk result (λ header. header.depth ≡ spelled_number (key_of word.Depth) (view root.now)) }
+    ensures policy { IfOk result (λ header. header.policy ≡ unwrap_or (policy_at (key_of word.Policy) (view root.now)) []) }
     ensures release_fits { IfOk result (λ header. header.release ≤ limit.RELEASE) }
     ensures depth_fits { IfOk result (λ header. header.depth ≤ limit.DEPTH) }
-    ensures refused { IfErr result (Answers (first_failing (value_tests 1 ROOT_KEYS (view root.now)))) }
+    ensures refused { IfErr result (Answers (first_failing (value_tests 1 root_keys (view root.now)))) }
 {
     let _version = read_number(root, VERSION, 1)?;
     let release = read_number(root, RELEASE, 2)?;
