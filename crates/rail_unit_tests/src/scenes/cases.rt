@@ -1,75 +1,9 @@
 //! Texts of scene files, each with the answer that the rules give it by hand.
 
-/// The text with cases of lists that have one item more than their limit: the last one, whose values are all wrong, is
-/// refused for that. Their names are of octal digits: of two, and of three.
-macro_rules! with_full_lists {
-    ($text:literal, [$($digit:literal)*], $digits:tt) => {
-        with_full_lists!(@two $text, [$($digit)*], [$($digit $digits)*])
-    };
-    (@two $text:literal, [$($digit:literal)*], $twos:tt) => {
-        with_full_lists!(@all $text, $twos, [$($digit $twos)*])
-    };
-    (
-        @all $text:literal,
-        [$($c:literal [$($d:literal)*])*],
-        [$($e:literal [$($f:literal [$($g:literal)*])*])*]
-    ) => {
-        concat!(
-            $text,
-            "== root: TooMany Kind 129 0\nkind = [\n",
-            $($(
-                "{name='k", $c, $d, "',length=1,speed=1,start=0,stop=0},\n",
-                "{name='l", $c, $d, "',length=1,speed=1,start=0,stop=0},\n",
-            )*)*
-            "{name='',length=0,speed=0,start=-1,stop=-1}]\n",
-            "== root: TooMany Train 129 0\ntrain = [\n",
-            $($(
-                "{name='t", $c, $d, "',kind='k',entry='00:00:00',routes=['r']},\n",
-                "{name='u", $c, $d, "',kind='k',entry='00:00:00',routes=['r']},\n",
-            )*)*
-            "{name='',kind='',entry='',routes=[]}]\n",
-            "== root: TooMany Board 512 0\nsection = [\n",
-            "{name='p',kind='plain',length=1,speed=1,joints=['p','q']},\n",
-            $($(
-                "{name='s", $c, $d, "',kind='slip',length=1,speed=1,",
-                "joints=['", $c, $d, "0','", $c, $d, "1','", $c, $d, "2','", $c, $d, "3']},\n",
-                "{name='x", $c, $d, "',kind='slip',length=1,speed=1,",
-                "joints=['", $c, $d, "4','", $c, $d, "5','", $c, $d, "6','", $c, $d, "7']},\n",
-            )*)*
-            "]\nportal = [{name='p',joint='p',setting=1,watching=0,approach=0}]\nboard = [\n",
-            $($($( "{name='", $e, $f, $g, "',joint='", $e, $f, $g, "'},\n", )*)*)*
-            "]\n",
-            "== root: TooMany Turn 513 0\nsection = [\n",
-            $(
-                "{name='m", $c, "',kind='plain',length=1,speed=1,joints=['m", $c, "','n", $c, "']},\n",
-                "{name='n", $c, "',kind='plain',length=1,speed=1,joints=['n", $c, "','o", $c, "']},\n",
-                $( "{name='", $c, $d, "',kind='plain',length=1,speed=1,joints=['", $c, $d, "','z", $c, $d, "']},\n", )*
-            )*
-            "]\nsignal = [\n",
-            $( "{name='n", $c, "',joint='n", $c, "',ahead='n", $c, "',setting=1,watching=0,approach=0},\n", )*
-            "]\nboard = [\n",
-            $($( "{name='", $c, $d, "',joint='", $c, $d, "'},\n", )*)*
-            "]\nturn = [\n",
-            $($($( "{arriving='", $e, $f, "',leaving='n", $g, "',time=0},\n", )*)*)*
-            "{arriving='',leaving='',time=-1}]\n",
-            "== root: TooMany Route 1025 0\n",
-            "section = [{name='A',kind='plain',length=1,speed=1,joints=['a','b']}]\nportal = [\n",
-            "{name='West',joint='a',setting=1,watching=0,approach=0},\n",
-            "{name='East',joint='b',setting=1,watching=0,approach=0}]\nroute = [\n",
-            $($($(
-                "{name='w", $e, $f, $g, "',from='West',to='East',path=['a','A','b']},\n",
-                "{name='e", $e, $f, $g, "',from='East',to='West',path=['b','A','a']},\n",
-            )*)*)*
-            "{name='',from='',to='',path=[]}]\n",
-        )
-    };
-}
-
 /// The cases: what stands around the text, the answer, and the text. Behind the track an item has the
 /// number after those of the track. The station lacks its first route; a seventh section is at a joint
 /// that is in two already.
-pub(super) const CASES: &str = with_full_lists!(
-    "\
+pub(super) const CASES: &str = "\
 == file: KeyMissing Root 0 1
 == file: KeyMissing Root 0 2
 version = 1
@@ -957,7 +891,4 @@ path = [
 ]
 == file: NotToml Bytes 0 0
 a = [[[[[[[[[[[[[[[[[[[[[[[[[[[[[[[[[[[[[[[[[[[[[[[[[[[[[[[[[[[[[[[[[[[[[[[[[[[[[[[[[[[[[[[[[[[[[[[[[[[[
-",
-    ["0" "1" "2" "3" "4" "5" "6" "7"],
-    ["0" "1" "2" "3" "4" "5" "6" "7"]
-);
+";
