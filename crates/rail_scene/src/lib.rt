@@ -4,9 +4,10 @@
 //! scene is refused is one list of tests over the TOML tree, in `specs/`, apart from the code that reads.
 //!
 //! A file is read in two passes over its tree: whether each table is of its form, and then the values,
-//! item by item into the network, the kinds and the trains. Both go by the tables of keys in `keys`, which
-//! the definitions cite too: a key, its range or its default is changed there. The layers above use the
-//! contracts of the public calls alone, so the bodies may be changed freely.
+//! item by item into the network, the kinds and the trains. Both go by the tables of keys in `keys`. The
+//! definitions have a table of their own, and contracts say that the two agree: a key, its range or its
+//! default is changed in both. The layers above use the contracts of the public calls alone, so the bodies
+//! may be changed freely.
 #![tactic(auto)]
 
 mod compiling;

@@ -1,8 +1,10 @@
 //! Small scene files, each with the answer that the rules give it by hand.
 mod cases;
+mod limits;
 mod pieces;
 
 use cases::CASES;
+use limits::LIMITS;
 use pieces::{OTHERS, ROOT, STATION, TRACK};
 use rail_base::{Fault, Name, Time, TrainKind};
 use rail_routes::{Network, Route, Step};
@@ -12,8 +14,10 @@ use std::alloc::{AllocError, Global};
 
 #[test]
 fn tells_the_first_refusal(rt: HostRuntime) {
-    let other = first_other(rt.alloc(), CASES);
-    assert!(rt; other.is_none(), "{other:?}");
+    for cases in [CASES, LIMITS] {
+        let other = first_other(rt.alloc(), cases);
+        assert!(rt; other.is_none(), "{other:?}");
+    }
 }
 
 /// The first of the cases that is told otherwise than its first line says.
@@ -36,8 +40,40 @@ fn holds(alloc: Global, case: &str) -> Option<bool> {
         "station" => (STATION, OTHERS),
         _ => ("", ""),
     };
-    let file = format!(in alloc; "{before}{text}{after}").ok()?;
+    let mut file = String::new(alloc);
+    push_file(&mut file, before, text, after).ok()?;
     Some(is_told(alloc, file.as_bytes(), want))
+}
+
+/// Adds what stands before the text, the text with its rows written out, and what stands behind it.
+fn push_file(file: &mut String, before: &str, text: &str, after: &str) -> Result<(), AllocError> {
+    file.push_str(before)?;
+    for line in text.lines() {
+        match line.split_once(" * ") {
+            Some((count, row)) => push_rows(file, count.parse().unwrap_or(0), row)?,
+            None => push_row(file, line, 0)?,
+        }
+    }
+    file.push_str(after)
+}
+
+/// Adds so many rows.
+fn push_rows(file: &mut String, count: u32, row: &str) -> Result<(), AllocError> {
+    for number in 0..count {
+        push_row(file, row, number)?;
+    }
+    Ok(())
+}
+
+/// Adds the row with the number in place of each `#`.
+fn push_row(file: &mut String, row: &str, number: u32) -> Result<(), AllocError> {
+    for (index, piece) in row.split("#").enumerate() {
+        if index > 0 {
+            write!(file, "{number}")?;
+        }
+        file.push_str(piece)?;
+    }
+    file.push_str("\n")
 }
 
 /// Whether the file with these bytes is told so: as read, or by the reason, part, item and step of its
@@ -71,36 +107,6 @@ fn refuses_bytes_that_are_no_toml(rt: HostRuntime) {
     assert!(rt; is_told(rt.alloc(), cut, "NotToml Bytes 0 0"));
     let no_text: &[u8] = b"version = 1\nrelease = 20 # \xff\n";
     assert!(rt; is_told(rt.alloc(), no_text, "NotToml Bytes 0 0"));
-}
-
-#[test]
-fn reads_as_many_sections_as_the_limit(rt: HostRuntime) {
-    assert!(rt; is_told_filled(rt.alloc(), "", "read"));
-    assert!(rt; is_told_filled(rt.alloc(), SECTION, "TooMany Section 513 0"));
-}
-
-/// A section whose values are all wrong.
-const SECTION: &str = "[[section]]\nname = ''\nkind = ''\nlength = 0\nspeed = 0\njoints = []\n";
-
-/// Whether a file with as many sections as the limit, and this text behind them, is told so.
-fn is_told_filled(alloc: Global, behind: &str, want: &str) -> bool {
-    let mut text = String::new(alloc);
-    match push_filled(&mut text, behind) {
-        Ok(()) => is_told(alloc, text.as_bytes(), want),
-        Err(_) => false,
-    }
-}
-
-/// Adds a scene with as many sections as the limit, and this text behind them.
-fn push_filled(text: &mut String, behind: &str) -> Result<(), AllocError> {
-    text.push_str(ROOT)?;
-    for number in 0..512u32 {
-        write!(
-            text,
-            "[[section]]\nname = 's{number}'\nkind = 'plain'\nlength = 1\nspeed = 1\njoints = ['a{number}', 'b{number}']\n"
-        )?;
-    }
-    text.push_str(behind)
 }
 
 #[test]
