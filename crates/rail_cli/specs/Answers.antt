@@ -10,8 +10,8 @@ use Rattle.rail_rules.specs.Numbers.{or_else}
 use Rattle.rail_rules.specs.Plant.{Plant}
 use Rattle.rail_scene.specs.Order.{scene_refusal}
 use Rattle.rail_scene.specs.SpelledScenes.{spelled_scene}
-use Rattle.rail_scene.specs.CompileRefusals.{compile_refusal}
-use Rattle.rail_scene.specs.Itineraries.{plant_of_scene}
+use Rattle.rail_compile.specs.Refusals.{compile_refusal}
+use Rattle.rail_compile.specs.Itineraries.{plant_of_scene}
 use Rattle.rail_cli.specs.declared.status.Status.{Status}
 use Rattle.rail_cli.specs.declared.status.Status.TheVariants.{Done, Usage, Refused, ReadFault, WriteFault, OutOfMemory, CheckedNo}
 

@@ -6,8 +6,9 @@ ghost use Rattle.rail_base.specs.Refusals.{AnswersFirst};
 ghost use Rattle.rail_cli.specs.Answers.{plant_in, plant_refusal};
 
 use rail_base::Fault;
+use rail_compile::compile;
 use rail_plan::Plant;
-use rail_scene::{Scene, compile, read_scene};
+use rail_scene::{Scene, read_scene};
 use std::alloc::Global;
 
 /// The scene that the bytes spell, and its plant.

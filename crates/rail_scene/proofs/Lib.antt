@@ -10,10 +10,3 @@ mod Distinct
 mod Documents
 mod Whole
 mod Spelled
-mod CompileFinds
-mod CompilePlaces
-mod CompileRoutes
-mod CompileNames
-mod CompileTrains
-mod CompileMoves
-mod CompileTables

@@ -10,6 +10,3 @@ pub mod Drafts
 pub mod SpelledItems
 pub mod SpelledScenes
 pub mod Order
-pub mod Itineraries
-pub mod CompileRefusals
-pub mod Typed

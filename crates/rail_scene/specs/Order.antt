@@ -1,5 +1,5 @@
 -- The order in which a scene is refused: one list of tests, and the first that fails gives the refusal.
-use Rattle.std.specs.Prelude.{◌≡◌, ℕ, ◌+◌, min, Bool, not, List, [], ◌∷◌, ◌++◌, Option, Some, is_some}
+use Rattle.std.specs.Prelude.{ℕ, ◌+◌, min, Bool, not, List, [], ◌∷◌, ◌++◌, Option, is_some}
 use Rattle.toml.specs.Data.{Data}
 use Rattle.rail_base.specs.declared.refusals.Fault.{Fault}
 use Rattle.rail_base.specs.declared.refusals.Fault.TheVariants as fault

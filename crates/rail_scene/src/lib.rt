@@ -1,7 +1,8 @@
-//! Scenes: what a scene file spells, and the plant of a scene.
+//! Scenes: what a scene file spells.
 //!
-//! This layer stands on `rail_routes` for networks and on `rail_plan` for plants. The order in which a
-//! scene is refused is one list of tests over the TOML tree, in `specs/`, apart from the code that reads.
+//! This layer stands on `rail_routes` for networks; `rail_compile` makes the plant of a scene. The order in
+//! which a scene is refused is one list of tests over the TOML tree, in `specs/`, apart from the code that
+//! reads.
 //!
 //! A file is read in two passes over its tree: whether each table is of its form, and then the values,
 //! item by item into the network, the kinds and the trains. Both go by the tables of keys in `keys`. The
@@ -10,7 +11,6 @@
 //! may be changed freely.
 #![tactic(auto)]
 
-mod compiling;
 mod draft;
 mod entries;
 mod fields;
@@ -21,6 +21,5 @@ mod reading;
 mod rosters;
 mod scene;
 
-pub use compiling::compile;
 pub use reading::read_scene;
 pub use scene::{Scene, SceneTrain};

@@ -7,9 +7,10 @@ ghost use Rattle.rail_block.specs.CarriedTimes.{AreBelow};
 
 use rail_base::{Cause, Fault, Interval, Parts, SectionNo, Time, TrainNo, What};
 use rail_block::{KnownMove, KnownStep, MoveTimes, enter_time, entry_times, interval_of, times_of};
+use rail_compile::compile;
 use rail_engine::Engine;
 use rail_plan::Plant;
-use rail_scene::{compile, read_scene};
+use rail_scene::read_scene;
 use scenes::{LOOP, TURN};
 use std::alloc::Global;
 use std::process::Abort;

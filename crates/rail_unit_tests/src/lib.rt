@@ -1,10 +1,9 @@
 //! Tests of the public calls of single crates: each call on its happy path, and the refusals that no
-//! worked row shows.
+//! worked row shows. Tracks, networks and scenes have theirs in `rail_scene_tests`.
 //!
 //! They stand here and not beside the calls because a crate with tests is proved twice, and every test
 //! function is proved too. The expected values come from the rules of operation in `docs/OPERATION.md` and
-//! from `docs/FORMATS.md`, never from the program. What needs private items, the counts of faults of the
-//! system's files, is tested in `rail_io` itself. Nothing stands on this crate.
+//! from `docs/FORMATS.md`, never from the program. Nothing stands on this crate.
 #![tactic(auto)]
 
 #[cfg(test)]
@@ -20,16 +19,10 @@ mod kept_lists;
 #[cfg(test)]
 mod lines;
 #[cfg(test)]
-mod networks;
-#[cfg(test)]
 mod plants;
-#[cfg(test)]
-mod scenes;
 #[cfg(test)]
 mod shelves;
 #[cfg(test)]
 mod times;
-#[cfg(test)]
-mod tracks;
 #[cfg(test)]
 mod words;

@@ -1,0 +1,8 @@
+-- Lemmas on what the plant of a scene is, and why a scene is refused when it is compiled.
+mod Finds
+mod Places
+mod Routes
+mod Names
+mod Trains
+mod Moves
+mod Tables

@@ -1,0 +1,92 @@
+-- What a sound route has.
+use Rattle.std.proofs.Common.{◌≡◌, ℕ, ◌≤◌, Bool, true, false, ◌&&◌, ◌||◌, leb, List, [], ◌∷◌, length, is_some, unwrap_or, Option, Some, None, refl, sym, ◌∙◌}
+use Rattle.std.specs.List.{list_any, list_all}
+use Rattle.std.specs.Option.{option_map_or}
+use Rattle.std.proofs.lemmas.Bool.{and_parts, and_from, leb-true, false≢true}
+use Rattle.rail_base.specs.NameForms.{same_name}
+use Rattle.rail_base.specs.declared.limits.TheConstants.{ROUTE_SECTIONS}
+use Rattle.rail_track.specs.declared.section.Section.{Section}
+use Rattle.rail_track.specs.Joints.{is_named, section_named}
+use Rattle.rail_track.specs.Passages.{passages, leads, has_passage}
+use Rattle.rail_base.specs.Limits.{is_from_one}
+use Rattle.rail_track.specs.Lists.{are_apart}
+use Rattle.rail_routes.specs.declared.items.Post.{Post}
+use Rattle.rail_routes.specs.declared.items.Role.{Role}
+use Rattle.rail_routes.specs.declared.items.Role.TheVariants.{Portal, Signal, Board}
+use Rattle.rail_routes.specs.declared.items.Step.{Step}
+use Rattle.rail_routes.specs.declared.items.Route.{Route}
+use Rattle.rail_routes.specs.Net.{Net, post_named}
+use Rattle.rail_routes.specs.PostRules.{has_times}
+use Rattle.rail_routes.specs.RouteRules.{is_ahead_of, begins, ends, goes_on, leads_on}
+use Rattle.rail_routes.specs.Sound.{have_one_section, lead_to, lead_between, is_sound_route}
+use Rattle.rail_compile.specs.Itineraries.{no_post}
+use Rattle.rail_compile.proofs.Finds.{is_some-find}
+
+pub record IsRoute (net : Net) (route : Route) : Type 0 where
+  pub some_step : 1 ≤ length route.steps
+  pub few_steps : length route.steps ≤ ROUTE_SECTIONS
+  pub apart : are_apart have_one_section route.steps ≡ true
+  pub leads : lead_between net.sections (post_named route.from net) (post_named route.to net) route.steps ≡ true
+
+pub sound_route : (net : Net) (route : Route) → is_sound_route net route ≡ true → IsRoute net route
+sound_route net route h =
+    let within : Bool = is_from_one ROUTE_SECTIONS (length route.steps) in
+    let apart : Bool = are_apart have_one_section route.steps in
+    let leads : Bool = lead_between net.sections (post_named route.from net) (post_named route.to net) route.steps in
+    let two = and_parts (within && apart) leads h in
+    let one = and_parts within apart two.0 in
+    let range = and_parts (leb 1 (length route.steps)) (leb (length route.steps) ROUTE_SECTIONS) one.0 in
+    record { some_step = leb-true 1 (length route.steps) range.0; few_steps = leb-true (length route.steps) ROUTE_SECTIONS range.1; apart = one.1; leads = two.1 }
+
+pub few_steps : (net : Net) (route : Route) → is_sound_route net route ≡ true → length route.steps ≤ ROUTE_SECTIONS
+few_steps net route h = (sound_route net route h).few_steps
+
+-- a section with a passage is known
+passage_known : (sections : List Section) (name from to : List ℕ) → has_passage sections name from to ≡ true → list_any (is_named name) sections ≡ true
+passage_known sections name from to passes =
+    sym (is_some-find (is_named name) sections)
+    ∙ some_mapped (λ section. list_any (leads from to) (passages section.kind section.joints)) (section_named name sections) passes
+  where
+    some_mapped : (f : Section → Bool) (o : Option Section) → option_map_or f o false ≡ true → is_some o ≡ true
+    some_mapped f None h = absurd (false≢true h)
+    some_mapped f (Some x) h = refl
+
+-- the section of each step is known
+abbrev pub is_known_step : List Section → Step → Bool
+is_known_step sections step = list_any (is_named step.section) sections
+
+leading_known : (sections : List Section) (end : Post) (joint : List ℕ) (steps : List Step) → lead_to sections end joint steps ≡ true → list_all (is_known_step sections) steps ≡ true
+leading_known sections end joint [] leads_there = refl
+leading_known sections end joint (step ∷ rest) leads_there =
+    let parts = and_parts (leads_on sections end joint step rest) (lead_to sections end step.to rest) leads_there in
+    let joined : Bool = same_name joint step.from in
+    let passes : Bool = has_passage sections step.section step.from step.to in
+    let front = and_parts (joined && passes) (goes_on rest || ends end step) parts.0 in
+    and_from (is_known_step sections step) (list_all (is_known_step sections) rest)
+    (passage_known sections step.section step.from step.to (and_parts joined passes front.0).1)
+    (leading_known sections end step.to rest parts.1)
+
+-- what the two posts of a route say of its steps
+pub record LeadsFrom (net : Net) (begin : Option Post) (steps : List Step) : Type 0 where
+  pub there : is_some begin ≡ true
+  pub no_board : has_times (unwrap_or begin no_post).role ≡ true
+  pub known : list_all (is_known_step net.sections) steps ≡ true
+
+ahead_timed : (role : Role) (post : Post) (sections : List Section) (name : List ℕ) → is_ahead_of role post sections name ≡ true → has_times role ≡ true
+ahead_timed Portal post sections name h = refl
+ahead_timed Signal post sections name h = refl
+ahead_timed Board post sections name h = absurd (false≢true h)
+
+begins_timed : (post : Post) (sections : List Section) (steps : List Step) → begins post sections steps ≡ true → has_times post.role ≡ true
+begins_timed post sections [] h = absurd (false≢true h)
+begins_timed post sections (step ∷ rest) h = ahead_timed post.role post sections step.section h
+
+between : (net : Net) (begin end : Option Post) (steps : List Step) → lead_between net.sections begin end steps ≡ true → LeadsFrom net begin steps
+between net None end steps h = absurd (false≢true h)
+between net (Some begin) None steps h = absurd (false≢true h)
+between net (Some begin) (Some end) steps h =
+    let parts = and_parts (begins begin net.sections steps) (lead_to net.sections end begin.joint steps) h in
+    record { there = refl; no_board = begins_timed begin net.sections steps parts.0; known = leading_known net.sections end begin.joint steps parts.1 }
+
+pub leads_from : (net : Net) (route : Route) → is_sound_route net route ≡ true → LeadsFrom net (post_named route.from net) route.steps
+leads_from net route h = between net (post_named route.from net) (post_named route.to net) route.steps (sound_route net route h).leads

@@ -1,0 +1,77 @@
+-- The tests of the trains, train by train.
+use Rattle.std.proofs.Common.{◌≡◌, ℕ, zero, suc, ◌+◌, ◌<◌, ◌≤◌, Bool, true, false, not, cond, List, [], ◌∷◌, length, get_or, drop, is_some, Option, Some, None, refl, sym, ap, ◌∙◌, subst, arith}
+use Rattle.std.specs.List.{list_any}
+use Rattle.std.specs.Option.{option_or}
+use Rattle.std.proofs.lemmas.List.{drop_more, drop_all}
+use Rattle.rail_base.specs.NameForms.{same_name}
+use Rattle.rail_base.specs.declared.plant.TrainKind.{TrainKind}
+use Rattle.rail_base.specs.declared.refusals.Refusal.{Refusal}
+use Rattle.rail_base.specs.declared.refusals.Reason.TheVariants as reason
+use Rattle.rail_track.specs.FirstRefusals.{first_failing}
+use Rattle.rail_track.proofs.CallerLemmas.{first_failing-append}
+use Rattle.rail_scene.specs.declared.scene.Scene.{Scene}
+use Rattle.rail_scene.specs.declared.scene.SceneTrain.{SceneTrain}
+use Rattle.rail_compile.specs.Itineraries.{routes_of}
+use Rattle.rail_compile.specs.Refusals.{are_known, of_train, route_tests, train_tests, trains_tests}
+use Rattle.rail_compile.proofs.Places.{or-some, or-none}
+
+-- a train in front of those after it
+train_ahead : (scene : Scene) (trains : List SceneTrain) (i : ℕ) (train : SceneTrain) → i < length trains → train ≡ get_or trains i train →
+    first_failing (trains_tests scene (i + 1) (drop i trains)) ≡ option_or (first_failing (train_tests scene (i + 1) train)) (first_failing (trains_tests scene (i + 1 + 1) (drop (i + 1) trains)))
+train_ahead scene trains i train lt is =
+    let step : drop i trains ≡ train ∷ drop (i + 1) trains = drop_more trains i train lt ∙ ap (λ t. t ∷ drop (i + 1) trains) (sym is) in
+    let next : suc (i + 1) ≡ i + 1 + 1 = omega arith in
+    ap (λ rest. first_failing (trains_tests scene (i + 1) rest)) step
+    ∙ first_failing-append (train_tests scene (i + 1) train) (trains_tests scene (suc (i + 1)) (drop (i + 1) trains))
+    ∙ ap (λ k. option_or (first_failing (train_tests scene (i + 1) train)) (first_failing (trains_tests scene k (drop (i + 1) trains)))) next
+
+pub train_refused_at : (scene : Scene) (trains : List SceneTrain) (i : ℕ) (train : SceneTrain) (o : Option Refusal) → i < length trains →
+    train ≡ get_or trains i train → o ≡ first_failing (train_tests scene (i + 1) train) → is_some o ≡ true →
+    first_failing (trains_tests scene (i + 1) (drop i trains)) ≡ o
+train_refused_at scene trains i train o lt is told some =
+    train_ahead scene trains i train lt is
+    ∙ ap (λ p. option_or p (first_failing (trains_tests scene (i + 1 + 1) (drop (i + 1) trains)))) (sym told)
+    ∙ or-some o (first_failing (trains_tests scene (i + 1 + 1) (drop (i + 1) trains))) some
+
+pub train_passed_at : (scene : Scene) (trains : List SceneTrain) (i : ℕ) (train : SceneTrain) (o : Option Refusal) → i < length trains →
+    train ≡ get_or trains i train → o ≡ first_failing (train_tests scene (i + 1) train) → is_some o ≡ false →
+    first_failing (trains_tests scene (i + 1) (drop i trains)) ≡ first_failing (trains_tests scene (i + 1 + 1) (drop (i + 1) trains))
+train_passed_at scene trains i train o lt is told none =
+    train_ahead scene trains i train lt is
+    ∙ ap (λ p. option_or p (first_failing (trains_tests scene (i + 1 + 1) (drop (i + 1) trains)))) (sym told)
+    ∙ or-none o (first_failing (trains_tests scene (i + 1 + 1) (drop (i + 1) trains))) none
+
+pub trains_done : (scene : Scene) (trains : List SceneTrain) (i : ℕ) → length trains ≤ i → first_failing (trains_tests scene (i + 1) (drop i trains)) ≡ None
+trains_done scene trains i past = ap (λ rest. first_failing (trains_tests scene (i + 1) rest)) (drop_all i trains past)
+
+-- the tests of a train, with what they look at
+pub train_is : (scene : Scene) (item : ℕ) (train : SceneTrain) (kind routes : Bool) →
+    kind ≡ list_any (λ (k : TrainKind). same_name train.kind k.name) scene.kinds → routes ≡ are_known scene.network train.routes →
+    first_failing (train_tests scene item train) ≡ cond (not kind) (Some (of_train reason.Unknown item 2)) (cond (not routes) (Some (of_train reason.Unknown item 5)) (first_failing (route_tests scene.network item (routes_of scene.network train.routes))))
+train_is scene item train kind routes kind_is routes_are =
+    λ i. cond (not (sym kind_is i)) (Some (of_train reason.Unknown item 2)) (cond (not (sym routes_are i)) (Some (of_train reason.Unknown item 5)) (first_failing (route_tests scene.network item (routes_of scene.network train.routes))))
+
+or-none-parts : (o other : Option Refusal) → option_or o other ≡ None → (o ≡ None) × (other ≡ None)
+or-none-parts None other none = (refl, none)
+or-none-parts (Some x) other none = absurd (cc)
+
+-- a train that is not refused: its kind and its routes are known
+pub record IsUnrefused (scene : Scene) (train : SceneTrain) : Type 0 where
+  pub kind : list_any (λ (k : TrainKind). same_name train.kind k.name) scene.kinds ≡ true
+  pub routes : are_known scene.network train.routes ≡ true
+
+unrefused : (scene : Scene) (item : ℕ) (train : SceneTrain) (k r : Bool) → k ≡ list_any (λ (kind : TrainKind). same_name train.kind kind.name) scene.kinds → r ≡ are_known scene.network train.routes → first_failing (train_tests scene item train) ≡ None → IsUnrefused scene train
+unrefused scene item train false r kind_is routes_are none = absurd (cc (train_is scene item train false r kind_is routes_are))
+unrefused scene item train true false kind_is routes_are none = absurd (cc (train_is scene item train true false kind_is routes_are))
+unrefused scene item train true true kind_is routes_are none = record { kind = sym kind_is; routes = sym routes_are }
+
+-- where no train is refused, none of them is
+pub unrefused_at : (scene : Scene) (item : ℕ) (trains : List SceneTrain) (i : ℕ) (train : SceneTrain) → first_failing (trains_tests scene item trains) ≡ None → i < length trains → train ≡ get_or trains i train → IsUnrefused scene train
+unrefused_at scene item [] i train none lt is = absurd (omega arith)
+unrefused_at scene item (first ∷ rest) zero train none lt is =
+    let parts = or-none-parts (first_failing (train_tests scene item first)) (first_failing (trains_tests scene (suc item) rest)) (sym (first_failing-append (train_tests scene item first) (trains_tests scene (suc item) rest)) ∙ none) in
+    let P : SceneTrain → Type 0 = λ t. IsUnrefused scene t in
+    subst P (sym is) (unrefused scene item first (list_any (λ (k : TrainKind). same_name first.kind k.name) scene.kinds) (are_known scene.network first.routes) refl refl parts.0)
+unrefused_at scene item (first ∷ rest) (suc i) train none lt is =
+    let parts = or-none-parts (first_failing (train_tests scene item first)) (first_failing (trains_tests scene (suc item) rest)) (sym (first_failing-append (train_tests scene item first) (trains_tests scene (suc item) rest)) ∙ none) in
+    unrefused_at scene (suc item) rest i train parts.1 (omega arith) is

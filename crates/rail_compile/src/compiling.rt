@@ -1,0 +1,67 @@
+//! From a scene to its plant.
+
+ghost use Rattle.std.specs.Prelude.{◌≡◌, suc, None, IsTrue, IfOk, IfErr, OnOk};
+ghost use Rattle.rail_rules.specs.Accepted.{is_accepted};
+ghost use Rattle.rail_base.specs.declared.refusals.Fault.TheVariants.{Refused};
+ghost use Rattle.rail_scene.specs.Scenes.{IsScene};
+ghost use Rattle.rail_compile.specs.Itineraries.{plant_of_scene};
+ghost use Rattle.rail_base.specs.Refusals.{AnswersFirst};
+ghost use Rattle.rail_compile.specs.Refusals.{compile_refusal, fault_for, of_train};
+
+use crate::compiling::itineraries::of_train;
+use crate::compiling::kinds::kind_names;
+use crate::compiling::spelling::tables_of;
+use crate::compiling::trains::trains_refusal;
+use rail_base::{Fault, Reason, TrainNo};
+use rail_plan::{PlanFault, Plant};
+use rail_scene::Scene;
+use std::alloc::Global;
+
+mod itineraries;
+mod kinds;
+mod spelling;
+mod trains;
+
+/// The plant of the scene, which has no calls.
+///
+/// It is refused train by train, and for a train by the first of these that holds: as unknown, where no
+/// kind has the name of its kind, at step 2, or no route one of the names of its routes, at step 5; as no
+/// portal, where its first route does not begin at one, at step 0; as broken, at the first place where the
+/// next route does not begin at the signal where the last one ended, and no turn leads there; as no
+/// portal, where its last route does not end at one, at the last place. Where no train is refused so, it
+/// is refused as `Plant::new` refuses its tables, at the place. Items and places count from 1.
+pub fn compile(alloc: Global, scene: &Scene) -> Result<Plant, Fault>
+    requires { IsScene scene.now }
+    ensures accepted { OnOk result (compile_refusal scene.now ≡ None) }
+    ensures spelled { IfOk result (λ plant. plant ≡ plant_of_scene scene.now) }
+    ensures valid { IfOk result (λ plant. IsTrue (is_accepted plant)) }
+    ensures refused { IfErr result (AnswersFirst (compile_refusal scene.now)) }
+{
+    let kinds = kind_names(alloc, scene.kinds.as_slice())?;
+    if let Some(refusal) = trains_refusal(scene, &kinds) {
+        return Err(Fault::Refused(refusal));
+    }
+    let tables = tables_of(alloc, scene, &kinds)?;
+    match Plant::new(alloc, tables) {
+        Ok(plant) => Ok(plant),
+        Err(fault) => Err(fault_for(fault)),
+    }
+}
+
+/// The refusal of a scene whose plant has this fault.
+fn fault_for(fault: PlanFault) -> Fault
+    ensures { result ≡ fault_for fault }
+{
+    match fault {
+        PlanFault::TooLong { train, place } => at_place(Reason::TooLong, train, place),
+        PlanFault::SelfBlocked { train, place, .. } => at_place(Reason::SelfBlocked, train, place),
+        PlanFault::OutOfMemory => Fault::OutOfMemory,
+    }
+}
+
+/// The refusal of the train at the place.
+fn at_place(reason: Reason, train: TrainNo, place: u16) -> Fault
+    ensures { result ≡ Refused (of_train reason (suc train) place) }
+{
+    Fault::Refused(of_train(reason, u32::from(train.0) + 1, u32::from(place)))
+}

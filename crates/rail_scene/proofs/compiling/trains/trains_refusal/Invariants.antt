@@ -1,7 +1,0 @@
-use Rattle.std.proofs.Common.{◌≡◌, ◌+◌, drop}
-use Rattle.rail_track.specs.FirstRefusals.{first_failing}
-use Rattle.rail_scene.specs.CompileRefusals.{trains_tests}
-use Rattle.rail_scene.proofs.compiling.trains.trains_refusal.Given as goal
-
-abbrev pub invariant-loop-index : goal.invariant-loop-index
-invariant-loop-index l = first_failing (trains_tests l.scene (l.index + 1) (drop l.index l.scene.trains)) ≡ first_failing (trains_tests l.scene 1 l.scene.trains)
