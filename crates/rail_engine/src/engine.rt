@@ -14,9 +14,15 @@ use std::marker::Model;
 
 /// The engine of a run without commands, in which of the trains that may move the one that was ready first
 /// goes first. It stands for a front, which is the lines that it has given so far.
-#[derive(Drop)]
 pub struct Engine {
     ledger: Ledger,
+}
+
+// Written out, so that it is proved here and not in each crate that lets an engine go.
+impl Drop for Engine {
+    fn drop(self) {
+        let Engine { ledger: _ledger } = self;
+    }
 }
 
 impl Model for Engine {
