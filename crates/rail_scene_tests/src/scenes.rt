@@ -41,20 +41,21 @@ fn holds(alloc: Global, case: &str) -> Option<bool> {
         _ => ("", ""),
     };
     let mut file = String::new(alloc);
-    push_file(&mut file, before, text, after).ok()?;
+    push_file(&mut file, before, text, after)?;
     Some(is_told(alloc, file.as_bytes(), want))
 }
 
-/// Adds what stands before the text, the text with its rows written out, and what stands behind it.
-fn push_file(file: &mut String, before: &str, text: &str, after: &str) -> Result<(), AllocError> {
-    file.push_str(before)?;
+/// Adds what stands before the text, the text with its rows written out, and what stands behind it. `None`
+/// where what stands before a star is no number, and where memory is not found.
+fn push_file(file: &mut String, before: &str, text: &str, after: &str) -> Option<()> {
+    file.push_str(before).ok()?;
     for line in text.lines() {
         match line.split_once(" * ") {
-            Some((count, row)) => push_rows(file, count.parse().unwrap_or(0), row)?,
-            None => push_row(file, line, 0)?,
+            Some((count, row)) => push_rows(file, count.parse().ok()?, row).ok()?,
+            None => push_row(file, line, 0).ok()?,
         }
     }
-    file.push_str(after)
+    file.push_str(after).ok()
 }
 
 /// Adds so many rows.
