@@ -8,3 +8,11 @@ pub use Rattle.rail_base.proofs.Writing.{hours_cases}
 
 -- two times with one text are one
 pub use Rattle.rail_base.proofs.Telling.{time_text-injective}
+-- FirstRefusals: first refusals.
+
+-- the tests of one list before those of another
+pub use Rattle.rail_base.proofs.FirstRefusals.{first_failing-append}
+-- no test fails, and the first refusal is none
+pub use Rattle.rail_base.proofs.FirstRefusals.{AllPassed, all_passed, none_failing}
+-- the fault that a call passes up answers what the called one answered
+pub use Rattle.rail_base.proofs.FirstRefusals.{passed_up}

@@ -5,3 +5,4 @@ mod Reading
 mod Writing
 mod Comparing
 mod Telling
+mod FirstRefusals

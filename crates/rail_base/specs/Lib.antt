@@ -4,3 +4,4 @@ pub mod NameForms
 pub mod NameFields
 pub mod Clock
 pub mod Refusals
+pub mod FirstRefusals

@@ -6,10 +6,19 @@ use crate::text::Name;
 use indexmap::IndexSet;
 
 /// The names of the sections and of the trains of a plant, each in the order of their numbers.
-#[derive(Debug, Drop)]
+#[derive(Debug)]
 pub struct Names {
     pub sections: IndexSet<Name>,
     pub trains: IndexSet<Name>,
+}
+
+impl Drop for Names {
+    fn drop(self) {
+        let Names {
+            sections: _sections,
+            trains: _trains,
+        } = self;
+    }
 }
 
 impl Names {

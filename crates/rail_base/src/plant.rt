@@ -3,7 +3,7 @@ use crate::sequence::Seq;
 use crate::text::Name;
 
 /// The numbers of a plant: its sections and its trains with their moves, in the order of the scene.
-#[derive(Debug, Drop)]
+#[derive(Debug)]
 pub struct Tables {
     pub sections: Seq<SectionRow>,
     /// Release time in tenths of a second, one for the whole plant.
@@ -11,6 +11,17 @@ pub struct Tables {
     /// The greatest number of free legs in a list that the analysis looks for.
     pub depth: u8,
     pub trains: Seq<TrainRow>,
+}
+
+impl Drop for Tables {
+    fn drop(self) {
+        let Tables {
+            sections: _sections,
+            release: _release,
+            depth: _depth,
+            trains: _trains,
+        } = self;
+    }
 }
 
 /// A track section.

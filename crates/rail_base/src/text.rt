@@ -113,9 +113,15 @@ fn is_name_byte(byte: u8) -> bool
 }
 
 /// An owned text, which contracts see as its bytes.
-#[derive(Debug, Drop)]
+#[derive(Debug)]
 pub struct Word {
     text: String,
+}
+
+impl Drop for Word {
+    fn drop(self) {
+        let Word { text: _text } = self;
+    }
 }
 
 impl Model for Word {

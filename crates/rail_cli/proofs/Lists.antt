@@ -1,7 +1,7 @@
 -- What refuses a list.
 use Rattle.std.proofs.Common.{◌≡◌, ◌≢◌, ℕ, false, not, cond, List, [], ◌∷◌, length, Some, None, sym, ap, ◌∙◌, ⊎_elim, arith}
 use Rattle.std.proofs.lemmas.Bool.{cases_Bool, false≢true}
-use Rattle.rail_track.specs.FirstRefusals.{first_failing}
+use Rattle.rail_base.specs.FirstRefusals.{first_failing}
 use Rattle.rail_rules.specs.Numbers.{or_else}
 use Rattle.rail_rules.specs.Moves.{Moves, stand}
 use Rattle.rail_rules.specs.Places.{place_of, is_valid_state}

@@ -8,7 +8,7 @@ use Rattle.rail_base.specs.declared.refusals.Reason.TheVariants.{ListPlaces}
 use Rattle.rail_base.specs.declared.refusals.Part.TheVariants.{Line}
 use Rattle.rail_rules.specs.Numbers.{or_else}
 use Rattle.rail_rules.specs.Plant.{Plant, moves_of, trains}
-use Rattle.rail_track.specs.FirstRefusals.{first_failing}
+use Rattle.rail_base.specs.FirstRefusals.{first_failing}
 use Rattle.rail_place.specs.Bars.{outcome}
 use Rattle.rail_place.specs.declared.barring.Barred.{Barred}
 use Rattle.rail_place.specs.declared.barring.Barred.TheVariants.{Outside, Out, Held}

@@ -5,8 +5,8 @@ use Rattle.std.proofs.lemmas.Bool.{cases_lt, false≢true}
 use Rattle.std.proofs.lemmas.List.{drop_more, drop_all}
 use Rattle.rail_base.specs.declared.refusals.Refusal.{Refusal}
 use Rattle.rail_base.specs.declared.refusals.Reason.TheVariants as reason
-use Rattle.rail_track.specs.FirstRefusals.{first_failing}
-use Rattle.rail_track.proofs.CallerLemmas.{first_failing-append}
+use Rattle.rail_base.specs.FirstRefusals.{first_failing}
+use Rattle.rail_base.proofs.CallerLemmas.{first_failing-append}
 use Rattle.rail_routes.specs.declared.items.Route.{Route}
 use Rattle.rail_routes.specs.Net.{Net}
 use Rattle.rail_compile.specs.Itineraries.{no_route, is_portal, goes_on_to}

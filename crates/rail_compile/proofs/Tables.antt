@@ -16,7 +16,7 @@ use Rattle.rail_rules.proofs.CallerLemmas.{all_below_from}
 use Rattle.rail_track.specs.declared.section.Section.{Section}
 use Rattle.rail_track.specs.SectionRules.{joint_count, stands_twice}
 use Rattle.rail_track.specs.Sound.{is_fit}
-use Rattle.rail_track.specs.FirstRefusals.{first_failing}
+use Rattle.rail_base.specs.FirstRefusals.{first_failing}
 use Rattle.rail_routes.specs.declared.items.Route.{Route}
 use Rattle.rail_routes.specs.Net.{Net, is_route}
 use Rattle.rail_routes.specs.Sound.{is_sound_route, IsSoundNetwork}

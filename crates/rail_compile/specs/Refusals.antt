@@ -10,7 +10,7 @@ use Rattle.rail_base.specs.declared.refusals.Refusal.{Refusal}
 use Rattle.rail_base.specs.declared.refusals.Reason.{Reason}
 use Rattle.rail_base.specs.declared.refusals.Reason.TheVariants as reason
 use Rattle.rail_base.specs.declared.refusals.Part.TheVariants as part
-use Rattle.rail_track.specs.FirstRefusals.{Test, first_failing}
+use Rattle.rail_base.specs.FirstRefusals.{Test, first_failing}
 use Rattle.rail_routes.specs.declared.items.Route.{Route}
 use Rattle.rail_routes.specs.Net.{Net, is_route}
 use Rattle.rail_plan.specs.declared.faults.PlanFault.{PlanFault}

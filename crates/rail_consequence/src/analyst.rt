@@ -31,11 +31,20 @@ enum Look {
 
 /// Finds lists of moves that bring every train inside to its exit. It keeps places of its own and room
 /// for the longest list, so that a search takes no memory.
-#[derive(Debug, Drop)]
+#[derive(Debug)]
 pub struct Analyst {
     /// The trains that were inside when the last search began, by number.
     inside: Vec<TrainNo>,
     sheet: Worksheet,
+}
+
+impl Drop for Analyst {
+    fn drop(self) {
+        let Analyst {
+            inside: _inside,
+            sheet: _sheet,
+        } = self;
+    }
 }
 
 impl Model for Analyst {

@@ -32,7 +32,6 @@ pub enum Listed {
 }
 
 /// All that is kept of a run.
-#[derive(Drop)]
 pub struct Ledger {
     pub plant: Plant,
     pub state: RunState,
@@ -42,6 +41,20 @@ pub struct Ledger {
     /// The trains that remain, once the end line was given.
     pub remaining: Vec<TrainNo>,
     pub listed: Listed,
+}
+
+impl Drop for Ledger {
+    fn drop(self) {
+        let Ledger {
+            plant: _plant,
+            state: _state,
+            places: _places,
+            kept: _kept,
+            analyst: _analyst,
+            remaining: _remaining,
+            listed: _listed,
+        } = self;
+    }
 }
 
 impl Ledger {

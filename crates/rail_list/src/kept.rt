@@ -15,9 +15,15 @@ use std::marker::Model;
 
 /// A list of moves by their trains, in the order in which they are made. Trains count from 0. It has
 /// room for the moves for which it was made, so that no repair takes memory.
-#[derive(Debug, Drop)]
+#[derive(Debug)]
 pub struct KeptList {
     trains: Vec<TrainNo>,
+}
+
+impl Drop for KeptList {
+    fn drop(self) {
+        let KeptList { trains: _trains } = self;
+    }
 }
 
 impl Model for KeptList {

@@ -17,9 +17,15 @@ struct Row {
 /// The moves of all trains: the sections that each move needs, in route order, and the sections on
 /// which the train stands after it. Trains count from 0, places and moves from 1: the train at place
 /// `i` has made its moves 1 to `i`.
-#[derive(Debug, Drop)]
+#[derive(Debug)]
 pub struct Moves {
     rows: Vec<Row>,
+}
+
+impl Drop for Moves {
+    fn drop(self) {
+        let Moves { rows: _rows } = self;
+    }
 }
 
 impl Model for Moves {

@@ -19,11 +19,21 @@ use std::marker::Model;
 /// How many moves each train has made, and which train holds each section. Trains and sections count
 /// from 0; a train at place 0 has not entered, and one at its last place is out. Each call is handed
 /// the moves for which the places were made.
-#[derive(Debug, Drop)]
+#[derive(Debug)]
 pub struct Places {
     positions: Vec<u16>,
     owners: Vec<Option<TrainNo>>,
     played: u64,
+}
+
+impl Drop for Places {
+    fn drop(self) {
+        let Places {
+            positions: _positions,
+            owners: _owners,
+            played: _played,
+        } = self;
+    }
 }
 
 impl Model for Places {

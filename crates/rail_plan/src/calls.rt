@@ -16,9 +16,15 @@ use std::marker::Model;
 
 /// The calls of the trains at the places of their itineraries, one at most for each train and place.
 /// Contracts see them as a list for each train, with room for a call at each of its places.
-#[derive(Debug, Drop)]
+#[derive(Debug)]
 pub struct Calls {
     rows: Vec<Vec<Option<Call>>>,
+}
+
+impl Drop for Calls {
+    fn drop(self) {
+        let Calls { rows: _rows } = self;
+    }
 }
 
 impl Model for Calls {

@@ -21,12 +21,22 @@ use std::marker::Model;
 
 /// A plant that may be run: the numbers of its sections and trains, and the calls of a timetable.
 /// Sections and trains count from 0, places and moves from 1: move `i` leads to place `i`.
-#[derive(Drop)]
 pub struct Plant {
     tables: Tables,
     calls: Calls,
     names: Names,
     moves: Moves,
+}
+
+impl Drop for Plant {
+    fn drop(self) {
+        let Plant {
+            tables: _tables,
+            calls: _calls,
+            names: _names,
+            moves: _moves,
+        } = self;
+    }
 }
 
 impl Model for Plant {

@@ -10,10 +10,16 @@ use std::marker::Model;
 
 /// Pending events, sorted by time, class and number. Of events that are equal in these the one that was
 /// pushed first comes first.
-#[derive(Debug, Drop)]
+#[derive(Debug)]
 pub struct EventQueue {
     /// In falling order, so that the next event is the last item.
     pending: Vec<Event>,
+}
+
+impl Drop for EventQueue {
+    fn drop(self) {
+        let EventQueue { pending: _pending } = self;
+    }
 }
 
 impl Model for EventQueue {

@@ -5,9 +5,15 @@ use std::alloc::Global;
 use std::marker::Model;
 
 /// Which train holds each section. Sections and trains count from 0.
-#[derive(Debug, Drop)]
+#[derive(Debug)]
 pub struct Holders {
     trains: Vec<Option<TrainNo>>,
+}
+
+impl Drop for Holders {
+    fn drop(self) {
+        let Holders { trains: _trains } = self;
+    }
 }
 
 impl Model for Holders {

@@ -10,7 +10,8 @@ use Rattle.rail_base.specs.declared.limits.TheConstants.{POSTS, TURNS}
 use Rattle.rail_track.specs.declared.section.Section.{Section}
 use Rattle.rail_track.specs.Lists.{without}
 use Rattle.rail_track.specs.Sound.{IsSoundTrack}
-use Rattle.rail_track.proofs.CallerLemmas.{all_passed, same_from_name, count_by_none, count_by-without-le, length-without-le}
+use Rattle.rail_base.proofs.CallerLemmas.{all_passed}
+use Rattle.rail_track.proofs.CallerLemmas.{same_from_name, count_by_none, count_by-without-le, length-without-le}
 use Rattle.rail_routes.specs.declared.items.Post.{Post}
 use Rattle.rail_routes.specs.declared.items.Turn.{Turn}
 use Rattle.rail_routes.specs.declared.items.Route.{Route}

@@ -5,8 +5,9 @@ use Rattle.rail_base.specs.declared.refusals.Reason.TheVariants.{JointCrowded}
 use Rattle.rail_track.specs.declared.section.Section.{Section}
 use Rattle.rail_track.specs.Joints.{is_full}
 use Rattle.rail_track.specs.SectionRules.{section_tests, section_refusal, stands_twice}
-use Rattle.rail_track.specs.FirstRefusals.{first_failing}
-use Rattle.rail_track.proofs.CallerLemmas.{all_passed, none_failing, passes_too}
+use Rattle.rail_base.specs.FirstRefusals.{first_failing}
+use Rattle.rail_base.proofs.CallerLemmas.{all_passed, none_failing}
+use Rattle.rail_track.proofs.CallerLemmas.{passes_too}
 use Rattle.rail_routes.specs.declared.items.Post.{Post}
 use Rattle.rail_routes.specs.Net.{stands_at}
 use Rattle.rail_routes.specs.SectionRules.{is_closed_by}

@@ -11,8 +11,8 @@ use Rattle.rail_track.specs.declared.section.NetFault.TheVariants.{Refused}
 use Rattle.rail_track.specs.declared.section.Section.{Section}
 use Rattle.rail_track.specs.Joints.{is_named}
 use Rattle.rail_track.specs.Passages.{has_passage}
-use Rattle.rail_track.specs.FirstRefusals.{first_failing}
-use Rattle.rail_track.proofs.CallerLemmas.{first_failing-append}
+use Rattle.rail_base.specs.FirstRefusals.{first_failing}
+use Rattle.rail_base.proofs.CallerLemmas.{first_failing-append}
 use Rattle.rail_routes.specs.declared.items.Post.{Post}
 use Rattle.rail_routes.specs.declared.items.Step.{Step}
 use Rattle.rail_routes.specs.declared.items.Route.{Route}

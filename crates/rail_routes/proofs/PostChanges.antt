@@ -8,7 +8,8 @@ use Rattle.rail_base.specs.declared.limits.TheConstants.{SETTING, WATCHING, APPR
 use Rattle.rail_track.specs.declared.section.Section.{Section}
 use Rattle.rail_base.specs.Limits.{is_from_one}
 use Rattle.rail_track.specs.Lists.{are_apart}
-use Rattle.rail_track.proofs.CallerLemmas.{all_passed, same_name-comm, same_from_name, list_all-without}
+use Rattle.rail_base.proofs.CallerLemmas.{all_passed}
+use Rattle.rail_track.proofs.CallerLemmas.{same_name-comm, same_from_name, list_all-without}
 use Rattle.rail_routes.specs.declared.items.Post.{Post}
 use Rattle.rail_routes.specs.declared.items.Role.{Role}
 use Rattle.rail_routes.specs.declared.items.Role.TheVariants.{Portal, Signal, Board}

@@ -10,7 +10,7 @@ use Rattle.rail_routes.specs.declared.items.Step.{Step}
 use Rattle.rail_routes.specs.declared.items.Turn.{Turn}
 use Rattle.rail_routes.specs.declared.items.Route.{Route}
 use Rattle.rail_base.specs.Limits.{is_from_one}
-use Rattle.rail_track.proofs.CallerLemmas.{all_passed}
+use Rattle.rail_base.proofs.CallerLemmas.{all_passed}
 use Rattle.rail_routes.specs.Net.{Net}
 use Rattle.rail_routes.specs.RouteRules.{route_tests, route_refusal}
 use Rattle.rail_routes.specs.Uses.{sections_of}

@@ -7,9 +7,11 @@ use Rattle.rail_base.specs.declared.refusals.Reason.TheVariants.{RouteRepeat}
 use Rattle.rail_track.specs.declared.section.Section.{Section}
 use Rattle.rail_base.specs.Limits.{is_from_one}
 use Rattle.rail_track.specs.Lists.{without, are_apart}
-use Rattle.rail_track.specs.FirstRefusals.{Test, tests_over, refused_where}
+use Rattle.rail_base.specs.FirstRefusals.{Test, tests_over}
+use Rattle.rail_track.specs.NetFaults.{refused_where}
 use Rattle.rail_track.specs.Sound.{IsSoundTrack}
-use Rattle.rail_track.proofs.CallerLemmas.{AllPassed, all_passed, same_name-comm, list_all-without, are_apart-push}
+use Rattle.rail_base.proofs.CallerLemmas.{AllPassed, all_passed}
+use Rattle.rail_track.proofs.CallerLemmas.{same_name-comm, list_all-without, are_apart-push}
 use Rattle.rail_routes.specs.declared.items.Post.{Post}
 use Rattle.rail_routes.specs.declared.items.Role.TheVariants.{Portal, Signal, Board}
 use Rattle.rail_routes.specs.declared.items.Step.{Step}

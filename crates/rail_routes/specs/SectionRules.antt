@@ -5,7 +5,7 @@ use Rattle.rail_track.specs.declared.section.NetFault.{NetFault}
 use Rattle.rail_track.specs.declared.section.Section.{Section}
 use Rattle.rail_track.specs.Joints.{is_full}
 use Rattle.rail_track.specs.SectionRules.{section_tests}
-use Rattle.rail_track.specs.FirstRefusals.{first_failing}
+use Rattle.rail_base.specs.FirstRefusals.{first_failing}
 use Rattle.rail_routes.specs.declared.items.Post.{Post}
 use Rattle.rail_routes.specs.Net.{Net, stands_at}
 

@@ -5,7 +5,8 @@ use Rattle.rail_base.specs.NameForms.{same_name}
 use Rattle.rail_base.specs.Limits.{most, Turns, TurnTime}
 use Rattle.rail_base.specs.declared.refusals.Reason.TheVariants.{TooMany, Range, Repeated, Unknown, PostPlace}
 use Rattle.rail_track.specs.declared.section.NetFault.{NetFault}
-use Rattle.rail_track.specs.FirstRefusals.{Test, first_failing, refused_where}
+use Rattle.rail_base.specs.FirstRefusals.{Test, first_failing}
+use Rattle.rail_track.specs.NetFaults.{refused_where}
 use Rattle.rail_routes.specs.declared.items.Turn.{Turn}
 use Rattle.rail_routes.specs.Net.{Net, posts, is_post, is_turn}
 

@@ -7,7 +7,8 @@ use Rattle.rail_base.specs.declared.refusals.Reason.TheVariants.{Unknown, InUse}
 use Rattle.rail_track.specs.declared.section.NetFault.{NetFault}
 use Rattle.rail_track.specs.declared.section.Section.{Section}
 use Rattle.rail_track.specs.Joints.{has_joint, is_named, section_named}
-use Rattle.rail_track.specs.FirstRefusals.{first_failing, refused_where}
+use Rattle.rail_base.specs.FirstRefusals.{first_failing}
+use Rattle.rail_track.specs.NetFaults.{refused_where}
 use Rattle.rail_routes.specs.declared.items.Step.{Step}
 use Rattle.rail_routes.specs.declared.items.Turn.{Turn}
 use Rattle.rail_routes.specs.declared.items.Route.{Route}

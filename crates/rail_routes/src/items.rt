@@ -46,12 +46,23 @@ pub struct Step {
 }
 
 /// A way from a portal or signal to a post, over its steps in order.
-#[derive(Debug, Drop)]
+#[derive(Debug)]
 pub struct Route {
     pub name: Name,
     pub from: Name,
     pub to: Name,
     pub steps: Seq<Step>,
+}
+
+impl Drop for Route {
+    fn drop(self) {
+        let Route {
+            name: _name,
+            from: _from,
+            to: _to,
+            steps: _steps,
+        } = self;
+    }
 }
 
 impl Keyed<Name> for Post {

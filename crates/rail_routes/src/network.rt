@@ -69,7 +69,7 @@ impl Network {
     ghost use Rattle.rail_track.specs.declared.section.NetFault.TheVariants.{Refused};
     ghost use Rattle.rail_track.specs.Joints.{is_named, section_named};
     ghost use Rattle.rail_track.specs.Lists.{without};
-    ghost use Rattle.rail_track.specs.FirstRefusals.{Answers};
+    ghost use Rattle.rail_track.specs.NetFaults.{Answers};
     ghost use Rattle.rail_routes.specs.Net.{posts, is_post, is_turn, is_route, post_named, stands_at};
     ghost use Rattle.rail_routes.specs.SectionRules.{net_section_refusal};
     ghost use Rattle.rail_routes.specs.PostRules.{post_refusal, is_formed};

@@ -7,7 +7,8 @@ use Rattle.toml.specs.declared.value.Value.{Value}
 use Rattle.rail_base.specs.declared.refusals.Fault.{Fault}
 use Rattle.rail_track.specs.declared.section.NetFault.{NetFault}
 use Rattle.rail_base.specs.declared.refusals.Refusal.{Refusal}
-use Rattle.rail_track.specs.FirstRefusals.{Test, first_failing, Answers}
+use Rattle.rail_base.specs.FirstRefusals.{Test, first_failing}
+use Rattle.rail_track.specs.NetFaults.{Answers}
 use Rattle.rail_scene.specs.declared.draft.Draft.{Draft}
 use Rattle.rail_scene.specs.declared.keys.Key.{Key}
 use Rattle.rail_scene.specs.declared.keys.ListPart.{ListPart}

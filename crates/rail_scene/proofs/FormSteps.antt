@@ -6,7 +6,8 @@ use Rattle.toml.specs.View.{view}
 use Rattle.toml.specs.declared.value.Value.{Value}
 use Rattle.rail_base.specs.declared.refusals.Fault.{Fault}
 use Rattle.rail_track.specs.declared.section.NetFault.{NetFault}
-use Rattle.rail_track.specs.FirstRefusals.{first_failing, Answers}
+use Rattle.rail_base.specs.FirstRefusals.{first_failing}
+use Rattle.rail_track.specs.NetFaults.{Answers}
 use Rattle.rail_scene.specs.declared.keys.Key.{Key}
 use Rattle.rail_scene.specs.declared.keys.ListPart.{ListPart}
 use Rattle.rail_scene.specs.Keys.{list_key, keys_of, part_of}

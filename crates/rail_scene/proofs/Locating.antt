@@ -4,7 +4,8 @@ use Rattle.rail_base.specs.declared.refusals.Part.{Part}
 use Rattle.rail_base.specs.declared.refusals.Reason.{Reason}
 use Rattle.rail_track.specs.declared.section.NetFault.{NetFault}
 use Rattle.rail_track.specs.declared.section.NetFault.TheVariants.{Refused, OutOfMemory}
-use Rattle.rail_track.specs.FirstRefusals.{Test, first_failing, Answers}
+use Rattle.rail_base.specs.FirstRefusals.{Test, first_failing}
+use Rattle.rail_track.specs.NetFaults.{Answers}
 use Rattle.rail_base.specs.Refusals.{AnswersFirst}
 use Rattle.rail_scene.specs.Order.{located, located_as, item_number, fault_at}
 

@@ -7,8 +7,9 @@ use Rattle.rail_base.specs.declared.refusals.Fault.TheVariants as fault
 use Rattle.rail_base.specs.declared.refusals.Refusal.{Refusal}
 use Rattle.rail_track.specs.declared.section.NetFault.{NetFault}
 use Rattle.rail_track.specs.declared.section.NetFault.TheVariants.{Refused, OutOfMemory}
-use Rattle.rail_track.specs.FirstRefusals.{Test, first_failing, Answers}
-use Rattle.rail_track.proofs.CallerLemmas.{first_failing-append}
+use Rattle.rail_base.specs.FirstRefusals.{Test, first_failing}
+use Rattle.rail_track.specs.NetFaults.{Answers}
+use Rattle.rail_base.proofs.CallerLemmas.{first_failing-append}
 use Rattle.rail_base.specs.Refusals.{AnswersFirst}
 
 -- where the first segment passes, the next decides

@@ -6,7 +6,8 @@ use Rattle.rail_base.specs.declared.refusals.Fault.{Fault}
 use Rattle.rail_base.specs.declared.refusals.Part.TheVariants.{Root}
 use Rattle.rail_base.specs.declared.refusals.Refusal.{Refusal}
 use Rattle.rail_track.specs.declared.section.NetFault.{NetFault}
-use Rattle.rail_track.specs.FirstRefusals.{Test, first_failing, Answers}
+use Rattle.rail_base.specs.FirstRefusals.{Test, first_failing}
+use Rattle.rail_track.specs.NetFaults.{Answers}
 use Rattle.rail_scene.specs.Keys.{root_keys}
 use Rattle.rail_scene.specs.Values.{value_tests}
 use Rattle.rail_scene.specs.SpelledScenes.{root_of}

@@ -5,7 +5,8 @@ use Rattle.rail_base.specs.Limits.{most, Sections, Posts, Turns, Routes, Kinds, 
 use Rattle.rail_base.specs.declared.refusals.Reason.TheVariants.{TooMany}
 use Rattle.rail_track.specs.declared.section.NetFault.{NetFault}
 use Rattle.rail_track.specs.SectionRules.{section_tests}
-use Rattle.rail_track.specs.FirstRefusals.{Test, refused_where}
+use Rattle.rail_base.specs.FirstRefusals.{Test}
+use Rattle.rail_track.specs.NetFaults.{refused_where}
 use Rattle.rail_routes.specs.Net.{Net}
 use Rattle.rail_routes.specs.SectionRules.{is_closed_by}
 use Rattle.rail_routes.specs.PostRules.{post_tests}

@@ -6,7 +6,8 @@ use Rattle.toml.specs.Data.{Data, Members, no_members, member, as_str, as_intege
 use Rattle.rail_base.specs.NameForms.{same_name}
 use Rattle.rail_base.specs.declared.refusals.Reason.TheVariants.{KeyMissing, WrongKind, KeyUnknown}
 use Rattle.rail_track.specs.declared.section.NetFault.{NetFault}
-use Rattle.rail_track.specs.FirstRefusals.{Test, refused_where}
+use Rattle.rail_base.specs.FirstRefusals.{Test}
+use Rattle.rail_track.specs.NetFaults.{refused_where}
 use Rattle.rail_scene.specs.declared.keys.Form.{Form}
 use Rattle.rail_scene.specs.declared.keys.Form.TheVariants.{Name, Policy, Choice, Time, Whole, Joints, Path, Itinerary, Tables}
 use Rattle.rail_scene.specs.declared.keys.Key.{Key}

@@ -9,7 +9,7 @@ use Rattle.rail_base.specs.declared.refusals.Reason.TheVariants.{NotToml}
 use Rattle.rail_base.specs.declared.refusals.Refusal.{Refusal}
 use Rattle.rail_track.specs.declared.section.NetFault.{NetFault}
 use Rattle.rail_track.specs.declared.section.NetFault.TheVariants.{Refused, OutOfMemory}
-use Rattle.rail_track.specs.FirstRefusals.{Test, first_failing}
+use Rattle.rail_base.specs.FirstRefusals.{Test, first_failing}
 use Rattle.rail_scene.specs.declared.draft.Draft.{Draft}
 use Rattle.rail_scene.specs.declared.keys.ListPart.{ListPart}
 use Rattle.rail_scene.specs.Keys.{list_parts, list_key, root_keys, keys_of, part_of}

@@ -6,7 +6,8 @@ use Rattle.rail_base.specs.declared.refusals.Reason.TheVariants.{Repeated}
 use Rattle.rail_base.specs.declared.plant.TrainKind.{TrainKind}
 use Rattle.rail_track.specs.declared.section.NetFault.{NetFault}
 use Rattle.rail_track.specs.Lists.{are_apart}
-use Rattle.rail_track.specs.FirstRefusals.{Test, refused_where}
+use Rattle.rail_base.specs.FirstRefusals.{Test}
+use Rattle.rail_track.specs.NetFaults.{refused_where}
 use Rattle.rail_scene.specs.declared.scene.SceneTrain.{SceneTrain}
 use Rattle.rail_scene.specs.Scenes.{is_fit_kind, is_fit_train, is_one_kind, is_one_train}
 

@@ -4,7 +4,7 @@ use Rattle.toml.specs.Data.{Data}
 use Rattle.rail_base.specs.declared.plant.TrainKind.{TrainKind}
 use Rattle.rail_track.specs.declared.section.NetFault.{NetFault}
 use Rattle.rail_track.specs.SectionRules.{section_tests}
-use Rattle.rail_track.specs.FirstRefusals.{first_failing}
+use Rattle.rail_base.specs.FirstRefusals.{first_failing}
 use Rattle.rail_routes.specs.Net.{Net}
 use Rattle.rail_routes.specs.SectionRules.{is_closed_by}
 use Rattle.rail_routes.specs.PostRules.{post_tests}

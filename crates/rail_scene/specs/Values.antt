@@ -4,7 +4,8 @@ use Rattle.toml.specs.Data.{Data}
 use Rattle.rail_base.specs.Limits.{is_from_one, most, ItineraryRoutes}
 use Rattle.rail_base.specs.declared.refusals.Reason.TheVariants.{BadName, Range}
 use Rattle.rail_track.specs.declared.section.NetFault.{NetFault}
-use Rattle.rail_track.specs.FirstRefusals.{Test, refused_where}
+use Rattle.rail_base.specs.FirstRefusals.{Test}
+use Rattle.rail_track.specs.NetFaults.{refused_where}
 use Rattle.rail_scene.specs.declared.keys.Form.{Form}
 use Rattle.rail_scene.specs.declared.keys.Form.TheVariants.{Name, Policy, Choice, Time, Whole, Joints, Path, Itinerary, Tables}
 use Rattle.rail_scene.specs.declared.keys.Key.{Key}

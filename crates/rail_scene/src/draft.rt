@@ -1,7 +1,8 @@
 //! A scene that is being read, to which the items of its file are added one by one.
 ghost use Rattle.std.specs.Prelude.{◌≡◌, ◌<◌, ◌++◌, length, false, [], ◌∷◌, None, map, OnOk, IfErr};
 ghost use Rattle.toml.specs.View.{view};
-ghost use Rattle.rail_track.specs.FirstRefusals.{Answers, first_failing};
+ghost use Rattle.rail_base.specs.FirstRefusals.{first_failing};
+ghost use Rattle.rail_track.specs.NetFaults.{Answers};
 ghost use Rattle.rail_scene.specs.Entries.{section_of, portal_of, signal_of, board_of, turn_of, route_of, kind_of, train_of};
 ghost use Rattle.rail_scene.specs.SpelledItems.{spelled_section_refusal, spelled_portal_refusal, spelled_signal_refusal, spelled_board_refusal, spelled_turn_refusal, spelled_route_refusal, spelled_kind_refusal, spelled_train_refusal};
 

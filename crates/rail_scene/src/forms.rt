@@ -5,7 +5,7 @@ ghost use Rattle.std.specs.BTreeMap.{keys};
 ghost use Rattle.toml.specs.View.{view};
 ghost use Rattle.rail_base.specs.declared.refusals.Part.TheVariants.{Root};
 ghost use Rattle.rail_base.specs.declared.refusals.Reason.TheVariants.{KeyMissing, WrongKind};
-ghost use Rattle.rail_track.specs.FirstRefusals.{first_failing};
+ghost use Rattle.rail_base.specs.FirstRefusals.{first_failing};
 ghost use Rattle.rail_scene.specs.Fields.{value_at};
 ghost use Rattle.rail_scene.specs.Forms.{is_list_of, is_string, is_table, is_of, is_known, has_unknown, form_tests, key_tests, key_test};
 ghost use Rattle.rail_base.specs.Refusals.{AnswersFirst};

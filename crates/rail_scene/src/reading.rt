@@ -2,7 +2,8 @@
 ghost use Rattle.std.specs.Prelude.{◌≡◌, ◌∷◌, [], ◌≤◌, None, unwrap_or, OnOk, IfOk, IfErr};
 ghost use Rattle.toml.specs.View.{view};
 ghost use Rattle.rail_base.specs.declared.limits.TheConstants as limit;
-ghost use Rattle.rail_track.specs.FirstRefusals.{first_failing, Answers};
+ghost use Rattle.rail_base.specs.FirstRefusals.{first_failing};
+ghost use Rattle.rail_track.specs.NetFaults.{Answers};
 ghost use Rattle.rail_scene.specs.declared.keys.KeyName.TheVariants as word;
 ghost use Rattle.rail_scene.specs.Keys.{key_of, root_keys};
 ghost use Rattle.rail_scene.specs.Scenes.{IsScene};

@@ -1,6 +1,7 @@
 //! The train kinds and the trains of a scene that is being read, found by their names.
 ghost use Rattle.std.specs.Prelude.{◌≡◌, ◌<◌, [], ◌∷◌, ◌++◌, length, IsTrue, None, OnOk, IfErr};
-ghost use Rattle.rail_track.specs.FirstRefusals.{Answers, first_failing};
+ghost use Rattle.rail_base.specs.FirstRefusals.{first_failing};
+ghost use Rattle.rail_track.specs.NetFaults.{Answers};
 ghost use Rattle.rail_scene.specs.Scenes.{is_fit_kind, is_fit_train};
 ghost use Rattle.rail_scene.specs.Rosters.{AreKinds, AreTrains, kind_tests, train_tests};
 

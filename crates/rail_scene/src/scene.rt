@@ -2,7 +2,6 @@ use rail_base::{Name, Seq, Time, TrainKind};
 use rail_routes::Network;
 
 /// A scene as its file spells it: the infrastructure, and the trains with their itineraries.
-#[derive(Drop)]
 pub struct Scene {
     /// Release time in tenths of a second, one for the whole plant.
     pub release: u32,
@@ -15,8 +14,21 @@ pub struct Scene {
     pub trains: Seq<SceneTrain>,
 }
 
+impl Drop for Scene {
+    fn drop(self) {
+        let Scene {
+            release: _release,
+            depth: _depth,
+            policy: _policy,
+            network: _network,
+            kinds: _kinds,
+            trains: _trains,
+        } = self;
+    }
+}
+
 /// A train with its itinerary.
-#[derive(Debug, Drop)]
+#[derive(Debug)]
 pub struct SceneTrain {
     pub name: Name,
     /// The name of its train kind.
@@ -27,4 +39,16 @@ pub struct SceneTrain {
     pub priority: u8,
     /// The names of the routes of its itinerary, in order.
     pub routes: Seq<Name>,
+}
+
+impl Drop for SceneTrain {
+    fn drop(self) {
+        let SceneTrain {
+            name: _name,
+            kind: _kind,
+            entry: _entry,
+            priority: _priority,
+            routes: _routes,
+        } = self;
+    }
 }

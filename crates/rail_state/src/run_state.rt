@@ -28,7 +28,6 @@ use rail_release::Holders;
 use std::alloc::Global;
 
 /// What is kept of a run beside its plant, its places and its lists.
-#[derive(Drop)]
 pub struct RunState {
     /// The events that are pending.
     pub queue: EventQueue,
@@ -42,6 +41,19 @@ pub struct RunState {
     pub is_settled: bool,
     /// The end line was given.
     pub has_ended: bool,
+}
+
+impl Drop for RunState {
+    fn drop(self) {
+        let RunState {
+            queue: _queue,
+            trains: _trains,
+            holders: _holders,
+            instant: _instant,
+            is_settled: _is_settled,
+            has_ended: _has_ended,
+        } = self;
+    }
 }
 
 impl RunState {

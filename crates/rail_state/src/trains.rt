@@ -20,12 +20,21 @@ use std::alloc::Global;
 use std::marker::Model;
 
 /// What a run keeps of each train, by train number. Contracts see it as the list of its entries.
-#[derive(Debug, Drop)]
+#[derive(Debug)]
 pub struct TrainStates {
     rows: Vec<TrainState>,
     /// By number, the trains that wait, and those with a known cause: `note_no_list` gives one to any train.
     /// The others need no look.
     watched: Vec<TrainNo>,
+}
+
+impl Drop for TrainStates {
+    fn drop(self) {
+        let TrainStates {
+            rows: _rows,
+            watched: _watched,
+        } = self;
+    }
 }
 
 impl Model for TrainStates {

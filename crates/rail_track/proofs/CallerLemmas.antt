@@ -4,16 +4,10 @@
 pub use Rattle.rail_track.proofs.Rolls.{found_item, list_any-map}
 -- Tallies: names, and how often each is counted.
 pub use Rattle.rail_track.proofs.Tallies.{same_from_name, same_name-comm, same_name-self}
--- Refusals: first refusals.
-pub use Rattle.rail_track.proofs.Refusals.{all_passed, none_failing, passed_at, refused_at}
--- the fault that a call passes up
-pub use Rattle.rail_track.proofs.Refusals.{passed_up}
--- no test fails
-pub use Rattle.rail_track.proofs.Refusals.{AllPassed}
+-- Refusals: the tests of the items of a list, one by one.
+pub use Rattle.rail_track.proofs.Refusals.{passed_at, refused_at}
 -- the first refusal answers itself
 pub use Rattle.rail_track.proofs.Refusals.{answers_first}
--- the tests of one list before those of another
-pub use Rattle.rail_track.proofs.Refusals.{first_failing-append}
 -- a test that fails less often passes where the other does
 pub use Rattle.rail_track.proofs.Refusals.{passes_too}
 -- Withouts: a list without its first item that passes a test.

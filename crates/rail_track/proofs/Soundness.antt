@@ -11,12 +11,13 @@ use Rattle.rail_track.specs.Lists.{without}
 use Rattle.rail_track.specs.Joints.{is_named, has_joint, sections_at, is_full}
 use Rattle.rail_base.specs.Limits.{is_from_one}
 use Rattle.rail_track.specs.SectionRules.{stands_twice, joint_count, section_tests}
-use Rattle.rail_track.specs.FirstRefusals.{first_failing}
+use Rattle.rail_base.specs.FirstRefusals.{first_failing}
 use Rattle.rail_base.specs.declared.limits.TheConstants.{SECTIONS, SECTION_LENGTH, SPEED}
 use Rattle.rail_base.specs.declared.refusals.Reason.TheVariants.{JointCrowded}
 use Rattle.rail_track.specs.Sound.{is_fit, have_one_name, IsSoundTrack}
 use Rattle.rail_track.proofs.Tallies.{same_from_name, same_name-comm}
-use Rattle.rail_track.proofs.Refusals.{all_passed, none_fails}
+use Rattle.rail_base.proofs.CallerLemmas.{all_passed}
+use Rattle.rail_track.proofs.Refusals.{none_fails}
 use Rattle.rail_track.proofs.Withouts.{length-without-le, list_all-without, count_by-without-le, count_by-without, count_by_none, count_by_some, find_passes, are_apart-without, are_apart-push}
 
 -- a test that no name passes is failed by each name that is there

@@ -1,7 +1,7 @@
 -- What the contracts of this crate, and the definitions above it, speak of.
 pub mod Lists
 pub mod KeyCounts
-pub mod FirstRefusals
+pub mod NetFaults
 pub mod Passages
 pub mod Joints
 pub mod SectionRules

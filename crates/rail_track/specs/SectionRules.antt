@@ -9,7 +9,8 @@ use Rattle.rail_track.specs.declared.section.Section.{Section}
 use Rattle.rail_track.specs.declared.section.SectionKind.{SectionKind}
 use Rattle.rail_track.specs.declared.section.SectionKind.TheVariants.{Plain, Points, Crossing, Slip}
 use Rattle.rail_track.specs.Joints.{is_named, is_full}
-use Rattle.rail_track.specs.FirstRefusals.{Test, first_failing, tests_over, refused_where}
+use Rattle.rail_base.specs.FirstRefusals.{Test, first_failing, tests_over}
+use Rattle.rail_track.specs.NetFaults.{refused_where}
 
 -- how many joints a section of the kind has
 abbrev pub joint_count : SectionKind → ℕ

@@ -1,6 +1,6 @@
 ghost use Rattle.std.specs.Prelude.{◌≡◌, ◌≤◌, ◌||◌, length};
 ghost use Rattle.rail_track.specs.SectionRules.{joint_count, joint_tests, stands_twice};
-ghost use Rattle.rail_track.specs.FirstRefusals.{first_failing};
+ghost use Rattle.rail_base.specs.FirstRefusals.{first_failing};
 
 use crate::section::{NetFault, SectionKind};
 use rail_base::{Name, Reason};

@@ -20,7 +20,7 @@ pub enum SectionKind {
 }
 
 /// A track section.
-#[derive(Debug, Drop)]
+#[derive(Debug)]
 pub struct Section {
     pub name: Name,
     pub kind: SectionKind,
@@ -30,6 +30,18 @@ pub struct Section {
     pub speed: u32,
     /// The joints in the order that the kind gives them.
     pub joints: Seq<Name>,
+}
+
+impl Drop for Section {
+    fn drop(self) {
+        let Section {
+            name: _name,
+            kind: _kind,
+            length: _length,
+            speed: _speed,
+            joints: _joints,
+        } = self;
+    }
 }
 
 /// A name is its own key.

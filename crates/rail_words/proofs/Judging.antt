@@ -8,8 +8,8 @@ use Rattle.std.proofs.lemmas.List.Elements.{All-append, All-nil, All-cons}
 use Rattle.rail_base.specs.NameForms.{same_name}
 use Rattle.rail_base.specs.declared.refusals.Refusal.{Refusal}
 use Rattle.rail_rules.specs.Moves.{Moves}
-use Rattle.rail_track.specs.FirstRefusals.{first_failing}
-use Rattle.rail_track.proofs.CallerLemmas.{first_failing-append}
+use Rattle.rail_base.specs.FirstRefusals.{first_failing}
+use Rattle.rail_base.proofs.CallerLemmas.{first_failing-append}
 use Rattle.rail_words.specs.Lists.{Listed, knows, number_of_train, train_of, with_moves, is_comment, sets, moves_trains, asked_tests, line_refusal, line_tests, lines_tests, after_line, words}
 use Rattle.rail_base.specs.declared.refusals.Fault.{Fault}
 use Rattle.rail_base.specs.declared.refusals.Fault.TheVariants.{Refused, OutOfMemory}

@@ -10,7 +10,7 @@ use Rattle.rail_base.specs.declared.refusals.Part.TheVariants.{Line}
 use Rattle.rail_rules.specs.Numbers.{same_numbers}
 use Rattle.rail_rules.specs.Moves.{Moves}
 use Rattle.rail_rules.specs.Places.{is_valid_state}
-use Rattle.rail_track.specs.FirstRefusals.{Test, first_failing}
+use Rattle.rail_base.specs.FirstRefusals.{Test, first_failing}
 
 -- the words of a line, which stand between spaces
 abbrev pub words : List ℕ → List (List ℕ)

@@ -15,12 +15,23 @@ use std::alloc::{AllocError, Global};
 use std::marker::Model;
 
 /// What a list file says: where the trains stand, and the moves to be made.
-#[derive(Debug, Drop)]
+#[derive(Debug)]
 pub struct ListFile {
     positions: Vec<u16>,
     list: Vec<TrainNo>,
     last_at: u32,
     is_moving: bool,
+}
+
+impl Drop for ListFile {
+    fn drop(self) {
+        let ListFile {
+            positions: _positions,
+            list: _list,
+            last_at: _last_at,
+            is_moving: _is_moving,
+        } = self;
+    }
 }
 
 impl Model for ListFile {

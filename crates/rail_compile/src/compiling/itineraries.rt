@@ -2,7 +2,7 @@
 
 ghost use Rattle.std.specs.Prelude.{◌≡◌, ◌<◌, ◌≤◌, length, get_or, position, IsTrue};
 ghost use Rattle.rail_base.specs.declared.limits.TheConstants.{ITINERARY_ROUTES, ROUTE_SECTIONS};
-ghost use Rattle.rail_track.specs.FirstRefusals.{first_failing};
+ghost use Rattle.rail_base.specs.FirstRefusals.{first_failing};
 ghost use Rattle.rail_routes.specs.Net.{guards};
 ghost use Rattle.rail_routes.specs.Sound.{is_sound_route};
 ghost use Rattle.rail_compile.specs.Itineraries.{goes_on_to, is_portal, is_signal, may_leave, no_route, routes_of, runs_on, turn_between, turn_step};

@@ -6,7 +6,7 @@ ghost use Rattle.rail_base.specs.NameForms.{same_name};
 ghost use Rattle.rail_base.specs.declared.plant.SectionRow.{SectionRow};
 ghost use Rattle.rail_base.specs.declared.plant.TrainKind.{TrainKind};
 ghost use Rattle.rail_base.specs.declared.plant.TrainRow.{TrainRow};
-ghost use Rattle.rail_track.specs.FirstRefusals.{first_failing};
+ghost use Rattle.rail_base.specs.FirstRefusals.{first_failing};
 ghost use Rattle.rail_routes.specs.declared.items.Step.{Step};
 ghost use Rattle.rail_routes.specs.Sound.{is_sound_route};
 ghost use Rattle.rail_plan.specs.PlanFaults.{IsPlannable};

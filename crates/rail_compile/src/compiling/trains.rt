@@ -2,7 +2,7 @@
 
 ghost use Rattle.std.specs.Prelude.{◌≡◌, map, IsTrue};
 ghost use Rattle.rail_base.specs.declared.plant.TrainKind.{TrainKind};
-ghost use Rattle.rail_track.specs.FirstRefusals.{first_failing};
+ghost use Rattle.rail_base.specs.FirstRefusals.{first_failing};
 ghost use Rattle.rail_scene.specs.Scenes.{IsScene, is_fit_train};
 ghost use Rattle.rail_compile.specs.Refusals.{are_known, is_known, train_tests, trains_tests};
 

@@ -25,7 +25,7 @@ impl Network {
     ghost use Rattle.rail_routes.specs.Net.{posts, is_post, stands_at};
     ghost use Rattle.rail_routes.specs.PostRules.{post_refusal, stands_well, has_joint_ahead, is_taken, is_guarded, is_astray};
     ghost use Rattle.rail_routes.specs.RouteRules.{route_refusal, rule_tests};
-    ghost use Rattle.rail_track.specs.FirstRefusals.{first_failing};
+    ghost use Rattle.rail_base.specs.FirstRefusals.{first_failing};
     ghost use Rattle.rail_track.specs.Joints.{is_named};
     ghost use Rattle.rail_routes.specs.declared.items.Step.{Step};
     ghost use Rattle.rail_routes.specs.TurnRules.{turn_refusal, turns_well};

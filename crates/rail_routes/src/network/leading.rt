@@ -1,7 +1,7 @@
 //! Which step of a route is refused.
 ghost use Rattle.std.specs.Prelude.{◌≡◌, ◌+◌, ◌<◌, ◌^◌, ◌&&◌, ◌||◌, not, length};
 ghost use Rattle.std.specs.List.{list_any};
-ghost use Rattle.rail_track.specs.FirstRefusals.{first_failing};
+ghost use Rattle.rail_base.specs.FirstRefusals.{first_failing};
 ghost use Rattle.rail_base.specs.NameForms.{same_name};
 ghost use Rattle.rail_routes.specs.declared.items.Step.{Step};
 ghost use Rattle.rail_routes.specs.Net.{guards};

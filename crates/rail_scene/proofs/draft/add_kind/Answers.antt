@@ -3,8 +3,9 @@ use Rattle.std.specs.Result.{OnOk, IfErr}
 use Rattle.toml.specs.View.{view}
 use Rattle.rail_base.specs.declared.plant.TrainKind.{TrainKind}
 use Rattle.rail_scene.specs.Rosters.{kind_tests}
-use Rattle.rail_track.specs.FirstRefusals.{first_failing, Answers}
-use Rattle.rail_track.proofs.CallerLemmas.{passed_up}
+use Rattle.rail_base.specs.FirstRefusals.{first_failing}
+use Rattle.rail_track.specs.NetFaults.{Answers}
+use Rattle.rail_base.proofs.CallerLemmas.{passed_up}
 use Rattle.rail_scene.specs.declared.keys.TheConstants.{KIND_KEYS}
 use Rattle.rail_scene.specs.Entries.{kind_of}
 use Rattle.rail_scene.specs.Values.{value_tests}

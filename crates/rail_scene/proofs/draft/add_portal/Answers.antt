@@ -3,7 +3,8 @@ use Rattle.std.specs.Result.{OnOk, IfErr}
 use Rattle.toml.specs.View.{view}
 use Rattle.rail_routes.specs.declared.items.Post.{Post}
 use Rattle.rail_routes.specs.PostRules.{post_tests}
-use Rattle.rail_track.specs.FirstRefusals.{first_failing, Answers}
+use Rattle.rail_base.specs.FirstRefusals.{first_failing}
+use Rattle.rail_track.specs.NetFaults.{Answers}
 use Rattle.rail_scene.specs.declared.keys.TheConstants.{PORTAL_KEYS}
 use Rattle.rail_scene.specs.Entries.{portal_of}
 use Rattle.rail_scene.specs.Values.{value_tests}

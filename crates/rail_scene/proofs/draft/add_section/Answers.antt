@@ -5,8 +5,9 @@ use Rattle.rail_track.specs.declared.section.NetFault.{NetFault}
 use Rattle.rail_track.specs.declared.section.Section.{Section}
 use Rattle.rail_track.specs.SectionRules.{section_tests}
 use Rattle.rail_routes.specs.SectionRules.{is_closed_by}
-use Rattle.rail_track.specs.FirstRefusals.{Test, first_failing, Answers}
-use Rattle.rail_track.proofs.CallerLemmas.{passed_up}
+use Rattle.rail_base.specs.FirstRefusals.{Test, first_failing}
+use Rattle.rail_track.specs.NetFaults.{Answers}
+use Rattle.rail_base.proofs.CallerLemmas.{passed_up}
 use Rattle.rail_scene.specs.declared.keys.TheConstants.{SECTION_KEYS}
 use Rattle.rail_scene.specs.Entries.{section_of}
 use Rattle.rail_scene.specs.Values.{value_tests}

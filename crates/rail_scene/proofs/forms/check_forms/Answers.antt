@@ -1,7 +1,7 @@
 use Rattle.std.proofs.Common.{sym}
 use Rattle.toml.specs.View.{view}
 use Rattle.rail_base.specs.declared.refusals.Part.TheVariants.{Root}
-use Rattle.rail_track.specs.FirstRefusals.{first_failing}
+use Rattle.rail_base.specs.FirstRefusals.{first_failing}
 use Rattle.rail_track.proofs.CallerLemmas.{answers_first}
 use Rattle.rail_scene.specs.declared.keys.TheConstants.{ROOT_KEYS, LIST_PARTS}
 use Rattle.rail_scene.specs.Forms.{form_tests}

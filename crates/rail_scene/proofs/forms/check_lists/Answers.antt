@@ -1,6 +1,6 @@
 use Rattle.std.proofs.Common.{sym, subst, ◌∙◌}
 use Rattle.std.specs.Result.{IfErr}
-use Rattle.rail_track.proofs.CallerLemmas.{passed_up}
+use Rattle.rail_base.proofs.CallerLemmas.{passed_up}
 use Rattle.rail_base.specs.Refusals.{AnswersFirst}
 use Rattle.rail_scene.proofs.FormSteps.{list_stop, list_pass}
 use Rattle.rail_scene.proofs.forms.check_lists.Goals as goal

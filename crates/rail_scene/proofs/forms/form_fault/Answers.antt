@@ -2,7 +2,7 @@ use Rattle.std.proofs.Common.{[], ◌∷◌, Some, None, cond, sym, ap, ◌∙�
 use Rattle.toml.specs.View.{view}
 use Rattle.rail_base.specs.declared.refusals.Reason.TheVariants.{KeyUnknown}
 use Rattle.rail_track.specs.declared.section.NetFault.TheVariants.{Refused}
-use Rattle.rail_track.specs.FirstRefusals.{refused_where}
+use Rattle.rail_track.specs.NetFaults.{refused_where}
 use Rattle.rail_scene.specs.Forms.{key_tests, has_unknown}
 use Rattle.rail_scene.proofs.Segments.{passed_on, stopped}
 use Rattle.rail_scene.proofs.forms.form_fault.Goals as goal

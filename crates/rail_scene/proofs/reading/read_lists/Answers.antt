@@ -1,6 +1,6 @@
 use Rattle.std.proofs.Common.{◌≡◌, None, subst, ap, ◌∙◌}
 use Rattle.toml.specs.View.{view}
-use Rattle.rail_track.specs.FirstRefusals.{first_failing}
+use Rattle.rail_base.specs.FirstRefusals.{first_failing}
 use Rattle.rail_scene.specs.declared.draft.Draft.{Draft}
 use Rattle.rail_scene.specs.declared.keys.TheConstants.{LIST_PARTS}
 use Rattle.rail_base.specs.Refusals.{AnswersFirst}

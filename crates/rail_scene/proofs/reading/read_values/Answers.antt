@@ -1,6 +1,6 @@
 use Rattle.std.proofs.Common.{◌∙◌}
 use Rattle.toml.specs.View.{view}
-use Rattle.rail_track.proofs.CallerLemmas.{passed_up}
+use Rattle.rail_base.proofs.CallerLemmas.{passed_up}
 use Rattle.rail_scene.proofs.Whole.{values_none, at_root, at_lists}
 use Rattle.rail_scene.proofs.Spelled.{scene_is}
 use Rattle.rail_scene.proofs.reading.read_values.Goals as goal

@@ -1,7 +1,8 @@
 use Rattle.std.proofs.Common.{◌≡◌, ◌+◌, ◌||◌, drop}
 use Rattle.rail_base.specs.declared.refusals.Reason.TheVariants.{JointCrowded}
 use Rattle.rail_track.specs.SectionRules.{joint_tests, stands_twice}
-use Rattle.rail_track.specs.FirstRefusals.{first_failing, tests_over, refused_where}
+use Rattle.rail_base.specs.FirstRefusals.{first_failing, tests_over}
+use Rattle.rail_track.specs.NetFaults.{refused_where}
 use Rattle.rail_track.proofs.accepting.joint_refusal.Given as goal
 
 abbrev pub invariant-loop-index : goal.invariant-loop-index

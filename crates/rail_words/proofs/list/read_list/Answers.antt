@@ -2,8 +2,8 @@ use Rattle.std.proofs.Common.{◌≡◌, ◌+◌, ◌∙◌, sym, ap, ◌∷◌,
 use Rattle.std.specs.Str.Lines.{lines}
 use Rattle.rail_place.specs.Tables.{moves_in}
 use Rattle.rail_rules.specs.Moves.{Moves}
-use Rattle.rail_track.specs.FirstRefusals.{first_failing}
-use Rattle.rail_track.proofs.CallerLemmas.{passed_up}
+use Rattle.rail_base.specs.FirstRefusals.{first_failing}
+use Rattle.rail_base.proofs.CallerLemmas.{passed_up}
 use Rattle.rail_words.specs.Lists.{Listed, lines_tests, after_lines}
 use Rattle.rail_words.proofs.Judging.{accepted_line, answers_lines}
 use Rattle.rail_words.proofs.list.read_list.Goals as goal

@@ -1,7 +1,7 @@
 use Rattle.std.proofs.Common.{◌≡◌, ◌+◌, ◌≤◌, length}
 use Rattle.std.specs.Str.Lines.{lines}
 use Rattle.rail_place.specs.Tables.{moves_in}
-use Rattle.rail_track.specs.FirstRefusals.{first_failing}
+use Rattle.rail_base.specs.FirstRefusals.{first_failing}
 use Rattle.rail_words.specs.Lists.{after_lines, lines_tests, list_line_refusal, listed_in}
 use Rattle.rail_words.specs.ListAnswers.{IsListFor}
 use Rattle.rail_words.proofs.list.read_list.Given as goal

@@ -1,5 +1,5 @@
 use Rattle.std.proofs.Common.{◌≡◌, ◌-◌, drop}
-use Rattle.rail_track.specs.FirstRefusals.{first_failing}
+use Rattle.rail_base.specs.FirstRefusals.{first_failing}
 use Rattle.rail_compile.specs.Itineraries.{routes_of}
 use Rattle.rail_compile.specs.Refusals.{place_tests}
 use Rattle.rail_compile.proofs.compiling.itineraries.place_refusal.Given as goal

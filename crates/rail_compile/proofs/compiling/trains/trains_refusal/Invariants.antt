@@ -1,5 +1,5 @@
 use Rattle.std.proofs.Common.{◌≡◌, ◌+◌, drop}
-use Rattle.rail_track.specs.FirstRefusals.{first_failing}
+use Rattle.rail_base.specs.FirstRefusals.{first_failing}
 use Rattle.rail_compile.specs.Refusals.{trains_tests}
 use Rattle.rail_compile.proofs.compiling.trains.trains_refusal.Given as goal
 

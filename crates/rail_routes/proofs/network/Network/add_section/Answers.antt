@@ -1,6 +1,6 @@
 use Rattle.std.proofs.Common.{ap, ◌∙◌, sym, subst}
 use Rattle.std.specs.Result.{IfErr}
-use Rattle.rail_track.specs.FirstRefusals.{Answers}
+use Rattle.rail_track.specs.NetFaults.{Answers}
 use Rattle.rail_track.specs.declared.section.NetFault.{NetFault}
 use Rattle.std.proofs.Common.{Option}
 use Rattle.rail_track.proofs.CallerLemmas.{answers_first}

@@ -1,6 +1,7 @@
 use Rattle.std.proofs.Common.{◌≡◌, ◌+◌, drop}
 use Rattle.rail_base.specs.declared.refusals.Reason.TheVariants.{RouteRepeat}
-use Rattle.rail_track.specs.FirstRefusals.{first_failing, tests_over, refused_where}
+use Rattle.rail_base.specs.FirstRefusals.{first_failing, tests_over}
+use Rattle.rail_track.specs.NetFaults.{refused_where}
 use Rattle.rail_routes.specs.RouteRules.{repeat_tests, occurred}
 use Rattle.rail_routes.proofs.network.leading.repeat_refusal.Given as goal
 

@@ -1,6 +1,6 @@
 use Rattle.std.proofs.Common.{◌+◌, ap, sym, ◌∙◌}
 use Rattle.std.proofs.lemmas.List.{drop_all}
-use Rattle.rail_track.specs.FirstRefusals.{first_failing}
+use Rattle.rail_base.specs.FirstRefusals.{first_failing}
 use Rattle.rail_routes.specs.RouteRules.{step_tests}
 use Rattle.rail_routes.proofs.Leading.{step_refused}
 use Rattle.rail_routes.proofs.network.leading.step_refusal.Goals as goal

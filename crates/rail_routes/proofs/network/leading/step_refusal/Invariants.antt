@@ -1,5 +1,5 @@
 use Rattle.std.proofs.Common.{◌≡◌, ◌+◌, drop}
-use Rattle.rail_track.specs.FirstRefusals.{first_failing}
+use Rattle.rail_base.specs.FirstRefusals.{first_failing}
 use Rattle.rail_routes.specs.RouteRules.{step_tests}
 use Rattle.rail_routes.proofs.network.leading.step_refusal.Given as goal
 

@@ -1,6 +1,6 @@
 use Rattle.std.proofs.Common.{◌≡◌, ◌+◌, map, drop, sym, ap, subst, ◌∙◌}
 use Rattle.toml.specs.View.{view}
-use Rattle.rail_track.specs.FirstRefusals.{first_failing}
+use Rattle.rail_base.specs.FirstRefusals.{first_failing}
 use Rattle.rail_scene.specs.declared.draft.Draft.{Draft}
 use Rattle.rail_scene.specs.Keys.{part_of}
 use Rattle.rail_scene.specs.Drafts.{with_items}

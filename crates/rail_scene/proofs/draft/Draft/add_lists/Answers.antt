@@ -1,8 +1,8 @@
 use Rattle.std.proofs.Common.{◌+◌, drop, sym, ap, subst, ◌∙◌}
 use Rattle.std.specs.Result.{IfErr}
 use Rattle.toml.specs.View.{view}
-use Rattle.rail_track.specs.FirstRefusals.{first_failing}
-use Rattle.rail_track.proofs.CallerLemmas.{passed_up}
+use Rattle.rail_base.specs.FirstRefusals.{first_failing}
+use Rattle.rail_base.proofs.CallerLemmas.{passed_up}
 use Rattle.rail_scene.specs.declared.draft.Draft.{Draft}
 use Rattle.rail_base.specs.Refusals.{AnswersFirst}
 use Rattle.rail_scene.specs.Order.{values_of, with_lists}

@@ -1,0 +1,17 @@
+-- First refusals: the tests of an item stand in one list, and the first that fails gives the answer.
+use Rattle.std.specs.Prelude.{ℕ, ◌+◌, Bool, cond, List, [], ◌∷◌, Option, Some, None}
+
+-- a test, with the answer that is given where it fails
+pub record Test (R : Type 0) : Type 0 where
+  pub answer : R
+  pub fails : Bool
+
+-- the answer of the first test that fails
+abbrev pub first_failing : {R : Type 0} → List (Test R) → Option R
+first_failing [] = None
+first_failing (t ∷ ts) = cond t.fails (Some t.answer) (first_failing ts)
+
+-- a test of each item, which are numbered from n
+abbrev pub tests_over : {R X : Type 0} → (ℕ → X → Test R) → ℕ → List X → List (Test R)
+tests_over test n [] = []
+tests_over test n (x ∷ xs) = test n x ∷ tests_over test (n + 1) xs
