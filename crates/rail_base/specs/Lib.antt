@@ -5,3 +5,4 @@ pub mod NameFields
 pub mod Clock
 pub mod Refusals
 pub mod FirstRefusals
+pub mod Lists

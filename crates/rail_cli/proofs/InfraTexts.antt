@@ -9,7 +9,7 @@ use Rattle.rail_routes.specs.Net.{Net}
 use Rattle.rail_routes.specs.Sound.{IsSoundNetwork, is_sound_route}
 use Rattle.rail_rules.proofs.CallerLemmas.{list_all_get}
 use Rattle.rail_scene.specs.declared.scene.Scene.{Scene}
-use Rattle.rail_history.specs.Lines.{behind}
+use Rattle.rail_rules.specs.Texts.{behind}
 use Rattle.rail_cli.specs.Infra.{counts_line, route_line, route_lines, route_length, infra_text, section_and_post_counts, turn_and_route_counts, train_counts}
 
 pub counts_from : (scene : Scene) {whole l6 l5 l4 l3 l2 l1 : List ℕ} →

@@ -6,3 +6,4 @@ mod Writes
 mod Lists
 mod Answers
 mod Forms
+mod Parts

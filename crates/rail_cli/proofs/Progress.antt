@@ -25,7 +25,7 @@ use Rattle.rail_laws_front.specs.Views.Follows.{by_event, by_admission, by_hold,
 use Rattle.rail_laws_front.proofs.CallerLemmas.{well_formed_from_accepted, lawful_last}
 use Rattle.rail_laws_run.proofs.CallerLemmas.{run_lawful}
 use Rattle.rail_laws_text.proofs.CallerLemmas.{line_writable}
-use Rattle.rail_cli.specs.Runs.{IsRun, IsRunInPart, run_input}
+use Rattle.rail_cli.specs.Runs.{RunsPlant, RunsPlantInPart, run_input}
 use Rattle.rail_cli.proofs.LineBounds.{lines_at_most}
 use Rattle.rail_cli.proofs.Histories.{all_left, input_accepted, safe_run}
 
@@ -105,9 +105,8 @@ module _ (old engine : Ledger) (front : Front) (entry : Entry) (plant : Plant) (
 
   -- it was not written to its end
   pub in_part : (before now then : Option (List ℕ)) → Adds before now (text old.plant front)
-      → AddsPrefix now then (line_text plant (line_of entry list)) → IsRunInPart old.plant before then
-  in_part before now then so_far more = subst (λ (p : Plant). IsRunInPart p before then) same (record {
-    accepted = stands.at.rep.accepted;
+      → AddsPrefix now then (line_text plant (line_of entry list)) → RunsPlantInPart old.plant before then
+  in_part before now then so_far more = subst (λ (p : Plant). RunsPlantInPart p before then) same (stands.at.rep.accepted, record {
     front = line_in engine entry ∷ front;
     run = stands.of_run;
     safe = safe_run engine.plant stands.at.rep.accepted (line_in engine entry ∷ front) stands.of_run;
@@ -116,19 +115,18 @@ module _ (old engine : Ledger) (front : Front) (entry : Entry) (plant : Plant) (
 
 -- all lines
 pub all_written : (engine : Ledger) (front : Front) (before now : Option (List ℕ)) → StandsFor front engine → has_ended front ≡ true
-    → Adds before now (text engine.plant front) → IsRun engine.plant before now
+    → Adds before now (text engine.plant front) → RunsPlant engine.plant before now
 all_written engine front before now stands ended adds =
     let history = and_from (is_run (run_input engine.plant) seats front) (has_ended front) stands.of_run ended in
     let end = all_left engine.plant stands.at.rep.accepted front history in
-    record {
-      accepted = stands.at.rep.accepted;
+    (stands.at.rep.accepted, record {
       front = front;
       history = history;
       safe = safe_run engine.plant stands.at.rep.accepted front stands.of_run;
       left = end.0;
       exact = end.1;
       adds = adds;
-    }
+    })
 
 -- there are at most so many lines
 pub few_lines : (engine : Ledger) (front : Front) → StandsFor front engine → length front ≤ bound engine.plant 0 * (trains engine.plant + 1)

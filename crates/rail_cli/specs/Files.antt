@@ -47,11 +47,18 @@ pub record IsRead {S : Type 0} (shelf : Ghosts S) (file : List ℕ) (now : S) : 
   pub is_ended : shelf.ended now ≡ true
   pub none_failed : shelf.failed now ≡ None
 
--- the file is too large: more bytes were moved than a file may have, and where its bytes are told they are more
+-- the file is too large: it was begun, more of its bytes were moved than a file may have, and where they are told they are more
 pub record IsTooLarge {S : Type 0} (shelf : Ghosts S) (number : ℕ) (file : List ℕ) (before now : S) (answer : Refusal) : Type 0 where
   pub is : answer ≡ too_many_bytes number
+  pub begun : shelf.begun now ≡ Some file
   pub over : most FileBytes < shelf.moved now
   pub larger : (bytes : List ℕ) → shelf.told before file ≡ Some bytes → too_large number bytes ≡ Some answer
+
+-- one of the files, which are numbered from this number on, is too large
+abbrev pub IsOneTooLarge : {S : Type 0} → Ghosts S → ℕ → List (List ℕ) → S → S → Refusal → Type 0
+IsOneTooLarge shelf number [] before now answer = ⊥
+IsOneTooLarge shelf number (file ∷ files) before now answer =
+    IsTooLarge shelf number file before now answer ⊎ IsOneTooLarge shelf (suc number) files before now answer
 
 -- why the file of this name, which has this number, was not read
 abbrev pub IsFileAnswer : {S : Type 0} → Ghosts S → ℕ → List ℕ → S → S → Status → Type 0

@@ -9,7 +9,7 @@ use Rattle.rail_routes.specs.declared.items.Step.{Step}
 use Rattle.rail_routes.specs.Net.{Net}
 use Rattle.rail_scene.specs.declared.scene.Scene.{Scene}
 use Rattle.rail_scene.specs.SpelledScenes.{spelled_scene}
-use Rattle.rail_history.specs.Lines.{behind}
+use Rattle.rail_rules.specs.Texts.{behind}
 use Rattle.rail_cli.specs.declared.status.Status.{Status}
 use Rattle.rail_cli.specs.Answers.{IsTextAnswer, Told, plant_refusal}
 use Rattle.rail_cli.specs.Files.{too_large}

@@ -14,7 +14,7 @@ use Rattle.rail_place.specs.declared.barring.Barred.{Barred}
 use Rattle.rail_place.specs.declared.barring.Barred.TheVariants.{Outside, Out, Held}
 use Rattle.rail_place.specs.declared.barring.Played.{Played}
 use Rattle.rail_place.specs.declared.barring.Played.TheVariants.{Completes, Illegal, Inside}
-use Rattle.rail_history.specs.Lines.{behind}
+use Rattle.rail_rules.specs.Texts.{behind}
 use Rattle.rail_words.specs.Lists.{Listed, list_line_refusal, listed_in, places_test}
 use Rattle.rail_cli.specs.declared.status.Status.{Status}
 use Rattle.rail_cli.specs.declared.status.Status.TheVariants.{Refused}

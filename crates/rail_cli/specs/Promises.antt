@@ -1,13 +1,14 @@
 -- What every form promises beside its answer, by the status that it ends with.
-use Rattle.std.specs.Prelude.{◌≡◌, ◌≢◌, ◌⊎◌, ℕ, ◌≤◌, Bool, true, false, List, [], Result, Ok, Err, IfSome, OnOk, OnErr}
+use Rattle.std.specs.Prelude.{◌≡◌, ◌≢◌, ◌⊎◌, ℕ, ◌≤◌, Bool, true, false, not, List, [], Result, Ok, Err, IfSome, OnOk, OnErr}
+use Rattle.rail_base.specs.declared.refusals.Refusal.{Refusal}
 use Rattle.rail_io.specs.FaultCounts.{Rose}
 use Rattle.rail_io.specs.Writes.{Adds, AddsPrefix}
 use Rattle.rail_io.specs.declared.shelf.Shelf.{Ghosts as ShelfGhosts}
 use Rattle.rail_io.specs.declared.sink.Sink.{Ghosts as SinkGhosts}
 use Rattle.rail_io.specs.declared.sink.Failed.{Failed}
 use Rattle.rail_cli.specs.declared.status.Status.{Status}
-use Rattle.rail_cli.specs.declared.status.Status.TheVariants.{Done, Usage, ReadFault, WriteFault, OutOfMemory}
-use Rattle.rail_cli.specs.Files.{IsRead, IsReadFault, comes_of_files, last_file}
+use Rattle.rail_cli.specs.declared.status.Status.TheVariants.{Done, Usage, Refused, ReadFault, WriteFault, OutOfMemory}
+use Rattle.rail_cli.specs.Files.{IsOneTooLarge, IsRead, IsReadFault, comes_of_files, is_file, last_file}
 
 -- the status of a command that ended so
 abbrev pub ended : Result (Unit {0}) Status → Status
@@ -20,16 +21,21 @@ may_write Done = true
 may_write WriteFault = true
 may_write status = false
 
--- what is done with bytes that were read may end so: with no fault of reading, and not as words that are not in the table
+-- what is done with bytes that were read may end so: with no fault of reading, with no refusal of a file for its size, and
+-- not as words that are not in the table
 abbrev pub is_of_bytes : Status → Bool
 is_of_bytes Usage = false
 is_of_bytes ReadFault = false
+is_of_bytes (Refused refusal) = not (is_file refusal.part)
 is_of_bytes status = true
 
 -- what a command that reads these files in this order promises of the shelf
 pub record ReadsFiles {S : Type 0} (shelf : ShelfGhosts S) (files : List (List ℕ)) (before now : S) (status : Status) : Type 0 where
   -- the count of faults rose, and the failed name is that of one of the files
   pub read_fault : status ≡ ReadFault → IsReadFault shelf files before now
+  -- a file is refused for its size only where more of its bytes were moved than a file may have
+  pub too_large : (refusal : Refusal) → status ≡ Refused refusal → is_file refusal.part ≡ true
+      → IsOneTooLarge shelf 1 files before now refusal
   -- all files were read before a status that comes of them
   pub read : comes_of_files status ≡ true → IfSome (last_file files) (λ file. IsRead shelf file now)
   -- no other file is read

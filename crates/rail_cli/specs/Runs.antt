@@ -64,10 +64,9 @@ pub record IsSafe (plant : Plant) (front : Front) : Type 0 where
   pub few : lines_beside_holds front ≤ bound plant 0
   pub few_holds : (t : ℕ) → lines_that (holds_train t) front ≤ bound plant 0
 
--- the plant may be run, and the bytes added are the text of a run history, in which every event line is the due one;
--- at its end every train has left, and it has exactly as many lines as the bound says, hold lines aside
+-- the bytes added are the text of a run history, in which every event line is the due one; at its end every train has left,
+-- and it has exactly as many lines as the bound says, hold lines aside
 pub record IsRun (plant : Plant) (before now : Option (List ℕ)) : Type 0 where
-  pub accepted : IsTrue (is_accepted plant)
   pub front : Front
   pub history : IsTrue (is_run_history (run_input plant) seats front)
   pub safe : IsSafe plant front
@@ -77,14 +76,21 @@ pub record IsRun (plant : Plant) (before now : Option (List ℕ)) : Type 0 where
 
 -- the bytes added are a first part of the text of a run front
 pub record IsRunInPart (plant : Plant) (before now : Option (List ℕ)) : Type 0 where
-  pub accepted : IsTrue (is_accepted plant)
   pub front : Front
   pub run : IsTrue (is_run (run_input plant) seats front)
   pub safe : IsSafe plant front
   pub adds : AddsPrefix before now (text plant front)
 
+-- the plant may be run: it is within the limits, so that the laws on all such plants speak of it; and its run was added
+abbrev pub RunsPlant : Plant → Option (List ℕ) → Option (List ℕ) → Type 0
+RunsPlant plant before now = IsTrue (is_accepted plant) × IsRun plant before now
+
+-- the plant may be run, and a first part of its run was added
+abbrev pub RunsPlantInPart : Plant → Option (List ℕ) → Option (List ℕ) → Type 0
+RunsPlantInPart plant before now = IsTrue (is_accepted plant) × IsRunInPart plant before now
+
 -- the history of the scene, where the bytes of its file are told
 abbrev pub AnswersRun : List ℕ → Told → Option (List ℕ) → Option (List ℕ) → Status → Type 0
 AnswersRun scene told before now status = (bytes : List ℕ) → told scene ≡ Some bytes
     → IsAnswer (or_else (too_large 1 bytes) (run_refusal bytes))
-    (IsRun (plant_in bytes) before now) (IsRunInPart (plant_in bytes) before now) status
+    (RunsPlant (plant_in bytes) before now) (RunsPlantInPart (plant_in bytes) before now) status

@@ -12,12 +12,12 @@ use Rattle.rail_base.specs.declared.plant.MoveRow.{MoveRow}
 use Rattle.rail_base.specs.declared.plant.TurnRow.{TurnRow}
 use Rattle.rail_rules.specs.Numbers.{is_in}
 use Rattle.rail_base.specs.Limits.{is_from_one}
-use Rattle.rail_rules.specs.Accepted.{are_distinct, is_turn_in_range, is_move_in_range}
+use Rattle.rail_rules.specs.Accepted.{are_distinct_numbers, is_turn_in_range, is_move_in_range}
 use Rattle.rail_rules.specs.Plant.{no_move}
 use Rattle.rail_track.specs.declared.section.Section.{Section}
 use Rattle.rail_track.specs.declared.section.SectionKind.TheVariants.{Plain}
 use Rattle.rail_track.specs.Joints.{is_named}
-use Rattle.rail_track.specs.Lists.{are_apart}
+use Rattle.rail_base.specs.Lists.{are_distinct}
 use Rattle.rail_routes.specs.declared.items.Post.{Post}
 use Rattle.rail_routes.specs.declared.items.Role.{Role}
 use Rattle.rail_routes.specs.declared.items.Role.TheVariants.{Portal, Signal, Board}
@@ -80,12 +80,12 @@ other_number net name (step ∷ rest) known all none =
     false≢true (sym others.0 ∙ (bytes_decides name step.section).1 one)) in
     or_from (eqb (step_number net step) (number_of net name)) (is_in (number_of net name) (map (step_number net) rest)) apart (other_number net name rest known parts.1 others.1)
 
-numbers_distinct : (net : Net) (steps : List Step) → list_all (is_known_step net.sections) steps ≡ true → are_apart have_one_section steps ≡ true → are_distinct (map (step_number net) steps) ≡ true
+numbers_distinct : (net : Net) (steps : List Step) → list_all (is_known_step net.sections) steps ≡ true → are_distinct have_one_section steps ≡ true → are_distinct_numbers (map (step_number net) steps) ≡ true
 numbers_distinct net [] known apart = refl
 numbers_distinct net (step ∷ rest) known apart =
     let parts = and_parts (is_known_step net.sections step) (list_all (is_known_step net.sections) rest) known in
-    let fronts = and_parts (not (list_any (have_one_section step) rest)) (are_apart have_one_section rest) apart in
-    and_from (not (is_in (step_number net step) (map (step_number net) rest))) (are_distinct (map (step_number net) rest))
+    let fronts = and_parts (not (list_any (have_one_section step) rest)) (are_distinct have_one_section rest) apart in
+    and_from (not (is_in (step_number net step) (map (step_number net) rest))) (are_distinct_numbers (map (step_number net) rest))
     (not_from_false (is_in (step_number net step) (map (step_number net) rest)) (other_number net step.section rest parts.0 parts.1 (not-true (list_any (have_one_section step) rest) fronts.0)))
     (numbers_distinct net rest parts.1 fronts.1)
 
@@ -164,7 +164,7 @@ move_fine net h route turn sound fine =
     let times = has_times_in_range post way.no_board (found_passes (is_post route.from) is_timed (posts net) post found (posts_timed net h)) in
     let c1 : Bool = is_from_one ROUTE_SECTIONS (length numbers) in
     let c2 : Bool = list_all (λ x. ltb x (length net.sections)) numbers in
-    let c3 : Bool = are_distinct numbers in
+    let c3 : Bool = are_distinct_numbers numbers in
     let c4 : Bool = is_from_one SETTING post.setting in
     let c5 : Bool = leb post.watching WATCHING in
     let c6 : Bool = leb post.approach APPROACH in

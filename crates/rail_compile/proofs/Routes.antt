@@ -9,7 +9,7 @@ use Rattle.rail_track.specs.declared.section.Section.{Section}
 use Rattle.rail_track.specs.Joints.{is_named, section_named}
 use Rattle.rail_track.specs.Passages.{passages, leads, has_passage}
 use Rattle.rail_base.specs.Limits.{is_from_one}
-use Rattle.rail_track.specs.Lists.{are_apart}
+use Rattle.rail_base.specs.Lists.{are_distinct}
 use Rattle.rail_routes.specs.declared.items.Post.{Post}
 use Rattle.rail_routes.specs.declared.items.Role.{Role}
 use Rattle.rail_routes.specs.declared.items.Role.TheVariants.{Portal, Signal, Board}
@@ -25,13 +25,13 @@ use Rattle.rail_compile.proofs.Finds.{is_some-find}
 pub record IsRoute (net : Net) (route : Route) : Type 0 where
   pub some_step : 1 ≤ length route.steps
   pub few_steps : length route.steps ≤ ROUTE_SECTIONS
-  pub apart : are_apart have_one_section route.steps ≡ true
+  pub apart : are_distinct have_one_section route.steps ≡ true
   pub leads : lead_between net.sections (post_named route.from net) (post_named route.to net) route.steps ≡ true
 
 pub sound_route : (net : Net) (route : Route) → is_sound_route net route ≡ true → IsRoute net route
 sound_route net route h =
     let within : Bool = is_from_one ROUTE_SECTIONS (length route.steps) in
-    let apart : Bool = are_apart have_one_section route.steps in
+    let apart : Bool = are_distinct have_one_section route.steps in
     let leads : Bool = lead_between net.sections (post_named route.from net) (post_named route.to net) route.steps in
     let two = and_parts (within && apart) leads h in
     let one = and_parts within apart two.0 in

@@ -16,8 +16,8 @@ use Rattle.rail_base.specs.declared.plant.TrainRow.{TrainRow}
 use Rattle.rail_rules.specs.Plant.{Plant, no_train, trains}
 use Rattle.rail_rules.specs.Texts.{Item, cause_words, items_of, item_word, line_text, note_words, train_word, what_words}
 use Rattle.rail_rules.specs.Writable.{is_known_move, is_known_train, is_writable_what}
-use Rattle.rail_history.specs.Lines.{HasNames, bare, behind, brought, brought_by_note, brought_words, item_text, line_of, note_brought_words, train_name}
-use Rattle.rail_history.proofs.Spacing.{spaced-behind}
+use Rattle.rail_rules.specs.Texts.{behind}
+use Rattle.rail_history.specs.Lines.{HasNames, bare, brought, brought_by_note, brought_words, item_text, line_of, note_brought_words, train_name}
 
 -- the names are those of the plant's trains
 pub name_is : (plant : Plant) (names : Names) → HasNames plant names → (t : ℕ) → train_word plant t ≡ train_name names t
@@ -68,7 +68,6 @@ text_together plant names named entry kept {said} {begun} {empty} a b c =
     ap (λ (xs : List ℕ). (xs ++ behind more) ++ 10 ∷ []) all
     ∙ ap (λ (xs : List ℕ). xs ++ 10 ∷ []) (append_assoc time (behind first) (behind more))
     ∙ sym (ap (λ (xs : List ℕ). (time ++ xs) ++ 10 ∷ []) e)
-    ∙ sym (spaced-behind time words)
 
 known_each : (plant : Plant) (count : ℕ) → count ≡ trains plant → (kept : List ℕ) → list_all (is_known_train plant) kept ≡ true → AllByRecursion (λ t. t < count) kept
 known_each plant count e [] h = tt

@@ -8,7 +8,8 @@ use Rattle.std.specs.Prelude.{nat_eq}
 use Rattle.std.specs.List.{prefix_len}
 use Rattle.rail_rules.specs.Texts.{Item, items_of, with_train}
 use Rattle.rail_base.specs.declared.names.Names.{Names}
-use Rattle.rail_history.specs.Lines.{behind, item_text, train_name}
+use Rattle.rail_rules.specs.Texts.{behind}
+use Rattle.rail_history.specs.Lines.{item_text, train_name}
 
 -- the train, so many times in a row, and the items of what is behind them
 IsFirst : ℕ → List ℕ → Type 0

@@ -1,7 +1,6 @@
 mod Brought
 mod Items
 mod Pieces
-mod Spacing
 -- Lemmas on words.
 mod Cut
 mod Named

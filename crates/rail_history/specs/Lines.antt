@@ -57,11 +57,6 @@ brought_words names (Admit t m note) kept = note_brought_words names note kept
 brought_words names End kept = map (train_name names) kept
 brought_words names _ kept = []
 
--- words, each behind a space
-abbrev pub behind : List (List ℕ) → List ℕ
-behind [] = []
-behind (word ∷ words) = 32 ∷ word ++ behind words
-
 -- the word of a note
 abbrev pub note_word : Note → List ℕ
 note_word Pulled = codes "pulled"

@@ -5,7 +5,8 @@ ghost use Rattle.rail_base.specs.Clock.{time_text};
 ghost use Rattle.rail_rules.specs.Plant.{Plant};
 ghost use Rattle.rail_rules.specs.Texts.{cause_words, section_word, train_word, what_words};
 ghost use Rattle.rail_rules.specs.Writable.{is_writable_cause, is_writable_what};
-ghost use Rattle.rail_history.specs.Lines.{HasNames, bare, behind, note_word, train_name};
+ghost use Rattle.rail_rules.specs.Texts.{behind};
+ghost use Rattle.rail_history.specs.Lines.{HasNames, bare, note_word, train_name};
 ghost use Rattle.rail_history.specs.declared.line.TheConstants.{ROOM};
 
 use crate::line::Line;

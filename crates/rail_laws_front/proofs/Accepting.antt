@@ -5,7 +5,7 @@ use Rattle.std.proofs.lemmas.Nat.{le-div}
 use Rattle.rail_base.specs.declared.plant.TurnRow.{TurnRow}
 use Rattle.rail_rules.specs.Numbers.{is_in, quotient_up}
 use Rattle.rail_rules.specs.Plant.{Plant, section, trains, train, moves, move_row, needed, step_section, shortest_end, from_turn, longer}
-use Rattle.rail_rules.specs.Accepted.{are_distinct, is_accepted}
+use Rattle.rail_rules.specs.Accepted.{are_distinct_numbers, is_accepted}
 use Rattle.rail_rules.proofs.CallerLemmas.{is_in-head, IsMoveInRange, accepted_parts, list_all_get, move_in_range, row_in_range, section_in_range}
 use Rattle.rail_laws_front.specs.Premises.{IsWellFormed}
 use Rattle.rail_laws_front.proofs.Viewing.{no_moves}
@@ -17,17 +17,17 @@ get_or_is_in (x ∷ xs) zero lt = is_in-head x xs
 get_or_is_in (x ∷ xs) (suc i) lt = or_right (eqb x (get_or xs i 0)) (is_in (get_or xs i 0) xs) (get_or_is_in xs i (omega arith))
 
 -- in a list without repetition an item has one index
-pub distinct_indexes : (xs : List ℕ) (i j : ℕ) → are_distinct xs ≡ true → i < length xs → j < length xs → get_or xs i 0 ≡ get_or xs j 0 → i ≡ j
+pub distinct_indexes : (xs : List ℕ) (i j : ℕ) → are_distinct_numbers xs ≡ true → i < length xs → j < length xs → get_or xs i 0 ≡ get_or xs j 0 → i ≡ j
 distinct_indexes [] i j h li lj same = absurd (omega arith)
 distinct_indexes (x ∷ xs) zero zero h li lj same = refl
 distinct_indexes (x ∷ xs) zero (suc j) h li lj same =
     let P : ℕ → Type 0 = λ y. is_in y xs ≡ true in
-    absurd (false≢true (sym (not-true (is_in x xs) (and_parts (not (is_in x xs)) (are_distinct xs) h).0) ∙ subst P (sym same) (get_or_is_in xs j (omega arith))))
+    absurd (false≢true (sym (not-true (is_in x xs) (and_parts (not (is_in x xs)) (are_distinct_numbers xs) h).0) ∙ subst P (sym same) (get_or_is_in xs j (omega arith))))
 distinct_indexes (x ∷ xs) (suc i) zero h li lj same =
     let P : ℕ → Type 0 = λ y. is_in y xs ≡ true in
-    absurd (false≢true (sym (not-true (is_in x xs) (and_parts (not (is_in x xs)) (are_distinct xs) h).0) ∙ subst P same (get_or_is_in xs i (omega arith))))
+    absurd (false≢true (sym (not-true (is_in x xs) (and_parts (not (is_in x xs)) (are_distinct_numbers xs) h).0) ∙ subst P same (get_or_is_in xs i (omega arith))))
 distinct_indexes (x ∷ xs) (suc i) (suc j) h li lj same =
-    ap suc (distinct_indexes xs i j (and_parts (not (is_in x xs)) (are_distinct xs) h).1 (omega arith) (omega arith) same)
+    ap suc (distinct_indexes xs i j (and_parts (not (is_in x xs)) (are_distinct_numbers xs) h).1 (omega arith) (omega arith) same)
 
 -- the last section of a route is in its shortest end that is as long as a train
 last_in_end : (plant : Plant) (long : ℕ) (xs : List ℕ) → 0 < long → 0 < length xs → is_in (get_or xs (length xs - 1) 0) (shortest_end plant long xs) ≡ true

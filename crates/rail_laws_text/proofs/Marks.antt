@@ -2,9 +2,9 @@
 use Rattle.std.proofs.Common.{◌≡◌, ℕ, Bool, true, false, eqb, List, [], ◌∷◌, ◌++◌, drop, get_or, refl, sym, ap, ◌∙◌, subst}
 use Rattle.std.specs.List.{list_any, list_all}
 use Rattle.std.proofs.lemmas.Bool.{false≢true, and_parts, or_parts, or_from, or_left, or_right}
-use Rattle.std.proofs.lemmas.List.{append_assoc}
+use Rattle.std.proofs.lemmas.List.{append-nil}
 use Rattle.std.proofs.lemmas.List.Folds.{list_any-append}
-use Rattle.rail_rules.specs.Texts.{spaced}
+use Rattle.rail_rules.specs.Texts.{behind, spaced}
 
 -- what passes one test doesn't pass another
 pub none_of : {X : Type 0} (p q : X → Bool) → ((c : X) → p c ≡ true → q c ≡ false) → (xs : List X) → list_all p xs ≡ true → list_any q xs ≡ false
@@ -95,11 +95,16 @@ joined [] = []
 joined (w ∷ []) = w
 joined (w ∷ v ∷ words) = w ++ 32 ∷ joined (v ∷ words)
 
+-- the first word, and the others each behind a space
+joined-behind : (w : List ℕ) (words : List (List ℕ)) → joined (w ∷ words) ≡ w ++ behind words
+unfolding joined
+joined-behind w [] = sym (append-nil w)
+joined-behind w (v ∷ words) = ap (λ rest. w ++ 32 ∷ rest) (joined-behind v words)
+
 pub spaced-joined : (words : List (List ℕ)) → spaced words ≡ joined words ++ 10 ∷ []
 unfolding joined
 spaced-joined [] = refl
-spaced-joined (w ∷ []) = refl
-spaced-joined (w ∷ v ∷ words) = ap (λ rest. w ++ 32 ∷ rest) (spaced-joined (v ∷ words)) ∙ sym (append_assoc w (32 ∷ joined (v ∷ words)) (10 ∷ []))
+spaced-joined (w ∷ words) = ap (λ text. text ++ 10 ∷ []) (sym (joined-behind w words))
 
 pub joined_no_feed : (words : List (List ℕ)) → AreWords words → list_any is_feed (joined words) ≡ false
 unfolding joined

@@ -7,7 +7,7 @@ use Rattle.rail_base.specs.NameForms.{same_name}
 use Rattle.rail_base.specs.declared.limits.TheConstants.{SETTING, WATCHING, APPROACH, TURN_TIME, ROUTE_SECTIONS}
 use Rattle.rail_track.specs.declared.section.Section.{Section}
 use Rattle.rail_base.specs.Limits.{is_from_one}
-use Rattle.rail_track.specs.Lists.{are_apart}
+use Rattle.rail_base.specs.Lists.{are_distinct}
 use Rattle.rail_base.proofs.CallerLemmas.{all_passed}
 use Rattle.rail_track.proofs.CallerLemmas.{same_name-comm, same_from_name, list_all-without}
 use Rattle.rail_routes.specs.declared.items.Post.{Post}
@@ -54,7 +54,7 @@ module _ (net other : Net) where
 
   route_same : (route : Route) → other.sections ≡ net.sections → IsSameNamed net other route.from → IsSameNamed net other route.to → is_sound_route other route ≡ is_sound_route net route
   route_same route sections from to =
-      λ i. is_from_one ROUTE_SECTIONS (length route.steps) && are_apart have_one_section route.steps && lead_between (sections i) (post_same route.from from i) (post_same route.to to i) route.steps
+      λ i. is_from_one ROUTE_SECTIONS (length route.steps) && are_distinct have_one_section route.steps && lead_between (sections i) (post_same route.from from i) (post_same route.to to i) route.steps
 
 -- a name that is there is another than one that is not
 other_name : (net : Net) (known fresh : List ℕ) → list_any (is_post known) (posts net) ≡ true → list_any (is_post fresh) (posts net) ≡ false → same_name known fresh ≡ false

@@ -6,12 +6,13 @@ use Rattle.rail_base.specs.declared.limits.TheConstants.{TURN_TIME, ROUTE_SECTIO
 use Rattle.rail_base.specs.declared.refusals.Reason.TheVariants.{RouteRepeat}
 use Rattle.rail_track.specs.declared.section.Section.{Section}
 use Rattle.rail_base.specs.Limits.{is_from_one}
-use Rattle.rail_track.specs.Lists.{without, are_apart}
+use Rattle.rail_base.specs.Lists.{are_distinct}
+use Rattle.rail_track.specs.Lists.{without}
 use Rattle.rail_base.specs.FirstRefusals.{Test, tests_over}
 use Rattle.rail_track.specs.NetFaults.{refused_where}
 use Rattle.rail_track.specs.Sound.{IsSoundTrack}
 use Rattle.rail_base.proofs.CallerLemmas.{AllPassed, all_passed}
-use Rattle.rail_track.proofs.CallerLemmas.{same_name-comm, list_all-without, are_apart-push}
+use Rattle.rail_track.proofs.CallerLemmas.{same_name-comm, list_all-without, are_distinct-push}
 use Rattle.rail_routes.specs.declared.items.Post.{Post}
 use Rattle.rail_routes.specs.declared.items.Role.TheVariants.{Portal, Signal, Board}
 use Rattle.rail_routes.specs.declared.items.Step.{Step}
@@ -69,9 +70,9 @@ passed_parts (t ∷ ts) us h = let rest = passed_parts ts us h.1 in ((h.0, rest.
 before_next : (n : ℕ) → n + 1 - 1 ≡ n
 before_next n = omega arith
 
-apart_from : (steps before rest : List Step) (n : ℕ) → before ++ rest ≡ steps → n ≡ length before + 1 → are_apart have_one_section before ≡ true
-    → AllPassed (tests_over (λ k step. refused_where RouteRepeat k (occurred steps k step)) n rest) → are_apart have_one_section steps ≡ true
-apart_from steps before [] n split is apart passed = ap (are_apart have_one_section) (sym split ∙ append_nil before) ∙ apart
+apart_from : (steps before rest : List Step) (n : ℕ) → before ++ rest ≡ steps → n ≡ length before + 1 → are_distinct have_one_section before ≡ true
+    → AllPassed (tests_over (λ k step. refused_where RouteRepeat k (occurred steps k step)) n rest) → are_distinct have_one_section steps ≡ true
+apart_from steps before [] n split is apart passed = ap (are_distinct have_one_section) (sym split ∙ append_nil before) ∙ apart
   where
     append_nil : (xs : List Step) → xs ++ [] ≡ xs
     append_nil [] = refl
@@ -80,7 +81,7 @@ apart_from steps before (step ∷ rest) n split is apart passed =
     let earlier : take (n - 1) steps ≡ before = (λ i. take ((ap (λ k. k - 1) is ∙ before_next (length before)) i) (sym split i)) ∙ front before (step ∷ rest) in
     let other : list_any (have_one_section step) before ≡ false = sym (ap (list_any (have_one_section step)) earlier) ∙ passed.0 in
     apart_from steps (before ++ step ∷ []) rest (n + 1) (append_assoc before (step ∷ []) rest ∙ split) (omega (arith, length_push before step, is))
-    (are_apart-push have_one_section (λ x y. same_name-comm x.section y.section) before step apart other) passed.1
+    (are_distinct-push have_one_section (λ x y. same_name-comm x.section y.section) before step apart other) passed.1
   where
     front : (xs ys : List Step) → take (length xs) (xs ++ ys) ≡ xs
     front [] ys = refl
@@ -134,5 +135,5 @@ pub sound_short : (net : Net) → IsSoundNetwork net → list_all is_short net.r
 sound_short net is =
     all_more is_short (is_sound_route net)
     (λ route h. (both_true (nat_le 1 (length route.steps)) (is_short route)
-    (both_true (is_from_one ROUTE_SECTIONS (length route.steps)) (are_apart have_one_section route.steps)
-    (both_true (is_from_one ROUTE_SECTIONS (length route.steps) && are_apart have_one_section route.steps) (lead_between net.sections (post_named route.from net) (post_named route.to net) route.steps) h).0).0).1) net.routes is.routes
+    (both_true (is_from_one ROUTE_SECTIONS (length route.steps)) (are_distinct have_one_section route.steps)
+    (both_true (is_from_one ROUTE_SECTIONS (length route.steps) && are_distinct have_one_section route.steps) (lead_between net.sections (post_named route.from net) (post_named route.to net) route.steps) h).0).0).1) net.routes is.routes

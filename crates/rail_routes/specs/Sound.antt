@@ -4,7 +4,7 @@ use Rattle.std.specs.List.{list_any, list_all}
 use Rattle.rail_base.specs.NameForms.{same_name}
 use Rattle.rail_base.specs.Limits.{is_from_one, most, SettingTime, WatchingTime, ApproachTime, TurnTime, RouteSections}
 use Rattle.rail_track.specs.declared.section.Section.{Section}
-use Rattle.rail_track.specs.Lists.{are_apart}
+use Rattle.rail_base.specs.Lists.{are_distinct}
 use Rattle.rail_routes.specs.declared.items.Post.{Post}
 use Rattle.rail_routes.specs.declared.items.Role.{Role}
 use Rattle.rail_routes.specs.declared.items.Role.TheVariants.{Portal, Signal, Board}
@@ -56,7 +56,7 @@ lead_between sections begin end steps = false
 -- the route has few enough steps, over different sections, which lead from its first post to its last
 abbrev pub is_sound_route : Net → Route → Bool
 is_sound_route net route =
-    is_from_one (most RouteSections) (length route.steps) && are_apart have_one_section route.steps
+    is_from_one (most RouteSections) (length route.steps) && are_distinct have_one_section route.steps
     && lead_between net.sections (post_named route.from net) (post_named route.to net) route.steps
 
 -- a sound network is distinct, and each of its posts, turns and routes is sound in it

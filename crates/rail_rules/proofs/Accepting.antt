@@ -15,7 +15,7 @@ use Rattle.rail_rules.specs.Numbers.{all_below}
 use Rattle.rail_rules.specs.Moves.{is_valid}
 use Rattle.rail_rules.specs.Plant.{Plant, no_move, no_section, section, trains, train, moves, move_row, moves_of, call_after}
 use Rattle.rail_base.specs.Limits.{is_from_one}
-use Rattle.rail_rules.specs.Accepted.{are_distinct, are_distinct_names, is_section_in_range, is_kind_in_range, is_turn_in_range, is_move_in_range, is_train_in_range, is_time_in_range, is_call_in_range, does_fit, are_calls_in_range, is_accepted}
+use Rattle.rail_rules.specs.Accepted.{are_distinct_numbers, are_distinct_names, is_section_in_range, is_kind_in_range, is_turn_in_range, is_move_in_range, is_train_in_range, is_time_in_range, is_call_in_range, does_fit, are_calls_in_range, is_accepted}
 use Rattle.rail_rules.proofs.Below.{all_below_at}
 
 -- a test that all items pass is passed by the item at an index
@@ -167,7 +167,7 @@ pub record IsMoveInRange (sections : ℕ) (row : MoveRow) : Type 0 where
   pub some_step : 0 < length row.sections
   pub few_steps : length row.sections ≤ ROUTE_SECTIONS
   pub known : list_all (λ x. ltb x sections) row.sections ≡ true
-  pub distinct : are_distinct row.sections ≡ true
+  pub distinct : are_distinct_numbers row.sections ≡ true
   pub some_setting : 0 < row.setting
   pub setting : row.setting ≤ SETTING
   pub watching : row.watching ≤ WATCHING
@@ -179,7 +179,7 @@ pub move_in_range : (sections : ℕ) (row : MoveRow) → is_move_in_range sectio
 move_in_range sections row h =
     let c1 : Bool = is_from_one ROUTE_SECTIONS (length row.sections) in
     let c2 : Bool = list_all (λ x. ltb x sections) row.sections in
-    let c3 : Bool = are_distinct row.sections in
+    let c3 : Bool = are_distinct_numbers row.sections in
     let c4 : Bool = is_from_one SETTING row.setting in
     let c5 : Bool = leb row.watching WATCHING in
     let c6 : Bool = leb row.approach APPROACH in

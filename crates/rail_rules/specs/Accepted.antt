@@ -1,7 +1,8 @@
 -- Plants and inputs that may be run.
 use Rattle.std.specs.Prelude.{ℕ, suc, ◌-◌, ◌==◌, Bool, true, not, ◌&&◌, ◌||◌, nat_lt, nat_le, is_some, List, [], ◌∷◌, length, map, sum_by, Option, Some, None}
-use Rattle.std.specs.List.{list_any, list_all}
+use Rattle.std.specs.List.{list_all}
 use Rattle.rail_base.specs.NameForms.{is_name}
+use Rattle.rail_base.specs.Lists.{are_distinct}
 use Rattle.rail_base.specs.Limits.{is_from_one, most, Sections, Trains, RouteSections, ItineraryRoutes, Commands, Policies, Depth, InputTime, SectionLength, TrainLength, Speed, SettingTime, WatchingTime, ApproachTime, TurnTime, ReleaseTime, StartSupplement, StopSupplement}
 use Rattle.rail_base.specs.declared.plant.SectionRow.{SectionRow}
 use Rattle.rail_base.specs.declared.plant.TrainRow.{TrainRow}
@@ -12,20 +13,18 @@ use Rattle.rail_base.specs.declared.plant.Call.{Call}
 use Rattle.rail_base.specs.declared.orders.Command.{Command}
 use Rattle.rail_base.specs.declared.orders.Order.{Order}
 use Rattle.rail_base.specs.declared.orders.Order.TheVariants.{Policy, Retire, Close, Reopen, Stop, Go, Cancel, Priority}
-use Rattle.rail_rules.specs.Numbers.{all_below, is_in, same_numbers}
+use Rattle.rail_rules.specs.Numbers.{all_below, same_numbers}
 use Rattle.rail_rules.specs.Moves.{is_valid}
 use Rattle.rail_rules.specs.Plant.{Plant, section, trains, train, moves, move_row, moves_of, call_after}
 use Rattle.rail_rules.specs.Orders.{Input}
 
 -- no number stands twice
-abbrev pub are_distinct : List ℕ → Bool
-are_distinct [] = true
-are_distinct (x ∷ xs) = not (is_in x xs) && are_distinct xs
+abbrev pub are_distinct_numbers : List ℕ → Bool
+are_distinct_numbers = are_distinct (λ x y. y == x)
 
 -- no name stands twice
 abbrev pub are_distinct_names : List (List ℕ) → Bool
-are_distinct_names [] = true
-are_distinct_names (name ∷ names) = not (list_any (same_numbers name) names) && are_distinct_names names
+are_distinct_names = are_distinct same_numbers
 
 -- a section within the ranges
 abbrev pub is_section_in_range : SectionRow → Bool
@@ -44,7 +43,7 @@ is_turn_in_range steps (Some turn) = is_from_one steps turn.step && nat_le turn.
 -- a move over known sections, none of them twice, within the ranges
 abbrev pub is_move_in_range : ℕ → MoveRow → Bool
 is_move_in_range sections row = is_from_one (most RouteSections) (length row.sections)
-    && list_all (λ x. nat_lt x sections) row.sections && are_distinct row.sections
+    && list_all (λ x. nat_lt x sections) row.sections && are_distinct_numbers row.sections
     && is_from_one (most SettingTime) row.setting && nat_le row.watching (most WatchingTime) && nat_le row.approach (most ApproachTime)
     && is_turn_in_range (length row.sections) row.turn
 

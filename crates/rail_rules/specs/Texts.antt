@@ -69,11 +69,15 @@ what_words plant line End = codes "end" ∷ map (train_word plant) line.trains
 abbrev pub line_words : Plant → Line → List (List ℕ)
 line_words plant line = time_text line.entry.at ∷ what_words plant line line.entry.what
 
+-- words, each behind a space
+abbrev pub behind : List (List ℕ) → List ℕ
+behind [] = []
+behind (word ∷ words) = 32 ∷ word ++ behind words
+
 -- words with one space between two of them, and a line feed at the end
 abbrev pub spaced : List (List ℕ) → List ℕ
 spaced [] = 10 ∷ []
-spaced (word ∷ []) = word ++ 10 ∷ []
-spaced (word ∷ words) = word ++ 32 ∷ spaced words
+spaced (word ∷ words) = word ++ behind words ++ 10 ∷ []
 
 -- the text of a line
 abbrev pub line_text : Plant → Line → List ℕ

@@ -9,14 +9,14 @@ use Rattle.rail_track.specs.declared.section.NetFault.{NetFault}
 use Rattle.rail_base.specs.declared.refusals.Refusal.{Refusal}
 use Rattle.rail_base.specs.FirstRefusals.{Test, first_failing}
 use Rattle.rail_track.specs.NetFaults.{Answers}
-use Rattle.rail_scene.specs.declared.draft.Draft.{Draft}
+use Rattle.rail_scene.specs.SceneItems.{SceneItems}
 use Rattle.rail_scene.specs.declared.keys.Key.{Key}
 use Rattle.rail_scene.specs.declared.keys.ListPart.{ListPart}
 use Rattle.rail_scene.specs.declared.keys.ListPart.TheVariants.{Section, Portal, Signal, Board, Turn, Route, Kind, Train}
 use Rattle.rail_scene.specs.Keys.{list_key, part_of}
 use Rattle.rail_scene.specs.Fields.{elements_at}
 use Rattle.rail_scene.specs.Entries.{section_of, portal_of, signal_of, board_of, turn_of, route_of, kind_of, train_of}
-use Rattle.rail_scene.specs.Drafts.{item_tests, with_items}
+use Rattle.rail_scene.specs.SceneItems.{item_tests, with_items}
 use Rattle.rail_base.specs.Refusals.{AnswersFirst}
 use Rattle.rail_scene.specs.Order.{located, list_values, values_of, with_lists, fault_at, item_number}
 use Rattle.rail_scene.proofs.Segments.{passed_on, scene_before}
@@ -24,7 +24,7 @@ use Rattle.rail_scene.proofs.Locating.{located_none, answers_located}
 use Rattle.rail_scene.proofs.Views.{view_more}
 
 -- a table, then the others, are all of them
-pub with_more : (part : ListPart) (node : Data) (nodes : List Data) (draft : Draft) → with_items part nodes (with_items part (node ∷ []) draft) ≡ with_items part (node ∷ nodes) draft
+pub with_more : (part : ListPart) (node : Data) (nodes : List Data) (draft : SceneItems) → with_items part nodes (with_items part (node ∷ []) draft) ≡ with_items part (node ∷ nodes) draft
 with_more Section node nodes draft = ap (λ xs. record draft { network = record draft.network { sections = xs } }) (append_assoc draft.network.sections (section_of node ∷ []) (map section_of nodes))
 with_more Portal node nodes draft = ap (λ xs. record draft { network = record draft.network { portals = xs } }) (append_assoc draft.network.portals (portal_of node ∷ []) (map portal_of nodes))
 with_more Signal node nodes draft = ap (λ xs. record draft { network = record draft.network { signals = xs } }) (append_assoc draft.network.signals (signal_of node ∷ []) (map signal_of nodes))
@@ -35,7 +35,7 @@ with_more Kind node nodes draft = ap (λ xs. record draft { kinds = xs }) (appen
 with_more Train node nodes draft = ap (λ xs. record draft { trains = xs }) (append_assoc draft.trains (train_of node ∷ []) (map train_of nodes))
 
 -- no tables add nothing
-pub with_none : (part : ListPart) (draft : Draft) → with_items part [] draft ≡ draft
+pub with_none : (part : ListPart) (draft : SceneItems) → with_items part [] draft ≡ draft
 with_none Section draft = ap (λ xs. record draft { network = record draft.network { sections = xs } }) (append-nil draft.network.sections)
 with_none Portal draft = ap (λ xs. record draft { network = record draft.network { portals = xs } }) (append-nil draft.network.portals)
 with_none Signal draft = ap (λ xs. record draft { network = record draft.network { signals = xs } }) (append-nil draft.network.signals)
@@ -45,11 +45,11 @@ with_none Route draft = ap (λ xs. record draft { network = record draft.network
 with_none Kind draft = ap (λ xs. record draft { kinds = xs }) (append-nil draft.kinds)
 with_none Train draft = ap (λ xs. record draft { trains = xs }) (append-nil draft.trains)
 
-module _ (part : ListPart) (draft : Draft) (tables : List Value) (i : ℕ) (table : Value) (within : i < length tables) (is : table ≡ get_or tables i table) where
+module _ (part : ListPart) (draft : SceneItems) (tables : List Value) (i : ℕ) (table : Value) (within : i < length tables) (is : table ≡ get_or tables i table) where
   abbrev own : List (Test NetFault)
   own = item_tests part draft (view table)
 
-  abbrev next : Draft
+  abbrev next : SceneItems
   next = with_items part (view table ∷ []) draft
 
   abbrev rest : List (Test Refusal)
@@ -69,7 +69,7 @@ module _ (part : ListPart) (draft : Draft) (tables : List Value) (i : ℕ) (tabl
   pub draft_pass : with_items part (map view (drop i tables)) draft ≡ with_items part (map view (drop (i + 1) tables)) next
   draft_pass = view_more (λ ys. with_items part ys draft) tables i table within is ∙ sym (with_more part (view table) (map view (drop (i + 1) tables)) draft)
 
-module _ (root : Data) (draft : Draft) (parts : List ListPart) (i : ℕ) (d : ListPart) (within : i < length parts) where
+module _ (root : Data) (draft : SceneItems) (parts : List ListPart) (i : ℕ) (d : ListPart) (within : i < length parts) where
   abbrev part : ListPart
   part = get_or parts i d
 

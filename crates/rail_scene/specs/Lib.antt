@@ -6,7 +6,7 @@ pub mod Entries
 pub mod Forms
 pub mod Values
 pub mod Rosters
-pub mod Drafts
+pub mod SceneItems
 pub mod SpelledItems
 pub mod SpelledScenes
 pub mod Order

@@ -10,13 +10,13 @@ use Rattle.rail_base.specs.declared.refusals.Refusal.{Refusal}
 use Rattle.rail_track.specs.declared.section.NetFault.{NetFault}
 use Rattle.rail_track.specs.declared.section.NetFault.TheVariants.{Refused, OutOfMemory}
 use Rattle.rail_base.specs.FirstRefusals.{Test, first_failing}
-use Rattle.rail_scene.specs.declared.draft.Draft.{Draft}
+use Rattle.rail_scene.specs.SceneItems.{SceneItems}
 use Rattle.rail_scene.specs.declared.keys.ListPart.{ListPart}
 use Rattle.rail_scene.specs.Keys.{list_parts, list_key, root_keys, keys_of, part_of}
 use Rattle.rail_scene.specs.Fields.{elements_at}
 use Rattle.rail_scene.specs.Forms.{form_tests}
 use Rattle.rail_scene.specs.Values.{value_tests}
-use Rattle.rail_scene.specs.Drafts.{empty_draft, item_tests, with_items}
+use Rattle.rail_scene.specs.SceneItems.{no_items, item_tests, with_items}
 use Rattle.rail_scene.specs.SpelledScenes.{document, root_of}
 
 -- a refusal tells the number of an item up to the greatest that it has room for
@@ -54,31 +54,31 @@ unfoldable pub scene_forms : Data → List (Test Refusal)
 scene_forms root = located Root 0 (form_tests root_keys root) ++ forms_of root list_parts
 
 -- the values of the tables of a list, numbered from n, each beside the items before it
-abbrev pub list_values : ListPart → ℕ → Draft → List Data → List (Test Refusal)
-list_values part n draft [] = []
-list_values part n draft (node ∷ nodes) =
-    located (part_of part) n (item_tests part draft node)
-    ++ list_values part (n + 1) (with_items part (node ∷ []) draft) nodes
+abbrev pub list_values : ListPart → ℕ → SceneItems → List Data → List (Test Refusal)
+list_values part n items [] = []
+list_values part n items (node ∷ nodes) =
+    located (part_of part) n (item_tests part items node)
+    ++ list_values part (n + 1) (with_items part (node ∷ []) items) nodes
 
 -- the values of the lists in turn
-abbrev pub values_of : Data → Draft → List ListPart → List (Test Refusal)
-values_of root draft [] = []
-values_of root draft (part ∷ parts) =
-    list_values part 1 draft (elements_at (list_key part) root)
-    ++ values_of root (with_items part (elements_at (list_key part) root) draft) parts
+abbrev pub values_of : Data → SceneItems → List ListPart → List (Test Refusal)
+values_of root items [] = []
+values_of root items (part ∷ parts) =
+    list_values part 1 items (elements_at (list_key part) root)
+    ++ values_of root (with_items part (elements_at (list_key part) root) items) parts
 
--- the draft with the items of the lists of these parts
-abbrev pub with_lists : Data → List ListPart → Draft → Draft
-with_lists root [] draft = draft
-with_lists root (part ∷ parts) draft = with_lists root parts (with_items part (elements_at (list_key part) root) draft)
+-- the items with those of the lists of these parts
+abbrev pub with_lists : Data → List ListPart → SceneItems → SceneItems
+with_lists root [] items = items
+with_lists root (part ∷ parts) items = with_lists root parts (with_items part (elements_at (list_key part) root) items)
 
 -- the values of all lists of a root
 unfoldable pub lists_values : Data → List (Test Refusal)
-lists_values root = values_of root empty_draft list_parts
+lists_values root = values_of root no_items list_parts
 
--- the draft that all lists of a root fill
-unfoldable pub lists_draft : Data → Draft
-lists_draft root = with_lists root list_parts empty_draft
+-- the items that all lists of a root fill
+unfoldable pub listed_items : Data → SceneItems
+listed_items root = with_lists root list_parts no_items
 
 -- the values of all tables: the root, then its lists
 unfoldable pub scene_values : Data → List (Test Refusal)

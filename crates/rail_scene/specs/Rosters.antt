@@ -5,7 +5,7 @@ use Rattle.rail_base.specs.Limits.{most, Kinds, Trains}
 use Rattle.rail_base.specs.declared.refusals.Reason.TheVariants.{Repeated}
 use Rattle.rail_base.specs.declared.plant.TrainKind.{TrainKind}
 use Rattle.rail_track.specs.declared.section.NetFault.{NetFault}
-use Rattle.rail_track.specs.Lists.{are_apart}
+use Rattle.rail_base.specs.Lists.{are_distinct}
 use Rattle.rail_base.specs.FirstRefusals.{Test}
 use Rattle.rail_track.specs.NetFaults.{refused_where}
 use Rattle.rail_scene.specs.declared.scene.SceneTrain.{SceneTrain}
@@ -15,13 +15,13 @@ use Rattle.rail_scene.specs.Scenes.{is_fit_kind, is_fit_train, is_one_kind, is_o
 pub record AreKinds (kinds : List TrainKind) : Type 0 where
   pub few : length kinds ≤ most Kinds
   pub fit : IsTrue (list_all is_fit_kind kinds)
-  pub apart : IsTrue (are_apart is_one_kind kinds)
+  pub apart : IsTrue (are_distinct is_one_kind kinds)
 
 -- few enough trains, each fit and of a name of its own
 pub record AreTrains (trains : List SceneTrain) : Type 0 where
   pub few : length trains ≤ most Trains
   pub fit : IsTrue (list_all is_fit_train trains)
-  pub apart : IsTrue (are_apart is_one_train trains)
+  pub apart : IsTrue (are_distinct is_one_train trains)
 
 -- the tests of a new kind beside these
 abbrev pub kind_tests : List TrainKind → TrainKind → List (Test NetFault)

@@ -4,7 +4,7 @@ use Rattle.std.specs.List.{list_all}
 use Rattle.rail_base.specs.NameForms.{same_name}
 use Rattle.rail_base.specs.Limits.{is_from_one, most, ReleaseTime, Depth, Kinds, Trains, TrainLength, Speed, StartSupplement, StopSupplement, InputTime, ItineraryRoutes}
 use Rattle.rail_base.specs.declared.plant.TrainKind.{TrainKind}
-use Rattle.rail_track.specs.Lists.{are_apart}
+use Rattle.rail_base.specs.Lists.{are_distinct}
 use Rattle.rail_scene.specs.declared.scene.Scene.{Scene}
 use Rattle.rail_scene.specs.declared.scene.SceneTrain.{SceneTrain}
 
@@ -34,5 +34,5 @@ pub record IsScene (scene : Scene) : Type 0 where
   pub few_trains : length scene.trains ≤ most Trains
   pub kinds : IsTrue (list_all is_fit_kind scene.kinds)
   pub trains : IsTrue (list_all is_fit_train scene.trains)
-  pub kinds_apart : IsTrue (are_apart is_one_kind scene.kinds)
-  pub trains_apart : IsTrue (are_apart is_one_train scene.trains)
+  pub kinds_apart : IsTrue (are_distinct is_one_kind scene.kinds)
+  pub trains_apart : IsTrue (are_distinct is_one_train scene.trains)

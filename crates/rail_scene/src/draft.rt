@@ -16,6 +16,7 @@ use rail_base::{Fault, Reason};
 use rail_routes::Network;
 use rail_track::NetFault;
 use std::alloc::Global;
+use std::marker::Model;
 use toml::Value;
 
 /// The items of a scene that were read so far.
@@ -26,14 +27,26 @@ pub(crate) struct Draft {
     pub(crate) trains: Trains,
 }
 
+impl Model for Draft {
+    ghost use Rattle.rail_scene.specs.SceneItems.{SceneItems};
+
+    ghost Value = { SceneItems };
+
+    ghost view = { λ draft. record {
+      network = draft.network;
+      kinds = draft.kinds;
+      trains = draft.trains;
+    } };
+}
+
 impl Draft {
-    ghost use Rattle.rail_scene.specs.Drafts.{empty_draft, is_full, are_posts_full, own_tests, item_tests, with_items};
+    ghost use Rattle.rail_scene.specs.SceneItems.{no_items, is_full, are_posts_full, own_tests, item_tests, with_items};
     ghost use Rattle.rail_base.specs.Refusals.{AnswersFirst};
     ghost use Rattle.rail_scene.specs.Order.{list_values, values_of, with_lists};
 
     /// A scene without items. It takes no memory.
     pub(crate) fn new(alloc: Global) -> Draft
-        ensures { result ≡ empty_draft }
+        ensures { result ≡ no_items }
     {
         Draft {
             network: Network::new(alloc),

@@ -11,7 +11,7 @@ ghost use Rattle.rail_scene.specs.Fields.{policy_at};
 ghost use Rattle.rail_scene.specs.Entries.{spelled_number};
 ghost use Rattle.rail_scene.specs.Values.{value_tests};
 ghost use Rattle.rail_base.specs.Refusals.{AnswersFirst};
-ghost use Rattle.rail_scene.specs.Order.{scene_refusal, scene_values, lists_values, lists_draft, toml_test};
+ghost use Rattle.rail_scene.specs.Order.{scene_refusal, scene_values, lists_values, listed_items, toml_test};
 ghost use Rattle.rail_scene.specs.SpelledScenes.{spelled_scene, scene_of, root_of};
 
 use crate::draft::Draft;
@@ -94,7 +94,7 @@ fn read_values(alloc: Global, root: &Value) -> Result<Scene, Fault>
 /// The items of the lists of a root.
 fn read_lists(alloc: Global, root: &Value) -> Result<Draft, Fault>
     ensures accepted { OnOk result (first_failing (lists_values (view root.now)) ≡ None) }
-    ensures draft { IfOk result (λ draft. draft ≡ lists_draft (view root.now)) }
+    ensures draft { IfOk result (λ draft. draft ≡ listed_items (view root.now)) }
     ensures refused { IfErr result (AnswersFirst (first_failing (lists_values (view root.now)))) }
 {
     let mut draft = Draft::new(alloc);

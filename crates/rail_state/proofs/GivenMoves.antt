@@ -16,7 +16,7 @@ use Rattle.rail_laws_run.specs.HolderTables.{held_cause, taken_by}
 use Rattle.rail_queue.specs.declared.event.Event.{Event}
 use Rattle.rail_state.specs.declared.train.TrainState.{TrainState}
 use Rattle.rail_state.specs.TrainStates.{state_of}
-use Rattle.rail_rules.specs.Accepted.{are_distinct}
+use Rattle.rail_rules.specs.Accepted.{are_distinct_numbers}
 use Rattle.rail_rules.specs.Causes.{place}
 use Rattle.rail_rules.specs.Fronts.{Front, admissions}
 use Rattle.rail_rules.specs.Numbers.{is_in, or_else}
@@ -47,7 +47,7 @@ first_known h x xs can = ltb-true x (length h) (and_parts (ltb x (length h)) (li
 -- the others may be taken after it
 pub rest_after : (h : List (Option ℕ)) (x t : ℕ) (xs : List ℕ) → CanBeTaken h (x ∷ xs) → CanBeTaken (set h x (Some t)) xs
 rest_after h x t xs can =
-    let apart = and_parts (not (is_in x xs)) (are_distinct xs) can.distinct in
+    let apart = and_parts (not (is_in x xs)) (are_distinct_numbers xs) can.distinct in
     let free_rest : held_cause h xs ≡ None = ap (λ o. or_else (option_map (Blocked x) o) (held_cause h xs)) (sym (first_free h x xs can)) ∙ can.free in
     let known_rest : list_all (λ y. ltb y (length h)) xs ≡ true = (and_parts (ltb x (length h)) (list_all (λ y. ltb y (length h)) xs) can.known).1 in
     record {

@@ -1,7 +1,7 @@
 -- What is known of a train whose next move is to be admitted.
 use Rattle.std.specs.Prelude.{◌≡◌, ℕ, suc, ◌<◌, ◌≤◌, ◌^◌, true, nat_lt, List, [], ◌∷◌, ◌++◌, length, Option, None}
 use Rattle.std.specs.List.{list_all}
-use Rattle.rail_rules.specs.Accepted.{are_distinct}
+use Rattle.rail_rules.specs.Accepted.{are_distinct_numbers}
 use Rattle.rail_rules.specs.Plant.{Plant, moves, trains}
 use Rattle.rail_rules.specs.Fronts.{Front, admissions}
 use Rattle.rail_rules.specs.Causes.{place}
@@ -26,5 +26,5 @@ pub record IsGivable (plant : Plant) (front : Front) (states : List TrainState) 
 -- a train may take these sections: they are known, none of them stands twice, and nobody holds one
 pub record CanBeTaken (holders : List (Option ℕ)) (sections : List ℕ) : Type 0 where
   pub known : list_all (λ x. nat_lt x (length holders)) sections ≡ true
-  pub distinct : are_distinct sections ≡ true
+  pub distinct : are_distinct_numbers sections ≡ true
   pub free : held_cause holders sections ≡ None

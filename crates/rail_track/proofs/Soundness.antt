@@ -18,7 +18,7 @@ use Rattle.rail_track.specs.Sound.{is_fit, have_one_name, IsSoundTrack}
 use Rattle.rail_track.proofs.Tallies.{same_from_name, same_name-comm}
 use Rattle.rail_base.proofs.CallerLemmas.{all_passed}
 use Rattle.rail_track.proofs.Refusals.{none_fails}
-use Rattle.rail_track.proofs.Withouts.{length-without-le, list_all-without, count_by-without-le, count_by-without, count_by_none, count_by_some, find_passes, are_apart-without, are_apart-push}
+use Rattle.rail_track.proofs.Withouts.{length-without-le, list_all-without, count_by-without-le, count_by-without, count_by_none, count_by_some, find_passes, are_distinct-without, are_distinct-push}
 
 -- a test that no name passes is failed by each name that is there
 pub fails_at : (fails : List ℕ → Bool) (joint : List ℕ) (joints : List (List ℕ)) → list_any fails joints ≡ false → list_any (same_name joint) joints ≡ true → fails joint ≡ false
@@ -58,7 +58,7 @@ pub IsSoundTrack-without : (p : Section → Bool) (sections : List Section) → 
 IsSoundTrack-without p sections sound = record {
   few = omega (arith, sound.few, length-without-le p sections);
   fit = list_all-without p is_fit sections sound.fit;
-  distinct = are_apart-without have_one_name p sections sound.distinct;
+  distinct = are_distinct-without have_one_name p sections sound.distinct;
   joined = λ joint. omega (arith, sound.joined joint, count_by-without-le p (has_joint joint) sections);
 }
 
@@ -115,7 +115,7 @@ pub IsSoundTrack-push : (sections : List Section) (is_closed : List ℕ → Bool
 IsSoundTrack-push sections is_closed section sound is roomy = record {
   few = omega (arith, length_push sections section, is.few);
   fit = list_all-append is_fit sections (section ∷ []) ∙ (λ i. sound.fit i && (is.fit i && true));
-  distinct = are_apart-push have_one_name (λ x y. same_name-comm x.name y.name) sections section sound.distinct is.fresh;
+  distinct = are_distinct-push have_one_name (λ x y. same_name-comm x.name y.name) sections section sound.distinct is.fresh;
   joined = λ joint. rw sections_at-push (by joint (has_joint joint section) refl);
 }
   where

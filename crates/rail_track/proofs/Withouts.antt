@@ -3,7 +3,8 @@ use Rattle.std.proofs.Common.{◌≡◌, ℕ, ◌+◌, ◌≤◌, Bool, true, fa
 use Rattle.std.specs.List.{find, list_any, list_all}
 use Rattle.std.proofs.lemmas.List.Sums.{sum_by-cons}
 use Rattle.std.proofs.lemmas.Bool.Decides.{nat_tests}
-use Rattle.rail_track.specs.Lists.{without, are_apart}
+use Rattle.rail_base.specs.Lists.{are_distinct}
+use Rattle.rail_track.specs.Lists.{without}
 use Rattle.std.proofs.lemmas.List.Folds.{list_any-append}
 
 pub count_by-cons : {X : Type 0} (p : X → Bool) (x : X) (xs : List X) → count_by p (x ∷ xs) ≡ cond (p x) 1 0 + count_by p xs
@@ -92,22 +93,22 @@ count_by_some p (x ∷ xs) some = by (p x) refl (count_by_some p xs) some
     by false is rest some = omega (arith, count_by-cons p x xs, rest some)
 
 -- items that are apart stay so
-pub are_apart-without : {X : Type 0} (alike : X → X → Bool) (p : X → Bool) (xs : List X) → are_apart alike xs ≡ true → are_apart alike (without p xs) ≡ true
-are_apart-without alike p [] d = refl
-are_apart-without alike p (x ∷ xs) d = by (p x) (list_any (alike x) xs) refl (are_apart-without alike p xs) d
+pub are_distinct-without : {X : Type 0} (alike : X → X → Bool) (p : X → Bool) (xs : List X) → are_distinct alike xs ≡ true → are_distinct alike (without p xs) ≡ true
+are_distinct-without alike p [] d = refl
+are_distinct-without alike p (x ∷ xs) d = by (p x) (list_any (alike x) xs) refl (are_distinct-without alike p xs) d
   where
-    by : (b c : Bool) → list_any (alike x) xs ≡ c → (are_apart alike xs ≡ true → are_apart alike (without p xs) ≡ true) → (not c && are_apart alike xs) ≡ true → are_apart alike (cond b xs (x ∷ without p xs)) ≡ true
+    by : (b c : Bool) → list_any (alike x) xs ≡ c → (are_distinct alike xs ≡ true → are_distinct alike (without p xs) ≡ true) → (not c && are_distinct alike xs) ≡ true → are_distinct alike (cond b xs (x ∷ without p xs)) ≡ true
     by b true is rest d = cc
     by true false is rest d = d
     by false false is rest d = λ i. not (list_any-without p (alike x) xs is i) && rest d i
 
-pub are_apart-push : {X : Type 0} (alike : X → X → Bool) → ((x y : X) → alike x y ≡ alike y x) → (xs : List X) (y : X) → are_apart alike xs ≡ true → list_any (alike y) xs ≡ false → are_apart alike (xs ++ y ∷ []) ≡ true
-are_apart-push alike both [] y d fresh = refl
-are_apart-push alike both (x ∷ xs) y d fresh = by (list_any (alike x) xs) (alike y x) refl refl (are_apart-push alike both xs y) d fresh
+pub are_distinct-push : {X : Type 0} (alike : X → X → Bool) → ((x y : X) → alike x y ≡ alike y x) → (xs : List X) (y : X) → are_distinct alike xs ≡ true → list_any (alike y) xs ≡ false → are_distinct alike (xs ++ y ∷ []) ≡ true
+are_distinct-push alike both [] y d fresh = refl
+are_distinct-push alike both (x ∷ xs) y d fresh = by (list_any (alike x) xs) (alike y x) refl refl (are_distinct-push alike both xs y) d fresh
   where
     by : (b c : Bool) → list_any (alike x) xs ≡ b → alike y x ≡ c
-        → (are_apart alike xs ≡ true → list_any (alike y) xs ≡ false → are_apart alike (xs ++ y ∷ []) ≡ true)
-        → (not b && are_apart alike xs) ≡ true → (c || list_any (alike y) xs) ≡ false → are_apart alike ((x ∷ xs) ++ y ∷ []) ≡ true
+        → (are_distinct alike xs ≡ true → list_any (alike y) xs ≡ false → are_distinct alike (xs ++ y ∷ []) ≡ true)
+        → (not b && are_distinct alike xs) ≡ true → (c || list_any (alike y) xs) ≡ false → are_distinct alike ((x ∷ xs) ++ y ∷ []) ≡ true
     by true c none other rest d fresh = cc
     by false true none other rest d fresh = cc
     by false false none other rest d fresh =

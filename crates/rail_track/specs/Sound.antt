@@ -3,7 +3,7 @@ use Rattle.std.specs.Prelude.{ℕ, ◌≤◌, Bool, not, ◌==◌, ◌&&◌, Lis
 use Rattle.std.specs.List.{list_any, list_all}
 use Rattle.rail_base.specs.Limits.{is_from_one, most, Sections, SectionLength, Speed}
 use Rattle.rail_track.specs.declared.section.Section.{Section}
-use Rattle.rail_track.specs.Lists.{are_apart}
+use Rattle.rail_base.specs.Lists.{are_distinct}
 use Rattle.rail_track.specs.Joints.{sections_at}
 use Rattle.rail_base.specs.NameForms.{same_name}
 use Rattle.rail_track.specs.SectionRules.{joint_count, stands_twice}
@@ -22,5 +22,5 @@ have_one_name section other = same_name section.name other.name
 pub record IsSoundTrack (sections : List Section) : Type 0 where
   pub few : length sections ≤ most Sections
   pub fit : IsTrue (list_all is_fit sections)
-  pub distinct : IsTrue (are_apart have_one_name sections)
+  pub distinct : IsTrue (are_distinct have_one_name sections)
   pub joined : (joint : List ℕ) → sections_at sections joint ≤ 2

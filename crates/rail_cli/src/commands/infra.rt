@@ -2,7 +2,7 @@
 
 ghost use Rattle.std.specs.Prelude.{◌≡◌, ◌+◌, ◌≤◌, ◌++◌, ◌∷◌, [], length, true};
 ghost use Rattle.rail_base.specs.declared.limits.TheConstants.{ROUTE_SECTIONS};
-ghost use Rattle.rail_history.specs.Lines.{behind};
+ghost use Rattle.rail_rules.specs.Texts.{behind};
 ghost use Rattle.rail_history.specs.declared.line.TheConstants.{ROOM};
 ghost use Rattle.rail_scene.specs.SpelledScenes.{spelled_scene};
 ghost use Rattle.rail_cli.specs.Answers.{IsTextAnswer, plant_refusal};

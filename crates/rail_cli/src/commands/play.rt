@@ -1,7 +1,7 @@
 //! `play SCENE LIST`: what the player answers to the list, as a line.
 
 ghost use Rattle.std.specs.Prelude.{◌≡◌, ◌+◌, ◌-◌, ◌<◌, ◌≤◌, ◌^◌, ◌++◌, ◌∷◌, [], get_or, length, true};
-ghost use Rattle.rail_history.specs.Lines.{behind};
+ghost use Rattle.rail_rules.specs.Texts.{behind};
 ghost use Rattle.rail_history.specs.declared.line.TheConstants.{ROOM};
 ghost use Rattle.rail_cli.specs.Answers.{IsTextAnswer, plant_in};
 ghost use Rattle.rail_cli.specs.Plays.{AnswersPlay, bar_words, list_refusal, names_in, play_refusal, play_text, played_line, played_words, section_name, shared_at, train_name};

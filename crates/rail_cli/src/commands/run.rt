@@ -6,7 +6,7 @@ ghost use Rattle.rail_io.specs.FaultCounts.{Rose};
 ghost use Rattle.rail_rules.specs.Plant.{bound, trains};
 ghost use Rattle.rail_cli.specs.Answers.{IsAnswer, plant_in};
 ghost use Rattle.rail_cli.specs.Promises.{KeepsPromise, WritesAnswer, ended, is_of_bytes};
-ghost use Rattle.rail_cli.specs.Runs.{AnswersRun, IsRun, IsRunInPart, is_first_come, run_refusal};
+ghost use Rattle.rail_cli.specs.Runs.{AnswersRun, RunsPlant, RunsPlantInPart, is_first_come, run_refusal};
 
 use crate::files::read_file;
 use crate::scenes::{Planned, read_plant};
@@ -38,8 +38,8 @@ pub fn answer<S: Shelf, O: Sink>(
 /// Writes the history of the scene that the bytes spell.
 fn run_scene<O: Sink>(alloc: Global, bytes: &[u8], out: &mut O) -> Result<(), Status>
     ensures answer { let plant = plant_in bytes.now in
-        IsAnswer (run_refusal bytes.now) (IsRun plant (O.written out.old) (O.written out.new))
-        (IsRunInPart plant (O.written out.old) (O.written out.new)) (ended result) }
+        IsAnswer (run_refusal bytes.now) (RunsPlant plant (O.written out.old) (O.written out.new))
+        (RunsPlantInPart plant (O.written out.old) (O.written out.new)) (ended result) }
     ensures writes { WritesAnswer O.Sink out.old out.new (ended result) }
     ensures of_bytes { is_of_bytes (ended result) ≡ true }
 {
@@ -59,8 +59,8 @@ fn is_first_come(scene: &Scene) -> bool
 
 /// Writes the history of the plant. All memory is taken before the first byte.
 fn run_plant<O: Sink>(alloc: Global, plant: Plant, out: &mut O) -> Result<(), Status>
-    ensures answer { IsAnswer None (IsRun plant (O.written out.old) (O.written out.new))
-        (IsRunInPart plant (O.written out.old) (O.written out.new)) (ended result) }
+    ensures answer { IsAnswer None (RunsPlant plant (O.written out.old) (O.written out.new))
+        (RunsPlantInPart plant (O.written out.old) (O.written out.new)) (ended result) }
     ensures writes { WritesAnswer O.Sink out.old out.new (ended result) }
     ensures of_bytes { is_of_bytes (ended result) ≡ true }
 {
@@ -72,8 +72,8 @@ fn run_plant<O: Sink>(alloc: Global, plant: Plant, out: &mut O) -> Result<(), St
 /// Hands on the lines of the engine one by one, until the history has ended. It takes no memory.
 fn write_lines<O: Sink>(engine: &mut Engine, out: &mut O) -> Result<(), Failed>
     requires begun { StandsFor [] engine.old }
-    ensures adds { OnOk result (IsRun engine.old.plant (O.written out.old) (O.written out.new)) }
-    ensures failed_adds_prefix { OnErr result (IsRunInPart engine.old.plant (O.written out.old) (O.written out.new)) }
+    ensures adds { OnOk result (RunsPlant engine.old.plant (O.written out.old) (O.written out.new)) }
+    ensures failed_adds_prefix { OnErr result (RunsPlantInPart engine.old.plant (O.written out.old) (O.written out.new)) }
     ensures failed_rose { OnErr result (Rose (O.faults out.old) (O.faults out.new)) }
     ensures faults_never_fall { O.faults out.old ≤ O.faults out.new }
 {

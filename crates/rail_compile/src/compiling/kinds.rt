@@ -4,7 +4,7 @@ ghost use Rattle.std.specs.Prelude.{◌≡◌, map, IsTrue, IfOk};
 ghost use Rattle.std.specs.List.{list_any};
 ghost use Rattle.rail_base.specs.NameForms.{same_name};
 ghost use Rattle.rail_base.specs.declared.plant.TrainKind.{TrainKind};
-ghost use Rattle.rail_track.specs.Lists.{are_apart};
+ghost use Rattle.rail_base.specs.Lists.{are_distinct};
 ghost use Rattle.rail_scene.specs.Scenes.{is_one_kind};
 ghost use Rattle.rail_compile.specs.Itineraries.{kind_of};
 
@@ -14,7 +14,7 @@ use std::alloc::{AllocError, Global};
 
 /// The names of the kinds in their order.
 pub fn kind_names(alloc: Global, kinds: &[TrainKind]) -> Result<IndexSet<Name>, AllocError>
-    requires { IsTrue (are_apart is_one_kind kinds.now) }
+    requires { IsTrue (are_distinct is_one_kind kinds.now) }
     ensures { IfOk result (λ names. names.keys ≡ map (λ (kind : TrainKind). kind.name) kinds.now) }
 {
     let mut names = IndexSet::new(alloc);

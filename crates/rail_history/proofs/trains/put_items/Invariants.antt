@@ -1,6 +1,7 @@
 use Rattle.std.proofs.Common.{◌≡◌, ◌<◌, ◌≤◌, ◌++◌, List, ℕ, length, map, All}
 use Rattle.rail_rules.specs.Texts.{items_of}
-use Rattle.rail_history.specs.Lines.{behind, item_text}
+use Rattle.rail_rules.specs.Texts.{behind}
+use Rattle.rail_history.specs.Lines.{item_text}
 use Rattle.rail_history.specs.Pieces.{IsHandedOn}
 use Rattle.rail_history.specs.declared.line.TheConstants.{ROOM}
 use Rattle.rail_history.proofs.trains.put_items.Given as goal

@@ -1,7 +1,8 @@
 use Rattle.std.proofs.Common.{◌≡◌, ℕ, ◌∷◌, ◌++◌, ◌<◌, List, map, length, arith, refl}
 use Rattle.std.proofs.lemmas.List.Elements.{All-rest}
 use Rattle.rail_io.specs.Writes.{AddsPrefix}
-use Rattle.rail_history.specs.Lines.{behind, item_text, train_name}
+use Rattle.rail_rules.specs.Texts.{behind}
+use Rattle.rail_history.specs.Lines.{item_text, train_name}
 use Rattle.rail_history.proofs.Pieces.{none_handed_on, handed_on_then, one_more_said, failed_before}
 use Rattle.rail_history.proofs.Items.{first_name}
 use Rattle.rail_history.proofs.trains.put_trains.Goals as goal

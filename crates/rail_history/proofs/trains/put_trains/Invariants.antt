@@ -1,5 +1,6 @@
 use Rattle.std.proofs.Common.{◌≡◌, ◌<◌, ◌≤◌, ◌++◌, List, ℕ, length, map, All}
-use Rattle.rail_history.specs.Lines.{behind, train_name}
+use Rattle.rail_rules.specs.Texts.{behind}
+use Rattle.rail_history.specs.Lines.{train_name}
 use Rattle.rail_history.specs.Pieces.{IsHandedOn}
 use Rattle.rail_history.specs.declared.line.TheConstants.{ROOM}
 use Rattle.rail_history.proofs.trains.put_trains.Given as goal

@@ -3,7 +3,7 @@ use Rattle.rail_rules.specs.Plant.{Plant}
 use Rattle.rail_cli.specs.declared.status.Status.{Status}
 use Rattle.rail_cli.specs.Answers.{IsAnswer}
 use Rattle.rail_cli.specs.Promises.{is_of_bytes}
-use Rattle.rail_cli.specs.Runs.{IsRun, IsRunInPart}
+use Rattle.rail_cli.specs.Runs.{RunsPlant, RunsPlantInPart}
 use Rattle.rail_cli.proofs.Writes.{all_written, ended-failed, fault_written}
 use Rattle.rail_cli.proofs.commands.run.run_plant.Goals as goal
 
@@ -11,8 +11,8 @@ pub returns-in_err-write_lines-clause-answer : goal.returns-in_err-write_lines-c
 returns-in_err-write_lines-clause-answer g c =
     let before = g.O.Sink.written c.args.out.now in
     let now = g.O.Sink.written c.write_lines.new.out in
-    let part : IsRunInPart c.args.plant before now = subst (λ (plant : Plant). IsRunInPart plant before now) c.in_ok-engine.ensures.plant c.in_err-write_lines.ensures.failed_adds_prefix in
-    subst (λ (status : Status). IsAnswer None (IsRun c.args.plant before now) (IsRunInPart c.args.plant before now) status)
+    let part : RunsPlantInPart c.args.plant before now = subst (λ (plant : Plant). RunsPlantInPart plant before now) c.in_ok-engine.ensures.plant c.in_err-write_lines.ensures.failed_adds_prefix in
+    subst (λ (status : Status). IsAnswer None (RunsPlant c.args.plant before now) (RunsPlantInPart c.args.plant before now) status)
     (sym (ended-failed c.from_residual-in_err-write_lines.result c.from_residual-in_err-write_lines.ensures.1)) (refl, part)
 
 pub returns-in_err-write_lines-clause-writes : goal.returns-in_err-write_lines-clause-writes

@@ -1,9 +1,9 @@
 use Rattle.std.proofs.Common.{◌≡◌, ◌+◌, map, drop, sym, ap, subst, ◌∙◌}
 use Rattle.toml.specs.View.{view}
 use Rattle.rail_base.specs.FirstRefusals.{first_failing}
-use Rattle.rail_scene.specs.declared.draft.Draft.{Draft}
+use Rattle.rail_scene.specs.SceneItems.{SceneItems}
 use Rattle.rail_scene.specs.Keys.{part_of}
-use Rattle.rail_scene.specs.Drafts.{with_items}
+use Rattle.rail_scene.specs.SceneItems.{with_items}
 use Rattle.rail_base.specs.Refusals.{AnswersFirst}
 use Rattle.rail_scene.specs.Order.{fault_at, item_number, list_values}
 use Rattle.rail_scene.proofs.Drafting.{value_stop, value_pass, draft_pass}
@@ -26,10 +26,10 @@ loop-index-preserved c =
     let table = c.index-tables-index.result in
     let draft = c.loop-index.self in
     let added = c.in-Ok.ensures.added in (
-      ap (λ (next : Draft). first_failing (list_values part (i + 1 + 1) next (map view (drop (i + 1) tables)))) added
+      ap (λ (next : SceneItems). first_failing (list_values part (i + 1 + 1) next (map view (drop (i + 1) tables)))) added
           ∙ sym (value_pass part draft tables i table c.loop-index-test.true c.index-tables-index.is c.in-Ok.ensures.accepted)
           ∙ c.loop-index.invariant.0,
-      ap (λ (next : Draft). with_items part (map view (drop (i + 1) tables)) next) added
+      ap (λ (next : SceneItems). with_items part (map view (drop (i + 1) tables)) next) added
           ∙ sym (draft_pass part draft tables i table c.loop-index-test.true c.index-tables-index.is)
           ∙ c.loop-index.invariant.1,
     )

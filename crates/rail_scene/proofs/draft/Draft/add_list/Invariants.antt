@@ -1,7 +1,7 @@
 use Rattle.std.proofs.Common.{◌≡◌, ◌+◌, drop, map}
 use Rattle.toml.specs.View.{view}
 use Rattle.rail_base.specs.FirstRefusals.{first_failing}
-use Rattle.rail_scene.specs.Drafts.{with_items}
+use Rattle.rail_scene.specs.SceneItems.{with_items}
 use Rattle.rail_scene.specs.Order.{list_values}
 use Rattle.rail_scene.proofs.draft.Draft.add_list.Given as goal
 

@@ -3,7 +3,7 @@ use Rattle.std.specs.Result.{IfErr}
 use Rattle.toml.specs.View.{view}
 use Rattle.rail_base.specs.FirstRefusals.{first_failing}
 use Rattle.rail_base.proofs.CallerLemmas.{passed_up}
-use Rattle.rail_scene.specs.declared.draft.Draft.{Draft}
+use Rattle.rail_scene.specs.SceneItems.{SceneItems}
 use Rattle.rail_base.specs.Refusals.{AnswersFirst}
 use Rattle.rail_scene.specs.Order.{values_of, with_lists}
 use Rattle.rail_scene.proofs.Drafting.{values_stop, values_pass, lists_pass}
@@ -23,10 +23,10 @@ loop-part-preserved c =
     let i = c.loop-part.part-index in
     let draft = c.loop-part.self in
     let added = c.in_ok-add_list.ensures.added in (
-      ap (λ (next : Draft). first_failing (values_of root next (drop (i + 1) parts))) added
+      ap (λ (next : SceneItems). first_failing (values_of root next (drop (i + 1) parts))) added
           ∙ sym (values_pass root draft parts i _ c.loop-part-test.true c.key.result _ c.key.ensures c.elements_at.ensures c.in_ok-add_list.ensures.accepted)
           ∙ c.loop-part.invariant.0,
-      ap (λ (next : Draft). with_lists root (drop (i + 1) parts) next) added
+      ap (λ (next : SceneItems). with_lists root (drop (i + 1) parts) next) added
           ∙ sym (lists_pass root draft parts i _ c.loop-part-test.true c.key.result _ c.key.ensures c.elements_at.ensures)
           ∙ c.loop-part.invariant.1,
     )
