@@ -16,3 +16,5 @@ pub use Rattle.rail_base.proofs.FirstRefusals.{first_failing-append}
 pub use Rattle.rail_base.proofs.FirstRefusals.{AllPassed, all_passed, none_failing}
 -- the fault that a call passes up answers what the called one answered
 pub use Rattle.rail_base.proofs.FirstRefusals.{passed_up}
+-- OfBytes: tests none of which refuses a file for its size, of two lists of them, and the first that fails.
+pub use Rattle.rail_base.proofs.OfBytes.{AreOfBytes, first_of_bytes, of_both}

@@ -6,3 +6,4 @@ mod Writing
 mod Comparing
 mod Telling
 mod FirstRefusals
+mod OfBytes

@@ -1,7 +1,9 @@
 -- Refusals.
-use Rattle.std.specs.Prelude.{◌≡◌, ℕ, Option, Some}
+use Rattle.std.specs.Prelude.{◌≡◌, ℕ, Bool, true, false, Option, Some}
 use Rattle.rail_base.specs.declared.refusals.Fault.{Fault}
 use Rattle.rail_base.specs.declared.refusals.Fault.TheVariants.{Refused, OutOfMemory}
+use Rattle.rail_base.specs.declared.refusals.Part.{Part}
+use Rattle.rail_base.specs.declared.refusals.Part.TheVariants.{File}
 use Rattle.rail_base.specs.declared.refusals.Refusal.{Refusal}
 use Rattle.rail_base.specs.declared.refusals.Reason.{Reason}
 use Rattle.rail_base.specs.declared.refusals.Reason.TheVariants.{NotToml, KeyMissing, WrongKind, KeyUnknown, BadName, Repeated, Unknown, Range, JointCrowded, PostPlace, RouteBroken, RouteRepeat, ItineraryBroken, NotPortal, TooLong, SelfBlocked, TooMany, TimetableForm, TimetableValue, InUse, UnknownPolicy, CommandForm, CommandName, CommandOrder, HistoryForm, LineEmpty, WindowEmpty, SnapshotForm, SnapshotOther, NoPath, EditForm, NothingToUndo, NothingToRedo, ListForm, ListName, ListPlaces, RerouteForm, RerouteName, NotYet}
@@ -52,3 +54,8 @@ number_of NotYet = 39
 abbrev pub AnswersFirst : Option Refusal → Fault → Type 0
 AnswersFirst first (Refused refusal) = first ≡ Some refusal
 AnswersFirst first OutOfMemory = Unit {0}
+
+-- the part is a file, which is refused for its size
+abbrev pub is_file : Part → Bool
+is_file File = true
+is_file part = false

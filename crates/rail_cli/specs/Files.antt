@@ -1,8 +1,8 @@
 -- The files of a command, and why one is not read.
 use Rattle.std.specs.Prelude.{◌≡◌, ◌⊎◌, ℕ, suc, ◌<◌, Bool, true, false, not, cond, nat_lt, length, List, [], ◌∷◌, Option, Some, None}
 use Rattle.rail_base.specs.Limits.{most, FileBytes}
+use Rattle.rail_base.specs.Refusals.{is_file}
 use Rattle.rail_base.specs.declared.refusals.Refusal.{Refusal}
-use Rattle.rail_base.specs.declared.refusals.Part.{Part}
 use Rattle.rail_base.specs.declared.refusals.Reason.TheVariants.{TooMany}
 use Rattle.rail_base.specs.declared.refusals.Part.TheVariants.{File}
 use Rattle.rail_io.specs.FaultCounts.{Rose}
@@ -69,11 +69,6 @@ IsFileAnswer shelf number file before now ReadFault = IsReadFault shelf (file �
 IsFileAnswer shelf number file before now WriteFault = ⊥
 IsFileAnswer shelf number file before now OutOfMemory = Unit {0}
 IsFileAnswer shelf number file before now (CheckedNo line law) = ⊥
-
--- the part is a file, which is refused for its size
-abbrev pub is_file : Part → Bool
-is_file File = true
-is_file part = false
 
 -- with this status the last file was read to its end: it is no fault of reading, no want of memory and no refusal of a file for its size
 abbrev pub comes_of_files : Status → Bool

@@ -1,5 +1,6 @@
 -- What every form promises beside its answer, by the status that it ends with.
 use Rattle.std.specs.Prelude.{◌≡◌, ◌≢◌, ◌⊎◌, ℕ, ◌≤◌, Bool, true, false, not, List, [], Result, Ok, Err, IfSome, OnOk, OnErr}
+use Rattle.rail_base.specs.Refusals.{is_file}
 use Rattle.rail_base.specs.declared.refusals.Refusal.{Refusal}
 use Rattle.rail_io.specs.FaultCounts.{Rose}
 use Rattle.rail_io.specs.Writes.{Adds, AddsPrefix}
@@ -8,7 +9,7 @@ use Rattle.rail_io.specs.declared.sink.Sink.{Ghosts as SinkGhosts}
 use Rattle.rail_io.specs.declared.sink.Failed.{Failed}
 use Rattle.rail_cli.specs.declared.status.Status.{Status}
 use Rattle.rail_cli.specs.declared.status.Status.TheVariants.{Done, Usage, Refused, ReadFault, WriteFault, OutOfMemory}
-use Rattle.rail_cli.specs.Files.{IsOneTooLarge, IsRead, IsReadFault, comes_of_files, is_file, last_file}
+use Rattle.rail_cli.specs.Files.{IsOneTooLarge, IsRead, IsReadFault, comes_of_files, last_file}
 
 -- the status of a command that ended so
 abbrev pub ended : Result (Unit {0}) Status → Status

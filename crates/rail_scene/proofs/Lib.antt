@@ -1,4 +1,5 @@
--- Lemmas on what a scene spells and why it is refused.
+-- Lemmas on what a scene spells and why it is refused; those for the crates above stand in CallerLemmas.
+pub mod CallerLemmas
 mod Segments
 mod Locating
 mod Times
@@ -10,3 +11,4 @@ mod Distinct
 mod Documents
 mod Whole
 mod Spelled
+mod OfBytes

@@ -1,6 +1,6 @@
 use Rattle.std.proofs.Common.{◌*◌, ◌+◌, refl, ap, ◌∙◌, subst, arith}
 use Rattle.rail_rules.specs.Plant.{Plant, bound, trains}
-use Rattle.rail_cli.specs.Runs.{IsRun, IsRunInPart}
+use Rattle.rail_cli.specs.Runs.{RunsPlant, RunsPlantInPart}
 use Rattle.rail_cli.proofs.Progress.{none_so_far, one_more, in_part, all_written, next_writable, few_lines}
 use Rattle.rail_cli.proofs.commands.run.write_lines.Goals as goal
 
@@ -10,7 +10,7 @@ loop-init g c = record { plant = refl; faults = omega arith; so_far = none_so_fa
 pub returns-in_default-clause-adds : goal.returns-in_default-clause-adds
 returns-in_default-clause-adds g c =
     let so_far = c.loop.invariant.so_far in
-    subst (λ (plant : Plant). IsRun plant (g.O.Sink.written c.args.out.now) (g.O.Sink.written c.loop.out)) c.loop.invariant.plant
+    subst (λ (plant : Plant). RunsPlant plant (g.O.Sink.written c.args.out.now) (g.O.Sink.written c.loop.out)) c.loop.invariant.plant
     (all_written c.loop.engine so_far.front _ _ so_far.stands (c.in_default.ensures.ended refl so_far.front so_far.stands) so_far.adds)
 
 pub write_entry-requires : goal.write_entry-requires
@@ -29,8 +29,8 @@ returns-in_err-write_entry-clause-failed_adds_prefix g c =
     let so_far = c.loop.invariant.so_far in
     let stands = c.in-Some.ensures.line so_far.front so_far.stands in
     let more = c.in_err-write_entry.ensures.failed_adds_prefix c.plant-in-loop.result.now (record { sections = c.names.ensures.sections; trains = c.names.ensures.trains }) in
-    let part : IsRunInPart c.args.engine.now.plant (g.O.Sink.written c.args.out.now) (g.O.Sink.written c.write_entry.new.out) =
-    subst (λ (plant : Plant). IsRunInPart plant (g.O.Sink.written c.args.out.now) (g.O.Sink.written c.write_entry.new.out)) c.loop.invariant.plant
+    let part : RunsPlantInPart c.args.engine.now.plant (g.O.Sink.written c.args.out.now) (g.O.Sink.written c.write_entry.new.out) =
+    subst (λ (plant : Plant). RunsPlantInPart plant (g.O.Sink.written c.args.out.now) (g.O.Sink.written c.write_entry.new.out)) c.loop.invariant.plant
     (in_part c.loop.engine c.step.new.self so_far.front c.in-Some.entry c.plant-in-loop.result.now c.listed.result.now
     c.in-Some.ensures.plant c.plant-in-loop.ensures (c.listed.ensures _ stands) stands _ _ _ so_far.adds more) in
     grind (arith, part)

@@ -1,0 +1,17 @@
+use Rattle.std.proofs.Common.{◌≡◌, true}
+use Rattle.rail_base.proofs.CallerLemmas.{passed_up}
+use Rattle.rail_base.specs.declared.refusals.Fault.{Fault}
+use Rattle.rail_cli.specs.Answers.{status_of}
+use Rattle.rail_cli.specs.Promises.{is_of_bytes}
+use Rattle.rail_cli.proofs.Parts.{compile_fault, scene_fault}
+use Rattle.rail_cli.proofs.scenes.read_plant.Goals as goal
+
+pub returns-in_err-scene-clause-of_bytes : goal.returns-in_err-scene-clause-of_bytes
+returns-in_err-scene-clause-of_bytes c =
+    passed_up c.from_residual.result c.in_err-scene.field-0.0 (λ (fault : Fault). is_of_bytes (status_of fault) ≡ true) c.from_residual.ensures.1
+    (scene_fault c.args.bytes.now c.in_err-scene.field-0.0 c.in_err-scene.ensures.refused)
+
+pub returns-in_err-plant-clause-of_bytes : goal.returns-in_err-plant-clause-of_bytes
+returns-in_err-plant-clause-of_bytes c =
+    passed_up c.from_residual-in_err-plant.result c.in_err-plant.field-0.0 (λ (fault : Fault). is_of_bytes (status_of fault) ≡ true) c.from_residual-in_err-plant.ensures.1
+    (compile_fault c.in_ok-scene.scene c.in_err-plant.field-0.0 c.in_err-plant.ensures.refused)
