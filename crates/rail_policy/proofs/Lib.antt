@@ -1,0 +1,3 @@
+mod Decks
+mod Least
+mod Retiring
