@@ -1,3 +1,3 @@
 mod Decks
+mod InForce
 mod Least
-mod Retiring

@@ -1,11 +1,11 @@
 -- The desk as callers see it, and what a call leaves of it.
-use Rattle.std.specs.Prelude.{ℕ, ◌-◌, cond, nat_lt, List, Option, length, map, set, slice_get}
+use Rattle.std.specs.Prelude.{◌≡◌, ℕ, ◌-◌, cond, nat_lt, List, Option, Some, length, map, set, slice_get}
 use Rattle.std.specs.List.{remove}
 use Rattle.std.specs.Option.{option_map}
 use Rattle.rail_rules.specs.RunHistories.{Seat}
 use Rattle.rail_policy.specs.declared.offer.Offer.{Offer}
 use Rattle.rail_policy.specs.declared.desk.Asked.{Asked}
-use Rattle.rail_policy.specs.Seats.{DeskSeat, asked, noted, seat_at}
+use Rattle.rail_policy.specs.Seats.{DeskSeat, asked, noted, place_of, seat_at}
 
 -- a desk as it is seen: its boxes in order, the place of the box in force, and what the last turn was about
 pub record Table : Type 0 where
@@ -25,9 +25,21 @@ seat_in_force table = seat_at table.seats table.force
 abbrev pub put_in_force : Table → ℕ → Table
 put_in_force table place = record table { force = place }
 
+-- the box of this name is put in force, and nothing else changes
+pub record PutsInForce (old new : Table) (name : List ℕ) : Type 0 where
+  pub place : ℕ
+  pub found : place_of old.seats name ≡ Some place
+  pub table : new ≡ put_in_force old place
+
 -- the desk without the box at this place, which isn't in force: the same box is in force as before
 abbrev pub without : Table → ℕ → Table
 without table place = record table { seats = remove table.seats place; force = cond (nat_lt place table.force) (table.force - 1) table.force }
+
+-- the box of this name is dropped; the others are unchanged and in their order, and the same one is in force
+pub record Drops (old new : Table) (name : List ℕ) : Type 0 where
+  pub place : ℕ
+  pub found : place_of old.seats name ≡ Some place
+  pub table : new ≡ without old place
 
 -- an answer out of range counts as the first offer
 abbrev pub within : ℕ → ℕ → ℕ

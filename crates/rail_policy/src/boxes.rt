@@ -2,6 +2,7 @@ use crate::offer::Offer;
 use crate::policy::Policy;
 use rail_base::{Name, PolicyKind, TrainNo};
 
+/// A box is the policy in it.
 impl Policy for Box<dyn Policy> {
     ghost seat = { λ held. (Policy-box held).seat held.value };
 

@@ -1,6 +1,6 @@
-ghost use Rattle.std.specs.Prelude.{◌≡◌, ◌≢◌, ◌<◌, ◌↔◌, ℕ, IfSome, Some, None, IsErr, IsErrOf, IsTrue, OnOk, OnErr, length, map, vec_len};
+ghost use Rattle.std.specs.Prelude.{◌≡◌, ◌≢◌, ◌<◌, ◌↔◌, IfSome, Some, None, IsErr, IsErrOf, IsTrue, OnOk, OnErr, length, map, vec_len};
 ghost use Rattle.rail_policy.specs.Choices.{HasLeastKey, MayChoose};
-ghost use Rattle.rail_policy.specs.Desks.{after_answer, after_note, after_turn, put_in_force, seat_in_force, within, without};
+ghost use Rattle.rail_policy.specs.Desks.{Drops, PutsInForce, after_answer, after_note, after_turn, seat_in_force, within, without};
 ghost use Rattle.rail_policy.specs.Seats.{is_fine_deck, place_of, seat_at};
 
 use crate::deck;
@@ -104,8 +104,8 @@ impl Desk {
     /// Puts the policy of this name in force.
     pub fn exchange(&mut self, name: Name) -> Result<(), UnknownName>
         ensures unknown { IsErr result ↔ (place_of (⟦<Desk as Seen>⟧.table self.old).seats name ≡ None) }
-        ensures ok { let table = ⟦<Desk as Seen>⟧.table in OnOk result ((place : ℕ)
-            → place_of (table self.old).seats name ≡ Some place → table self.new ≡ put_in_force (table self.old) place) }
+        ensures ok { let table = ⟦<Desk as Seen>⟧.table in OnOk result (PutsInForce (table self.old) (table self.new) name) }
+        ensures in_force { OnOk result ((seat_in_force (⟦<Desk as Seen>⟧.table self.new)).name ≡ name) }
         ensures refused { OnErr result (self.new ≡ self.old) }
         ensures unchanged { let table = ⟦<Desk as Seen>⟧.table in OnErr result (table self.new ≡ table self.old) }
     {
@@ -121,8 +121,7 @@ impl Desk {
         ensures unknown { IsErrOf result Retire.Unknown ↔ (place_of (⟦<Desk as Seen>⟧.table self.old).seats name ≡ None) }
         ensures in_force { let old = ⟦<Desk as Seen>⟧.table self.old in
             IsErrOf result Retire.InForce ↔ (place_of old.seats name ≡ Some old.force) }
-        ensures ok { let table = ⟦<Desk as Seen>⟧.table in OnOk result ((place : ℕ)
-            → place_of (table self.old).seats name ≡ Some place → table self.new ≡ without (table self.old) place) }
+        ensures ok { let table = ⟦<Desk as Seen>⟧.table in OnOk result (Drops (table self.old) (table self.new) name) }
         ensures same_in_force { let table = ⟦<Desk as Seen>⟧.table in seat_in_force (table self.new) ≡ seat_in_force (table self.old) }
         ensures refused { OnErr result (self.new ≡ self.old) }
         ensures unchanged { let table = ⟦<Desk as Seen>⟧.table in OnErr result (table self.new ≡ table self.old) }

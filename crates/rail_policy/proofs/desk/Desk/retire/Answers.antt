@@ -1,4 +1,4 @@
-use Rattle.rail_policy.proofs.Retiring.{seat_in_force-without}
+use Rattle.rail_policy.proofs.InForce.{seat_in_force-without}
 use Rattle.rail_policy.proofs.desk.Desk.retire.Goals as goal
 
 pub returns-clause-same_in_force : goal.returns-clause-same_in_force

@@ -1,10 +1,18 @@
--- A desk without one of its boxes.
-use Rattle.std.proofs.Common.{◌≡◌, ◌≢◌, ℕ, ◌-◌, ◌<◌, cond, length, get_or, ap, ◌∙◌, ⊎_elim, arith}
+-- The box of a name, and a desk without one of its boxes.
+use Rattle.std.proofs.Common.{◌≡◌, ◌≢◌, ℕ, ◌-◌, ◌<◌, cond, List, length, get_or, ap, ◌∙◌, ⊎_elim, arith}
 use Rattle.std.specs.List.{remove}
+use Rattle.std.specs.Prelude.{Some}
+use Rattle.std.specs.Cmp.Lexicographic.{bytes_decides}
 use Rattle.std.proofs.lemmas.Bool.{cases_lt, lt-ltb, le-ltb}
 use Rattle.std.proofs.lemmas.List.Edits.{get_or-remove_above, get_or-remove_below}
-use Rattle.rail_policy.specs.Seats.{no_seat}
+use Rattle.std.proofs.lemmas.List.Quantifiers.{position-Some}
+use Rattle.rail_policy.specs.Seats.{DeskSeat, is_named, no_seat, place_of, seat_at}
 use Rattle.rail_policy.specs.Desks.{Table, seat_in_force, without}
+
+-- the box that is found by its name has the name
+pub name-place_of : (seats : List DeskSeat) (name : List ℕ) (place : ℕ) → place_of seats name ≡ Some place → (seat_at seats place).name ≡ name
+name-place_of seats name place found =
+    (bytes_decides (seat_at seats place).name name).0 (position-Some (is_named name) seats place no_seat found).1
 
 -- the same box is in force as before
 pub seat_in_force-without : (table after : Table) (place : ℕ) → after ≡ without table place → place < length table.seats → place ≢ table.force
