@@ -33,7 +33,8 @@ pub record PutsInForce (old new : Table) (name : List ℕ) : Type 0 where
 
 -- the desk without the box at this place, which isn't in force: the same box is in force as before
 abbrev pub without : Table → ℕ → Table
-without table place = record table { seats = remove table.seats place; force = cond (nat_lt place table.force) (table.force - 1) table.force }
+without table place =
+    record table { seats = remove table.seats place; force = cond (nat_lt place table.force) (table.force - 1) table.force }
 
 -- the box of this name is dropped; the others are unchanged and in their order, and the same one is in force
 pub record Drops (old new : Table) (name : List ℕ) : Type 0 where

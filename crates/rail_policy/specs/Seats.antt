@@ -13,6 +13,10 @@ pub record DeskSeat : Type 0 where
   pub mark : ℕ
   pub answered : ℕ
 
+-- a box that was not asked yet
+abbrev pub fresh_seat : List ℕ → PolicyKind → DeskSeat
+fresh_seat name kind = record { name = name; kind = kind; mark = 0; answered = 0 }
+
 -- the mark after a choice: a custom box counts how often it is asked
 abbrev pub mark_when_asked : PolicyKind → ℕ → ℕ
 mark_when_asked Custom mark = (mark + 1) % 65536

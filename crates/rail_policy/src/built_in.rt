@@ -1,6 +1,7 @@
 ghost use Rattle.std.specs.Prelude.{◌≡◌, ◌<◌, length, codes};
 ghost use Rattle.rail_base.specs.declared.orders.PolicyKind.TheVariants.{Priority, Timetable, Fcfs, Rotating};
 ghost use Rattle.rail_policy.specs.Choices.{HasLeastKey};
+ghost use Rattle.rail_policy.specs.Seats.{fresh_seat};
 
 use crate::offer::Offer;
 use crate::policy::Policy;
@@ -15,7 +16,7 @@ pub struct PriorityPolicy {
 impl PriorityPolicy {
     /// The policy named `priority`, which was not asked yet.
     pub fn new() -> PriorityPolicy
-        ensures { ⟦<PriorityPolicy as Policy>⟧.seat result ≡ record { name = codes "priority"; kind = Priority; mark = 0; answered = 0 } }
+        ensures { ⟦<PriorityPolicy as Policy>⟧.seat result ≡ fresh_seat (codes "priority") Priority }
     {
         PriorityPolicy { answered: 0 }
     }
@@ -57,7 +58,7 @@ pub struct TimetablePolicy {
 impl TimetablePolicy {
     /// The policy named `timetable`, which was not asked yet.
     pub fn new() -> TimetablePolicy
-        ensures { ⟦<TimetablePolicy as Policy>⟧.seat result ≡ record { name = codes "timetable"; kind = Timetable; mark = 0; answered = 0 } }
+        ensures { ⟦<TimetablePolicy as Policy>⟧.seat result ≡ fresh_seat (codes "timetable") Timetable }
     {
         TimetablePolicy { answered: 0 }
     }
@@ -99,7 +100,7 @@ pub struct FcfsPolicy {
 impl FcfsPolicy {
     /// The policy named `fcfs`, which was not asked yet.
     pub fn new() -> FcfsPolicy
-        ensures { ⟦<FcfsPolicy as Policy>⟧.seat result ≡ record { name = codes "fcfs"; kind = Fcfs; mark = 0; answered = 0 } }
+        ensures { ⟦<FcfsPolicy as Policy>⟧.seat result ≡ fresh_seat (codes "fcfs") Fcfs }
     {
         FcfsPolicy { answered: 0 }
     }
@@ -142,7 +143,7 @@ pub struct RotatingPolicy {
 impl RotatingPolicy {
     /// The policy named `rotating`, which begins with train 0.
     pub fn new() -> RotatingPolicy
-        ensures { ⟦<RotatingPolicy as Policy>⟧.seat result ≡ record { name = codes "rotating"; kind = Rotating; mark = 0; answered = 0 } }
+        ensures { ⟦<RotatingPolicy as Policy>⟧.seat result ≡ fresh_seat (codes "rotating") Rotating }
     {
         RotatingPolicy {
             mark: 0,

@@ -19,7 +19,6 @@ pub struct Offer {
 }
 
 impl Offer {
-    ghost use Rattle.rail_base.specs.declared.orders.PolicyKind.TheVariants.{Priority};
     ghost use Rattle.rail_policy.specs.Keys.{goes_before};
 
     /// Whether this offer's key is less than the other's, by a policy of this kind with this mark.
@@ -27,26 +26,15 @@ impl Offer {
         ensures { result ≡ goes_before kind mark self.now other.now }
     {
         match kind {
-            PolicyKind::Priority => self.is_more_urgent(other),
-            PolicyKind::Timetable => {
-                self.due.0 < other.due.0
-                    || (self.due.0 == other.due.0 && self.train.0 < other.train.0)
+            PolicyKind::Priority => {
+                (self.priority, self.entry, self.train) < (other.priority, other.entry, other.train)
             }
-            PolicyKind::Fcfs => {
-                self.ready.0 < other.ready.0
-                    || (self.ready.0 == other.ready.0 && self.train.0 < other.train.0)
-            }
+            PolicyKind::Timetable => (self.due, self.train) < (other.due, other.train),
+            PolicyKind::Fcfs => (self.ready, self.train) < (other.ready, other.train),
             PolicyKind::Rotating => {
                 self.train.0.wrapping_sub(mark) < other.train.0.wrapping_sub(mark)
             }
             PolicyKind::Custom => false,
         }
-    }
-
-    /// Whether this offer comes first by priority, then entry, then train number.
-    fn is_more_urgent(&self, other: &Offer) -> bool
-        ensures { result ≡ goes_before Priority 0 self.now other.now }
-    {
-        (self.priority, self.entry, self.train) < (other.priority, other.entry, other.train)
     }
 }

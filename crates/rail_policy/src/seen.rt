@@ -10,5 +10,9 @@ pub trait Seen {
 }
 
 impl Seen for Desk {
-    ghost table = { λ desk. record { seats = map (λ held. (Policy-box held).seat held.value) desk.deck.items; force = desk.force; last = desk.last } };
+    ghost table = { λ desk. record {
+      seats = map (λ held. (Policy-box held).seat held.value) desk.deck.items;
+      force = desk.force;
+      last = desk.last;
+    } };
 }
