@@ -21,6 +21,8 @@ mod lines;
 #[cfg(test)]
 mod plants;
 #[cfg(test)]
+mod policies;
+#[cfg(test)]
 mod shelves;
 #[cfg(test)]
 mod times;

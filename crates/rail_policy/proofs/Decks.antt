@@ -1,0 +1,37 @@
+-- Policies in a row, and how they are seen.
+use Rattle.std.proofs.Common.{◌≡◌, ℕ, suc, ◌+◌, ◌<◌, Bool, not, cond, nat_lt, ◌||◌, List, [], ◌∷◌, ◌++◌, length, get_or, set, take, drop, map, refl, sym, ap, ◌∙◌}
+use Rattle.std.specs.Prelude.{Some, None, position}
+use Rattle.std.specs.List.{list_any, prefix_len, remove}
+use Rattle.std.proofs.lemmas.List.{drop-map, get_or-map, length-map, map-append, map-set, take-map}
+use Rattle.rail_policy.specs.Seats.{DeskSeat, no_seat, seat_at}
+
+module _ {X : Type 0} (seat : X → DeskSeat) where
+  -- one policy is replaced by another, which is seen as the change says; all others stay
+  pub map-changed : (change : DeskSeat → DeskSeat) (deck : List X) (place : ℕ) (old new : X) → place < length deck
+      → seat new ≡ change (seat (get_or deck place old)) → map seat (set deck place new) ≡ set (map seat deck) place (change (seat_at (map seat deck) place))
+  map-changed change deck place old new lt new_is =
+      map-set seat deck place new
+      ∙ ap (set (map seat deck) place) (new_is ∙ ap change (sym (get_or-map seat deck place old no_seat lt)))
+
+  -- the policy at a place, as it is seen
+  pub seat_at-map : (deck : List X) (place : ℕ) (policy : X) → place < length deck → policy ≡ get_or deck place policy → seat_at (map seat deck) place ≡ seat policy
+  seat_at-map deck place policy lt policy_is = get_or-map seat deck place policy no_seat lt ∙ ap seat (sym policy_is)
+
+  pub list_any-map : (test : DeskSeat → Bool) (deck : List X) → list_any test (map seat deck) ≡ list_any (λ x. test (seat x)) deck
+  list_any-map test [] = refl
+  list_any-map test (x ∷ deck) = ap (λ (b : Bool). test (seat x) || b) (list_any-map test deck)
+
+  prefix_len-map : (test : DeskSeat → Bool) (deck : List X) → prefix_len test (map seat deck) ≡ prefix_len (λ x. test (seat x)) deck
+  prefix_len-map test [] = refl
+  prefix_len-map test (x ∷ deck) = ap (λ (n : ℕ). cond (test (seat x)) (1 + n) 0) (prefix_len-map test deck)
+
+  pub position-map : (test : DeskSeat → Bool) (deck : List X) → position test (map seat deck) ≡ position (λ x. test (seat x)) deck
+  position-map test deck =
+      let found = prefix_len-map (λ s. not (test s)) deck in
+      λ i. cond (nat_lt (found i) (length-map deck seat i)) (Some (found i)) None
+
+  pub map-remove : (deck : List X) (place : ℕ) → map seat (remove deck place) ≡ remove (map seat deck) place
+  map-remove deck place =
+      map-append seat (take place deck) (drop (suc place) deck)
+      ∙ ap (λ (front : List DeskSeat). front ++ map seat (drop (suc place) deck)) (sym (take-map seat place deck))
+      ∙ ap (λ (back : List DeskSeat). take place (map seat deck) ++ back) (sym (drop-map seat (suc place) deck))

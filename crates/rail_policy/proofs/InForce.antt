@@ -1,0 +1,28 @@
+-- The box of a name, and a desk without one of its boxes.
+use Rattle.std.proofs.Common.{◌≡◌, ◌≢◌, ℕ, ◌-◌, ◌<◌, cond, List, length, get_or, ap, ◌∙◌, ⊎_elim, arith}
+use Rattle.std.specs.List.{remove}
+use Rattle.std.specs.Prelude.{Some}
+use Rattle.std.specs.Cmp.Lexicographic.{bytes_decides}
+use Rattle.std.proofs.lemmas.Bool.{cases_lt, lt-ltb, le-ltb}
+use Rattle.std.proofs.lemmas.List.Edits.{get_or-remove_above, get_or-remove_below}
+use Rattle.std.proofs.lemmas.List.Quantifiers.{position-Some}
+use Rattle.rail_policy.specs.Seats.{DeskSeat, is_named, no_seat, place_of, seat_at}
+use Rattle.rail_policy.specs.Desks.{Table, seat_in_force, without}
+
+-- the box that is found by its name has the name
+pub name-place_of : (seats : List DeskSeat) (name : List ℕ) (place : ℕ) → place_of seats name ≡ Some place → (seat_at seats place).name ≡ name
+name-place_of seats name place found =
+    (bytes_decides (seat_at seats place).name name).0 (position-Some (is_named name) seats place no_seat found).1
+
+-- the same box is in force as before
+pub seat_in_force-without : (table after : Table) (place : ℕ) → after ≡ without table place → place < length table.seats → place ≢ table.force
+    → seat_in_force after ≡ seat_in_force table
+seat_in_force-without table after place after_is lt ne =
+    ap seat_in_force after_is
+    ∙ ⊎_elim
+    (λ before. ap (λ b. get_or (remove table.seats place) (cond b (table.force - 1) table.force) no_seat) (lt-ltb place table.force before)
+    ∙ get_or-remove_above table.seats place no_seat (table.force - 1) (omega arith) lt
+    ∙ ap (λ k. get_or table.seats k no_seat) (omega arith))
+    (λ behind. ap (λ b. get_or (remove table.seats place) (cond b (table.force - 1) table.force) no_seat) (le-ltb place table.force behind)
+    ∙ get_or-remove_below table.seats place no_seat table.force (omega arith) lt)
+    (cases_lt place table.force)

@@ -1,0 +1,3 @@
+mod Decks
+mod InForce
+mod Least

@@ -1,0 +1,4 @@
+pub mod Choices
+pub mod Desks
+pub mod Keys
+pub mod Seats

@@ -1,0 +1,61 @@
+-- The boxes of a deck as they are seen, and what a call does to one.
+use Rattle.std.specs.Prelude.{ℕ, ◌+◌, ◌%◌, Bool, true, not, ◌&&◌, List, [], ◌∷◌, Option, get_or, length, position}
+use Rattle.std.specs.List.{list_any}
+use Rattle.rail_base.specs.Limits.{is_from_one, most, Policies}
+use Rattle.rail_base.specs.declared.orders.PolicyKind.{PolicyKind}
+use Rattle.rail_base.specs.declared.orders.PolicyKind.TheVariants.{Rotating, Custom}
+use Rattle.rail_rules.specs.Numbers.{same_numbers}
+
+-- a box as it is seen: its name and kind, which never change, its mark, and what it answered last
+pub record DeskSeat : Type 0 where
+  pub name : List ℕ
+  pub kind : PolicyKind
+  pub mark : ℕ
+  pub answered : ℕ
+
+-- a box that was not asked yet
+abbrev pub fresh_seat : List ℕ → PolicyKind → DeskSeat
+fresh_seat name kind = record { name = name; kind = kind; mark = 0; answered = 0 }
+
+-- the mark after a choice: a custom box counts how often it is asked
+abbrev pub mark_when_asked : PolicyKind → ℕ → ℕ
+mark_when_asked Custom mark = (mark + 1) % 65536
+mark_when_asked _ mark = mark
+
+-- the mark after an admission is noted: a rotating box goes on behind the train that was admitted
+abbrev pub mark_when_noted : PolicyKind → ℕ → ℕ → ℕ
+mark_when_noted Rotating admitted mark = (admitted + 1) % 65536
+mark_when_noted _ admitted mark = mark
+
+-- the box after it gave this answer
+abbrev pub asked : DeskSeat → ℕ → DeskSeat
+asked seat answer = record seat { mark = mark_when_asked seat.kind seat.mark; answered = answer }
+
+-- the box after the admission of this train was noted
+abbrev pub noted : DeskSeat → ℕ → DeskSeat
+noted seat admitted = record seat { mark = mark_when_noted seat.kind admitted seat.mark }
+
+-- what stands for a box behind the last one
+abbrev pub no_seat : DeskSeat
+no_seat = record { name = []; kind = Custom; mark = 0; answered = 0 }
+
+-- the box at this place
+abbrev pub seat_at : List DeskSeat → ℕ → DeskSeat
+seat_at seats place = get_or seats place no_seat
+
+-- the box has this name
+abbrev pub is_named : List ℕ → DeskSeat → Bool
+is_named name seat = same_numbers seat.name name
+
+-- the place of the box of this name, where there is one
+abbrev pub place_of : List DeskSeat → List ℕ → Option ℕ
+place_of seats name = position (is_named name) seats
+
+-- no two boxes have one name
+abbrev pub have_distinct_names : List DeskSeat → Bool
+have_distinct_names [] = true
+have_distinct_names (seat ∷ seats) = not (list_any (is_named seat.name) seats) && have_distinct_names seats
+
+-- a deck has 1 to 16 boxes with distinct names
+abbrev pub is_fine_deck : List DeskSeat → Bool
+is_fine_deck seats = is_from_one (most Policies) (length seats) && have_distinct_names seats

@@ -1,0 +1,78 @@
+ghost use Rattle.std.specs.Prelude.{◌≡◌, ◌+◌, ◌<◌, length, map, set, vec_len};
+ghost use Rattle.std.specs.List.{list_any, remove};
+ghost use Rattle.rail_policy.specs.Choices.{MayChoose};
+ghost use Rattle.rail_policy.specs.Seats.{asked, noted, have_distinct_names, is_fine_deck, is_named, place_of, seat_at};
+
+use crate::offer::Offer;
+use crate::policy::Policy;
+use rail_base::limits::POLICIES;
+use rail_base::{Name, TrainNo};
+
+/// Whether the boxes can be handed to a desk: there are 1 to 16, and no two have one name.
+pub fn deck_is_fine(deck: &[Box<dyn Policy>]) -> bool
+    ensures { result ≡ is_fine_deck (map ⟦<Box<dyn Policy> as Policy>⟧.seat deck.now) }
+{
+    !deck.is_empty() && deck.len() <= POLICIES && have_distinct_names(deck)
+}
+
+/// Whether no two policies have one name. There are few policies, so each name is compared with all later ones.
+fn have_distinct_names<P: Policy>(deck: &[P]) -> bool
+    ensures { result ≡ have_distinct_names (map P.seat deck.now) }
+{
+    let mut rest = deck;
+    while let Some((policy, later)) = rest.split_first() {
+        if has_name(later, policy.name()) {
+            return false;
+        }
+        rest = later;
+    }
+    true
+}
+
+/// Whether a policy has the name.
+fn has_name<P: Policy>(deck: &[P], name: Name) -> bool
+    ensures { result ≡ list_any (is_named name) (map P.seat deck.now) }
+{
+    deck.iter().any(|policy| is_named(policy, name))
+}
+
+/// Whether the policy has the name.
+fn is_named<P: Policy>(policy: &P, name: Name) -> bool
+    ensures { result ≡ is_named name (P.seat policy.now) }
+{
+    policy.name() == name
+}
+
+/// The place of the policy of this name, where there is one.
+pub(crate) fn place_of<P: Policy>(deck: &[P], name: Name) -> Option<usize>
+    ensures { result ≡ place_of (map P.seat deck.now) name }
+{
+    deck.iter().position(|policy| is_named(policy, name))
+}
+
+/// The answer of the policy at this place to the offers.
+pub(crate) fn ask<P: Policy>(deck: &mut [P], place: usize, offers: &[Offer]) -> usize
+    requires place { place < length deck.old }
+    requires offers { 0 < length offers.now }
+    ensures seats { let seats = map P.seat deck.old in map P.seat deck.new ≡ set seats place (asked (seat_at seats place) result) }
+    ensures choice { let seat = seat_at (map P.seat deck.old) place in MayChoose seat.kind seat.mark offers.now result }
+{
+    deck[place].choose(offers)
+}
+
+/// Tells the policy at this place which train was admitted.
+pub(crate) fn tell<P: Policy>(deck: &mut [P], place: usize, admitted: TrainNo)
+    requires { place < length deck.old }
+    ensures { let seats = map P.seat deck.old in map P.seat deck.new ≡ set seats place (noted (seat_at seats place) admitted) }
+{
+    deck[place].note(admitted);
+}
+
+/// Drops the policy at this place.
+pub(crate) fn drop_at<P: Policy>(deck: &mut Vec<P>, place: usize)
+    requires { place < vec_len deck.old }
+    ensures seats { map P.seat deck.new.items ≡ remove (map P.seat deck.old.items) place }
+    ensures len { vec_len deck.new + 1 ≡ vec_len deck.old }
+{
+    deck.remove(place);
+}
