@@ -28,12 +28,13 @@ impl Window {
 }
 
 /// Why there is no compression.
-#[derive(Debug, Drop)]
+#[derive(Clone, Copy, Debug, PartialEq, Eq)]
 pub enum CapacityFault {
     /// The line has no section.
     LineEmpty,
     /// The line has a section, and the window doesn't begin before it ends.
     WindowEmpty,
+    /// Memory was not found.
     OutOfMemory,
 }
 
@@ -48,7 +49,7 @@ impl From<OutOfMemory> for CapacityFault {
 }
 
 /// The trains of a line, passed over it as early as their order allows.
-#[derive(Debug, Drop)]
+#[derive(Debug)]
 pub struct Compressed {
     /// The trains with a blocking time on the line in the window, by number.
     pub trains: Vec<Shift>,
@@ -61,6 +62,17 @@ pub struct Compressed {
     pub rate: u64,
 }
 
+impl Drop for Compressed {
+    fn drop(self) {
+        let Compressed {
+            trains: _trains,
+            occupancy: _,
+            rate: _,
+        } = self;
+    }
+}
+
+/// The compression of blocking times none of which begins before the window.
 fn compress_blocks(
     alloc: Global,
     blocks: &[BlockingTime],
