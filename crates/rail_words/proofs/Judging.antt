@@ -10,14 +10,15 @@ use Rattle.rail_base.specs.declared.refusals.Refusal.{Refusal}
 use Rattle.rail_rules.specs.Moves.{Moves}
 use Rattle.rail_base.specs.FirstRefusals.{first_failing}
 use Rattle.rail_base.proofs.CallerLemmas.{first_failing-append}
-use Rattle.rail_words.specs.Lists.{Listed, knows, number_of_train, train_of, with_moves, is_comment, sets, moves_trains, asked_tests, line_refusal, line_tests, lines_tests, after_line, words}
+use Rattle.rail_words.specs.Lists.{Listed, knows, number_of_train, train_of, with_moves, sets, moves_trains, asked_tests, line_refusal, line_tests, lines_tests, after_line}
+use Rattle.rail_command.specs.Lines.{is_comment, words}
 use Rattle.rail_base.specs.declared.refusals.Fault.{Fault}
 use Rattle.rail_base.specs.declared.refusals.Fault.TheVariants.{Refused, OutOfMemory}
 use Rattle.rail_base.specs.Refusals.{AnswersFirst}
 use Rattle.rail_words.specs.ListAnswers.{IsListFor}
 use Rattle.rail_words.specs.Verbs.{verb_of}
 use Rattle.rail_words.specs.declared.checking.Verb.TheVariants.{Comment, At, Move, Other}
-use Rattle.rail_words.proofs.Parts.{found_at}
+use Rattle.rail_command.proofs.CallerLemmas.{found_at}
 use Rattle.rail_place.specs.Tables.{MoveLists}
 
 -- a known train has a number below the count of the trains

@@ -1,30 +1,24 @@
 -- What the reading of a list file answers.
-use Rattle.std.specs.Prelude.{◌≡◌, ◌≢◌, ◌⊎◌, ℕ, ◌<◌, ◌≤◌, ◌^◌, List, length, get_or, Option, Some, None, false}
+use Rattle.std.specs.Prelude.{◌≡◌, ◌≢◌, ◌⊎◌, ℕ, ◌<◌, ◌≤◌, ◌^◌, List, length, get_or, Some, None, false}
 use Rattle.std.specs.List.{All, list_all}
 use Rattle.rail_base.specs.declared.refusals.Fault.{Fault}
 use Rattle.rail_base.specs.declared.refusals.Fault.TheVariants.{Refused, OutOfMemory}
-use Rattle.rail_base.specs.declared.refusals.Part.TheVariants.{Line}
-use Rattle.rail_base.specs.declared.refusals.Reason.{Reason}
 use Rattle.rail_base.specs.declared.refusals.Reason.TheVariants.{ListForm, ListName}
-use Rattle.rail_base.specs.declared.refusals.Refusal.{Refusal}
 use Rattle.rail_rules.specs.Moves.{Moves}
 use Rattle.rail_place.specs.Tables.{moves_in, MoveLists}
+use Rattle.rail_command.specs.Lines.{refusal_at}
 use Rattle.rail_words.specs.Lists.{Listed, knows, number_of_train, train_of}
-
--- a line is refused for this reason
-abbrev pub refusal_at : Reason → ℕ → Fault
-refusal_at reason n = Refused (record { reason = reason; part = Line; item = n; step = 0 })
 
 -- why a position is refused: no train has the name, or the one that has it makes fewer moves
 abbrev pub IsRefusedPosition : List (List ℕ) → Moves → List ℕ → ℕ → ℕ → Fault → Type 0
 IsRefusedPosition names plan name position n fault =
-    ((train_of names name ≡ None) × (fault ≡ refusal_at ListName n))
-    ⊎ ((train_of names name ≢ None) × (plan.moves (number_of_train names name) < position) × (fault ≡ refusal_at ListForm n))
+    ((train_of names name ≡ None) × (fault ≡ Refused (refusal_at ListName n)))
+    ⊎ ((train_of names name ≢ None) × (plan.moves (number_of_train names name) < position) × (fault ≡ Refused (refusal_at ListForm n)))
 
 -- why moves are refused: a name is that of no train; or memory is wanting
 abbrev pub IsRefusedMoves : List (List ℕ) → List (List ℕ) → ℕ → Fault → Type 0
 IsRefusedMoves names args n fault =
-    (fault ≡ OutOfMemory) ⊎ ((list_all (knows names) args ≡ false) × (fault ≡ refusal_at ListName n))
+    (fault ≡ OutOfMemory) ⊎ ((list_all (knows names) args ≡ false) × (fault ≡ Refused (refusal_at ListName n)))
 
 -- the train of this name is known, and has at least so many moves, which are few
 pub record IsPosition (names : List (List ℕ)) (plan : Moves) (name : List ℕ) (position : ℕ) : Type 0 where

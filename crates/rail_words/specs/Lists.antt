@@ -1,38 +1,16 @@
 -- List files: where the trains stand, and the moves to be made.
-use Rattle.std.specs.Prelude.{ℕ, ◌+◌, ◌-◌, ◌*◌, ◌==◌, Bool, true, false, not, ◌&&◌, ◌||◌, cond, nat_lt, nat_le, is_some, List, [], ◌∷◌, ◌++◌, length, take, get_or, set, map, filter, replicate, codes, Option, position, unwrap_or}
-use Rattle.std.specs.List.{list_all, slice_split}
+use Rattle.std.specs.Prelude.{ℕ, ◌+◌, ◌==◌, Bool, true, false, not, ◌&&◌, ◌||◌, cond, nat_lt, is_some, List, [], ◌∷◌, ◌++◌, length, take, set, map, replicate, codes, Option, unwrap_or}
+use Rattle.std.specs.List.{list_all}
 use Rattle.std.specs.Str.Lines.{lines}
-use Rattle.rail_base.specs.NameForms.{is_name, same_name}
+use Rattle.rail_base.specs.NameForms.{is_name}
 use Rattle.rail_base.specs.declared.refusals.Refusal.{Refusal}
-use Rattle.rail_base.specs.declared.refusals.Reason.{Reason}
 use Rattle.rail_base.specs.declared.refusals.Reason.TheVariants.{ListForm, ListName, ListPlaces}
-use Rattle.rail_base.specs.declared.refusals.Part.TheVariants.{Line}
+use Rattle.rail_command.specs.Decimals.{is_decimal, value_of}
+use Rattle.rail_command.specs.Lines.{is_comment, number_of_name, refused_line, words}
 use Rattle.rail_rules.specs.Numbers.{same_numbers}
 use Rattle.rail_rules.specs.Moves.{Moves}
 use Rattle.rail_rules.specs.Places.{is_valid_state}
 use Rattle.rail_base.specs.FirstRefusals.{Test, first_failing}
-
--- the words of a line, which stand between spaces
-abbrev pub words : List ℕ → List (List ℕ)
-words line = filter (λ word. not (length word == 0)) (slice_split (λ b. b == 32) line)
-
--- a decimal digit
-abbrev pub is_digit : ℕ → Bool
-is_digit b = nat_le 48 b && nat_le b 57
-
--- a number in decimal digits without leading zeros, however large
-abbrev pub is_decimal : List ℕ → Bool
-is_decimal [] = false
-is_decimal (b ∷ bs) = list_all is_digit (b ∷ bs) && (not (b == 48) || length bs == 0)
-
--- the number that digits spell behind a number that was read
-abbrev pub value_on : ℕ → List ℕ → ℕ
-value_on n [] = n
-value_on n (b ∷ bs) = value_on (10 * n + (b - 48)) bs
-
--- the number that digits spell
-abbrev pub value_of : List ℕ → ℕ
-value_of digits = value_on 0 digits
 
 -- what a list file says: the position of each train, the trains to be moved in order, the last line that sets a
 -- position, and whether a train is to be moved
@@ -48,7 +26,7 @@ nothing_listed trains = record { positions = replicate trains 0; list = []; last
 
 -- the number of the train of this name, among the names of the trains in order
 abbrev pub train_of : List (List ℕ) → List ℕ → Option ℕ
-train_of names word = position (same_name word) names
+train_of names word = number_of_name names word
 
 -- a train has this name
 abbrev pub knows : List (List ℕ) → List ℕ → Bool
@@ -86,10 +64,6 @@ abbrev pub is_past : List (List ℕ) → Moves → List ℕ → List (List ℕ) 
 is_past names plan verb (train ∷ number ∷ []) = sets verb && nat_lt (plan.moves (number_of_train names train)) (value_of number)
 is_past names plan verb _ = false
 
--- a refusal of a line for this reason, wherever the last argument is true
-abbrev pub refused_line : Reason → ℕ → Bool → Test Refusal
-refused_line reason n fails = record { answer = record { reason = reason; part = Line; item = n; step = 0 }; fails = fails }
-
 -- the tests of a line, in their order
 abbrev pub asked_tests : List (List ℕ) → Moves → Bool → ℕ → List ℕ → List (List ℕ) → List (Test Refusal)
 asked_tests names plan is_moving n verb args =
@@ -97,10 +71,6 @@ asked_tests names plan is_moving n verb args =
     ∷ refused_line ListName n (not (list_all (knows names) (trains_named verb args)))
     ∷ refused_line ListForm n (is_past names plan verb args)
     ∷ []
-
--- a line without a word, or one that begins with `#`, is skipped
-abbrev pub is_comment : List ℕ → Bool
-is_comment verb = get_or verb 0 0 == 35
 
 -- the tests of a line; a comment and a line without words have none
 abbrev pub line_tests : List (List ℕ) → Moves → Bool → ℕ → List (List ℕ) → List (Test Refusal)

@@ -3,13 +3,14 @@ ghost use Rattle.std.specs.List.{list_all};
 ghost use Rattle.rail_base.specs.NameForms.{is_name};
 ghost use Rattle.rail_place.specs.Tables.{moves_in};
 ghost use Rattle.rail_rules.specs.Moves.{Moves as plan_of_moves};
-ghost use Rattle.rail_words.specs.Lists.{after_line, asked_refusal, knows, line_refusal, list_line_refusal, listed_in, moves_trains, nothing_listed, number_of_train, sets, train_of, with_moves, with_position, words};
+ghost use Rattle.rail_words.specs.Lists.{after_line, asked_refusal, knows, line_refusal, list_line_refusal, listed_in, moves_trains, nothing_listed, number_of_train, sets, train_of, with_moves, with_position};
+ghost use Rattle.rail_command.specs.Lines.{words};
 ghost use Rattle.rail_base.specs.Refusals.{AnswersFirst};
-ghost use Rattle.rail_words.specs.ListAnswers.{IsListFor, IsPosition, IsRefusedMoves, IsRefusedPosition, refusal_at};
+ghost use Rattle.rail_words.specs.ListAnswers.{IsListFor, IsPosition, IsRefusedMoves, IsRefusedPosition};
 
 use crate::checking::{Verb, are_known, are_names, read_position, train_of, verb_of};
-use crate::cutting::{next_line, next_word};
-use rail_base::{Fault, Name, Names, Part, Reason, Refusal, TrainNo};
+use rail_base::{Fault, Name, Names, Reason, TrainNo};
+use rail_command::{next_line, next_word, refused_at};
 use rail_place::Moves;
 use std::alloc::{AllocError, Global};
 use std::marker::Model;
@@ -104,7 +105,7 @@ impl ListFile {
             Verb::Comment => Ok(()),
             Verb::At => self.read_at(names, moves, number, args),
             Verb::Move => self.read_moves(names, number, args),
-            Verb::Other => Err(refusal_at(Reason::ListForm, number)),
+            Verb::Other => Err(refused_at(Reason::ListForm, number)),
         }
     }
 
@@ -127,11 +128,11 @@ impl ListFile {
             IfErr result (AnswersFirst (asked_refusal names.now.trains.keys (moves_in moves.now) self.old number verb (words args.now))) }
     {
         if self.is_moving {
-            return Err(refusal_at(Reason::ListForm, number));
+            return Err(refused_at(Reason::ListForm, number));
         }
         match read_position(args) {
             Some((train, position)) => self.set(names, moves, number, train, position),
-            None => Err(refusal_at(Reason::ListForm, number)),
+            None => Err(refused_at(Reason::ListForm, number)),
         }
     }
 
@@ -146,7 +147,7 @@ impl ListFile {
             IfErr result (AnswersFirst (asked_refusal names.now.trains.keys plan self.old number verb (words args.now))) }
     {
         if !are_names(args) {
-            return Err(refusal_at(Reason::ListForm, number));
+            return Err(refused_at(Reason::ListForm, number));
         }
         self.add(names, number, args)
     }
@@ -172,10 +173,10 @@ impl ListFile {
         ensures refused { IfErr result (IsRefusedPosition names.now.trains.keys (moves_in moves.now) name position number) }
     {
         let Some(train) = names.train(name) else {
-            return Err(refusal_at(Reason::ListName, number));
+            return Err(refused_at(Reason::ListName, number));
         };
         if position > u64::from(moves.places(train)) {
-            return Err(refusal_at(Reason::ListForm, number));
+            return Err(refused_at(Reason::ListForm, number));
         }
         self.positions[usize::from(train.0)] = position as u16;
         self.last_at = number;
@@ -191,7 +192,7 @@ impl ListFile {
         ensures refused { IfErr result (IsRefusedMoves names.now.trains.keys (words args.now) number) }
     {
         if !are_known(names, args) {
-            return Err(refusal_at(Reason::ListName, number));
+            return Err(refused_at(Reason::ListName, number));
         }
         push_trains(&mut self.list, names, args)?;
         self.is_moving = true;
@@ -214,18 +215,6 @@ fn push_trains(list: &mut Vec<TrainNo>, names: &Names, args: &[u8]) -> Result<()
         left = rest;
     }
     Ok(())
-}
-
-/// The refusal of a line.
-fn refusal_at(reason: Reason, line: u32) -> Fault
-    ensures { result ≡ refusal_at reason line }
-{
-    Fault::Refused(Refusal {
-        reason,
-        part: Part::Line,
-        item: line,
-        step: 0,
-    })
 }
 
 /// Reads a list file. `names` has the names of the trains whose moves these are.

@@ -1,7 +1,7 @@
 use Rattle.std.proofs.Common.{◌∙◌, sym}
 use Rattle.rail_place.specs.Tables.{moves_in}
 use Rattle.rail_rules.specs.Moves.{Moves}
-use Rattle.rail_words.specs.Lists.{words}
+use Rattle.rail_command.specs.Lines.{words}
 use Rattle.rail_words.proofs.Judging.{moves_kept, moving_from, asked, both_on_ok}
 use Rattle.rail_words.proofs.list.ListFile.read_line.Goals as goal
 
