@@ -9,6 +9,8 @@
 #[cfg(test)]
 mod analysis;
 #[cfg(test)]
+mod commands;
+#[cfg(test)]
 mod events;
 #[cfg(test)]
 mod ground;
