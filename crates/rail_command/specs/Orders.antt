@@ -48,7 +48,7 @@ abbrev pub named_command : List (List ℕ) → Option NamedCommand
 named_command (time ∷ words) = commanded (input_time time) (named_order words)
 named_command _ = None
 
--- the order, where there are a section or a train of the name; the name of a policy is not looked up
+-- the order, where a section or train has the name; the name of a policy is not looked up
 abbrev pub order_of : List (List ℕ) → List (List ℕ) → NamedOrder → Option Order
 order_of sections trains (Policy name) = Some (order.Policy name)
 order_of sections trains (Retire name) = Some (order.Retire name)

@@ -67,7 +67,8 @@ fn read_line(
     Ok(())
 }
 
-/// Adds a command behind the others.
+/// Adds a command behind the others. It takes the parts, since the type of an order has to stand in the
+/// function that pushes one.
 fn push(commands: &mut Vec<Command>, at: Time, what: Order) -> Result<(), AllocError>
     ensures { OnOk result (commands.new.items ≡ commands.old.items ++ record { at = at; what = what } ∷ []) }
 {

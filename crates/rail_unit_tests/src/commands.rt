@@ -1,8 +1,8 @@
 //! Command files: what is read, and what is refused first.
 
 use indexmap::IndexSet;
-use rail_base::{Command, Fault, Name, Names, Order};
-use rail_command::read_commands;
+use rail_base::{Command, Fault, Name, Names, Order, Part, Reason, Refusal};
+use rail_command::{is_decimal, next_line, next_word, read_commands, refused_at, value_of};
 use std::alloc::{AllocError, Global};
 use std::str;
 
@@ -79,6 +79,47 @@ fn reads_no_more_than_1024_commands(rt: HostRuntime) {
         };
         assert_eq!(rt; told_more.as_str(), "17 Line 1026 0");
     }
+}
+
+#[test]
+fn cuts_lines_and_words(rt: HostRuntime) {
+    let Some((line, rest)) = next_line(b" at  A\r\nmove A") else {
+        panic!(rt; "no line");
+    };
+    assert_eq!(rt; line, b" at  A".as_slice());
+    assert_eq!(rt; rest, b"move A".as_slice());
+    assert!(rt; next_line(b"").is_none());
+    let Some((word, rest)) = next_word(line) else {
+        panic!(rt; "no word");
+    };
+    assert_eq!(rt; word, b"at".as_slice());
+    let Some((word, rest)) = next_word(rest) else {
+        panic!(rt; "no second word");
+    };
+    assert_eq!(rt; word, b"A".as_slice());
+    assert!(rt; next_word(rest).is_none());
+}
+
+#[test]
+fn reads_decimal_numbers(rt: HostRuntime) {
+    for (word, value) in [
+        ("0", 0),
+        ("907", 907),
+        ("18446744073709551615", 18_446_744_073_709_551_615),
+        ("18446744073709551616", 18_446_744_073_709_551_615),
+    ] {
+        assert!(rt; is_decimal(word.as_bytes()), "{word}");
+        assert_eq!(rt; value_of(word.as_bytes()), value, "{word}");
+    }
+    for word in ["", "01", "25x", "+1", " 1"] {
+        assert!(rt; !is_decimal(word.as_bytes()), "{word}");
+    }
+}
+
+#[test]
+fn refuses_a_line(rt: HostRuntime) {
+    let refusal = Refusal { reason: Reason::CommandForm, part: Part::Line, item: 3, step: 0 };
+    assert_eq!(rt; refused_at(Reason::CommandForm, 3), Fault::Refused(refusal));
 }
 
 /// A comment, 1,024 commands, and a last line.

@@ -5,8 +5,8 @@ ghost use Rattle.std.specs.List.{list_all};
 ghost use Rattle.rail_base.specs.NameForms.{is_name};
 ghost use Rattle.rail_words.specs.Verbs.{verb_of};
 ghost use Rattle.rail_command.specs.Decimals.{value_of};
-ghost use Rattle.rail_command.specs.Lines.{words};
-ghost use Rattle.rail_words.specs.Lists.{is_position, knows, train_of};
+ghost use Rattle.rail_command.specs.Lines.{number_of_name, words};
+ghost use Rattle.rail_words.specs.Lists.{is_position, knows};
 
 use rail_base::{Name, Names, TrainNo};
 use rail_command::{is_decimal, next_word, value_of};
@@ -89,7 +89,7 @@ fn are_all_names(args: &[u8]) -> bool
 /// The train that a word names.
 pub(crate) fn train_of(names: &Names, word: &[u8]) -> Option<TrainNo>
     requires { length names.now.trains.keys ≤ 2 ^ 16 }
-    ensures { is_name word.now ≡ true → result ≡ train_of names.now.trains.keys word.now }
+    ensures { is_name word.now ≡ true → result ≡ number_of_name names.now.trains.keys word.now }
 {
     match Name::read(word) {
         Some(name) => names.train(name),

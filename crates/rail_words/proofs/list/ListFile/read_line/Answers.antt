@@ -14,5 +14,5 @@ pub returns-in-Move-clause-refused : goal.returns-in-Move-clause-refused
 returns-in-Move-clause-refused c =
     let moving = moving_from c.in-Some.verb.now (sym c.verb_of.ensures ∙ c.in-Move.is) in
     let plan : Moves = moves_in c.args.moves.now in
-    let tests = asked c.args.names.now.trains.keys plan c.args.self.now.is_moving c.args.number c.args.line.now c.in-Some.verb.now (words c.in-Some.args.now) c.in-Some.ensures.words moving.plain in
+    let tests = asked c.args.names.now.trains.keys plan c.args.self.now.has_moved c.args.number c.args.line.now c.in-Some.verb.now (words c.in-Some.args.now) c.in-Some.ensures.words moving.plain in
     rw tests (c.read_moves.ensures.refused plan c.in-Some.verb.now moving.other moving.moving)
