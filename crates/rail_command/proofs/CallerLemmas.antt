@@ -2,6 +2,5 @@
 
 -- Parts: where a position was found, it is one of the list's.
 pub use Rattle.rail_command.proofs.Parts.{found_at}
-
--- Joining: the lines from one on are that line, if it is not skipped, and the lines behind it.
-pub use Rattle.rail_command.proofs.Joining.{lines_from-cons}
+-- JoinedLines: the lines from one on are that line, if it is not skipped, and the lines behind it.
+pub use Rattle.rail_command.proofs.JoinedLines.{lines_from-cons}

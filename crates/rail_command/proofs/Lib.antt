@@ -2,5 +2,5 @@
 pub mod CallerLemmas
 mod Parts
 mod TimeWords
-mod Accepting
-mod Joining
+mod PassedLines
+mod JoinedLines

@@ -4,4 +4,4 @@ pub mod Decimals
 pub mod Times
 pub mod Orders
 pub mod Commands
-pub mod Reading
+pub mod LineAnswers

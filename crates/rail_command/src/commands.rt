@@ -8,7 +8,7 @@ ghost use Rattle.rail_rules.specs.Plant.{Plant, trains};
 ghost use Rattle.rail_base.specs.FirstRefusals.{first_failing};
 ghost use Rattle.rail_command.specs.Lines.{is_skipped, line_at, words};
 ghost use Rattle.rail_command.specs.Commands.{command_on, commands_in, commands_refusal, last_time};
-ghost use Rattle.rail_command.specs.Reading.{IsRefusedLine, LinePasses, tests_behind, with_line};
+ghost use Rattle.rail_command.specs.LineAnswers.{IsRefusedLine, LinePasses, tests_behind, with_line};
 
 use crate::lines::{next_line, next_word, refused_at};
 use crate::orders::{named_command, order_of};

@@ -11,7 +11,7 @@ use crate::times::input_time;
 use rail_base::{Name, Names, Order, Time};
 
 /// An order as a line spells it: by names.
-#[derive(Clone, Copy, Debug, PartialEq, Eq)]
+#[derive(Clone, Copy, Debug)]
 pub(crate) enum NamedOrder {
     Policy(Name),
     Retire(Name),
@@ -24,7 +24,7 @@ pub(crate) enum NamedOrder {
 }
 
 /// A command as a line spells it: a time, and an order by names.
-#[derive(Clone, Copy, Debug, PartialEq, Eq)]
+#[derive(Clone, Copy, Debug)]
 pub(crate) struct NamedCommand {
     pub(crate) at: Time,
     pub(crate) what: NamedOrder,

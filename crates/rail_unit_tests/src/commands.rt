@@ -118,7 +118,12 @@ fn reads_decimal_numbers(rt: HostRuntime) {
 
 #[test]
 fn refuses_a_line(rt: HostRuntime) {
-    let refusal = Refusal { reason: Reason::CommandForm, part: Part::Line, item: 3, step: 0 };
+    let refusal = Refusal {
+        reason: Reason::CommandForm,
+        part: Part::Line,
+        item: 3,
+        step: 0,
+    };
     assert_eq!(rt; refused_at(Reason::CommandForm, 3), Fault::Refused(refusal));
 }
 

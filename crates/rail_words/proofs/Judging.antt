@@ -1,20 +1,13 @@
 -- What a line of a list file adds.
-use Rattle.std.proofs.Common.{◌≡◌, ℕ, ◌+◌, ◌<◌, Bool, true, false, cond, is_some, List, [], ◌∷◌, length, map, Option, Some, None, Result, Ok, Err, OnOk, refl, ap, ◌∙◌, subst}
+use Rattle.std.proofs.Common.{◌≡◌, ℕ, ◌<◌, Bool, true, false, cond, is_some, List, [], ◌∷◌, length, map, Option, Some, None, Result, Ok, Err, OnOk, refl, ap, ◌∙◌, subst}
 use Rattle.std.specs.List.{All, list_all}
-use Rattle.std.specs.Option.{option_or}
 use Rattle.std.specs.Prelude.{unwrap_or}
 use Rattle.std.proofs.lemmas.Bool.{and_parts, false≢true}
 use Rattle.std.proofs.lemmas.List.Elements.{All-append, All-nil, All-cons}
 use Rattle.rail_base.specs.NameForms.{same_name}
-use Rattle.rail_base.specs.declared.refusals.Refusal.{Refusal}
 use Rattle.rail_rules.specs.Moves.{Moves}
-use Rattle.rail_base.specs.FirstRefusals.{first_failing}
-use Rattle.rail_base.proofs.CallerLemmas.{first_failing-append}
 use Rattle.rail_words.specs.Lists.{asked_tests, knows, moves_trains, number_of_train, sets}
 use Rattle.rail_command.specs.Lines.{is_comment, number_of_name, words}
-use Rattle.rail_base.specs.declared.refusals.Fault.{Fault}
-use Rattle.rail_base.specs.declared.refusals.Fault.TheVariants.{Refused, OutOfMemory}
-use Rattle.rail_base.specs.Refusals.{AnswersFirst}
 use Rattle.rail_words.specs.ListAnswers.{IsListFor, ReadList, after_moves, tests_after}
 use Rattle.rail_words.specs.Verbs.{verb_of}
 use Rattle.rail_words.specs.declared.checking.Verb.TheVariants.{Comment, At, Move, Other}

@@ -1,3 +1,3 @@
 mod Reading
 mod Judging
-mod Joining
+mod JoinedLines

@@ -5,8 +5,8 @@ use Rattle.rail_base.specs.declared.orders.Command.{Command}
 use Rattle.rail_base.proofs.CallerLemmas.{passed_up}
 use Rattle.rail_command.specs.Lines.{is_skipped, lines_from, words}
 use Rattle.rail_command.specs.Commands.{commands_on}
-use Rattle.rail_command.specs.Reading.{lines_behind}
-use Rattle.rail_command.proofs.Joining.{at_end, behind_line, commands_joined, few_commands, fine_commands, line_answers}
+use Rattle.rail_command.specs.LineAnswers.{lines_behind}
+use Rattle.rail_command.proofs.JoinedLines.{at_end, behind_line, commands_joined, few_commands, fine_commands, line_answers}
 use Rattle.rail_command.proofs.commands.read_commands.Goals as goal
 
 pub loop-line-preserved : goal.loop-line-preserved

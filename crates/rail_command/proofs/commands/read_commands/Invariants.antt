@@ -3,7 +3,7 @@ use Rattle.std.specs.Str.Lines.{lines}
 use Rattle.rail_base.specs.FirstRefusals.{first_failing}
 use Rattle.rail_command.specs.Lines.{lines_from}
 use Rattle.rail_command.specs.Commands.{commands_in, commands_on, commands_refusal}
-use Rattle.rail_command.specs.Reading.{lines_behind}
+use Rattle.rail_command.specs.LineAnswers.{lines_behind}
 use Rattle.rail_command.proofs.commands.read_commands.Given as goal
 
 abbrev pub invariant-loop-line : goal.invariant-loop-line

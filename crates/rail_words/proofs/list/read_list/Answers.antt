@@ -1,9 +1,9 @@
-use Rattle.std.proofs.Common.{◌≡◌, ◌+◌, ◌∷◌, List, [], ℕ, length, refl, subst, arith}
+use Rattle.std.proofs.Common.{◌+◌, List, ℕ, length, subst, arith}
 use Rattle.std.specs.Str.Lines.{lines}
 use Rattle.rail_place.specs.Tables.{moves_in}
 use Rattle.rail_rules.specs.Moves.{Moves}
 use Rattle.rail_base.proofs.CallerLemmas.{passed_up}
-use Rattle.rail_words.proofs.Joining.{IsReadTo, answers_line, one_more}
+use Rattle.rail_words.proofs.JoinedLines.{IsReadTo, answers_line, one_more}
 use Rattle.rail_words.proofs.list.read_list.Goals as goal
 
 pub loop-line-preserved : goal.loop-line-preserved

@@ -2,7 +2,7 @@ use Rattle.std.proofs.Common.{◌+◌, ◌≤◌, length}
 use Rattle.std.specs.Str.Lines.{lines}
 use Rattle.rail_place.specs.Tables.{moves_in}
 use Rattle.rail_words.specs.ListAnswers.{IsListFor}
-use Rattle.rail_words.proofs.Joining.{IsReadTo}
+use Rattle.rail_words.proofs.JoinedLines.{IsReadTo}
 use Rattle.rail_words.proofs.list.read_list.Given as goal
 
 abbrev pub invariant-loop-line : goal.invariant-loop-line

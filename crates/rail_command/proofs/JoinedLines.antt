@@ -16,8 +16,8 @@ use Rattle.rail_rules.specs.Accepted.{are_commands_in_range}
 use Rattle.rail_rules.specs.Plant.{Plant, trains}
 use Rattle.rail_command.specs.Lines.{Line, is_skipped, line_at, lines_from, lines_of, words}
 use Rattle.rail_command.specs.Commands.{command_on, commands_in, commands_on, commands_refusal, last_time, line_tests, lines_tests, time_on}
-use Rattle.rail_command.specs.Reading.{IsRefusedLine, LinePasses, lines_behind, with_line}
-use Rattle.rail_command.proofs.Accepting.{IsPassed, command_of, commands_few, commands_in_range, its_command, its_time, lines_apart, lines_passed}
+use Rattle.rail_command.specs.LineAnswers.{IsRefusedLine, LinePasses, lines_behind, with_line}
+use Rattle.rail_command.proofs.PassedLines.{IsPassed, command_of, commands_few, commands_in_range, its_command, its_time, lines_apart, lines_passed}
 
 -- the lines from one on
 abbrev from_line : Bool → Line → List Line → List Line
