@@ -1,7 +1,6 @@
 -- No refusal of what files hold is one of a file for its size.
-use Rattle.std.proofs.Common.{◌≡◌, ℕ, ◌+◌, suc, Bool, true, false, not, cond, List, [], ◌∷◌, Option, Some, None, option_and_then, sym, ap, ◌∙◌, refl}
+use Rattle.std.proofs.Common.{◌≡◌, ℕ, ◌+◌, suc, Bool, true, false, not, cond, List, [], ◌∷◌, ◌++◌, Option, Some, None, option_and_then, sym, ap, ◌∙◌, refl}
 use Rattle.std.specs.Option.{option_or}
-use Rattle.std.specs.Str.Lines.{lines}
 use Rattle.std.proofs.lemmas.Option.{none-some, same_Some}
 use Rattle.rail_base.specs.FirstRefusals.{first_failing}
 use Rattle.rail_base.specs.Refusals.{AnswersFirst, is_file}
@@ -21,7 +20,8 @@ use Rattle.rail_scene.specs.Order.{scene_refusal}
 use Rattle.rail_scene.proofs.CallerLemmas.{scene_of_bytes}
 use Rattle.rail_compile.specs.Itineraries.{routes_of, tables_of}
 use Rattle.rail_compile.specs.Refusals.{compile_refusal, fault_for, place_tests, refusal_in, train_tests, trains_tests}
-use Rattle.rail_words.specs.Lists.{Listed, after_line, asked_tests, is_comment, line_tests, lines_tests, list_line_refusal, nothing_listed, words}
+use Rattle.rail_command.specs.Lines.{Line, lines_of}
+use Rattle.rail_words.specs.Lists.{line_tests, lines_tests, list_line_refusal, some_moves, words_tests}
 use Rattle.rail_cli.specs.Answers.{status_of}
 use Rattle.rail_cli.specs.Promises.{is_of_bytes}
 
@@ -61,21 +61,16 @@ compile_fault scene fault.OutOfMemory answers = refl
 compile_fault scene (fault.Refused refusal) answers = ap not (compile_of_bytes scene refusal answers)
 
 -- the tests of the lines of a list
-of_line : (names : List (List ℕ)) (plan : Moves) (is_moving : Bool) (n : ℕ) (words : List (List ℕ)) → AreOfBytes (line_tests names plan is_moving n words)
-of_line names plan is_moving n [] = tt
-of_line names plan is_moving n (verb ∷ args) = by (is_comment verb)
-  where
-    by : (b : Bool) → AreOfBytes (cond b [] (asked_tests names plan is_moving n verb args))
-    by true = tt
-    by false = (refl, (refl, (refl, tt)))
+of_words : (names : List (List ℕ)) (plan : Moves) (has_moved : Bool) (n : ℕ) (words : List (List ℕ)) → AreOfBytes (words_tests names plan has_moved n words)
+of_words names plan has_moved n [] = tt
+of_words names plan has_moved n (verb ∷ args) = (refl, (refl, (refl, tt)))
 
-of_lines : (names : List (List ℕ)) (plan : Moves) (listed : Listed) (n : ℕ) (lines : List (List ℕ)) → AreOfBytes (lines_tests names plan listed n lines)
-of_lines names plan listed n [] = tt
-of_lines names plan listed n (line ∷ rest) = of_both (line_tests names plan listed.is_moving n (words line)) (lines_tests names plan (after_line names listed n (words line)) (n + 1) rest)
-    (of_line names plan listed.is_moving n (words line)) (of_lines names plan (after_line names listed n (words line)) (n + 1) rest)
+of_lines : (names : List (List ℕ)) (plan : Moves) (before lines : List Line) → AreOfBytes (lines_tests names plan before lines)
+of_lines names plan before [] = tt
+of_lines names plan before (line ∷ rest) = of_both (line_tests names plan before line) (lines_tests names plan (before ++ line ∷ []) rest)
+    (of_words names plan (some_moves before) line.number line.words) (of_lines names plan (before ++ line ∷ []) rest)
 
 -- a fault that answers the refusal of a line of a list
-pub list_fault : (names : List (List ℕ)) (plan : Moves) (trains : ℕ) (bytes : List ℕ) (fault : Fault) → AnswersFirst (list_line_refusal names plan trains bytes) fault → is_of_bytes (status_of fault) ≡ true
-list_fault names plan trains bytes fault.OutOfMemory answers = refl
-list_fault names plan trains bytes (fault.Refused refusal) answers =
-    ap not (first_of_bytes (lines_tests names plan (nothing_listed trains) 1 (lines bytes)) refusal (of_lines names plan (nothing_listed trains) 1 (lines bytes)) answers)
+pub list_fault : (names : List (List ℕ)) (plan : Moves) (bytes : List ℕ) (fault : Fault) → AnswersFirst (list_line_refusal names plan bytes) fault → is_of_bytes (status_of fault) ≡ true
+list_fault names plan bytes fault.OutOfMemory answers = refl
+list_fault names plan bytes (fault.Refused refusal) answers = ap not (first_of_bytes (lines_tests names plan [] (lines_of bytes)) refusal (of_lines names plan [] (lines_of bytes)) answers)

@@ -73,8 +73,8 @@ shared_at line = record { reason = ListPlaces; part = Line; item = line; step = 
 -- why a list file is refused: a line, or two trains that hold one section
 abbrev pub list_refusal : Plant → List ℕ → Option Refusal
 list_refusal plant list =
-    or_else (list_line_refusal (names_of plant).trains (moves_of plant) (trains plant) list)
-    (first_failing (places_test (moves_of plant) (listed_for plant list) ∷ []))
+    or_else (list_line_refusal (names_of plant).trains (moves_of plant) list)
+    (first_failing (places_test (names_of plant).trains (moves_of plant) (trains plant) list ∷ []))
 
 -- why the player refuses a scene and a list
 abbrev pub play_refusal : List ℕ → List ℕ → Option Refusal

@@ -11,6 +11,8 @@ mod analysis;
 #[cfg(test)]
 mod capacity;
 #[cfg(test)]
+mod commands;
+#[cfg(test)]
 mod events;
 #[cfg(test)]
 mod ground;

@@ -1,3 +1,3 @@
 mod Reading
-mod Parts
 mod Judging
+mod JoinedLines

@@ -1,80 +1,86 @@
 -- List files: where the trains stand, and the moves to be made.
-use Rattle.std.specs.Prelude.{ℕ, ◌+◌, ◌-◌, ◌*◌, ◌==◌, Bool, true, false, not, ◌&&◌, ◌||◌, cond, nat_lt, nat_le, is_some, List, [], ◌∷◌, ◌++◌, length, take, get_or, set, map, filter, replicate, codes, Option, position, unwrap_or}
-use Rattle.std.specs.List.{list_all, slice_split}
-use Rattle.std.specs.Str.Lines.{lines}
-use Rattle.rail_base.specs.NameForms.{is_name, same_name}
-use Rattle.rail_base.specs.declared.refusals.Refusal.{Refusal}
-use Rattle.rail_base.specs.declared.refusals.Reason.{Reason}
-use Rattle.rail_base.specs.declared.refusals.Reason.TheVariants.{ListForm, ListName, ListPlaces}
-use Rattle.rail_base.specs.declared.refusals.Part.TheVariants.{Line}
-use Rattle.rail_rules.specs.Numbers.{same_numbers}
-use Rattle.rail_rules.specs.Moves.{Moves}
-use Rattle.rail_rules.specs.Places.{is_valid_state}
+use Rattle.std.specs.Prelude.{ℕ, ◌==◌, Bool, false, not, ◌&&◌, ◌||◌, cond, nat_lt, is_some, List, [], ◌∷◌, ◌++◌, length, take, fold, set, map, replicate, codes, Option, unwrap_or}
+use Rattle.std.specs.List.{flat_map, list_all, list_any}
 use Rattle.rail_base.specs.FirstRefusals.{Test, first_failing}
-
--- the words of a line, which stand between spaces
-abbrev pub words : List ℕ → List (List ℕ)
-words line = filter (λ word. not (length word == 0)) (slice_split (λ b. b == 32) line)
-
--- a decimal digit
-abbrev pub is_digit : ℕ → Bool
-is_digit b = nat_le 48 b && nat_le b 57
-
--- a number in decimal digits without leading zeros, however large
-abbrev pub is_decimal : List ℕ → Bool
-is_decimal [] = false
-is_decimal (b ∷ bs) = list_all is_digit (b ∷ bs) && (not (b == 48) || length bs == 0)
-
--- the number that digits spell behind a number that was read
-abbrev pub value_on : ℕ → List ℕ → ℕ
-value_on n [] = n
-value_on n (b ∷ bs) = value_on (10 * n + (b - 48)) bs
-
--- the number that digits spell
-abbrev pub value_of : List ℕ → ℕ
-value_of digits = value_on 0 digits
-
--- what a list file says: the position of each train, the trains to be moved in order, the last line that sets a
--- position, and whether a train is to be moved
-pub record Listed : Type 0 where
-  pub positions : List ℕ
-  pub list : List ℕ
-  pub last_at : ℕ
-  pub is_moving : Bool
-
--- before the first line all trains are outside
-abbrev pub nothing_listed : ℕ → Listed
-nothing_listed trains = record { positions = replicate trains 0; list = []; last_at = 0; is_moving = false }
-
--- the number of the train of this name, among the names of the trains in order
-abbrev pub train_of : List (List ℕ) → List ℕ → Option ℕ
-train_of names word = position (same_name word) names
-
--- a train has this name
-abbrev pub knows : List (List ℕ) → List ℕ → Bool
-knows names word = is_some (train_of names word)
+use Rattle.rail_base.specs.NameForms.{is_name}
+use Rattle.rail_base.specs.declared.refusals.Refusal.{Refusal}
+use Rattle.rail_base.specs.declared.refusals.Reason.TheVariants.{ListForm, ListName, ListPlaces}
+use Rattle.rail_command.specs.Decimals.{is_decimal, value_of}
+use Rattle.rail_command.specs.Lines.{Line, lines_of, number_of_name, refused_line}
+use Rattle.rail_rules.specs.Moves.{Moves}
+use Rattle.rail_rules.specs.Numbers.{same_numbers}
+use Rattle.rail_rules.specs.Places.{is_valid_state}
 
 -- the number of the train of this name, which is known
 abbrev pub number_of_train : List (List ℕ) → List ℕ → ℕ
-number_of_train names word = unwrap_or (train_of names word) 0
+number_of_train names name = unwrap_or (number_of_name names name) 0
 
--- the verb of a line that sets a position, and that of one that moves trains
+-- a train has this name
+abbrev pub knows : List (List ℕ) → List ℕ → Bool
+knows names name = is_some (number_of_name names name)
+
+-- the verb of a line that sets a position
 abbrev pub sets : List ℕ → Bool
 sets verb = same_numbers verb (codes "at")
 
--- the line moves trains
+-- the verb of a line that moves trains
 abbrev pub moves_trains : List ℕ → Bool
 moves_trains verb = same_numbers verb (codes "move")
+
+-- a line with these words sets a position: `at TRAIN POSITION`
+abbrev pub is_setting : List (List ℕ) → Bool
+is_setting (verb ∷ train ∷ number ∷ []) = sets verb
+is_setting _ = false
+
+-- a line with these words moves trains: `move TRAIN [TRAIN ..]`
+abbrev pub is_moving : List (List ℕ) → Bool
+is_moving [] = false
+is_moving (verb ∷ trains) = moves_trains verb
+
+-- the positions after a line with these words
+abbrev pub with_position : List (List ℕ) → List ℕ → List (List ℕ) → List ℕ
+with_position names positions (verb ∷ train ∷ number ∷ []) =
+    cond (sets verb) (set positions (number_of_train names train) (value_of number)) positions
+with_position names positions _ = positions
+
+-- the trains that a line with these words moves
+abbrev pub moved : List (List ℕ) → List (List ℕ) → List ℕ
+moved names [] = []
+moved names (verb ∷ trains) = cond (moves_trains verb) (map (number_of_train names) trains) []
+
+-- what a list file says: the position of each train, and the trains to be moved in order
+pub record Listed : Type 0 where
+  pub positions : List ℕ
+  pub list : List ℕ
+
+-- what lines say, line by line: before the first one all trains are outside, and of several positions of a train the last counts
+abbrev pub listed_on : List (List ℕ) → ℕ → List Line → Listed
+listed_on names trains lines = record {
+  positions = fold (λ positions (line : Line). with_position names positions line.words) (replicate trains 0) lines;
+  list = flat_map (λ (line : Line). moved names line.words) lines;
+}
+
+-- what a list file says, for trains of these names
+abbrev pub listed_in : List (List ℕ) → ℕ → List ℕ → Listed
+listed_in names trains bytes = listed_on names trains (lines_of bytes)
+
+-- some line moves trains
+abbrev pub some_moves : List Line → Bool
+some_moves lines = list_any (λ (line : Line). is_moving line.words) lines
+
+-- the number of the last line that sets a position, 0 where there is none
+abbrev pub last_setting : List Line → ℕ
+last_setting lines = fold (λ n (line : Line). cond (is_setting line.words) line.number n) 0 lines
 
 -- a train and a number
 abbrev pub is_position : List (List ℕ) → Bool
 is_position (train ∷ number ∷ []) = is_name train && is_decimal number
 is_position _ = false
 
--- a line is `at TRAIN POSITION`, before any train is moved, or `move TRAIN [TRAIN ..]`
+-- a line is `at TRAIN POSITION`, unless a line before it moves trains, or `move TRAIN [TRAIN ..]`
 abbrev pub has_form : Bool → List ℕ → List (List ℕ) → Bool
-has_form is_moving verb args =
-    (sets verb && not is_moving && is_position args)
+has_form has_moved verb args =
+    (sets verb && not has_moved && is_position args)
     || (moves_trains verb && not (length args == 0) && list_all is_name args)
 
 -- the trains that a line names
@@ -86,73 +92,33 @@ abbrev pub is_past : List (List ℕ) → Moves → List ℕ → List (List ℕ) 
 is_past names plan verb (train ∷ number ∷ []) = sets verb && nat_lt (plan.moves (number_of_train names train)) (value_of number)
 is_past names plan verb _ = false
 
--- a refusal of a line for this reason, wherever the last argument is true
-abbrev pub refused_line : Reason → ℕ → Bool → Test Refusal
-refused_line reason n fails = record { answer = record { reason = reason; part = Line; item = n; step = 0 }; fails = fails }
-
--- the tests of a line, in their order
+-- the tests of a line of this number, verb and words, in their order
 abbrev pub asked_tests : List (List ℕ) → Moves → Bool → ℕ → List ℕ → List (List ℕ) → List (Test Refusal)
-asked_tests names plan is_moving n verb args =
-    refused_line ListForm n (not (has_form is_moving verb args))
+asked_tests names plan has_moved n verb args =
+    refused_line ListForm n (not (has_form has_moved verb args))
     ∷ refused_line ListName n (not (list_all (knows names) (trains_named verb args)))
     ∷ refused_line ListForm n (is_past names plan verb args)
     ∷ []
 
--- a line without a word, or one that begins with `#`, is skipped
-abbrev pub is_comment : List ℕ → Bool
-is_comment verb = get_or verb 0 0 == 35
+-- the tests of a line of this number and words
+abbrev pub words_tests : List (List ℕ) → Moves → Bool → ℕ → List (List ℕ) → List (Test Refusal)
+words_tests names plan has_moved n [] = []
+words_tests names plan has_moved n (verb ∷ args) = asked_tests names plan has_moved n verb args
 
--- the tests of a line; a comment and a line without words have none
-abbrev pub line_tests : List (List ℕ) → Moves → Bool → ℕ → List (List ℕ) → List (Test Refusal)
-line_tests names plan is_moving n [] = []
-line_tests names plan is_moving n (verb ∷ args) = cond (is_comment verb) [] (asked_tests names plan is_moving n verb args)
+-- the tests of a line behind other lines
+abbrev pub line_tests : List (List ℕ) → Moves → List Line → Line → List (Test Refusal)
+line_tests names plan before line = words_tests names plan (some_moves before) line.number line.words
 
--- why a line of this verb is refused, if it is, after what is listed
-abbrev pub asked_refusal : List (List ℕ) → Moves → Listed → ℕ → List ℕ → List (List ℕ) → Option Refusal
-asked_refusal names plan listed n verb args = first_failing (asked_tests names plan listed.is_moving n verb args)
-
--- why a line is refused, if it is, after what is listed
-abbrev pub line_refusal : List (List ℕ) → Moves → Listed → ℕ → List ℕ → Option Refusal
-line_refusal names plan listed n line = first_failing (line_tests names plan listed.is_moving n (words line))
-
--- what is listed after a line of this form
-abbrev pub with_position : List (List ℕ) → Listed → ℕ → List (List ℕ) → Listed
-with_position names listed n (train ∷ number ∷ []) = record listed {
-  positions = set listed.positions (number_of_train names train) (value_of number);
-  last_at = n;
-}
-with_position names listed n _ = listed
-
--- what is listed after moves of trains
-abbrev pub with_moves : List (List ℕ) → Listed → List (List ℕ) → Listed
-with_moves names listed args = record listed { list = listed.list ++ map (number_of_train names) args; is_moving = true }
-
--- what is listed after a line
-abbrev pub after_line : List (List ℕ) → Listed → ℕ → List (List ℕ) → Listed
-after_line names listed n [] = listed
-after_line names listed n (verb ∷ args) =
-    cond (is_comment verb) listed (cond (sets verb) (with_position names listed n args) (with_moves names listed args))
-
--- the tests of the lines, the first of which is counted n
-abbrev pub lines_tests : List (List ℕ) → Moves → Listed → ℕ → List (List ℕ) → List (Test Refusal)
-lines_tests names plan listed n [] = []
-lines_tests names plan listed n (line ∷ lines) =
-    line_tests names plan listed.is_moving n (words line)
-    ++ lines_tests names plan (after_line names listed n (words line)) (n + 1) lines
-
--- what is listed after the lines, the first of which is counted n
-abbrev pub after_lines : List (List ℕ) → Listed → ℕ → List (List ℕ) → Listed
-after_lines names listed n [] = listed
-after_lines names listed n (line ∷ lines) = after_lines names (after_line names listed n (words line)) (n + 1) lines
+-- the tests of lines behind other lines
+abbrev pub lines_tests : List (List ℕ) → Moves → List Line → List Line → List (Test Refusal)
+lines_tests names plan before [] = []
+lines_tests names plan before (line ∷ lines) = line_tests names plan before line ++ lines_tests names plan (before ++ line ∷ []) lines
 
 -- why the lines of a list file are refused
-abbrev pub list_line_refusal : List (List ℕ) → Moves → ℕ → List ℕ → Option Refusal
-list_line_refusal names plan trains bytes = first_failing (lines_tests names plan (nothing_listed trains) 1 (lines bytes))
-
--- what a list file spells
-abbrev pub listed_in : List (List ℕ) → ℕ → List ℕ → Listed
-listed_in names trains bytes = after_lines names (nothing_listed trains) 1 (lines bytes)
+abbrev pub list_line_refusal : List (List ℕ) → Moves → List ℕ → Option Refusal
+list_line_refusal names plan bytes = first_failing (lines_tests names plan [] (lines_of bytes))
 
 -- two trains hold one section, which is refused at the last line that sets a position
-abbrev pub places_test : Moves → Listed → Test Refusal
-places_test plan listed = refused_line ListPlaces listed.last_at (not (is_valid_state plan listed.positions))
+abbrev pub places_test : List (List ℕ) → Moves → ℕ → List ℕ → Test Refusal
+places_test names plan trains bytes =
+    refused_line ListPlaces (last_setting (lines_of bytes)) (not (is_valid_state plan (listed_in names trains bytes).positions))

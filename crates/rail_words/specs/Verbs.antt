@@ -2,7 +2,8 @@
 use Rattle.std.specs.Prelude.{ℕ, cond, List}
 use Rattle.rail_words.specs.declared.checking.Verb.{Verb}
 use Rattle.rail_words.specs.declared.checking.Verb.TheVariants.{Comment, At, Move, Other}
-use Rattle.rail_words.specs.Lists.{is_comment, sets, moves_trains}
+use Rattle.rail_command.specs.Lines.{is_comment}
+use Rattle.rail_words.specs.Lists.{sets, moves_trains}
 
 -- a comment, a position, moves, or something else
 abbrev pub verb_of : List ℕ → Verb

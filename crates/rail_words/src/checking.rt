@@ -4,10 +4,12 @@ ghost use Rattle.std.specs.Prelude.{◌≡◌, ◌≤◌, ◌^◌, ◌-◌, ◌=
 ghost use Rattle.std.specs.List.{list_all};
 ghost use Rattle.rail_base.specs.NameForms.{is_name};
 ghost use Rattle.rail_words.specs.Verbs.{verb_of};
-ghost use Rattle.rail_words.specs.Lists.{is_decimal, is_digit, is_position, knows, train_of, value_of, words};
+ghost use Rattle.rail_command.specs.Decimals.{value_of};
+ghost use Rattle.rail_command.specs.Lines.{number_of_name, words};
+ghost use Rattle.rail_words.specs.Lists.{is_position, knows};
 
-use crate::cutting::next_word;
 use rail_base::{Name, Names, TrainNo};
+use rail_command::{is_decimal, next_word, value_of};
 
 /// What the first word of a line asks for.
 #[derive(Clone, Copy, Debug, PartialEq, Eq)]
@@ -38,36 +40,6 @@ pub(crate) fn is_name(word: &[u8]) -> bool
     ensures { result ≡ is_name word.now }
 {
     Name::read(word).is_some()
-}
-
-/// Whether the word is a number in decimal digits without leading zeros.
-pub(crate) fn is_decimal(word: &[u8]) -> bool
-    ensures { result ≡ is_decimal word.now }
-{
-    match word {
-        [] => false,
-        [first, rest @ ..] => are_digits(word) && (*first != b'0' || rest.is_empty()),
-    }
-}
-
-/// Whether each byte is a digit.
-fn are_digits(word: &[u8]) -> bool
-    ensures { result ≡ list_all is_digit word.now }
-{
-    word.iter().all(|byte| b'0' <= *byte && *byte <= b'9')
-}
-
-/// The number that digits spell, or the greatest one of 64 bits where it is larger.
-pub(crate) fn value_of(digits: &[u8]) -> u64
-    ensures { result ≡ min (value_of digits.now) (2 ^ 64 - 1) }
-{
-    let mut value: u64 = 0;
-    for digit in digits {
-        value = value
-            .saturating_mul(10)
-            .saturating_add(u64::from(digit.saturating_sub(b'0')));
-    }
-    value
 }
 
 /// The name and the number that the words are, where they are a name and a number and no more.
@@ -117,7 +89,7 @@ fn are_all_names(args: &[u8]) -> bool
 /// The train that a word names.
 pub(crate) fn train_of(names: &Names, word: &[u8]) -> Option<TrainNo>
     requires { length names.now.trains.keys ≤ 2 ^ 16 }
-    ensures { is_name word.now ≡ true → result ≡ train_of names.now.trains.keys word.now }
+    ensures { is_name word.now ≡ true → result ≡ number_of_name names.now.trains.keys word.now }
 {
     match Name::read(word) {
         Some(name) => names.train(name),

@@ -1,15 +1,16 @@
-ghost use Rattle.std.specs.Prelude.{◌≡◌, ℕ, ◌+◌, ◌-◌, ◌<◌, ◌≤◌, ◌^◌, ◌++◌, List, length, map, set, true, false, Some, None, OnOk, IfOk, IfErr};
+ghost use Rattle.std.specs.Prelude.{◌≡◌, ℕ, ◌+◌, ◌-◌, ◌<◌, ◌≤◌, ◌^◌, ◌++◌, [], List, length, map, set, true, false, Some, None, OnOk, IfOk, IfErr};
 ghost use Rattle.std.specs.List.{list_all};
 ghost use Rattle.rail_base.specs.NameForms.{is_name};
 ghost use Rattle.rail_place.specs.Tables.{moves_in};
 ghost use Rattle.rail_rules.specs.Moves.{Moves as plan_of_moves};
-ghost use Rattle.rail_words.specs.Lists.{after_line, asked_refusal, knows, line_refusal, list_line_refusal, listed_in, moves_trains, nothing_listed, number_of_train, sets, train_of, with_moves, with_position, words};
+ghost use Rattle.rail_command.specs.Lines.{lines_of, words};
+ghost use Rattle.rail_words.specs.Lists.{knows, list_line_refusal, moves_trains, number_of_train, sets};
 ghost use Rattle.rail_base.specs.Refusals.{AnswersFirst};
-ghost use Rattle.rail_words.specs.ListAnswers.{IsListFor, IsPosition, IsRefusedMoves, IsRefusedPosition, refusal_at};
+ghost use Rattle.rail_words.specs.ListAnswers.{IsListFor, IsPosition, IsRefusedMoves, IsRefusedPosition, after_line, after_moves, after_position, asked_refusal, line_refusal, read_of};
 
 use crate::checking::{Verb, are_known, are_names, read_position, train_of, verb_of};
-use crate::cutting::{next_line, next_word};
-use rail_base::{Fault, Name, Names, Part, Reason, Refusal, TrainNo};
+use rail_base::{Fault, Name, Names, Reason, TrainNo};
+use rail_command::{next_line, next_word, refused_at};
 use rail_place::Moves;
 use std::alloc::{AllocError, Global};
 use std::marker::Model;
@@ -20,7 +21,7 @@ pub struct ListFile {
     positions: Vec<u16>,
     list: Vec<TrainNo>,
     last_at: u32,
-    is_moving: bool,
+    has_moved: bool,
 }
 
 impl Drop for ListFile {
@@ -29,34 +30,34 @@ impl Drop for ListFile {
             positions: _positions,
             list: _list,
             last_at: _last_at,
-            is_moving: _is_moving,
+            has_moved: _has_moved,
         } = self;
     }
 }
 
 impl Model for ListFile {
-    ghost use Rattle.rail_words.specs.Lists.{Listed};
+    ghost use Rattle.rail_words.specs.ListAnswers.{ReadList};
 
-    ghost Value = { Listed };
+    ghost Value = { ReadList };
 
     ghost view = { λ file. record {
       positions = file.positions.items;
       list = file.list.items;
       last_at = file.last_at;
-      is_moving = file.is_moving;
+      has_moved = file.has_moved;
     } };
 }
 
 impl ListFile {
-    /// Before the first line all trains are outside.
+    /// What is kept before the first line: all trains are outside.
     fn new(alloc: Global, trains: u16) -> Result<ListFile, AllocError>
-        ensures { IfOk result (λ file. file ≡ nothing_listed trains) }
+        ensures { IfOk result (λ file. file ≡ read_of [] trains []) }
     {
         Ok(ListFile {
             positions: vec![in alloc; 0; usize::from(trains)]?,
             list: Vec::new(alloc),
             last_at: 0,
-            is_moving: false,
+            has_moved: false,
         })
     }
 
@@ -104,7 +105,7 @@ impl ListFile {
             Verb::Comment => Ok(()),
             Verb::At => self.read_at(names, moves, number, args),
             Verb::Move => self.read_moves(names, number, args),
-            Verb::Other => Err(refusal_at(Reason::ListForm, number)),
+            Verb::Other => Err(refused_at(Reason::ListForm, number)),
         }
     }
 
@@ -121,17 +122,17 @@ impl ListFile {
         requires list { IsListFor moves.now self.old }
         ensures accepted { (verb : List ℕ) → sets verb ≡ true →
             OnOk result (asked_refusal names.now.trains.keys (moves_in moves.now) self.old number verb (words args.now) ≡ None) }
-        ensures listed { OnOk result (self.new ≡ with_position names.now.trains.keys self.old number (words args.now)) }
+        ensures listed { OnOk result (self.new ≡ after_position names.now.trains.keys self.old number (words args.now)) }
         ensures list { OnOk result (IsListFor moves.now self.new) }
         ensures refused { (verb : List ℕ) → sets verb ≡ true →
             IfErr result (AnswersFirst (asked_refusal names.now.trains.keys (moves_in moves.now) self.old number verb (words args.now))) }
     {
-        if self.is_moving {
-            return Err(refusal_at(Reason::ListForm, number));
+        if self.has_moved {
+            return Err(refused_at(Reason::ListForm, number));
         }
         match read_position(args) {
             Some((train, position)) => self.set(names, moves, number, train, position),
-            None => Err(refusal_at(Reason::ListForm, number)),
+            None => Err(refused_at(Reason::ListForm, number)),
         }
     }
 
@@ -140,13 +141,13 @@ impl ListFile {
         requires few { length names.now.trains.keys ≤ 2 ^ 16 }
         ensures accepted { (plan : plan_of_moves) (verb : List ℕ) → sets verb ≡ false → moves_trains verb ≡ true →
             OnOk result (asked_refusal names.now.trains.keys plan self.old number verb (words args.now) ≡ None) }
-        ensures listed { OnOk result (self.new ≡ with_moves names.now.trains.keys self.old (words args.now)) }
+        ensures listed { OnOk result (self.new ≡ after_moves names.now.trains.keys self.old (words args.now)) }
         ensures known { OnOk result (list_all (knows names.now.trains.keys) (words args.now) ≡ true) }
         ensures refused { (plan : plan_of_moves) (verb : List ℕ) → sets verb ≡ false → moves_trains verb ≡ true →
             IfErr result (AnswersFirst (asked_refusal names.now.trains.keys plan self.old number verb (words args.now))) }
     {
         if !are_names(args) {
-            return Err(refusal_at(Reason::ListForm, number));
+            return Err(refused_at(Reason::ListForm, number));
         }
         self.add(names, number, args)
     }
@@ -172,10 +173,10 @@ impl ListFile {
         ensures refused { IfErr result (IsRefusedPosition names.now.trains.keys (moves_in moves.now) name position number) }
     {
         let Some(train) = names.train(name) else {
-            return Err(refusal_at(Reason::ListName, number));
+            return Err(refused_at(Reason::ListName, number));
         };
         if position > u64::from(moves.places(train)) {
-            return Err(refusal_at(Reason::ListForm, number));
+            return Err(refused_at(Reason::ListForm, number));
         }
         self.positions[usize::from(train.0)] = position as u16;
         self.last_at = number;
@@ -187,14 +188,14 @@ impl ListFile {
         requires few { length names.now.trains.keys ≤ 2 ^ 16 }
         requires named { list_all is_name (words args.now) ≡ true }
         ensures known { OnOk result (list_all (knows names.now.trains.keys) (words args.now) ≡ true) }
-        ensures listed { OnOk result (self.new ≡ with_moves names.now.trains.keys self.old (words args.now)) }
+        ensures listed { OnOk result (self.new ≡ after_moves names.now.trains.keys self.old (words args.now)) }
         ensures refused { IfErr result (IsRefusedMoves names.now.trains.keys (words args.now) number) }
     {
         if !are_known(names, args) {
-            return Err(refusal_at(Reason::ListName, number));
+            return Err(refused_at(Reason::ListName, number));
         }
         push_trains(&mut self.list, names, args)?;
-        self.is_moving = true;
+        self.has_moved = true;
         Ok(())
     }
 }
@@ -216,18 +217,6 @@ fn push_trains(list: &mut Vec<TrainNo>, names: &Names, args: &[u8]) -> Result<()
     Ok(())
 }
 
-/// The refusal of a line.
-fn refusal_at(reason: Reason, line: u32) -> Fault
-    ensures { result ≡ refusal_at reason line }
-{
-    Fault::Refused(Refusal {
-        reason,
-        part: Part::Line,
-        item: line,
-        step: 0,
-    })
-}
-
 /// Reads a list file. `names` has the names of the trains whose moves these are.
 ///
 /// It is refused, line by line, by the first of these that holds: as no list file, where a line is not
@@ -242,10 +231,10 @@ pub fn read_list(
 ) -> Result<ListFile, Fault>
     requires names { length names.now.trains.keys ≡ length moves.now }
     requires short { length bytes.now < 2 ^ 32 - 1 }
-    ensures accepted { OnOk result (list_line_refusal names.now.trains.keys (moves_in moves.now) (length moves.now) bytes.now ≡ None) }
-    ensures listed { IfOk result (λ file. file ≡ listed_in names.now.trains.keys (length moves.now) bytes.now) }
+    ensures accepted { OnOk result (list_line_refusal names.now.trains.keys (moves_in moves.now) bytes.now ≡ None) }
+    ensures listed { IfOk result (λ file. file ≡ read_of names.now.trains.keys (length moves.now) (lines_of bytes.now)) }
     ensures list { IfOk result (IsListFor moves.now) }
-    ensures refused { IfErr result (AnswersFirst (list_line_refusal names.now.trains.keys (moves_in moves.now) (length moves.now) bytes.now)) }
+    ensures refused { IfErr result (AnswersFirst (list_line_refusal names.now.trains.keys (moves_in moves.now) bytes.now)) }
 {
     let mut file = ListFile::new(alloc, moves.trains())?;
     let mut text = bytes;

@@ -1,9 +1,8 @@
-use Rattle.std.proofs.Common.{◌≡◌, Some, ap, length, sym, subst, ◌∙◌, ℕ, List}
+use Rattle.std.proofs.Common.{◌≡◌, Some, ap, sym, subst, ◌∙◌, ℕ, List}
 use Rattle.rail_place.specs.Overlaps.{IsOverlap}
 use Rattle.rail_place.specs.Tables.{moves_in}
-use Rattle.rail_words.specs.Lists.{listed_in}
-use Rattle.rail_cli.specs.Plays.{listed_for, shared_at}
 use Rattle.rail_cli.specs.Answers.{status_of}
+use Rattle.rail_cli.specs.Plays.{shared_at}
 use Rattle.rail_cli.specs.Promises.{is_of_bytes}
 use Rattle.rail_cli.proofs.Answers.{ended_with}
 use Rattle.rail_cli.proofs.Lists.{shared_refused}
@@ -13,14 +12,12 @@ use Rattle.rail_cli.proofs.commands.play.play_on_plant.Goals as goal
 pub returns-in-Err-Overlap-clause-answer : goal.returns-in-Err-Overlap-clause-answer
 returns-in-Err-Overlap-clause-answer g c =
     let overlap : IsOverlap (moves_in c.moves-moves.result.now) c.positions.result.now c.in-Err-Overlap.field-0-0 c.in-Err-Overlap.field-0-1 c.in-Err-Overlap.field-0-2 = rw c.in-Err-Overlap.field-0-is at c.in-Err-Overlap.ensures.fault in
-    let listed : c.in_ok-file.file ≡ listed_for c.args.plant.now c.args.list.now =
-    c.in_ok-file.ensures.listed ∙ (λ i. listed_in (c.names.ensures.trains i) (c.moves-moves.ensures.trains i) c.args.list.now) in
     let refused = shared_refused c.args.plant.now c.args.list.now c.names.result.now.trains.keys c.moves-moves.result.now c.in_ok-file.file c.in-Err-Overlap.field-0-0 c.in-Err-Overlap.field-0-1 c.in-Err-Overlap.field-0-2
-    c.names.ensures.trains c.moves-moves.ensures.moves c.moves-moves.ensures.trains c.in_ok-file.ensures.accepted listed
+    c.names.ensures.trains c.moves-moves.ensures.moves c.moves-moves.ensures.trains c.in_ok-file.ensures.accepted c.in_ok-file.ensures.listed
     (subst (λ (s : List ℕ). IsOverlap (moves_in c.moves-moves.result.now) s c.in-Err-Overlap.field-0-0 c.in-Err-Overlap.field-0-1 c.in-Err-Overlap.field-0-2) c.positions.ensures overlap) in
     refused ∙ ap (λ (n : ℕ). Some (shared_at n)) (sym c.last_at.ensures) ∙ ap Some (sym c.shared.ensures)
 
 pub returns-in_err-file-clause-of_bytes : goal.returns-in_err-file-clause-of_bytes
 returns-in_err-file-clause-of_bytes g c =
     ap is_of_bytes (ended_with c.from_residual.result (status_of c.in_err-file.field-0.0) c.from_residual.ensures.1)
-    ∙ list_fault c.names.result.now.trains.keys (moves_in c.moves-moves.result.now) (length c.moves-moves.result.now) c.args.list.now c.in_err-file.field-0.0 c.in_err-file.ensures.refused
+    ∙ list_fault c.names.result.now.trains.keys (moves_in c.moves-moves.result.now) c.args.list.now c.in_err-file.field-0.0 c.in_err-file.ensures.refused

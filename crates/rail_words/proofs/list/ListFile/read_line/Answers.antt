@@ -1,7 +1,7 @@
 use Rattle.std.proofs.Common.{◌∙◌, sym}
 use Rattle.rail_place.specs.Tables.{moves_in}
 use Rattle.rail_rules.specs.Moves.{Moves}
-use Rattle.rail_words.specs.Lists.{words}
+use Rattle.rail_command.specs.Lines.{words}
 use Rattle.rail_words.proofs.Judging.{moves_kept, moving_from, asked, both_on_ok}
 use Rattle.rail_words.proofs.list.ListFile.read_line.Goals as goal
 
@@ -14,5 +14,5 @@ pub returns-in-Move-clause-refused : goal.returns-in-Move-clause-refused
 returns-in-Move-clause-refused c =
     let moving = moving_from c.in-Some.verb.now (sym c.verb_of.ensures ∙ c.in-Move.is) in
     let plan : Moves = moves_in c.args.moves.now in
-    let tests = asked c.args.names.now.trains.keys plan c.args.self.now.is_moving c.args.number c.args.line.now c.in-Some.verb.now (words c.in-Some.args.now) c.in-Some.ensures.words moving.plain in
+    let tests = asked c.args.names.now.trains.keys plan c.args.self.now.has_moved c.args.number c.args.line.now c.in-Some.verb.now (words c.in-Some.args.now) c.in-Some.ensures.words moving.plain in
     rw tests (c.read_moves.ensures.refused plan c.in-Some.verb.now moving.other moving.moving)

@@ -1,7 +1,7 @@
 use Rattle.std.proofs.Common.{◌≡◌, ℕ, ◌+◌, ◌*◌, ◌-◌, ◌^◌, ◌<◌, min, List, [], ◌∷◌, ◌++◌, length, take, get_or, refl, ap, ◌∙◌, arith}
 use Rattle.std.proofs.lemmas.List.{take_more, take_all}
-use Rattle.rail_words.specs.Lists.{value_on}
-use Rattle.rail_words.proofs.checking.value_of.Goals as goal
+use Rattle.rail_command.specs.Decimals.{value_on}
+use Rattle.rail_command.proofs.decimals.value_of.Goals as goal
 
 value_on-more : (n : ℕ) (xs : List ℕ) (d : ℕ) → value_on n (xs ++ d ∷ []) ≡ 10 * value_on n xs + (d - 48)
 value_on-more n [] d = refl

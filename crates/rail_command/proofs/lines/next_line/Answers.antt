@@ -1,7 +1,7 @@
 use Rattle.std.proofs.Common.{◌+◌, ◌∙◌, sym}
 use Rattle.std.proofs.lemmas.Bool.{eqb-false}
-use Rattle.rail_words.proofs.Parts.{line_ended, line_unended, rest_whole}
-use Rattle.rail_words.proofs.cutting.next_line.Goals as goal
+use Rattle.rail_command.proofs.Parts.{line_ended, line_unended, rest_whole}
+use Rattle.rail_command.proofs.lines.next_line.Goals as goal
 
 pub returns-in-Some-clause-lines : goal.returns-in-Some-clause-lines
 returns-in-Some-clause-lines c =

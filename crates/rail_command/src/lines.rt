@@ -2,11 +2,14 @@
 
 ghost use Rattle.std.specs.Prelude.{◌≡◌, ◌==◌, ◌<◌, ◌∷◌, [], MatchOption, length, not, position};
 ghost use Rattle.std.specs.Str.Lines.{lines, strip_carriage_return};
-ghost use Rattle.rail_words.specs.Lists.{words};
+ghost use Rattle.rail_base.specs.declared.refusals.Fault.TheVariants.{Refused};
+ghost use Rattle.rail_command.specs.Lines.{refusal_at, words};
+
+use rail_base::{Fault, Part, Reason, Refusal};
 
 /// The first line, and the text behind it; none where the text has no byte. Lines end with a line feed,
 /// which the last one may lack; one carriage return before a line feed is dropped.
-pub(crate) fn next_line(text: &[u8]) -> Option<(&[u8], &[u8])>
+pub fn next_line(text: &[u8]) -> Option<(&[u8], &[u8])>
     ensures lines { MatchOption result (lines text.now ≡ []) (λ parts. lines text.now ≡ parts.0.now ∷ lines parts.1.now) }
     ensures less { MatchOption result (text.now ≡ []) (λ parts. length parts.1.now < length text.now) }
 {
@@ -30,7 +33,7 @@ fn without_return(line: &[u8]) -> &[u8]
 }
 
 /// The first word, and the text behind it; none where the text has no byte but spaces.
-pub(crate) fn next_word(text: &[u8]) -> Option<(&[u8], &[u8])>
+pub fn next_word(text: &[u8]) -> Option<(&[u8], &[u8])>
     ensures words { MatchOption result (words text.now ≡ []) (λ parts. words text.now ≡ parts.0.now ∷ words parts.1.now) }
     ensures less { MatchOption result (words text.now ≡ []) (λ parts. length parts.1.now < length text.now) }
 {
@@ -56,4 +59,16 @@ fn first_other(text: &[u8], passed: u8) -> Option<usize>
     ensures { result ≡ position (λ b. not (b == passed)) text.now }
 {
     text.iter().position(|byte| *byte != passed)
+}
+
+/// The refusal of a line for this reason. Lines count from 1.
+pub fn refused_at(reason: Reason, line: u32) -> Fault
+    ensures { result ≡ Refused (refusal_at reason line) }
+{
+    Fault::Refused(Refusal {
+        reason,
+        part: Part::Line,
+        item: line,
+        step: 0,
+    })
 }

@@ -1,6 +1,6 @@
 use Rattle.std.proofs.Common.{◌+◌, ◌≡◌, ◌∙◌, sym, List, ℕ, eqb, position, drop, Some, None, subst}
-use Rattle.rail_words.proofs.Parts.{no_word, word_ended, word_unended, rest_whole}
-use Rattle.rail_words.proofs.cutting.next_word.Goals as goal
+use Rattle.rail_command.proofs.Parts.{no_word, word_ended, word_unended, rest_whole}
+use Rattle.rail_command.proofs.lines.next_word.Goals as goal
 
 pub returns-in_default-clause-words : goal.returns-in_default-clause-words
 returns-in_default-clause-words c = no_word c.args.text.now (sym c.first_other.ensures ∙ c.in_default.is)

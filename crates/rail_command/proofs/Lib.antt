@@ -1,0 +1,6 @@
+-- The lemmas of this crate; those for the crates above stand in CallerLemmas.
+pub mod CallerLemmas
+mod Parts
+mod TimeWords
+mod PassedLines
+mod JoinedLines
