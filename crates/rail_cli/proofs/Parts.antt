@@ -47,6 +47,7 @@ compile_of_bytes scene refusal is = by (first_failing (trains_tests scene 1 scen
     later (Some (plan_fault.TooLong t place)) is = sym (ap (λ (r : Refusal). is_file r.part) (same_Some _ refusal is))
     later (Some (plan_fault.SelfBlocked t place section)) is = sym (ap (λ (r : Refusal). is_file r.part) (same_Some _ refusal is))
     later (Some plan_fault.OutOfMemory) is = absurd (none-some refusal is)
+
     by : (first : Option Refusal) → first_failing (trains_tests scene 1 scene.trains) ≡ first → option_or first (option_and_then (λ why. refusal_in (fault_for why)) (fault_of (tables_of scene))) ≡ Some refusal → is_file refusal.part ≡ false
     by None none is = later (fault_of (tables_of scene)) is
     by (Some first) some is = first_of_bytes (trains_tests scene 1 scene.trains) refusal (of_trains scene 1 scene.trains) (some ∙ is)

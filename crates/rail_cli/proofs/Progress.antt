@@ -106,27 +106,32 @@ module _ (old engine : Ledger) (front : Front) (entry : Entry) (plant : Plant) (
   -- it was not written to its end
   pub in_part : (before now then : Option (List ℕ)) → Adds before now (text old.plant front)
       → AddsPrefix now then (line_text plant (line_of entry list)) → RunsPlantInPart old.plant before then
-  in_part before now then so_far more = subst (λ (p : Plant). RunsPlantInPart p before then) same (stands.at.rep.accepted, record {
-    front = line_in engine entry ∷ front;
-    run = stands.of_run;
-    safe = safe_run engine.plant stands.at.rep.accepted (line_in engine entry ∷ front) stands.of_run;
-    adds = AddsPrefix-append (same_plant so_far) (subst (AddsPrefix now then) same_text more);
-  })
+  in_part before now then so_far more = subst (λ (p : Plant). RunsPlantInPart p before then) same (
+    stands.at.rep.accepted,
+    record {
+      front = line_in engine entry ∷ front;
+      run = stands.of_run;
+      safe = safe_run engine.plant stands.at.rep.accepted (line_in engine entry ∷ front) stands.of_run;
+      adds = AddsPrefix-append (same_plant so_far) (subst (AddsPrefix now then) same_text more);
+    },
+  )
 
 -- all lines
 pub all_written : (engine : Ledger) (front : Front) (before now : Option (List ℕ)) → StandsFor front engine → has_ended front ≡ true
     → Adds before now (text engine.plant front) → RunsPlant engine.plant before now
 all_written engine front before now stands ended adds =
     let history = and_from (is_run (run_input engine.plant) seats front) (has_ended front) stands.of_run ended in
-    let end = all_left engine.plant stands.at.rep.accepted front history in
-    (stands.at.rep.accepted, record {
-      front = front;
-      history = history;
-      safe = safe_run engine.plant stands.at.rep.accepted front stands.of_run;
-      left = end.0;
-      exact = end.1;
-      adds = adds;
-    })
+    let end = all_left engine.plant stands.at.rep.accepted front history in (
+      stands.at.rep.accepted,
+      record {
+        front = front;
+        history = history;
+        safe = safe_run engine.plant stands.at.rep.accepted front stands.of_run;
+        left = end.0;
+        exact = end.1;
+        adds = adds;
+      },
+    )
 
 -- there are at most so many lines
 pub few_lines : (engine : Ledger) (front : Front) → StandsFor front engine → length front ≤ bound engine.plant 0 * (trains engine.plant + 1)

@@ -1,7 +1,7 @@
 -- The boxes of a deck as they are seen, and what a call does to one.
-use Rattle.std.specs.Prelude.{ℕ, ◌+◌, ◌%◌, Bool, true, not, ◌&&◌, List, [], ◌∷◌, Option, get_or, length, position}
-use Rattle.std.specs.List.{list_any}
+use Rattle.std.specs.Prelude.{ℕ, ◌+◌, ◌%◌, Bool, ◌&&◌, List, [], Option, get_or, length, position}
 use Rattle.rail_base.specs.Limits.{is_from_one, most, Policies}
+use Rattle.rail_base.specs.Lists.{are_distinct}
 use Rattle.rail_base.specs.declared.orders.PolicyKind.{PolicyKind}
 use Rattle.rail_base.specs.declared.orders.PolicyKind.TheVariants.{Rotating, Custom}
 use Rattle.rail_rules.specs.Numbers.{same_numbers}
@@ -53,8 +53,7 @@ place_of seats name = position (is_named name) seats
 
 -- no two boxes have one name
 abbrev pub have_distinct_names : List DeskSeat → Bool
-have_distinct_names [] = true
-have_distinct_names (seat ∷ seats) = not (list_any (is_named seat.name) seats) && have_distinct_names seats
+have_distinct_names = are_distinct (λ (seat : DeskSeat). is_named seat.name)
 
 -- a deck has 1 to 16 boxes with distinct names
 abbrev pub is_fine_deck : List DeskSeat → Bool

@@ -62,10 +62,12 @@ of_all_values root items (part ∷ parts) = of_both (list_values part 1 items (e
 -- the tests of a scene
 of_scene : (bytes : List ℕ) → AreOfBytes (scene_tests bytes)
 unfolding scene_forms scene_values lists_values
-of_scene bytes = let root : Data = root_of bytes in
-    (refl, of_both (scene_forms root) (scene_values root)
-    (of_both (located Root 0 (form_tests root_keys root)) (forms_of root list_parts) (of_table Root refl 0 (form_tests root_keys root)) (of_all_forms root list_parts))
-    (of_both (located Root 0 (value_tests 1 root_keys root)) (values_of root no_items list_parts) (of_table Root refl 0 (value_tests 1 root_keys root)) (of_all_values root no_items list_parts)))
+of_scene bytes = let root : Data = root_of bytes in (
+  refl,
+  of_both (scene_forms root) (scene_values root)
+      (of_both (located Root 0 (form_tests root_keys root)) (forms_of root list_parts) (of_table Root refl 0 (form_tests root_keys root)) (of_all_forms root list_parts))
+      (of_both (located Root 0 (value_tests 1 root_keys root)) (values_of root no_items list_parts) (of_table Root refl 0 (value_tests 1 root_keys root)) (of_all_values root no_items list_parts)),
+)
 
 pub scene_of_bytes : (bytes : List ℕ) (refusal : Refusal) → scene_refusal bytes ≡ Some refusal → is_file refusal.part ≡ false
 unfolding scene_refusal
