@@ -1,33 +1,19 @@
 -- The bounds before any is tightened, one blocking time after another.
-use Rattle.std.proofs.Common.{◌≡◌, ◌≢◌, ℕ, ◌+◌, ◌-◌, ◌<◌, ◌≤◌, length, true, false, not, ◌||◌, List, [], ◌∷◌, ◌++◌, set, replicate, refl, sym, ap, ◌∙◌, subst, arith, nat_lt, ⊎_elim}
+use Rattle.std.proofs.Common.{◌≡◌, ◌≢◌, ℕ, ◌+◌, ◌-◌, ◌<◌, ◌≤◌, length, true, false, not, ◌||◌, List, [], ◌∷◌, ◌++◌, set, refl, sym, ap, ◌∙◌, subst, arith, nat_lt, ⊎_elim}
 use Rattle.std.specs.List.{Contains}
-use Rattle.std.proofs.lemmas.Bool.{cases_eq, cases_lt, cond_both, or_cases, or_parts, ltb-true, ltb-false, not-true, not-false, false≢true}
-use Rattle.std.proofs.lemmas.List.{length-set, get_or-set_same, get_or-set_other, get_or-replicate, get_or_past, length-replicate}
+use Rattle.std.proofs.lemmas.Bool.{cases_eq, cond_both, or_cases, or_parts, ltb-true, ltb-false, not-true, not-false, false≢true}
+use Rattle.std.proofs.lemmas.List.{length-set, get_or-set_same, get_or-set_other}
 use Rattle.std.proofs.lemmas.List.Elements.{Contains-push, Contains-push_cases, Contains-append_left}
 use Rattle.rail_capacity.specs.declared.blocking_times.BlockingTime.{BlockingTime}
 use Rattle.rail_capacity.specs.declared.bounds.TrainBound.{TrainBound}
 use Rattle.rail_capacity.specs.declared.shifts.Tight.TheVariants.{Start}
 use Rattle.rail_capacity.specs.Bounds.{bound_of, limit_of, absent}
 use Rattle.rail_capacity.specs.FirstBounds.{entered_bound, AreFirstBounds, with_block}
-use Rattle.rail_capacity.proofs.Members.{in_none}
 
 pub length-with_block : (table : List TrainBound) (block : BlockingTime) (from : ℕ) → length (with_block table block from) ≡ length table
 length-with_block table block from =
     cond_both (not (bound_of table block.train).present || nat_lt (block.begin - from) (limit_of table block.train)) _ table (λ (rs : List TrainBound). length rs ≡ length table)
     (λ low. length-set table block.train _) (λ high. refl)
-
--- nobody has a blocking time
-pub none_there : (n t : ℕ) → bound_of (replicate n absent) t ≡ absent
-none_there n t = ⊎_elim (λ (within : t < n). get_or-replicate n t absent absent within) (λ (past : n ≤ t). let size = length-replicate n absent in get_or_past (replicate n absent) t absent (omega arith)) (cases_lt t n)
-
-pub at_first : (from n : ℕ) → AreFirstBounds from [] (replicate n absent)
-at_first from n = record {
-  fresh = λ t. ap (λ (r : TrainBound). r.fixed) (none_there n t);
-  free = λ t. ap (λ (r : TrainBound). r.tight) (none_there n t);
-  seen = λ x has. in_none x has;
-  within = λ x has. in_none x has;
-  first = λ t here. absurd (false≢true (sym (ap (λ (r : TrainBound). r.present) (none_there n t)) ∙ here));
-}
 
 -- one more blocking time, where it comes first
 more_low :

@@ -42,7 +42,3 @@ rising_far x (z ∷ rest) rising y has =
     (λ (is : z ≡ y). let P : BlockingTime → Type 0 = λ s. InOrder x s in subst P is rising.0)
     (λ (later : Contains rest y). in_order-trans x z y rising.0 (rising_far z rest rising.1 y later))
     (among z rest y has)
-
-pub rising_rest : (x : BlockingTime) (rest : List BlockingTime) → IsRising (x ∷ rest) → IsRising rest
-rising_rest x [] rising = tt
-rising_rest x (y ∷ rest) rising = rising.1

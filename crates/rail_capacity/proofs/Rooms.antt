@@ -199,18 +199,6 @@ occupied blocks ends train room first are is =
           is.met;
     }
 
-pub bounded :
-    (blocks : List BlockingTime) (ends : List ℕ) (train room most : ℕ) → AreEnds blocks ends → IsRoom blocks ends train room
-    → ((x : BlockingTime) → Contains blocks x → x.«end» < most) → 0 < most → room < most
-bounded blocks ends train room most are is low some_most =
-    ⊎_elim
-    (λ (zero_is : room ≡ 0). let z = zero_is in omega arith)
-    (λ some. let begins : some.0.begin + room ≡ get_or ends some.0.section 0 = some.3 in ⊎_elim
-    (λ (free : get_or ends some.0.section 0 ≡ 0). let f = free in omega arith)
-    (λ there. let e : there.0.«end» ≡ get_or ends some.0.section 0 = there.3 in let l = low there.0 there.1 in omega arith)
-    (are.met some.0.section))
-    is.met
-
 -- the room with one more blocking time, of the train or not
 pub room_step :
     (done : List BlockingTime) (ends : List ℕ) (train room : ℕ) (block : BlockingTime) → IsRoom done ends train room

@@ -7,8 +7,9 @@ use Rattle.std.proofs.lemmas.Bool.{cases_Bool, cond-true, cond-false, eq-eqb, ne
 use Rattle.std.proofs.lemmas.List.Elements.{Contains-get_or}
 use Rattle.rail_capacity.specs.declared.shifts.Shift.{Shift}
 use Rattle.rail_capacity.specs.declared.shifts.Tight.{Tight}
+use Rattle.rail_capacity.specs.declared.shifts.Tight.TheVariants.{Start}
 use Rattle.rail_capacity.specs.declared.bounds.TrainBound.{TrainBound}
-use Rattle.rail_capacity.specs.Shifts.{earlier_of, tight_of, touched_train, leads_to_start}
+use Rattle.rail_capacity.specs.Shifts.{shift_for, earlier_of, tight_of, touched_train, leads_to_start}
 use Rattle.rail_capacity.specs.Bounds.{bound_of, limit_of, is_fixed, Leads}
 use Rattle.rail_capacity.specs.LeastBounds.{shifts_from}
 use Rattle.rail_capacity.proofs.Members.{among, at_head, in_rest, in_none}
@@ -110,36 +111,39 @@ by_number number (bound ∷ table) =
     (λ (is : bound.present ≡ false). subst P (sym (without_head number bound table is)) rest)
     (cases_Bool bound.present)
 
+-- the shift that is found for a train is that of its bound
+shift_is :
+    (number : ℕ) (table : List TrainBound) (t : ℕ) → (bound_of table t).present ≡ true
+    → shift_for (shifts_from number table) (number + t) ≡ Some (shift_at table number t)
+shift_is number [] t here = absurd (false≢true here)
+shift_is number (bound ∷ table) zero here =
+    let own : Shift = record { train = number; earlier = bound.earlier; tight = bound.tight } in
+    ap (λ (xs : List Shift). shift_for xs (number + 0)) (with_head number bound table here)
+    ∙ cond-true (number == number + 0) (Some own) _ (eq-eqb number (number + 0) (let e : number ≡ number + 0 = omega arith in e))
+    ∙ ap (λ (s : Shift). Some s) (sym (head_is number bound table))
+shift_is number (bound ∷ table) (suc t) here =
+    let own : Shift = record { train = number; earlier = bound.earlier; tight = bound.tight } in
+    let later : shift_for (shifts_from (suc number) table) (number + suc t) ≡ Some (shift_at (bound ∷ table) number (suc t)) =
+    ap (λ n. shift_for (shifts_from (suc number) table) n) (let e : number + suc t ≡ suc number + t = omega arith in e)
+    ∙ shift_is (suc number) table t here ∙ ap (λ (s : Shift). Some s) (rest_is number t bound table) in
+    ⊎_elim
+    (λ (is : bound.present ≡ true). ap (λ (xs : List Shift). shift_for xs (number + suc t)) (with_head number bound table is)
+    ∙ cond-false (number == number + suc t) (Some own) _ (ne_eqb number (number + suc t) (λ same. absurd (omega arith))) ∙ later)
+    (λ (is : bound.present ≡ false). ap (λ (xs : List Shift). shift_for xs (number + suc t)) (without_head number bound table is) ∙ later)
+    (cases_Bool bound.present)
+
 -- what the shifts say of a train
 pub earlier_is :
     (number : ℕ) (table : List TrainBound) (t : ℕ) → (bound_of table t).present ≡ true
     → earlier_of (shifts_from number table) (number + t) ≡ limit_of table t
-earlier_is number [] t here = absurd (false≢true here)
-earlier_is number (bound ∷ table) zero here =
-    ap (λ (xs : List Shift). earlier_of xs (number + 0)) (with_head number bound table here)
-    ∙ cond-true (number == number + 0) bound.earlier _ (eq-eqb number (number + 0) (let e : number ≡ number + 0 = omega arith in e))
-earlier_is number (bound ∷ table) (suc t) here =
-    let later = ap (λ n. earlier_of (shifts_from (suc number) table) n) (let e : number + suc t ≡ suc number + t = omega arith in e) ∙ earlier_is (suc number) table t here in
-    ⊎_elim
-    (λ (is : bound.present ≡ true). ap (λ (xs : List Shift). earlier_of xs (number + suc t)) (with_head number bound table is)
-    ∙ cond-false (number == number + suc t) bound.earlier _ (ne_eqb number (number + suc t) (λ same. absurd (omega arith))) ∙ later)
-    (λ (is : bound.present ≡ false). ap (λ (xs : List Shift). earlier_of xs (number + suc t)) (without_head number bound table is) ∙ later)
-    (cases_Bool bound.present)
+earlier_is number table t here =
+    ap (λ (o : Option Shift). option_map_or (λ (shift : Shift). shift.earlier) o 0) (shift_is number table t here)
 
-pub tight_is :
+tight_is :
     (number : ℕ) (table : List TrainBound) (t : ℕ) → (bound_of table t).present ≡ true
     → tight_of (shifts_from number table) (number + t) ≡ (bound_of table t).tight
-tight_is number [] t here = absurd (false≢true here)
-tight_is number (bound ∷ table) zero here =
-    ap (λ (xs : List Shift). tight_of xs (number + 0)) (with_head number bound table here)
-    ∙ cond-true (number == number + 0) bound.tight _ (eq-eqb number (number + 0) (let e : number ≡ number + 0 = omega arith in e))
-tight_is number (bound ∷ table) (suc t) here =
-    let later = ap (λ n. tight_of (shifts_from (suc number) table) n) (let e : number + suc t ≡ suc number + t = omega arith in e) ∙ tight_is (suc number) table t here in
-    ⊎_elim
-    (λ (is : bound.present ≡ true). ap (λ (xs : List Shift). tight_of xs (number + suc t)) (with_head number bound table is)
-    ∙ cond-false (number == number + suc t) bound.tight _ (ne_eqb number (number + suc t) (λ same. absurd (omega arith))) ∙ later)
-    (λ (is : bound.present ≡ false). ap (λ (xs : List Shift). tight_of xs (number + suc t)) (without_head number bound table is) ∙ later)
-    (cases_Bool bound.present)
+tight_is number table t here =
+    ap (λ (o : Option Shift). option_map_or (λ (shift : Shift). shift.tight) o Start) (shift_is number table t here)
 
 -- there are as many shifts as fixed bounds, where the trains that are present are those that are fixed
 pub as_many :

@@ -1,8 +1,8 @@
 use Rattle.std.proofs.Common.{◌≡◌, ℕ, ◌+◌, ◌<◌, ◌≤◌, length, List, [], ◌∷◌, ◌++◌, take, get_or, sym, ap, ◌∙◌, subst, arith}
-use Rattle.std.proofs.lemmas.List.{take_more}
 use Rattle.rail_capacity.specs.declared.blocking_times.BlockingTime.{BlockingTime}
 use Rattle.rail_capacity.specs.declared.bounds.TrainBound.{TrainBound}
 use Rattle.rail_capacity.specs.FirstBounds.{AreFirstBounds}
+use Rattle.rail_capacity.proofs.Members.{take_next}
 use Rattle.rail_capacity.proofs.FirstEntries.{more, length-with_block}
 use Rattle.rail_capacity.proofs.first_bounds.enter_all.Goals as goal
 
@@ -19,7 +19,7 @@ loop-block-preserved c =
     let Q : BlockingTime → Type 0 = λ s. c.args.from ≤ s.begin in
     let late : c.args.from ≤ block.begin = subst Q at (c.requires.within k block within) in
     let size : length old ≡ length c.args.table.now = c.loop-block.invariant.size in
-    let grown : take (k + 1) blocks ≡ take k blocks ++ block ∷ [] = take_more blocks k block within ∙ ap (λ (s : BlockingTime). take k blocks ++ s ∷ []) at in
+    let grown : take (k + 1) blocks ≡ take k blocks ++ block ∷ [] = take_next blocks k block within at in
     let R : List BlockingTime → List TrainBound → Type 0 = λ done rs. AreFirstBounds c.args.from done rs in
     record {
       size = ap (λ (rs : List TrainBound). length rs) c.enter.ensures ∙ length-with_block old block c.args.from ∙ size;

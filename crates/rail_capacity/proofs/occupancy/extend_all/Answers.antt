@@ -1,7 +1,7 @@
 use Rattle.std.proofs.Common.{◌≡◌, ℕ, ◌+◌, ◌<◌, length, List, [], ◌∷◌, ◌++◌, take, get_or, sym, ap, ◌∙◌, subst, arith}
-use Rattle.std.proofs.lemmas.List.{take_more}
 use Rattle.rail_capacity.specs.declared.blocking_times.BlockingTime.{BlockingTime}
 use Rattle.rail_capacity.specs.Ends.{AreEnds}
+use Rattle.rail_capacity.proofs.Members.{take_next}
 use Rattle.rail_capacity.proofs.Rooms.{ends_more, length-with_end}
 use Rattle.rail_capacity.proofs.occupancy.extend_all.Goals as goal
 
@@ -16,7 +16,7 @@ loop-block-preserved c =
     let P : BlockingTime → Type 0 = λ s. s.section < length c.args.ends.now in
     let known : block.section < length c.args.ends.now = subst P at (c.requires.known k block within) in
     let size : length old ≡ length c.args.ends.now = c.loop-block.invariant.size in
-    let grown : take (k + 1) blocks ≡ take k blocks ++ block ∷ [] = take_more blocks k block within ∙ ap (λ (s : BlockingTime). take k blocks ++ s ∷ []) at in
+    let grown : take (k + 1) blocks ≡ take k blocks ++ block ∷ [] = take_next blocks k block within at in
     let R : List BlockingTime → List ℕ → Type 0 = λ done ends. AreEnds done ends in
     record {
       size = ap (λ (ends : List ℕ). length ends) c.extend.ensures ∙ length-with_end old block ∙ size;
