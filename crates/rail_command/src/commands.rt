@@ -32,8 +32,9 @@ pub fn read_commands(alloc: Global, names: &Names, bytes: &[u8]) -> Result<Vec<C
     ensures accepted { OnOk result (commands_refusal names.now.sections.keys names.now.trains.keys bytes.now ≡ None) }
     ensures refused { IfErr result (AnswersFirst (commands_refusal names.now.sections.keys names.now.trains.keys bytes.now)) }
     ensures few { IfOk result (λ commands. length commands.items ≤ most Commands) }
-    ensures in_range { (plant : Plant) → length plant.tables.sections ≡ length names.now.sections.keys → trains plant ≡ length names.now.trains.keys →
-        IfOk result (λ commands. are_commands_in_range plant 0 commands.items ≡ true) }
+    ensures in_range { (plant : Plant) → length plant.tables.sections ≡ length names.now.sections.keys
+        → trains plant ≡ length names.now.trains.keys
+        → IfOk result (λ commands. are_commands_in_range plant 0 commands.items ≡ true) }
 {
     let mut commands = Vec::new(alloc);
     let mut text = bytes;
@@ -96,7 +97,8 @@ fn read_command(
     requires sections { length names.now.sections.keys ≤ 2 ^ 16 }
     requires trains { length names.now.trains.keys ≤ 2 ^ 16 }
     ensures accepted { OnOk result (first_failing (tests_behind names.now before.now (line_at number line.now)) ≡ None) }
-    ensures command { IfOk result (λ command. command_on names.now.sections.keys names.now.trains.keys (line_at number line.now) ≡ Some command) }
+    ensures command { let line = line_at number line.now in
+        IfOk result (λ command. command_on names.now.sections.keys names.now.trains.keys line ≡ Some command) }
     ensures refused { IfErr result (AnswersFirst (first_failing (tests_behind names.now before.now (line_at number line.now)))) }
 {
     if before.len() >= COMMANDS {

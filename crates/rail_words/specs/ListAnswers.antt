@@ -67,7 +67,8 @@ line_refusal names plan read n line = first_failing (tests_after names plan read
 abbrev pub IsRefusedPosition : List (List ℕ) → Moves → List ℕ → ℕ → ℕ → Fault → Type 0
 IsRefusedPosition names plan name position n fault =
     ((number_of_name names name ≡ None) × (fault ≡ Refused (refusal_at ListName n)))
-    ⊎ ((number_of_name names name ≢ None) × (plan.moves (number_of_train names name) < position) × (fault ≡ Refused (refusal_at ListForm n)))
+    ⊎ ((number_of_name names name ≢ None) × (plan.moves (number_of_train names name) < position)
+    × (fault ≡ Refused (refusal_at ListForm n)))
 
 -- why moves are refused: a name is that of no train; or memory is wanting
 abbrev pub IsRefusedMoves : List (List ℕ) → List (List ℕ) → ℕ → Fault → Type 0

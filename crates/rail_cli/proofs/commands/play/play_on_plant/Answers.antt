@@ -1,4 +1,4 @@
-use Rattle.std.proofs.Common.{◌≡◌, Some, ap, sym, subst, ◌∙◌, ℕ, List}
+use Rattle.std.proofs.Common.{Some, ap, sym, subst, ◌∙◌, ℕ, List}
 use Rattle.rail_place.specs.Overlaps.{IsOverlap}
 use Rattle.rail_place.specs.Tables.{moves_in}
 use Rattle.rail_cli.specs.Answers.{status_of}
