@@ -1,0 +1,5 @@
+-- The lemmas of this crate, all private to it.
+mod AllRecords
+mod FiveFields
+mod Standing
+mod LaterRecords
