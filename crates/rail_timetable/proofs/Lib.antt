@@ -3,3 +3,4 @@ mod AllRecords
 mod FiveFields
 mod Standing
 mod LaterRecords
+mod SpelledCalls

@@ -12,6 +12,7 @@ use Rattle.rail_rules.specs.Accepted.{is_accepted, is_call_in_range, is_time_in_
 use Rattle.rail_rules.specs.Numbers.{same_numbers}
 use Rattle.rail_rules.specs.Plant.{Plant, move_row, moves, trains}
 use Rattle.rail_rules.proofs.CallerLemmas.{accepted_parts, all_below_at, from_one}
+use Rattle.rail_plan.specs.PlanFaults.{bare}
 use Rattle.rail_command.specs.Decimals.{is_decimal, value_of}
 use Rattle.rail_command.specs.Lines.{number_of_name}
 use Rattle.rail_command.specs.Times.{IsInputTime, input_time}
@@ -19,7 +20,7 @@ use Rattle.rail_command.proofs.CallerLemmas.{found_at}
 use Rattle.rail_timetable.specs.declared.fields.Dwell.{Dwell}
 use Rattle.rail_timetable.specs.declared.fields.Dwell.TheVariants.{Empty, Pass, Least}
 use Rattle.rail_timetable.specs.declared.rows.PlacedCall.{PlacedCall}
-use Rattle.rail_timetable.specs.Fields.{MayStand, call_at_place, call_of_train, dwell_of, earlier_call, last_call, place_within, time_if_any, train_named}
+use Rattle.rail_timetable.specs.Fields.{MayStand, call_at_place, call_of, call_of_train, dwell_of, earlier_call, last_call, place_within, time_if_any, train_named}
 
 -- what a chain of answers found on its way
 found : {X Y : Type 0} (f : X → Option Y) (o : Option X) (y : Y) → option_and_then f o ≡ Some y → (x : X) × (o ≡ Some x) × (f x ≡ Some y)
@@ -50,6 +51,39 @@ place_known last field p h =
     let range = from_one last (value_of field) both.1 in
     let same : value_of field ≡ p = cc is.1 in
     (omega (arith, range.0, same), omega (arith, range.1, same))
+
+-- the call of a train that four fields spell, part by part
+pub record IsOfTrain (tables : Tables) (t : ℕ) (arrival departure dwell : List ℕ) (placed : PlacedCall) : Type 0 where
+  pub train : placed.train ≡ t
+  pub first : 1 ≤ placed.place
+  pub last : placed.place ≤ moves (bare tables) placed.train
+  pub spelled : call_at_place (eqb placed.place (moves (bare tables) placed.train)) (is_some (move_row (bare tables) placed.train (placed.place - 1)).turn) arrival departure dwell ≡ Some placed.call
+
+train_parts : (tables : Tables) (place arrival departure dwell : List ℕ) (t : ℕ) (placed : PlacedCall) → call_of_train tables place arrival departure dwell t ≡ Some placed → IsOfTrain tables t arrival departure dwell placed
+train_parts tables place arrival departure dwell t placed h =
+    let at : ℕ → Option Call = λ p. call_at_place (eqb p (moves (bare tables) t)) (is_some (move_row (bare tables) t (p - 1)).turn) arrival departure dwell in
+    let p = found (λ (p : ℕ). option_map (λ (call : Call). record { train = t; place = p; call = call }) (at p)) (place_within (moves (bare tables) t) place) placed h in
+    let range = place_known (moves (bare tables) t) place p.0 p.1 in
+    let call = mapped (λ (call : Call). record { train = t; place = p.0; call = call }) (at p.0) placed p.2 in
+    subst (IsOfTrain tables t arrival departure dwell) call.2 (record { train = refl; first = range.0; last = range.1; spelled = call.1 })
+
+-- the train and the place of a call that a record spells
+pub record IsPlaced (tables : Tables) (placed : PlacedCall) : Type 0 where
+  pub train : placed.train < length tables.trains
+  pub first : 1 ≤ placed.place
+  pub last : placed.place ≤ moves (bare tables) placed.train
+
+pub spelled_placed : (tables : Tables) (fields : List (List ℕ)) (placed : PlacedCall) → call_of tables fields ≡ Some placed → IsPlaced tables placed
+spelled_placed tables [] placed h = absurd (cc h)
+spelled_placed tables (a ∷ []) placed h = absurd (cc h)
+spelled_placed tables (a ∷ b ∷ []) placed h = absurd (cc h)
+spelled_placed tables (a ∷ b ∷ c ∷ []) placed h = absurd (cc h)
+spelled_placed tables (a ∷ b ∷ c ∷ d ∷ []) placed h = absurd (cc h)
+spelled_placed tables (train ∷ place ∷ arrival ∷ departure ∷ dwell ∷ []) placed h =
+    let t = found (call_of_train tables place arrival departure dwell) (train_named tables train) placed h in
+    let is = train_parts tables place arrival departure dwell t.0 placed t.2 in
+    record { train = omega (arith, is.train, train_known tables train t.0 t.1); first = is.first; last = is.last }
+spelled_placed tables (a ∷ b ∷ c ∷ d ∷ e ∷ f ∷ more) placed h = absurd (cc h)
 
 -- what a word spells is within the limit of inputs
 module _ (words : (word : List ℕ) → IsInputTime word (input_time word)) where
@@ -137,14 +171,12 @@ module _ (words : (word : List ℕ) → IsInputTime word (input_time word)) wher
 
     pub of_train : (t : ℕ) (place arrival departure dwell : List ℕ) (placed : PlacedCall) → t < trains plant → call_of_train plant.tables place arrival departure dwell t ≡ Some placed → MayStand plant.tables placed
     of_train t place arrival departure dwell placed lt h =
-        let p = found (λ (p : ℕ). option_map (λ (call : Call). record { train = t; place = p; call = call }) (call_at_place (eqb p (moves plant t)) (is_some (move_row plant t (p - 1)).turn) arrival departure dwell)) (place_within (moves plant t) place) placed h in
-        let range = place_known (moves plant t) place p.0 p.1 in
-        let last : Bool = eqb p.0 (moves plant t) in
-        let turns : Bool = is_some (move_row plant t (p.0 - 1)).turn in
-        let call = mapped (λ (call : Call). record { train = t; place = p.0; call = call }) (call_at_place last turns arrival departure dwell) placed p.2 in
-        subst (MayStand plant.tables) call.2 (record {
-          train = lt;
-          first = range.0;
-          last = range.1;
-          fine = call_fine last turns arrival departure dwell call.0 (at_last t p.0 lt) call.1;
-        })
+        let is = train_parts plant.tables place arrival departure dwell t placed h in
+        let there : placed.train < trains plant = omega (arith, is.train, lt) in
+        record {
+          train = there;
+          first = is.first;
+          last = is.last;
+          fine = call_fine (eqb placed.place (moves plant placed.train)) (is_some (move_row plant placed.train (placed.place - 1)).turn) arrival departure dwell placed.call
+              (at_last placed.train placed.place there) is.spelled;
+        }

@@ -1,5 +1,5 @@
 -- Timetable files: the calls that they spell, and why they are refused.
-use Rattle.std.specs.Prelude.{ℕ, ◌+◌, ◌==◌, Bool, true, false, not, ◌&&◌, is_some, List, [], ◌∷◌, ◌++◌, length, codes, Option}
+use Rattle.std.specs.Prelude.{◌≡◌, ℕ, ◌+◌, ◌<◌, ◌≤◌, ◌==◌, Bool, true, false, not, ◌&&◌, is_some, List, [], ◌∷◌, ◌++◌, length, get_or, codes, Option, Some}
 use Rattle.std.specs.Option.{option_map_or}
 use Rattle.rail_base.specs.FirstRefusals.{Test, first_failing}
 use Rattle.rail_base.specs.declared.plant.Call.{Call}
@@ -71,3 +71,16 @@ file_tests tables (header ∷ records) = refused_record TimetableForm 1 (not (is
 -- why a timetable is refused, if it is
 abbrev pub timetable_refusal : Tables → List ℕ → Option Refusal
 timetable_refusal tables bytes = first_failing (file_tests tables (records_in bytes))
+
+-- a record of a file behind its header spells this call
+pub record IsSpelled (tables : Tables) (bytes : List ℕ) (placed : PlacedCall) : Type 0 where
+  pub index : ℕ
+  pub behind : 1 ≤ index
+  pub there : index < length (records_in bytes)
+  pub spelled : call_of tables (get_or (records_in bytes) index []) ≡ Some placed
+
+-- the calls are those that the records of a file behind its header spell, and no others
+pub record AreSpelledCalls (tables : Tables) (bytes : List ℕ) (calls : List (List (Option Call))) : Type 0 where
+  pub each : (placed : PlacedCall) → IsSpelled tables bytes placed → call_at calls placed.train placed.place ≡ Some placed.call
+  pub others : (t place : ℕ) (call : Call) → 1 ≤ place → call_at calls t place ≡ Some call
+      → IsSpelled tables bytes (record { train = t; place = place; call = call })

@@ -5,7 +5,7 @@ ghost use Rattle.csv.specs.Records.{fields_of};
 ghost use Rattle.rail_base.specs.FirstRefusals.{first_failing};
 ghost use Rattle.rail_base.specs.Refusals.{AnswersFirst};
 ghost use Rattle.rail_plan.specs.CallTables.{AreCallsFor};
-ghost use Rattle.rail_timetable.specs.Timetables.{calls_in, records_tests, timetable_refusal, with_records};
+ghost use Rattle.rail_timetable.specs.Timetables.{AreSpelledCalls, calls_in, records_tests, timetable_refusal, with_records};
 
 use crate::records::records_of;
 use crate::rows::{is_header, read_record, refused_record};
@@ -27,6 +27,7 @@ pub fn read_timetable(alloc: Global, plant: &Plant, bytes: &[u8]) -> Result<Call
     requires short { length bytes.now < 2 ^ 32 - 1 }
     ensures calls { IfOk result (λ calls. calls ≡ calls_in plant.now.tables bytes.now) }
     ensures accepted { OnOk result (timetable_refusal plant.now.tables bytes.now ≡ None) }
+    ensures spelled { IfOk result (AreSpelledCalls plant.now.tables bytes.now) }
     ensures made { IfOk result (AreCallsFor plant.now.tables) }
     ensures refused { IfErr result (AnswersFirst (timetable_refusal plant.now.tables bytes.now)) }
 {
