@@ -13,24 +13,33 @@ abbrev EndsBetween : State × Action → Type 0
 EndsBetween next = is_end next.1 ≡ true → ends_at_end next.0 ≡ false
 
 -- by what the byte is: a delimiter, a line's end, a carriage return
-in_field : (a b d : Bool) → EndsBetween (if a then (st.StartField, act.EndField) else if b then ((if d then st.AfterCr else st.StartRecord), act.EndRecord) else (st.InField, act.Copy))
+abbrev field_step : Bool → Bool → Bool → State × Action
+field_step a b d = if a then (st.StartField, act.EndField) else if b then ((if d then st.AfterCr else st.StartRecord), act.EndRecord) else (st.InField, act.Copy)
+
+in_field : (a b d : Bool) → EndsBetween (field_step a b d)
 in_field true b d = λ e. absurd (cc e)
 in_field false true true = λ e. refl
 in_field false true false = λ e. refl
 in_field false false d = λ e. absurd (cc e)
 
 -- a quote, and then the same
-start_field : (q a b d : Bool) → EndsBetween (if q then (st.InQuoted, act.Skip) else if a then (st.StartField, act.EndField) else if b then ((if d then st.AfterCr else st.StartRecord), act.EndRecord) else (st.InField, act.Copy))
+abbrev start_step : Bool → Bool → Bool → Bool → State × Action
+start_step q a b d = if q then (st.InQuoted, act.Skip) else field_step a b d
+
+start_field : (q a b d : Bool) → EndsBetween (start_step q a b d)
 start_field true a b d = λ e. absurd (cc e)
 start_field false a b d = in_field a b d
 
 -- a line's end, and then the same
-start_record : (l q a b d : Bool) → EndsBetween (if l then (st.StartRecord, act.Skip) else if q then (st.InQuoted, act.Skip) else if a then (st.StartField, act.EndField) else if b then ((if d then st.AfterCr else st.StartRecord), act.EndRecord) else (st.InField, act.Copy))
+abbrev record_step : Bool → Bool → Bool → Bool → Bool → State × Action
+record_step l q a b d = if l then (st.StartRecord, act.Skip) else start_step q a b d
+
+start_record : (l q a b d : Bool) → EndsBetween (record_step l q a b d)
 start_record true q a b d = λ e. absurd (cc e)
 start_record false q a b d = start_field q a b d
 
--- a byte after a quote, in quotes, and behind a carriage return
-after_quote : (q a b d : Bool) → EndsBetween (if q then (st.InQuoted, act.Copy) else if a then (st.StartField, act.EndField) else if b then ((if d then st.AfterCr else st.StartRecord), act.EndRecord) else (st.InField, act.Copy))
+-- a byte behind a quote, in quotes, in a comment, and behind a carriage return
+after_quote : (q a b d : Bool) → EndsBetween (if q then (st.InQuoted, act.Copy) else field_step a b d)
 after_quote true a b d = λ e. absurd (cc e)
 after_quote false a b d = in_field a b d
 
@@ -42,7 +51,7 @@ in_comment : (l : Bool) → EndsBetween (if l then (st.StartRecord, act.Skip) el
 in_comment true = λ e. absurd (cc e)
 in_comment false = λ e. absurd (cc e)
 
-after_return : (f l q a b d : Bool) → EndsBetween (if f then (st.StartRecord, act.Skip) else if l then (st.StartRecord, act.Skip) else if q then (st.InQuoted, act.Skip) else if a then (st.StartField, act.EndField) else if b then ((if d then st.AfterCr else st.StartRecord), act.EndRecord) else (st.InField, act.Copy))
+after_return : (f l q a b d : Bool) → EndsBetween (if f then (st.StartRecord, act.Skip) else record_step l q a b d)
 after_return true l q a b d = λ e. absurd (cc e)
 after_return false l q a b d = start_record l q a b d
 

@@ -41,14 +41,14 @@ dwell_of (b ∷ bs) = cond (same_numbers (b ∷ bs) (codes "pass")) (Some Pass) 
 
 -- the call at the last place of an itinerary: it is no stop, and has no departure and no dwell
 abbrev pub last_call : Option ℕ → Option ℕ → Dwell → Option Call
-last_call arrival None Empty = Some (record { stops = false; arrival = arrival; departure = None; dwell = 0 })
-last_call arrival departure dwell = None
+last_call a None Empty = Some (record { stops = false; arrival = a; departure = None; dwell = 0 })
+last_call a d stay = None
 
 -- the call at a place before it: a stop, unless it passes, which it may not where there is a turn
 abbrev pub earlier_call : Bool → Option ℕ → Option ℕ → Dwell → Option Call
-earlier_call turns arrival departure Empty = Some (record { stops = true; arrival = arrival; departure = departure; dwell = 0 })
-earlier_call turns arrival departure Pass = cond turns None (Some (record { stops = false; arrival = arrival; departure = departure; dwell = 0 }))
-earlier_call turns arrival departure (Least time) = Some (record { stops = true; arrival = arrival; departure = departure; dwell = time })
+earlier_call turns a d Empty = Some (record { stops = true; arrival = a; departure = d; dwell = 0 })
+earlier_call turns a d Pass = cond turns None (Some (record { stops = false; arrival = a; departure = d; dwell = 0 }))
+earlier_call turns a d (Least time) = Some (record { stops = true; arrival = a; departure = d; dwell = time })
 
 -- the call that an arrival, a departure and a dwell spell at a place, which may be the last one or have a turn
 abbrev pub call_at_place : Bool → Bool → List ℕ → List ℕ → List ℕ → Option Call
@@ -65,7 +65,8 @@ call_of_train tables place arrival departure dwell t =
 
 -- the call that the fields of a record spell: the train, the place, the arrival, the departure and the dwell
 abbrev pub call_of : Tables → List (List ℕ) → Option PlacedCall
-call_of tables (train ∷ place ∷ arrival ∷ departure ∷ dwell ∷ []) = option_and_then (call_of_train tables place arrival departure dwell) (train_named tables train)
+call_of tables (train ∷ place ∷ arrival ∷ departure ∷ dwell ∷ []) =
+    option_and_then (call_of_train tables place arrival departure dwell) (train_named tables train)
 call_of tables fields = None
 
 -- a call that may stand at its place in a plant of these tables

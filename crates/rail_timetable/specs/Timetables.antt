@@ -22,7 +22,8 @@ is_header fields = false
 
 -- the calls with that of a record, where it spells one
 abbrev pub with_record : Tables → List (List (Option Call)) → List (List ℕ) → List (List (Option Call))
-with_record tables calls fields = option_map_or (λ (placed : PlacedCall). with_call calls placed.train placed.place placed.call) (call_of tables fields) calls
+with_record tables calls fields =
+    option_map_or (λ (placed : PlacedCall). with_call calls placed.train placed.place placed.call) (call_of tables fields) calls
 
 -- the calls with those of records
 abbrev pub with_records : Tables → List (List (Option Call)) → List (List (List ℕ)) → List (List (Option Call))
@@ -61,12 +62,14 @@ record_tests tables calls n fields =
 -- the tests of records behind the header, the first of which has the number n
 abbrev pub records_tests : Tables → List (List (Option Call)) → ℕ → List (List (List ℕ)) → List (Test Refusal)
 records_tests tables calls n [] = []
-records_tests tables calls n (fields ∷ records) = record_tests tables calls n fields ++ records_tests tables (with_record tables calls fields) (n + 1) records
+records_tests tables calls n (fields ∷ records) =
+    record_tests tables calls n fields ++ records_tests tables (with_record tables calls fields) (n + 1) records
 
 -- the tests of a file's records: the header, and then record by record, counted from 1 with the header
 abbrev pub file_tests : Tables → List (List (List ℕ)) → List (Test Refusal)
 file_tests tables [] = refused_record TimetableForm 1 true ∷ []
-file_tests tables (header ∷ records) = refused_record TimetableForm 1 (not (is_header header)) ∷ records_tests tables (no_calls tables) 2 records
+file_tests tables (header ∷ records) =
+    refused_record TimetableForm 1 (not (is_header header)) ∷ records_tests tables (no_calls tables) 2 records
 
 -- why a timetable is refused, if it is
 abbrev pub timetable_refusal : Tables → List ℕ → Option Refusal

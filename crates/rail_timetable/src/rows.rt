@@ -80,7 +80,8 @@ fn call_of(plant: &Plant, fields: &Fields<'_>) -> Option<PlacedCall>
 /// The call of this train that the other fields spell.
 fn call_of_train(plant: &Plant, train: TrainNo, fields: &Fields<'_>) -> Option<PlacedCall>
     requires { train < trains plant.now }
-    ensures spelled { result ≡ call_of_train plant.now.tables fields.now.place.now fields.now.arrival.now fields.now.departure.now fields.now.dwell.now train }
+    ensures spelled { result ≡ call_of_train plant.now.tables fields.now.place.now
+        fields.now.arrival.now fields.now.departure.now fields.now.dwell.now train }
     ensures placed { IfSome result (MayStand plant.now.tables) }
 {
     a_word_spells_an_input_time();
