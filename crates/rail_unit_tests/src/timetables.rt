@@ -117,6 +117,26 @@ fn reads_the_calls_or_refuses_the_first_wrong_record(rt: HostRuntime) {
     }
 }
 
+#[test]
+fn gives_the_calls_by_train_and_place(rt: HostRuntime) {
+    let Ok(plant) = plant_of(rt.alloc()) else {
+        panic!(rt; "no plant");
+    };
+    let text = b"train,place,arrival,departure,dwell\nA,1,00:03:20,00:05:00,00:01:00\n";
+    let Ok(calls) = read_timetable(rt.alloc(), &plant, text) else {
+        panic!(rt; "no calls");
+    };
+    let stop = Call {
+        stops: true,
+        arrival: Some(Time(2_000)),
+        departure: Some(Time(3_000)),
+        dwell: 600,
+    };
+    assert!(rt; calls.at(TrainNo(0), 1) == Some(stop));
+    assert!(rt; calls.at(TrainNo(0), 2).is_none());
+    assert!(rt; calls.at(TrainNo(1), 1).is_none());
+}
+
 /// A move from a place is due when its call departs, and else when the train enters.
 #[test]
 fn calls_say_when_moves_are_due(rt: HostRuntime) {
@@ -203,7 +223,10 @@ fn call_text(alloc: Global, train: &str, place: u16, call: Call) -> Result<Strin
     let stops = if call.stops { "stops" } else { "passes" };
     let arrival = time_text(alloc, call.arrival)?;
     let departure = time_text(alloc, call.departure)?;
-    format!(in alloc; "{train} {place} {stops} {arrival} {departure} {},", call.dwell)
+    format!(in alloc;
+        "{train} {place} {stops} {arrival} {departure} {},",
+        call.dwell
+    )
 }
 
 fn time_text(alloc: Global, time: Option<Time>) -> Result<String, AllocError> {
