@@ -16,4 +16,4 @@ mod times;
 pub use commands::read_commands;
 pub use decimals::{is_decimal, value_of};
 pub use lines::{next_line, next_word, refused_at};
-pub use times::a_word_spells_an_input_time;
+pub use times::{a_word_spells_an_input_time, input_time};

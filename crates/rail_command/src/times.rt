@@ -7,7 +7,7 @@ use rail_base::limits::INPUT_TIME;
 use rail_base::{Time, a_text_stands_for_one_time, read_time};
 
 /// The time that the word spells, where it is none past the greatest of an input.
-pub(crate) fn input_time(word: &[u8]) -> Option<Time>
+pub fn input_time(word: &[u8]) -> Option<Time>
     ensures { result ≡ input_time word.now }
 {
     a_text_stands_for_one_time();

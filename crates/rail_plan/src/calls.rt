@@ -78,7 +78,7 @@ impl Calls {
     }
 
     /// The call of the train at the place, which counts from 1.
-    pub(crate) fn at(&self, train: TrainNo, place: u16) -> Option<Call>
+    pub fn at(&self, train: TrainNo, place: u16) -> Option<Call>
         requires { 1 ≤ place }
         ensures { result ≡ call_at self.now train place }
     {

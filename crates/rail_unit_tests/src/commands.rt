@@ -1,8 +1,10 @@
 //! Command files: what is read, and what is refused first.
 
 use indexmap::IndexSet;
-use rail_base::{Command, Fault, Name, Names, Order, Part, Reason, Refusal};
-use rail_command::{is_decimal, next_line, next_word, read_commands, refused_at, value_of};
+use rail_base::{Command, Fault, Name, Names, Order, Part, Reason, Refusal, Time};
+use rail_command::{
+    input_time, is_decimal, next_line, next_word, read_commands, refused_at, value_of,
+};
 use std::alloc::{AllocError, Global};
 use std::str;
 
@@ -114,6 +116,14 @@ fn reads_decimal_numbers(rt: HostRuntime) {
     for word in ["", "01", "25x", "+1", " 1"] {
         assert!(rt; !is_decimal(word.as_bytes()), "{word}");
     }
+}
+
+#[test]
+fn reads_times_up_to_ten_days(rt: HostRuntime) {
+    assert!(rt; input_time(b"00:01:00") == Some(Time(600)));
+    assert!(rt; input_time(b"240:00:00.0") == Some(Time(8_640_000)));
+    assert!(rt; input_time(b"240:00:00.1").is_none());
+    assert!(rt; input_time(b"0:01:00").is_none());
 }
 
 #[test]

@@ -31,4 +31,6 @@ mod shelves;
 #[cfg(test)]
 mod times;
 #[cfg(test)]
+mod timetables;
+#[cfg(test)]
 mod words;

@@ -1,0 +1,6 @@
+-- The lemmas of this crate, all private to it.
+mod AllRecords
+mod FiveFields
+mod Standing
+mod LaterRecords
+mod SpelledCalls
