@@ -1,10 +1,9 @@
 -- The trains that a line brings, as words.
-use Rattle.std.proofs.Common.{◌≡◌, ℕ, ◌<◌, true, ◌==◌, cond, List, [], ◌∷◌, ◌++◌, length, map, get_or, codes, decimal, refl, sym, ap, ◌∙◌, arith, append_assoc, All}
+use Rattle.std.proofs.Common.{◌≡◌, ℕ, ◌<◌, true, ◌==◌, cond, List, [], ◌∷◌, ◌++◌, map, get_or, codes, decimal, refl, sym, ap, ◌∙◌, arith, append_assoc}
 use Rattle.std.specs.List.{list_all, AllByRecursion}
-use Rattle.std.proofs.lemmas.List.{append-nil, length-map}
-use Rattle.std.proofs.lemmas.List.Elements.{All-from_recursion}
+use Rattle.std.proofs.lemmas.List.{append-nil}
 use Rattle.std.proofs.Math.ListN.{get_or-map}
-use Rattle.std.proofs.lemmas.Bool.{and_parts, and_from, ltb-true}
+use Rattle.std.proofs.lemmas.Bool.{and_parts, ltb-true}
 use Rattle.rail_base.specs.Clock.{time_text}
 use Rattle.rail_base.specs.declared.history.Entry.{Entry}
 use Rattle.rail_base.specs.declared.history.What.{What}
@@ -15,9 +14,9 @@ use Rattle.rail_base.specs.declared.names.Names.{Names}
 use Rattle.rail_base.specs.declared.plant.TrainRow.{TrainRow}
 use Rattle.rail_rules.specs.Plant.{Plant, no_train, trains}
 use Rattle.rail_rules.specs.Texts.{Item, cause_words, items_of, item_word, line_text, note_words, train_word, what_words}
-use Rattle.rail_rules.specs.Writable.{is_known_move, is_known_train, is_writable_what}
+use Rattle.rail_rules.specs.Writable.{is_known_train}
 use Rattle.rail_rules.specs.Texts.{behind}
-use Rattle.rail_history.specs.Lines.{HasNames, bare, brought, brought_by_note, brought_words, item_text, line_of, note_brought_words, train_name}
+use Rattle.rail_history.specs.Lines.{HasNames, bare, brought_by_note, brought_words, item_text, line_of, note_brought_words, train_name}
 
 -- the names are those of the plant's trains
 pub name_is : (plant : Plant) (names : Names) → HasNames plant names → (t : ℕ) → train_word plant t ≡ train_name names t

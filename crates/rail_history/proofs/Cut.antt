@@ -20,18 +20,27 @@ position_found p xs lt = cond-true (ltb (position_or_len p xs) (length xs)) (Som
 position_nowhere : {X : Type 0} (p : X → Bool) (xs : List X) → length xs ≤ position_or_len p xs → position p xs ≡ None
 position_nowhere p xs le = cond-false (ltb (position_or_len p xs) (length xs)) (Some (position_or_len p xs)) None (le-ltb (position_or_len p xs) (length xs) le)
 
--- the first space stands behind the word
-space_behind : (w rest : List ℕ) → list_any is_space w ≡ false → position_or_len is_space (w ++ 32 ∷ rest) ≡ length w
-space_behind [] rest free = or_len_hit is_space 32 rest refl
-space_behind (b ∷ w) rest free =
-    let parts = or_parts (is_space b) (list_any is_space w) free in
-    omega (arith, or_len_miss is_space b (w ++ 32 ∷ rest) parts.0, space_behind w rest parts.1)
+-- the first mark stands behind a text without one
+module _ (mark : ℕ → Bool) where
+  mark_behind : (m : ℕ) → mark m ≡ true → (w rest : List ℕ) → list_any mark w ≡ false → position_or_len mark (w ++ m ∷ rest) ≡ length w
+  mark_behind m is [] rest free = or_len_hit mark m rest is
+  mark_behind m is (b ∷ w) rest free =
+      let parts = or_parts (mark b) (list_any mark w) free in
+      omega (arith, or_len_miss mark b (w ++ m ∷ rest) parts.0, mark_behind m is w rest parts.1)
 
-no_space_there : (w : List ℕ) → list_any is_space w ≡ false → position_or_len is_space w ≡ length w
-no_space_there [] free = refl
-no_space_there (b ∷ w) free =
-    let parts = or_parts (is_space b) (list_any is_space w) free in
-    omega (arith, or_len_miss is_space b w parts.0, no_space_there w parts.1)
+  no_mark_there : (w : List ℕ) → list_any mark w ≡ false → position_or_len mark w ≡ length w
+  no_mark_there [] free = refl
+  no_mark_there (b ∷ w) free =
+      let parts = or_parts (mark b) (list_any mark w) free in
+      omega (arith, or_len_miss mark b w parts.0, no_mark_there w parts.1)
+
+  pub mark_found : (m : ℕ) → mark m ≡ true → (w rest : List ℕ) → list_any mark w ≡ false → position mark (w ++ m ∷ rest) ≡ Some (length w)
+  mark_found m is w rest free =
+      let at = mark_behind m is w rest free in
+      position_found mark (w ++ m ∷ rest) (omega (arith, at, length-append w (m ∷ rest))) ∙ ap Some at
+
+  pub mark_nowhere : (w : List ℕ) → list_any mark w ≡ false → position mark w ≡ None
+  mark_nowhere w free = position_nowhere mark w (omega (arith, no_mark_there w free))
 
 -- where the first space of joined words is
 pub data Seen (words : List (List ℕ)) (text : List ℕ) : Type 0 where
@@ -42,13 +51,12 @@ pub seen : (words : List (List ℕ)) → list_all is_spaceless words ≡ true �
 seen [] free = last (position_nowhere is_space [] (omega arith)) refl refl
 seen (w ∷ []) free =
     let one = not-true (list_any is_space w) (and_parts (is_spaceless w) true free).0 in
-    last (position_nowhere is_space w (omega (arith, no_space_there w one))) refl refl
+    last (mark_nowhere is_space w one) refl refl
 seen (w ∷ v ∷ words) free =
     let one = not-true (list_any is_space w) (and_parts (is_spaceless w) (list_all is_spaceless (v ∷ words)) free).0 in
     let rest : List ℕ = joined (v ∷ words) in
-    let at = space_behind w rest one in
     inner (length w)
-    (position_found is_space (w ++ 32 ∷ rest) (omega (arith, at, length-append w (32 ∷ rest))) ∙ ap Some at)
+    (mark_found is_space 32 refl w rest one)
     (take-append_seam w (32 ∷ rest))
     (drop-append-add w (32 ∷ rest) 1)
 

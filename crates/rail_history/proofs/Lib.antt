@@ -6,3 +6,11 @@ mod Cut
 mod Named
 mod Reading
 mod Spelled
+-- Lemmas on times.
+mod Times
+mod TrainsRead
+mod Listed
+mod LineRead
+mod Histories
+-- Lemmas on lines and files.
+mod FileLines

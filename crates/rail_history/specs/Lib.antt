@@ -2,4 +2,6 @@
 pub mod Lines
 pub mod Pieces
 -- Lines of a history that are read.
+pub mod HistoryLines
+pub mod LineReads
 pub mod ReadWords

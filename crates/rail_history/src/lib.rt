@@ -10,13 +10,20 @@
 #![tactic(auto)]
 
 mod cutting;
+mod files;
 mod line;
+mod lines_told;
+mod read_line;
+mod read_time;
+mod read_trains;
 mod read_what;
 mod read_words;
 mod trains;
 mod words;
 mod writing;
+mod written;
 
+pub use files::{History, read_history};
 pub use line::{Line, ROOM};
 pub use read_what::likely_what;
 pub use read_words::{Reason, Verb};

@@ -17,6 +17,8 @@ mod events;
 #[cfg(test)]
 mod ground;
 #[cfg(test)]
+mod histories;
+#[cfg(test)]
 mod holders;
 #[cfg(test)]
 mod kept_lists;
