@@ -34,7 +34,7 @@ pub record IsSoFar (count : ℕ) (engine : Ledger) (before now : Option (List �
   pub front : Front
   pub stands : StandsFor front engine
   pub long : length front ≡ count
-  pub adds : Adds before now (text engine.plant front)
+  pub adds : Adds before now (text engine.input.plant front)
 
 -- before the first line
 pub none_so_far : (engine : Ledger) (written : Option (List ℕ)) → StandsFor [] engine → IsSoFar 0 engine written written
@@ -70,31 +70,31 @@ brings input front line (by_end h) = ap (λ what. brought what line.trains) h.wh
 
 -- one line more: the engine went on from what it was before, and the line is handed on with the plant and the list that it shows
 module _ (old engine : Ledger) (front : Front) (entry : Entry) (plant : Plant) (list : List ℕ)
-    (same : engine.plant ≡ old.plant) (is_plant : plant ≡ engine.plant) (is_list : list ≡ list_in engine) (stands : StandsFor (line_in engine entry ∷ front) engine) where
-  lawful : is_lawful (run_input engine.plant) (line_in engine entry ∷ front) ≡ true
-  lawful = run_lawful (run_input engine.plant) seats (line_in engine entry ∷ front) stands.of_run
+    (same : engine.input.plant ≡ old.input.plant) (is_plant : plant ≡ engine.input.plant) (is_list : list ≡ list_in engine) (stands : StandsFor (line_in engine entry ∷ front) engine) where
+  lawful : is_lawful (run_input engine.input.plant) (line_in engine entry ∷ front) ≡ true
+  lawful = run_lawful (run_input engine.input.plant) seats (line_in engine entry ∷ front) stands.of_run
 
   -- the line that is handed on is the one that was given
   same_line : line_of entry list ≡ line_in engine entry
   same_line =
-      let all = brings (run_input engine.plant) front (line_in engine entry) (lawful_last (run_input engine.plant) (line_in engine entry) front lawful) in
+      let all = brings (run_input engine.input.plant) front (line_in engine entry) (lawful_last (run_input engine.input.plant) (line_in engine entry) front lawful) in
       ap (line_of entry) is_list ∙ (λ i. record { entry = entry; trains = all i })
 
-  same_text : line_text plant (line_of entry list) ≡ line_text engine.plant (line_in engine entry)
-  same_text = ap (λ (p : Plant). line_text p (line_of entry list)) is_plant ∙ ap (line_text engine.plant) same_line
+  same_text : line_text plant (line_of entry list) ≡ line_text engine.input.plant (line_in engine entry)
+  same_text = ap (λ (p : Plant). line_text p (line_of entry list)) is_plant ∙ ap (line_text engine.input.plant) same_line
 
-  same_plant : {before now : Option (List ℕ)} → Adds before now (text old.plant front) → Adds before now (text engine.plant front)
+  same_plant : {before now : Option (List ℕ)} → Adds before now (text old.input.plant front) → Adds before now (text engine.input.plant front)
   same_plant {before} {now} adds = subst (λ (p : Plant). Adds before now (text p front)) (sym same) adds
 
   -- it can be written
   pub next_writable : is_writable plant (line_of entry list) ≡ true
   next_writable =
       subst (λ (p : Plant). is_writable p (line_of entry list) ≡ true) (sym is_plant)
-      (subst (λ (line : Line). is_writable engine.plant line ≡ true) (sym same_line)
-      (line_writable (run_input engine.plant) (input_accepted engine.plant stands.at.rep.accepted) (line_in engine entry) front lawful))
+      (subst (λ (line : Line). is_writable engine.input.plant line ≡ true) (sym same_line)
+      (line_writable (run_input engine.input.plant) (input_accepted engine.input.plant stands.at.rep.accepted) (line_in engine entry) front lawful))
 
   -- it was written
-  pub one_more : (count : ℕ) (before now then : Option (List ℕ)) → length front ≡ count → Adds before now (text old.plant front)
+  pub one_more : (count : ℕ) (before now then : Option (List ℕ)) → length front ≡ count → Adds before now (text old.input.plant front)
       → Adds now then (line_text plant (line_of entry list)) → IsSoFar (count + 1) engine before then
   one_more count before now then long so_far more = record {
     front = line_in engine entry ∷ front;
@@ -104,29 +104,29 @@ module _ (old engine : Ledger) (front : Front) (entry : Entry) (plant : Plant) (
   }
 
   -- it was not written to its end
-  pub in_part : (before now then : Option (List ℕ)) → Adds before now (text old.plant front)
-      → AddsPrefix now then (line_text plant (line_of entry list)) → RunsPlantInPart old.plant before then
+  pub in_part : (before now then : Option (List ℕ)) → Adds before now (text old.input.plant front)
+      → AddsPrefix now then (line_text plant (line_of entry list)) → RunsPlantInPart old.input.plant before then
   in_part before now then so_far more = subst (λ (p : Plant). RunsPlantInPart p before then) same (
     stands.at.rep.accepted,
     record {
       front = line_in engine entry ∷ front;
       run = stands.of_run;
-      safe = safe_run engine.plant stands.at.rep.accepted (line_in engine entry ∷ front) stands.of_run;
+      safe = safe_run engine.input.plant stands.at.rep.accepted (line_in engine entry ∷ front) stands.of_run;
       adds = AddsPrefix-append (same_plant so_far) (subst (AddsPrefix now then) same_text more);
     },
   )
 
 -- all lines
 pub all_written : (engine : Ledger) (front : Front) (before now : Option (List ℕ)) → StandsFor front engine → has_ended front ≡ true
-    → Adds before now (text engine.plant front) → RunsPlant engine.plant before now
+    → Adds before now (text engine.input.plant front) → RunsPlant engine.input.plant before now
 all_written engine front before now stands ended adds =
-    let history = and_from (is_run (run_input engine.plant) seats front) (has_ended front) stands.of_run ended in
-    let end = all_left engine.plant stands.at.rep.accepted front history in (
+    let history = and_from (is_run (run_input engine.input.plant) seats front) (has_ended front) stands.of_run ended in
+    let end = all_left engine.input.plant stands.at.rep.accepted front history in (
       stands.at.rep.accepted,
       record {
         front = front;
         history = history;
-        safe = safe_run engine.plant stands.at.rep.accepted front stands.of_run;
+        safe = safe_run engine.input.plant stands.at.rep.accepted front stands.of_run;
         left = end.0;
         exact = end.1;
         adds = adds;
@@ -134,6 +134,6 @@ all_written engine front before now stands ended adds =
     )
 
 -- there are at most so many lines
-pub few_lines : (engine : Ledger) (front : Front) → StandsFor front engine → length front ≤ bound engine.plant 0 * (trains engine.plant + 1)
+pub few_lines : (engine : Ledger) (front : Front) → StandsFor front engine → length front ≤ bound engine.input.plant 0 * (trains engine.input.plant + 1)
 few_lines engine front stands =
-    lines_at_most (run_input engine.plant) (well_formed_from_accepted engine.plant stands.at.rep.accepted) front (run_lawful (run_input engine.plant) seats front stands.of_run)
+    lines_at_most (run_input engine.input.plant) (well_formed_from_accepted engine.input.plant stands.at.rep.accepted) front (run_lawful (run_input engine.input.plant) seats front stands.of_run)

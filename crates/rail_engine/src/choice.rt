@@ -9,10 +9,11 @@ ghost use Rattle.rail_queue.specs.Order.{first_time_of, is_sorted};
 use rail_base::Entry;
 use rail_ledger::{Ledger, Listed};
 
-/// The next line; `None` after the end line.
+/// The next line: of the trains that could go, the one that was ready first is admitted; `None` after the end
+/// line. The line may follow those before it, whatever the commands. It continues a run where there are none.
 pub fn next_line(ledger: &mut Ledger) -> Option<Entry>
     requires { IsSomewhere ledger.old }
-    ensures plant { ledger.new.plant ≡ ledger.old.plant }
+    ensures input { ledger.new.input ≡ ledger.old.input }
     ensures ended { IsNone result → (ledger.old.state.has_ended ≡ true) × (ledger.new ≡ ledger.old) }
     ensures line { IfSome result (λ entry. (ledger.old.state.has_ended ≡ false) × GivesEntry ledger.old ledger.new entry) }
     ensures run { IfSome result (ContinuesRuns ledger.old ledger.new) }
@@ -38,7 +39,7 @@ fn decide(ledger: &mut Ledger) -> Option<Entry>
     requires none_due { first_time_of ledger.old.state.queue.events ≢ Some ledger.old.state.instant }
     requires sorted { IsTrue (is_sorted ledger.old.state.queue.events) }
     requires unlisted { ledger.old.listed ≡ which.Nothing }
-    ensures plant { ledger.new.plant ≡ ledger.old.plant }
+    ensures input { ledger.new.input ≡ ledger.old.input }
     ensures line { IfSome result (GivesEntry ledger.old ledger.new) }
     ensures run { IfSome result (ContinuesRuns ledger.old ledger.new) }
     ensures none { IsNone result → IsSettled ledger.old ledger.new }

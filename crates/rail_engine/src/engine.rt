@@ -3,11 +3,13 @@
 ghost use Rattle.std.specs.Prelude.{◌≡◌, [], ◌∷◌, true, false, IsNone, IfOk, IfSome};
 ghost use Rattle.rail_engine.specs.Engines.{StandsFor};
 ghost use Rattle.rail_ledger.specs.Ledgers.{line_in, list_of};
+ghost use Rattle.rail_ledger.specs.Inputs.{dispatch_in};
+ghost use Rattle.rail_rules.specs.FcfsAlone.{fcfs_alone};
 ghost use Rattle.rail_rules.specs.Fronts.{Front, has_ended, kept};
 
 use crate::choice::next_line;
-use rail_base::{Entry, OutOfMemory, TrainNo};
-use rail_ledger::Ledger;
+use rail_base::{Entry, Name, OutOfMemory, TrainNo};
+use rail_ledger::{Ledger, RunInput};
 use rail_plan::Plant;
 use std::alloc::Global;
 use std::marker::Model;
@@ -39,10 +41,11 @@ impl Model for Engine {
 impl Engine {
     /// The engine before the first line. All memory that a run takes is taken here.
     pub fn begin(alloc: Global, plant: Plant) -> Result<Engine, OutOfMemory>
-        ensures plant { IfOk result (λ engine. engine.plant ≡ plant) }
+        ensures plant { IfOk result (λ engine. engine.input.plant ≡ plant) }
         ensures begun { IfOk result (StandsFor []) }
     {
-        match Ledger::begin(alloc, plant) {
+        let input = fcfs_alone(alloc, plant)?;
+        match Ledger::begin(alloc, input) {
             Ok(ledger) => Ok(Engine { ledger }),
             Err(error) => Err(error),
         }
@@ -51,7 +54,7 @@ impl Engine {
     /// The next line of the history; `None` after the end line, and then nothing has changed. It takes no
     /// memory.
     pub fn step(&mut self) -> Option<Entry>
-        ensures plant { self.new.plant ≡ self.old.plant }
+        ensures plant { self.new.input.plant ≡ self.old.input.plant }
         ensures ended { IsNone result → (front : Front) → StandsFor front self.old → has_ended front ≡ true }
         ensures stays { IsNone result → self.new ≡ self.old }
         ensures going { IfSome result (λ entry. (front : Front) → StandsFor front self.old → has_ended front ≡ false) }
@@ -63,7 +66,7 @@ impl Engine {
 
     /// The kept list after the last line.
     pub fn kept(&self) -> &[TrainNo]
-        ensures { (front : Front) → StandsFor front self.now → result.now ≡ kept self.now.plant front }
+        ensures { (front : Front) → StandsFor front self.now → result.now ≡ kept self.now.input.plant front }
     {
         self.ledger.kept.as_slice()
     }
@@ -78,8 +81,23 @@ impl Engine {
 
     /// The plant that is run.
     pub fn plant(&self) -> &Plant
-        ensures { result.now ≡ self.now.plant }
+        ensures { result.now ≡ self.now.input.plant }
     {
-        &self.ledger.plant
+        &self.ledger.input.plant
     }
+}
+
+/// The plant without commands, and with `fcfs` alone in the deck.
+fn fcfs_alone(alloc: Global, plant: Plant) -> Result<RunInput, OutOfMemory>
+    ensures plant { IfOk result (λ input. input.plant ≡ plant) }
+    ensures alone { IfOk result (λ input. dispatch_in input ≡ fcfs_alone) }
+{
+    let name = Name::read(b"fcfs").unwrap();
+    let deck = Vec::from_slice(alloc, &[name])?;
+    Ok(RunInput {
+        plant,
+        commands: Vec::new(alloc),
+        deck,
+        force: 0,
+    })
 }

@@ -21,62 +21,61 @@ use Rattle.rail_state.specs.declared.train.TrainState.{TrainState}
 use Rattle.rail_state.specs.TrainStates.{is_untried, state_of}
 use Rattle.rail_state.specs.Representation.{IsNext}
 use Rattle.rail_state.proofs.CallerLemmas.{well_formed_plant, left_of_ready, bar_seen, no_list_stands}
-use Rattle.rail_rules.specs.FcfsAlone.{fcfs_alone}
 use Rattle.rail_ledger.specs.declared.ledger.Ledger.{Ledger}
+use Rattle.rail_ledger.specs.Inputs.{dispatch_in, input_in}
 use Rattle.rail_ledger.specs.Ledgers.{HasList, IsAt, untried}
-use Rattle.rail_rules.specs.Orders.{input_of}
 
 -- places of a front are made for a table of its plant's moves
-pub made_for : (table : List MoveLists) (front : Front) (ledger : Ledger) → IsTable table → moves_in table ≡ moves_of ledger.plant → IsAt front ledger → IsMadeFor table ledger.places
+pub made_for : (table : List MoveLists) (front : Front) (ledger : Ledger) → IsTable table → moves_in table ≡ moves_of ledger.input.plant → IsAt front ledger → IsMadeFor table ledger.places
 made_for table front ledger is_table same at = record {
   moves = is_table;
   valid = subst (λ plan. is_valid_state plan ledger.places.positions ≡ true) (sym same)
-      (ap (is_valid_state (moves_of ledger.plant)) at.placed.positions ∙ (kept_completes (input_of fcfs_alone ledger.plant) (well_formed_plant ledger.plant at.rep.accepted) front at.rep.lawful).valid);
+      (ap (is_valid_state (moves_of ledger.input.plant)) at.placed.positions ∙ (kept_completes (input_in ledger.input) (well_formed_plant ledger.input.plant at.rep.accepted) front at.rep.lawful).valid);
   room = at.placed.room;
   counted = at.placed.counted;
   told = subst (λ (plan : Moves). (x u : ℕ) → (get_or ledger.places.owners x None ≡ Some u) ↔ (holds plan ledger.places.positions u x ≡ true)) (sym same) at.placed.told;
 }
 
-pub has_room : (table : List MoveLists) (front : Front) (ledger : Ledger) → moves_in table ≡ moves_of ledger.plant → IsAt front ledger → HasRoomFor table ledger.kept
+pub has_room : (table : List MoveLists) (front : Front) (ledger : Ledger) → moves_in table ≡ moves_of ledger.input.plant → IsAt front ledger → HasRoomFor table ledger.kept
 has_room table front ledger same at = subst (λ (plan : Moves). sum_below plan.moves plan.trains ≤ ledger.kept.room) (sym same) at.keeps.room
 
-pub list_completes : (table : List MoveLists) (front : Front) (ledger : Ledger) → moves_in table ≡ moves_of ledger.plant → IsAt front ledger → completes (moves_in table) ledger.places.positions ledger.kept.trains ≡ true
+pub list_completes : (table : List MoveLists) (front : Front) (ledger : Ledger) → moves_in table ≡ moves_of ledger.input.plant → IsAt front ledger → completes (moves_in table) ledger.places.positions ledger.kept.trains ≡ true
 list_completes table front ledger same at =
     ap (λ plan. completes plan ledger.places.positions ledger.kept.trains) same
-    ∙ ap (λ s. completes (moves_of ledger.plant) s ledger.kept.trains) at.placed.positions
-    ∙ ap (completes (moves_of ledger.plant) (places ledger.plant front)) at.keeps.is_list
-    ∙ (kept_completes (input_of fcfs_alone ledger.plant) (well_formed_plant ledger.plant at.rep.accepted) front at.rep.lawful).completing
+    ∙ ap (λ s. completes (moves_of ledger.input.plant) s ledger.kept.trains) at.placed.positions
+    ∙ ap (completes (moves_of ledger.input.plant) (places ledger.input.plant front)) at.keeps.is_list
+    ∙ (kept_completes (input_in ledger.input) (well_formed_plant ledger.input.plant at.rep.accepted) front at.rep.lawful).completing
 
 -- a waiting train has a move left
-pub left_of_next : (front : Front) (ledger : Ledger) → IsAt front ledger → (t : ℕ) → IsNext fcfs_alone ledger.plant front ledger.state.holders ledger.state.trains t → place front t < moves ledger.plant t
+pub left_of_next : (front : Front) (ledger : Ledger) → IsAt front ledger → (t : ℕ) → IsNext (dispatch_in ledger.input) ledger.input.plant front ledger.state.holders ledger.state.trains t → place front t < moves ledger.input.plant t
 left_of_next front ledger at t next =
     let waits = (and_parts (state_of ledger.state.trains t).waits (not (is_some (state_of ledger.state.trains t).known)) next.untried).0 in
-    let ready : is_ready (input_of fcfs_alone ledger.plant) front t ≡ true = sym (at.rep.waiting.ready t next.known_train) ∙ waits in
-    left_of_ready fcfs_alone ledger.plant front t ready
+    let ready : is_ready (input_in ledger.input) front t ≡ true = sym (at.rep.waiting.ready t next.known_train) ∙ waits in
+    left_of_ready (dispatch_in ledger.input) ledger.input.plant front t ready
 
-pub legal_next : (table : List MoveLists) (front : Front) (ledger : Ledger) → moves_in table ≡ moves_of ledger.plant → IsAt front ledger
-    → is_deciding (input_of fcfs_alone ledger.plant) front ≡ true → (t : ℕ) → IsNext fcfs_alone ledger.plant front ledger.state.holders ledger.state.trains t
+pub legal_next : (table : List MoveLists) (front : Front) (ledger : Ledger) → moves_in table ≡ moves_of ledger.input.plant → IsAt front ledger
+    → is_deciding (input_in ledger.input) front ≡ true → (t : ℕ) → IsNext (dispatch_in ledger.input) ledger.input.plant front ledger.state.holders ledger.state.trains t
     → is_legal (moves_in table) ledger.places.positions t ≡ true
 legal_next table front ledger same at deciding t next =
     ap (λ plan. is_legal plan ledger.places.positions t) same
-    ∙ ap (λ s. is_legal (moves_of ledger.plant) s t) at.placed.positions
-    ∙ unbarred_legal (input_of fcfs_alone ledger.plant) (well_formed_plant ledger.plant at.rep.accepted) front t (timely (input_of fcfs_alone ledger.plant) (well_formed_plant ledger.plant at.rep.accepted) front at.rep.lawful)
-    (ap is_some (bar_seen fcfs_alone ledger.plant front ledger.state at.rep deciding t ∙ next.free)) (left_of_next front ledger at t next)
+    ∙ ap (λ s. is_legal (moves_of ledger.input.plant) s t) at.placed.positions
+    ∙ unbarred_legal (input_in ledger.input) (well_formed_plant ledger.input.plant at.rep.accepted) front t (timely (input_in ledger.input) (well_formed_plant ledger.input.plant at.rep.accepted) front at.rep.lawful)
+    (ap is_some (bar_seen (dispatch_in ledger.input) ledger.input.plant front ledger.state at.rep deciding t ∙ next.free)) (left_of_next front ledger at t next)
 
 -- what the search for a list gives
-pub has_list : (table : List MoveLists) (front : Front) (ledger : Ledger) (places_now : State) (kept_now : Kept) (analyst_now : Work) (t : ℕ) (note : Note) → moves_in table ≡ moves_of ledger.plant → IsAt front ledger
+pub has_list : (table : List MoveLists) (front : Front) (ledger : Ledger) (places_now : State) (kept_now : Kept) (analyst_now : Work) (t : ℕ) (note : Note) → moves_in table ≡ moves_of ledger.input.plant → IsAt front ledger
     → IsMadeFor table places_now → kept_now.room ≡ ledger.kept.room → places_now.positions ≡ after ledger.places.positions t
-    → IsNoted (moves_in table) ledger.plant.tables.depth ledger.places.positions ledger.kept.trains t note kept_now.trains
+    → IsNoted (moves_in table) ledger.input.plant.tables.depth ledger.places.positions ledger.kept.trains t note kept_now.trains
     → HasList front ledger (record ledger { places = places_now; kept = kept_now; analyst = analyst_now }) t note
 has_list table front ledger places_now kept_now analyst_now t note same at made room moved noted = record {
-  noted = subst (λ plan. IsNoted plan ledger.plant.tables.depth (places ledger.plant front) (kept ledger.plant front) t note kept_now.trains) same
-      (subst (λ s. IsNoted (moves_in table) ledger.plant.tables.depth s (kept ledger.plant front) t note kept_now.trains) at.placed.positions
-      (subst (λ list. IsNoted (moves_in table) ledger.plant.tables.depth ledger.places.positions list t note kept_now.trains) at.keeps.is_list noted));
+  noted = subst (λ plan. IsNoted plan ledger.input.plant.tables.depth (places ledger.input.plant front) (kept ledger.input.plant front) t note kept_now.trains) same
+      (subst (λ s. IsNoted (moves_in table) ledger.input.plant.tables.depth s (kept ledger.input.plant front) t note kept_now.trains) at.placed.positions
+      (subst (λ list. IsNoted (moves_in table) ledger.input.plant.tables.depth ledger.places.positions list t note kept_now.trains) at.keeps.is_list noted));
   positions = moved ∙ ap (λ s. after s t) at.placed.positions;
   room = made.room;
   counted = made.counted;
   told = subst (λ (plan : Moves). (x u : ℕ) → (get_or places_now.owners x None ≡ Some u) ↔ (holds plan places_now.positions u x ≡ true)) same made.told;
-  list_room = subst (λ n. sum_below (moves ledger.plant) (trains ledger.plant) ≤ n) (sym room) at.keeps.room;
+  list_room = subst (λ n. sum_below (moves ledger.input.plant) (trains ledger.input.plant) ≤ n) (sym room) at.keeps.room;
 }
 
 -- one train less is untried
@@ -104,15 +103,17 @@ fewer_untried states t lt is =
     (λ u lu other. ap {B = ℕ} (λ (r : TrainState). cond (is_untried r) 1 0) (get_or-set_other states t u (record (state_of states t) { known = Some NoList }) _ other)))
 
 -- with no list the ledger stays where it is
-pub no_list_at : (table : List MoveLists) (front : Front) (ledger : Ledger) (places_now : State) (kept_now : Kept) (analyst_now : Work) (t : ℕ) → moves_in table ≡ moves_of ledger.plant → IsAt front ledger → IsNext fcfs_alone ledger.plant front ledger.state.holders ledger.state.trains t
-    → IsMadeFor table places_now → places_now.positions ≡ ledger.places.positions → kept_now ≡ ledger.kept → is_known (moves_in table) ledger.plant.tables.depth ledger.places.positions ledger.kept.trains t ≡ false
+pub no_list_at : (table : List MoveLists) (front : Front) (ledger : Ledger) (places_now : State) (kept_now : Kept) (analyst_now : Work) (t : ℕ) → moves_in table ≡ moves_of ledger.input.plant → IsAt front ledger → IsNext (dispatch_in ledger.input) ledger.input.plant front ledger.state.holders ledger.state.trains t
+    → IsMadeFor table places_now → places_now.positions ≡ ledger.places.positions → kept_now ≡ ledger.kept → is_known (moves_in table) ledger.input.plant.tables.depth ledger.places.positions ledger.kept.trains t ≡ false
     → (states : List TrainState) → states ≡ set ledger.state.trains t (record (state_of ledger.state.trains t) { known = Some NoList })
     → IsAt front (record ledger { places = places_now; kept = kept_now; analyst = analyst_now; state = record ledger.state { trains = states } })
 no_list_at table front ledger places_now kept_now analyst_now t same at next made positions list unknown states is = record {
-  rep = no_list_stands fcfs_alone ledger.plant front ledger.state at.rep t next
-      (subst (λ plan. is_known plan ledger.plant.tables.depth (places ledger.plant front) (kept ledger.plant front) t ≡ false) same
-      (subst (λ s. is_known (moves_in table) ledger.plant.tables.depth s (kept ledger.plant front) t ≡ false) at.placed.positions
-      (subst (λ l. is_known (moves_in table) ledger.plant.tables.depth ledger.places.positions l t ≡ false) at.keeps.is_list unknown)))
+  accepted = at.accepted;
+  ordered = at.ordered;
+  rep = no_list_stands (dispatch_in ledger.input) ledger.input.plant front ledger.state at.rep t next
+      (subst (λ plan. is_known plan ledger.input.plant.tables.depth (places ledger.input.plant front) (kept ledger.input.plant front) t ≡ false) same
+      (subst (λ s. is_known (moves_in table) ledger.input.plant.tables.depth s (kept ledger.input.plant front) t ≡ false) at.placed.positions
+      (subst (λ l. is_known (moves_in table) ledger.input.plant.tables.depth ledger.places.positions l t ≡ false) at.keeps.is_list unknown)))
       states is;
   placed = record {
     positions = positions ∙ at.placed.positions;
@@ -120,7 +121,7 @@ no_list_at table front ledger places_now kept_now analyst_now t same at next mad
     counted = made.counted;
     told = subst (λ (plan : Moves). (x u : ℕ) → (get_or places_now.owners x None ≡ Some u) ↔ (holds plan places_now.positions u x ≡ true)) same made.told;
   };
-  keeps = record { is_list = ap (λ (k : Kept). k.trains) list ∙ at.keeps.is_list; room = subst (λ (k : Kept). sum_below (moves ledger.plant) (trains ledger.plant) ≤ k.room) (sym list) at.keeps.room };
+  keeps = record { is_list = ap (λ (k : Kept). k.trains) list ∙ at.keeps.is_list; room = subst (λ (k : Kept). sum_below (moves ledger.input.plant) (trains ledger.input.plant) ≤ k.room) (sym list) at.keeps.room };
   queue_room = at.queue_room;
   list_room = at.list_room;
   list_empty = at.list_empty;

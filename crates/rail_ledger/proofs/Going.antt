@@ -1,5 +1,5 @@
 -- The next event happens, or the ledger ends.
-use Rattle.std.proofs.Common.{◌≡◌, ℕ, ◌+◌, Bool, true, false, not, ◌||◌, List, [], ◌∷◌, length, Some, refl, sym, ap, ◌∙◌, subst, ◌⊎◌, inl, inr, ⊎_elim, arith}
+use Rattle.std.proofs.Common.{◌≡◌, ℕ, ◌+◌, Bool, true, false, not, ◌||◌, List, [], ◌∷◌, get_or, length, Some, refl, sym, ap, ◌∙◌, subst, ◌⊎◌, inl, inr, ⊎_elim, arith}
 use Rattle.std.specs.List.{filter, list_any}
 use Rattle.std.specs.Option.{option_map_or}
 use Rattle.std.specs.Global.{Vec}
@@ -8,7 +8,7 @@ use Rattle.rail_base.specs.declared.history.What.TheVariants.{End}
 use Rattle.rail_rules.specs.Numbers.{listed}
 use Rattle.rail_rules.specs.Plant.{Plant, trains}
 use Rattle.rail_rules.specs.Fronts.{Front, Line, at_time, has_ended, is_admission, kept}
-use Rattle.rail_laws_front.proofs.CallerLemmas.{kept_idle, places_idle}
+use Rattle.rail_laws_front.proofs.CallerLemmas.{kept_idle, places_idle, told_kept}
 use Rattle.rail_place.specs.Made.{State}
 use Rattle.rail_list.specs.KeptLists.{Kept}
 use Rattle.rail_queue.specs.declared.event.Event.{Event}
@@ -19,11 +19,13 @@ use Rattle.rail_state.specs.declared.train.TrainState.{TrainState}
 use Rattle.rail_state.specs.TrainStates.{state_after, state_of}
 use Rattle.rail_state.specs.Representation.{IsReadyFor, Represents, StaysSettled, bare_at, holders_after, left_of, what_of}
 use Rattle.rail_rules.specs.Orders.{is_cancelled, told}
-use Rattle.rail_state.proofs.CallerLemmas.{ended, happened, kind, event_idle, ready_for}
-use Rattle.rail_rules.specs.FcfsAlone.{fcfs_alone}
+use Rattle.rail_state.proofs.CallerLemmas.{ended, happened, kind, event_idle, ready_for, same_pass}
 use Rattle.rail_ledger.specs.declared.ledger.Ledger.{Ledger}
 use Rattle.rail_ledger.specs.declared.ledger.Listed.TheVariants as listed
-use Rattle.rail_ledger.proofs.Alone.{no_command, none_cancelled}
+use Rattle.rail_base.specs.declared.orders.Order.{Order}
+use Rattle.rail_laws_events.specs.Accounts.{is_train_event}
+use Rattle.rail_orders.specs.Told.{AreOrders}
+use Rattle.rail_ledger.specs.Inputs.{dispatch_in, input_in}
 use Rattle.rail_ledger.specs.Ledgers.{ArePlaces, IsAt, IsKept, MayGoOn}
 use Rattle.rail_state.specs.declared.run_state.RunState.{RunState}
 
@@ -46,19 +48,16 @@ kept_stays plant line front list idle is = record {
 }
 
 module _ (front : Front) (ledger : Ledger) (at : IsAt front ledger) (going : ledger.state.has_ended ≡ false) (may : MayGoOn ledger) (event : Event) (rest : List Event)
-    (first : ledger.state.queue.events ≡ event ∷ rest) (least : list_any (λ other. goes_before other event) ledger.state.queue.events ≡ false) where
+    (first : ledger.state.queue.events ≡ event ∷ rest) (least : list_any (λ other. goes_before other event) ledger.state.queue.events ≡ false) (of_train : event.class ≡ class.Command → ⊥) where
   still : has_ended front ≡ false
   still = sym at.rep.ended ∙ going
 
   goes : (ledger.state.is_settled ≡ true) ⊎ (event.at ≡ ledger.state.instant)
   goes = ⊎_elim inl (λ now. inr (some_inside (sym (ap first_time_of first) ∙ now))) may
 
-  of_train : event.class ≡ class.Command → ⊥
-  of_train = no_command ledger.plant front ledger.state at.rep event rest first least
-
-  pub ready_now : (queue : Queue) → IsReadyFor ledger.plant (record ledger.state { queue = queue }) event
+  pub ready_now : (queue : Queue) → IsReadyFor ledger.input.plant (record ledger.state { queue = queue }) event
   ready_now queue =
-      let r = ready_for fcfs_alone ledger.plant front ledger.state at.rep still event rest first least goes of_train in
+      let r = ready_for (dispatch_in ledger.input) ledger.input.plant front ledger.state at.rep still event rest first least goes of_train in
       record {
         known_train = r.known_train;
         no_command = r.no_command;
@@ -70,21 +69,27 @@ module _ (front : Front) (ledger : Ledger) (at : IsAt front ledger) (going : led
         step_within = r.step_within;
       }
 
-  pub idle_now : is_admission (what_of ledger.plant ledger.state.trains event) ≡ false
-  idle_now = event_idle (what_of ledger.plant ledger.state.trains event) (kind fcfs_alone ledger.plant front ledger.state at.rep still event rest first least goes of_train)
+  kind_now : is_train_event (what_of ledger.input.plant ledger.state.trains event) ≡ true
+  kind_now = kind (dispatch_in ledger.input) ledger.input.plant front ledger.state at.rep still event rest first least goes of_train
+
+  pub idle_now : is_admission (what_of ledger.input.plant ledger.state.trains event) ≡ false
+  idle_now = event_idle (what_of ledger.input.plant ledger.state.trains event) kind_now
 
   pub happened_at : (after : RunState)
       → after.queue.events ≡ rest → after.queue.spare ≡ ledger.state.queue.spare + 1
-      → after.holders ≡ holders_after (what_of ledger.plant ledger.state.trains event) ledger.state.holders
+      → after.holders ≡ holders_after (what_of ledger.input.plant ledger.state.trains event) ledger.state.holders
       → length after.trains ≡ length ledger.state.trains
-      → ((t : ℕ) → state_of after.trains t ≡ state_after ledger.plant (what_of ledger.plant ledger.state.trains event) t (state_of ledger.state.trains t))
+      → ((t : ℕ) → state_of after.trains t ≡ state_after ledger.input.plant (what_of ledger.input.plant ledger.state.trains event) t (state_of ledger.state.trains t))
       → after.instant ≡ event.at → after.has_ended ≡ ledger.state.has_ended
-      → (after.is_settled ≡ true → (ledger.state.is_settled ≡ true) × StaysSettled ledger.plant ledger.state.trains (what_of ledger.plant ledger.state.trains event))
-      → IsAt (bare_at event.at (what_of ledger.plant ledger.state.trains event) ∷ front) (record ledger { state = after })
+      → (after.is_settled ≡ true → (ledger.state.is_settled ≡ true) × StaysSettled ledger.input.plant ledger.state.trains (what_of ledger.input.plant ledger.state.trains event))
+      → IsAt (bare_at event.at (what_of ledger.input.plant ledger.state.trains event) ∷ front) (record ledger { state = after })
   happened_at after events spare holders many states time goes_on stays =
-      let line : Line = bare_at event.at (what_of ledger.plant ledger.state.trains event) in
+      let line : Line = bare_at event.at (what_of ledger.input.plant ledger.state.trains event) in
       record {
-        rep = happened fcfs_alone ledger.plant front ledger.state at.rep still event rest first least goes of_train after (record {
+        accepted = at.accepted;
+        ordered = subst (λ (orders : List Order). AreOrders ledger.input.plant ledger.input.deck.items ledger.input.force orders ledger.orders)
+            (sym (told_kept ledger.input.commands.items line front (λ k is. false≢true (ap is_train_event (sym is) ∙ kind_now)))) at.ordered;
+        rep = happened (dispatch_in ledger.input) ledger.input.plant front ledger.state at.rep still event rest first least goes of_train after (record {
           events = first ∙ ap (λ list. event ∷ list) (sym events);
           holders = holders;
           many = many;
@@ -93,37 +98,33 @@ module _ (front : Front) (ledger : Ledger) (at : IsAt front ledger) (going : led
           going = goes_on;
           settled = stays;
         });
-        placed = places_stay ledger.plant line front ledger.places idle_now at.placed;
-        keeps = kept_stays ledger.plant line front ledger.kept idle_now at.keeps;
+        placed = places_stay ledger.input.plant line front ledger.places idle_now at.placed;
+        keeps = kept_stays ledger.input.plant line front ledger.kept idle_now at.keeps;
         queue_room = omega (arith, at.queue_room, ap length first, ap length events, spare);
         list_room = λ open_still. at.list_room still;
         list_empty = λ open_still. at.list_empty still;
       }
 
--- without commands the trains that are left are those that are not out
-filter_same_at : (front : Front) (plant : Plant) (states : List TrainState) (list : List ℕ) → filter (λ t. not (state_of states t).is_out) list ≡ filter (λ t. not ((state_of states t).is_out || is_cancelled t (told [] front))) list
-filter_same_at front plant states list = ap (λ (f : ℕ → Bool). filter f list) (λ i t. not (or_false (state_of states t).is_out (is_cancelled t (told [] front)) (none_cancelled plant front t) i))
-  where
-    or_false : (a b : Bool) → b ≡ false → a ≡ (a || b)
-    or_false true b none = refl
-    or_false false b none = sym none
-
 -- the end line names the trains that are left
 pub ended_at : (front : Front) (ledger : Ledger) → IsAt front ledger → ledger.state.has_ended ≡ false → ledger.state.is_settled ≡ true → ledger.state.queue.events ≡ []
-    → (remaining : Vec ℕ) → remaining.items ≡ filter (λ t. not (state_of ledger.state.trains t).is_out) (listed (λ t. t) (length ledger.state.trains))
+    → (remaining : Vec ℕ) → remaining.items ≡ filter (λ t. not ((state_of ledger.state.trains t).is_out || get_or ledger.orders.cancelled t false)) (listed (λ t. t) (length ledger.state.trains))
     → IsAt (record { entry = at_time ledger.state.instant End; trains = remaining.items } ∷ front) (record ledger { remaining = remaining; listed = listed.Remaining; state = record ledger.state { has_ended = true } })
 ended_at front ledger at going settled empty remaining is =
     let still : has_ended front ≡ false = sym at.rep.ended ∙ going in
-    let left : remaining.items ≡ left_of fcfs_alone ledger.plant front ledger.state.trains = is
-    ∙ ap (λ n. filter (λ t. not (state_of ledger.state.trains t).is_out) (listed (λ t. t) n)) at.rep.times.many
-    ∙ filter_same_at front ledger.plant ledger.state.trains (listed (λ t. t) (trains ledger.plant)) in
+    let left : remaining.items ≡ left_of (dispatch_in ledger.input) ledger.input.plant front ledger.state.trains = is
+    ∙ ap (λ n. filter (λ t. not ((state_of ledger.state.trains t).is_out || get_or ledger.orders.cancelled t false)) (listed (λ t. t) n)) at.rep.times.many
+    ∙ same_pass (λ t. not ((state_of ledger.state.trains t).is_out || get_or ledger.orders.cancelled t false))
+    (λ t. not ((state_of ledger.state.trains t).is_out || is_cancelled t (told ledger.input.commands.items front))) (trains ledger.input.plant)
+    (λ t lt. ap (λ b. not ((state_of ledger.state.trains t).is_out || b)) (at.ordered.cancelled t lt)) in
     let after : RunState = record ledger.state { has_ended = true } in
     let line : Line = record { entry = at_time ledger.state.instant End; trains = remaining.items } in
     record {
-      rep = subst (λ list. Represents fcfs_alone ledger.plant (record { entry = at_time ledger.state.instant End; trains = list } ∷ front) after) (sym left)
-          (ended fcfs_alone ledger.plant front ledger.state at.rep still settled empty after (record { events = refl; trains = refl; holders = refl; time = refl; ended = refl }));
-      placed = places_stay ledger.plant line front ledger.places refl at.placed;
-      keeps = kept_stays ledger.plant line front ledger.kept refl at.keeps;
+      accepted = at.accepted;
+      ordered = at.ordered;
+      rep = subst (λ list. Represents (dispatch_in ledger.input) ledger.input.plant (record { entry = at_time ledger.state.instant End; trains = list } ∷ front) after) (sym left)
+          (ended (dispatch_in ledger.input) ledger.input.plant front ledger.state at.rep still settled empty after (record { events = refl; trains = refl; holders = refl; time = refl; ended = refl }));
+      placed = places_stay ledger.input.plant line front ledger.places refl at.placed;
+      keeps = kept_stays ledger.input.plant line front ledger.kept refl at.keeps;
       queue_room = at.queue_room;
       list_room = λ open_still. absurd (false≢true (sym open_still));
       list_empty = λ open_still. absurd (false≢true (sym open_still));

@@ -8,6 +8,7 @@ mod Finding
 mod Looking
 mod Making
 mod Deciding
-mod Alone
+mod Ordered
+mod Commands
 mod Judged
 mod Admissions

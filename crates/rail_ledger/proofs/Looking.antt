@@ -7,23 +7,41 @@ use Rattle.rail_rules.specs.Numbers.{sum_below}
 use Rattle.rail_rules.specs.Plant.{Plant, needed, trains}
 use Rattle.rail_rules.specs.Fronts.{Front}
 use Rattle.rail_rules.specs.Causes.{place}
-use Rattle.rail_laws_run.specs.HolderTables.{held_cause}
 use Rattle.rail_state.specs.declared.train.TrainState.{TrainState}
-use Rattle.rail_state.specs.TrainStates.{IsReadyFirst, is_untried, looked_at, state_of}
+use Rattle.rail_rules.specs.Orders.{told}
+use Rattle.rail_state.specs.SeenCauses.{seen_bar}
+use Rattle.rail_state.specs.TrainStates.{IsReadyFirst, bar_by, is_untried, looked_at, state_of}
 use Rattle.rail_state.specs.Representation.{IsNext}
 use Rattle.rail_state.proofs.CallerLemmas.{looked_stands}
-use Rattle.rail_rules.specs.FcfsAlone.{fcfs_alone}
 use Rattle.rail_ledger.specs.declared.ledger.Ledger.{Ledger}
 use Rattle.rail_ledger.specs.Ledgers.{IsAt, untried}
-use Rattle.rail_ledger.proofs.Alone.{bar_held}
+use Rattle.rail_ledger.specs.Inputs.{dispatch_in, input_in}
+use Rattle.rail_ledger.proofs.Admissions.{left_of}
+use Rattle.rail_ledger.proofs.Ordered.{bar_is, input_parts, sections_known}
+
+-- a look by the tables is one by the orders that were told
+looked_same : (front : Front) (ledger : Ledger) → IsAt front ledger → (t : ℕ) → t < trains ledger.input.plant
+    → looked_at ledger.input.plant (bar_by ledger.orders ledger.state.holders) t (state_of ledger.state.trains t)
+    ≡ looked_at ledger.input.plant (seen_bar (told ledger.input.commands.items front) ledger.state.holders) t (state_of ledger.state.trains t)
+looked_same front ledger at t lt = let train_state : TrainState = state_of ledger.state.trains t in
+    ⊎_elim
+    (λ untried.
+    let waits = (and_parts train_state.waits (not (is_some train_state.known)) untried).0 in
+    ap (λ (c : Option Cause). record train_state { known = cond (is_untried train_state) c train_state.known })
+    (bar_is front ledger at t lt (needed ledger.input.plant t train_state.place)
+    (sections_known ledger.input.plant (input_parts (input_in ledger.input) at.accepted).plant t lt train_state.place (omega (arith, at.rep.times.places t lt, left_of front ledger at t waits)))))
+    (λ tried. ap (λ (c : Option Cause). record train_state { known = c })
+    (cond-false (is_untried train_state) _ train_state.known tried ∙ sym (cond-false (is_untried train_state) _ train_state.known tried)))
+    (cases_Bool (is_untried train_state))
 
 pub looked : (front : Front) (ledger : Ledger) → IsAt front ledger → (states : List TrainState) → length states ≡ length ledger.state.trains
-    → ((t : ℕ) → t < length ledger.state.trains → state_of states t ≡ looked_at ledger.plant ledger.state.holders t (state_of ledger.state.trains t))
+    → ((t : ℕ) → t < length ledger.state.trains → state_of states t ≡ looked_at ledger.input.plant (bar_by ledger.orders ledger.state.holders) t (state_of ledger.state.trains t))
     → IsAt front (record ledger { state = record ledger.state { trains = states } })
 looked front ledger at states many each = record {
-  rep = looked_stands fcfs_alone ledger.plant front ledger.state at.rep states many (λ t lt.
-      each t (omega (arith, lt, at.rep.times.many))
-      ∙ ap (λ (c : Option Cause). let train_state = state_of ledger.state.trains t in record train_state { known = cond (is_untried train_state) c train_state.known }) (sym (bar_held ledger.plant front ledger.state.holders t (needed ledger.plant t (state_of ledger.state.trains t).place))));
+  accepted = at.accepted;
+  ordered = at.ordered;
+  rep = looked_stands (dispatch_in ledger.input) ledger.input.plant front ledger.state at.rep states many (λ t lt.
+      each t (omega (arith, lt, at.rep.times.many)) ∙ looked_same front ledger at t lt);
   placed = at.placed;
   keeps = at.keeps;
   queue_room = at.queue_room;
@@ -32,14 +50,14 @@ looked front ledger at states many each = record {
 }
 
 -- who is untried after the look was so before, and no held section bars the train
-untried_before : (plant : Plant) (holders : List (Option ℕ)) (t : ℕ) (old new : TrainState) → new ≡ looked_at plant holders t old → is_untried new ≡ true → (is_untried old ≡ true) × (held_cause holders (needed plant t old.place) ≡ None)
-untried_before plant holders t old new is untried_now =
+untried_before : (plant : Plant) (bar : ℕ → List ℕ → Option Cause) (t : ℕ) (old new : TrainState) → new ≡ looked_at plant bar t old → is_untried new ≡ true → (is_untried old ≡ true) × (bar t (needed plant t old.place) ≡ None)
+untried_before plant bar t old new is untried_now =
     ⊎_elim
     (λ before.
-    let known : new.known ≡ held_cause holders (needed plant t old.place) = ap (λ (r : TrainState). r.known) is ∙ cond-true (is_untried old) (held_cause holders (needed plant t old.place)) old.known before in
-    (before, none_of (held_cause holders (needed plant t old.place)) (ap is_some (sym known) ∙ not-true (is_some new.known) (and_parts new.waits (not (is_some new.known)) untried_now).1)))
+    let known : new.known ≡ bar t (needed plant t old.place) = ap (λ (r : TrainState). r.known) is ∙ cond-true (is_untried old) (bar t (needed plant t old.place)) old.known before in
+    (before, none_of (bar t (needed plant t old.place)) (ap is_some (sym known) ∙ not-true (is_some new.known) (and_parts new.waits (not (is_some new.known)) untried_now).1)))
     (λ not_before.
-    let known : new.known ≡ old.known = ap (λ (r : TrainState). r.known) is ∙ cond-false (is_untried old) (held_cause holders (needed plant t old.place)) old.known not_before in
+    let known : new.known ≡ old.known = ap (λ (r : TrainState). r.known) is ∙ cond-false (is_untried old) (bar t (needed plant t old.place)) old.known not_before in
     let waits : new.waits ≡ old.waits = ap (λ (r : TrainState). r.waits) is in
     absurd (false≢true (sym not_before ∙ (λ i. sym waits i && not (is_some (sym known i))) ∙ untried_now)))
     (cases_Bool (is_untried old))
@@ -48,18 +66,21 @@ untried_before plant holders t old new is untried_now =
     none_of None h = refl
     none_of (Some c) h = absurd (false≢true (sym h))
 
-pub next_found : (ledger : Ledger) (states : List TrainState) → length states ≡ length ledger.state.trains → ((t : ℕ) → t < length ledger.state.trains → state_of states t ≡ looked_at ledger.plant ledger.state.holders t (state_of ledger.state.trains t))
+pub next_found : (ledger : Ledger) (states : List TrainState) → length states ≡ length ledger.state.trains → ((t : ℕ) → t < length ledger.state.trains → state_of states t ≡ looked_at ledger.input.plant (bar_by ledger.orders ledger.state.holders) t (state_of ledger.state.trains t))
     → (o : Option ℕ) → MatchOption o ((t : ℕ) → is_untried (state_of states t) ≡ false) (λ t. (t < length states) × IsReadyFirst states t)
-    → IfSome o (λ t. (front : Front) → IsAt front (record ledger { state = record ledger.state { trains = states } }) → IsNext fcfs_alone ledger.plant front ledger.state.holders states t)
+    → IfSome o (λ t. (front : Front) → IsAt front (record ledger { state = record ledger.state { trains = states } }) → IsNext (dispatch_in ledger.input) ledger.input.plant front ledger.state.holders states t)
 next_found ledger states many each None first = tt
 next_found ledger states many each (Some t) first = λ front at.
     let lt : t < length ledger.state.trains = omega (arith, first.0, many) in
-    let before = untried_before ledger.plant ledger.state.holders t (state_of ledger.state.trains t) (state_of states t) (each t lt) first.1.untried in
-    let known : t < trains ledger.plant = omega (arith, first.0, at.rep.times.many) in
+    let before = untried_before ledger.input.plant (bar_by ledger.orders ledger.state.holders) t (state_of ledger.state.trains t) (state_of states t) (each t lt) first.1.untried in
+    let known : t < trains ledger.input.plant = omega (arith, first.0, at.rep.times.many) in
     record {
       known_train = known;
       untried = first.1.untried;
-      free = bar_held ledger.plant front ledger.state.holders t (needed ledger.plant t (place front t)) ∙ ap (λ p. held_cause ledger.state.holders (needed ledger.plant t p)) (sym (at.rep.times.places t known) ∙ ap (λ (r : TrainState). r.place) (each t lt)) ∙ before.1;
+      free = sym (bar_is front (record ledger { state = record ledger.state { trains = states } }) at t known (needed ledger.input.plant t (place front t))
+          (sections_known ledger.input.plant (input_parts (input_in ledger.input) at.accepted).plant t known (place front t)
+          (left_of front (record ledger { state = record ledger.state { trains = states } }) at t (and_parts (state_of states t).waits (not (is_some (state_of states t).known)) first.1.untried).0)))
+          ∙ ap (λ p. bar_by ledger.orders ledger.state.holders t (needed ledger.input.plant t p)) (sym (at.rep.times.places t known) ∙ ap (λ (r : TrainState). r.place) (each t lt)) ∙ before.1;
     }
 
 pub first_found : (states : List TrainState) (o : Option ℕ) → MatchOption o ((t : ℕ) → is_untried (state_of states t) ≡ false) (λ t. (t < length states) × IsReadyFirst states t) → IfSome o (IsReadyFirst states)
@@ -70,14 +91,14 @@ sum_le : (f g : ℕ → ℕ) (n : ℕ) → ((i : ℕ) → i < n → f i ≤ g i)
 sum_le f g zero each = omega arith
 sum_le f g (suc n) each = omega (arith, sum_le f g n (λ i lt. each i (omega (arith, lt))), each n (omega arith))
 
-pub no_more_untried : (plant : Plant) (holders : List (Option ℕ)) (old new : List TrainState) → length new ≡ length old → ((t : ℕ) → t < length old → state_of new t ≡ looked_at plant holders t (state_of old t)) → untried new ≤ untried old
-no_more_untried plant holders old new many each =
+pub no_more_untried : (plant : Plant) (bar : ℕ → List ℕ → Option Cause) (old new : List TrainState) → length new ≡ length old → ((t : ℕ) → t < length old → state_of new t ≡ looked_at plant bar t (state_of old t)) → untried new ≤ untried old
+no_more_untried plant bar old new many each =
     subst (λ n. sum_below (λ t. cond (is_untried (state_of new t)) 1 0) n ≤ untried old) (sym many)
     (sum_le (λ t. cond (is_untried (state_of new t)) 1 0) (λ t. cond (is_untried (state_of old t)) 1 0) (length old) (λ t lt. one t lt (cases_Bool (is_untried (state_of new t)))))
   where
     one : (t : ℕ) → t < length old → (is_untried (state_of new t) ≡ true) ⊎ (is_untried (state_of new t) ≡ false) → cond (is_untried (state_of new t)) 1 0 ≤ cond (is_untried (state_of old t)) 1 0
     one t lt h =
         ⊎_elim
-        (λ is. omega (arith, cond-true {A = ℕ} (is_untried (state_of new t)) 1 0 is, cond-true {A = ℕ} (is_untried (state_of old t)) 1 0 (untried_before plant holders t (state_of old t) (state_of new t) (each t lt) is).0))
+        (λ is. omega (arith, cond-true {A = ℕ} (is_untried (state_of new t)) 1 0 is, cond-true {A = ℕ} (is_untried (state_of old t)) 1 0 (untried_before plant bar t (state_of old t) (state_of new t) (each t lt) is).0))
         (λ is_no. omega (arith, cond-false {A = ℕ} (is_untried (state_of new t)) 1 0 is_no))
         h

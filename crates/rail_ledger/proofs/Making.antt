@@ -4,7 +4,7 @@ use Rattle.std.specs.Prelude.{◌^◌, nat_lt}
 use Rattle.std.proofs.lemmas.Bool.{ltb-true, cond_both, false≢true}
 use Rattle.rail_base.specs.declared.history.Note.{Note}
 use Rattle.rail_base.specs.declared.history.Note.TheVariants.{Pulled, Appended, Fresh}
-use Rattle.rail_rules.specs.Accepted.{is_accepted, is_accepted_input}
+use Rattle.rail_rules.specs.Accepted.{is_accepted_input}
 use Rattle.rail_rules.specs.Plant.{Plant, moves, moves_of}
 use Rattle.rail_rules.specs.Times.{free_run, ready}
 use Rattle.rail_rules.specs.Fronts.{Front, Line, admissions, has_ended, instant, kept, places}
@@ -21,17 +21,13 @@ use Rattle.rail_list.specs.KeptLists.{Kept}
 use Rattle.rail_place.specs.Made.{State}
 use Rattle.rail_state.specs.Representation.{IsAdmissible, IsAdmitLine, MayKeep, admit_line, list_for}
 use Rattle.rail_state.proofs.CallerLemmas.{admitted_line, kept_is, lawful_line, left_of_ready, ready_it, well_formed_plant, carried_ready}
-use Rattle.rail_rules.specs.FcfsAlone.{fcfs_alone}
 use Rattle.rail_ledger.specs.declared.ledger.Ledger.{Ledger}
 use Rattle.rail_state.specs.Admissions.{IsGivable}
 use Rattle.rail_ledger.specs.Ledgers.{AreAlike, HasList, IsAt, list_with, listed_in}
 use Rattle.rail_ledger.proofs.Room.{moves_fit}
-use Rattle.rail_rules.specs.Orders.{input_of}
+use Rattle.rail_rules.specs.Orders.{Input}
+use Rattle.rail_ledger.specs.Inputs.{dispatch_in, input_in}
 use Rattle.rail_state.specs.declared.run_state.RunState.{RunState}
-
--- a plant that is accepted makes an input that is
-accepted_run : (plant : Plant) → is_accepted plant ≡ true → is_accepted_input (input_of fcfs_alone plant) ≡ true
-accepted_run plant accepted = ap (λ b. b && true && true && true && true && true) accepted
 
 below_of : (plant : Plant) (t : ℕ) (adms : List ℕ) (p : ℕ) → p ≤ length adms → 0 < moves plant t → StaysBelow (2 ^ 51) plant t adms → AreBelow (2 ^ 51) (times_at plant t adms p)
 below_of plant t adms zero le some stays = record {
@@ -50,46 +46,46 @@ below_of plant t adms (suc m) le some stays = record {
 }
 
 -- the instant of a decision is small
-instant_small : (plant : Plant) (front : Front) → is_accepted plant ≡ true → is_lawful (input_of fcfs_alone plant) front ≡ true → is_deciding (input_of fcfs_alone plant) front ≡ true → instant front < 2 ^ 50
-instant_small plant [] accepted lawful deciding = absurd (false≢true deciding)
-instant_small plant (line ∷ before) accepted lawful deciding = times_below (input_of fcfs_alone plant) (accepted_run plant accepted) line before lawful
+instant_small : (input : Input) (front : Front) → is_accepted_input input ≡ true → is_lawful input front ≡ true → is_deciding input front ≡ true → instant front < 2 ^ 50
+instant_small input [] accepted lawful deciding = absurd (false≢true deciding)
+instant_small input (line ∷ before) accepted lawful deciding = times_below input accepted line before lawful
 
 module _ (front : Front) (ledger : Ledger) (at : IsAt front ledger) (going : ledger.state.has_ended ≡ false)
-    (deciding : is_deciding (input_of fcfs_alone ledger.plant) front ≡ true) (t : ℕ) (next : IsAdmissible fcfs_alone ledger.plant front ledger.state.holders ledger.state.trains t)
-    (note : Note) (list : List ℕ) (noted : MayKeep (moves_of ledger.plant) (places ledger.plant front) (kept ledger.plant front) t note list) where
+    (deciding : is_deciding (input_in ledger.input) front ≡ true) (t : ℕ) (next : IsAdmissible (dispatch_in ledger.input) ledger.input.plant front ledger.state.holders ledger.state.trains t)
+    (note : Note) (list : List ℕ) (noted : MayKeep (moves_of ledger.input.plant) (places ledger.input.plant front) (kept ledger.input.plant front) t note list) where
   still : has_ended front ≡ false
   still = sym at.rep.ended ∙ going
 
   abbrev pub line : Line
   line = admit_line ledger.state.instant t (suc (place front t)) note list
 
-  lawful_after : is_lawful (input_of fcfs_alone ledger.plant) (line ∷ front) ≡ true
-  lawful_after = lawful_line fcfs_alone ledger.plant front ledger.state at.rep still deciding t next note list noted
+  lawful_after : is_lawful (input_in ledger.input) (line ∷ front) ≡ true
+  lawful_after = lawful_line (dispatch_in ledger.input) ledger.input.plant front ledger.state at.rep still deciding t next note list noted
 
-  left : place front t < moves ledger.plant t
-  left = left_of_ready fcfs_alone ledger.plant front t (ready_it fcfs_alone ledger.plant front ledger.state at.rep still deciding t next note list noted)
+  left : place front t < moves ledger.input.plant t
+  left = left_of_ready (dispatch_in ledger.input) ledger.input.plant front t (ready_it (dispatch_in ledger.input) ledger.input.plant front ledger.state at.rep still deciding t next note list noted)
 
   added : admissions (line ∷ front) t ≡ admissions front t ++ ledger.state.instant ∷ []
   added = admission_added line front t (suc (place front t)) note refl
 
-  pub givable : IsGivable ledger.plant front ledger.state.trains ledger.state.instant t
+  pub givable : IsGivable ledger.input.plant front ledger.state.trains ledger.state.instant t
   givable = record {
     many = at.rep.times.many;
     known = next.known_train;
     left = left;
-    few = omega (arith, moves_fit ledger.plant at.rep.accepted t next.known_train);
+    few = omega (arith, moves_fit ledger.input.plant at.rep.accepted t next.known_train);
     place_is = at.rep.times.places t next.known_train;
     times_are = at.rep.times.times t next.known_train;
     below = subst (AreBelow (2 ^ 51)) (sym (at.rep.times.times t next.known_train))
-        (below_of ledger.plant t (admissions front t) (place front t) (omega arith) (omega (arith, left)) (stays_below (input_of fcfs_alone ledger.plant) (accepted_run ledger.plant at.rep.accepted) front t at.rep.lawful next.known_train));
-    below_next = below_of ledger.plant t (admissions front t ++ ledger.state.instant ∷ []) (suc (place front t)) (omega (arith, length_added (admissions front t) ledger.state.instant)) (omega (arith, left))
-        (subst (StaysBelow (2 ^ 51) ledger.plant t) added (stays_below (input_of fcfs_alone ledger.plant) (accepted_run ledger.plant at.rep.accepted) (line ∷ front) t lawful_after next.known_train));
-    soon = omega (arith, at.rep.time, instant_small ledger.plant front at.rep.accepted at.rep.lawful deciding);
+        (below_of ledger.input.plant t (admissions front t) (place front t) (omega arith) (omega (arith, left)) (stays_below (input_in ledger.input) at.accepted front t at.rep.lawful next.known_train));
+    below_next = below_of ledger.input.plant t (admissions front t ++ ledger.state.instant ∷ []) (suc (place front t)) (omega (arith, length_added (admissions front t) ledger.state.instant)) (omega (arith, left))
+        (subst (StaysBelow (2 ^ 51) ledger.input.plant t) added (stays_below (input_in ledger.input) at.accepted (line ∷ front) t lawful_after next.known_train));
+    soon = omega (arith, at.rep.time, instant_small (input_in ledger.input) front at.accepted at.rep.lawful deciding);
     ready = omega (
       arith,
       ap (λ (ts : MoveTimes). ts.next_ready) (at.rep.times.times t next.known_train),
-      carried_ready ledger.plant t (admissions front t) (place front t) left,
-      ready_is_past (input_of fcfs_alone ledger.plant) (well_formed_plant ledger.plant at.rep.accepted) front t at.rep.lawful (ready_it fcfs_alone ledger.plant front ledger.state at.rep still deciding t next note list noted),
+      carried_ready ledger.input.plant t (admissions front t) (place front t) left,
+      ready_is_past (input_in ledger.input) (well_formed_plant ledger.input.plant at.rep.accepted) front t at.rep.lawful (ready_it (dispatch_in ledger.input) ledger.input.plant front ledger.state at.rep still deciding t next note list noted),
       at.rep.time,
     );
   }
@@ -98,17 +94,19 @@ module _ (front : Front) (ledger : Ledger) (at : IsAt front ledger) (going : led
   pub admitted_at : (P : State) (K : Kept) (W : Work) (after : RunState)
       → HasList front ledger (record ledger { places = P; kept = K; analyst = W }) t note → K.trains ≡ list
       → length after.queue.events + after.queue.spare ≡ length ledger.state.queue.events + ledger.state.queue.spare
-      → (times : MoveTimes) (arrival : Option ℕ) → IsAdmitLine ledger.plant front t times arrival ledger.state after
+      → (times : MoveTimes) (arrival : Option ℕ) → IsAdmitLine ledger.input.plant front t times arrival ledger.state after
       → IsAt (line ∷ front) (record ledger { places = P; kept = K; analyst = W; state = after; listed = list_with note })
   admitted_at P K W after has is_list room times arrival admits = record {
-    rep = admitted_line fcfs_alone ledger.plant front ledger.state at.rep still deciding t next note list noted times arrival after admits;
+    accepted = at.accepted;
+    ordered = at.ordered;
+    rep = admitted_line (dispatch_in ledger.input) ledger.input.plant front ledger.state at.rep still deciding t next note list noted times arrival after admits;
     placed = record {
-      positions = has.positions ∙ sym (places_raised ledger.plant line front t (suc (place front t)) note refl next.known_train);
+      positions = has.positions ∙ sym (places_raised ledger.input.plant line front t (suc (place front t)) note refl next.known_train);
       room = has.room;
       counted = has.counted;
       told = has.told;
     };
-    keeps = record { is_list = is_list ∙ sym (kept_is fcfs_alone ledger.plant front ledger.state at.rep still deciding t next note list noted); room = has.list_room };
+    keeps = record { is_list = is_list ∙ sym (kept_is (dispatch_in ledger.input) ledger.input.plant front ledger.state at.rep still deciding t next note list noted); room = has.list_room };
     queue_room = room ∙ at.queue_room;
     list_room = λ open_still. at.list_room still;
     list_empty = λ open_still. at.list_empty still;
@@ -123,7 +121,8 @@ listed_with Fresh kept_list remaining = refl
 -- a ledger that differs in places, kept list and analyst alone
 pub alike_ledger : (old mid : Ledger) → AreAlike old mid → mid.state.trains ≡ old.state.trains → mid ≡ record old { places = mid.places; kept = mid.kept; analyst = mid.analyst }
 alike_ledger old mid alike trains = λ i. record {
-  plant = alike.plant i;
+  input = alike.input i;
+  orders = alike.orders i;
   state = record { queue = alike.queue i; trains = trains i; holders = alike.holders i; instant = alike.instant i; is_settled = alike.is_settled i; has_ended = alike.has_ended i };
   places = mid.places;
   kept = mid.kept;

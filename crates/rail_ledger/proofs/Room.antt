@@ -8,10 +8,9 @@ use Rattle.rail_laws_events.proofs.CallerLemmas.{few_admissions}
 use Rattle.rail_laws_run.proofs.CallerLemmas.{due_bound}
 use Rattle.rail_state.specs.TrainStates.{state_of}
 use Rattle.rail_state.proofs.CallerLemmas.{well_formed_plant, count-all}
-use Rattle.rail_rules.specs.FcfsAlone.{fcfs_alone}
 use Rattle.rail_ledger.specs.declared.ledger.Ledger.{Ledger}
+use Rattle.rail_ledger.specs.Inputs.{dispatch_in, input_in}
 use Rattle.rail_ledger.specs.Ledgers.{IsAt}
-use Rattle.rail_rules.specs.Orders.{input_of}
 use Rattle.rail_base.specs.declared.limits.TheConstants.{ITINERARY_ROUTES}
 use Rattle.rail_state.specs.declared.pushes.TheConstants.{MOVE_EVENTS}
 
@@ -23,18 +22,18 @@ room_left front ledger at =
       at.queue_room,
       count-all ledger.state.queue.events,
       at.rep.pending.counted (λ e. true),
-      due_bound (input_of fcfs_alone ledger.plant) (well_formed_plant ledger.plant at.rep.accepted) front at.rep.lawful (λ e. true),
+      due_bound (input_in ledger.input) (well_formed_plant ledger.input.plant at.rep.accepted) front at.rep.lawful (λ e. true),
     )
 
 -- the moves of a train fit a 16-bit counter
 pub moves_fit : (plant : Plant) → is_accepted plant ≡ true → (t : ℕ) → t < trains plant → moves plant t ≤ ITINERARY_ROUTES
 moves_fit plant accepted t known = (row_in_range plant (accepted_parts plant accepted).trains_in_range t known).few_moves
 
-pub place_fits : (front : Front) (ledger : Ledger) → IsAt front ledger → (t : ℕ) → t < trains ledger.plant → (state_of ledger.state.trains t).place ≤ ITINERARY_ROUTES
+pub place_fits : (front : Front) (ledger : Ledger) → IsAt front ledger → (t : ℕ) → t < trains ledger.input.plant → (state_of ledger.state.trains t).place ≤ ITINERARY_ROUTES
 place_fits front ledger at t known =
     omega (
       arith,
       at.rep.times.places t known,
-      few_admissions (input_of fcfs_alone ledger.plant) (well_formed_plant ledger.plant at.rep.accepted) front at.rep.lawful t known,
-      moves_fit ledger.plant at.rep.accepted t known,
+      few_admissions (input_in ledger.input) (well_formed_plant ledger.input.plant at.rep.accepted) front at.rep.lawful t known,
+      moves_fit ledger.input.plant at.rep.accepted t known,
     )

@@ -1,5 +1,6 @@
 -- The front that a ledger stands for.
-use Rattle.std.specs.Prelude.{suc, ◌==◌, ◌&&◌, not, Bool, ◌≡◌, ◌↔◌, ◌⊎◌, ℕ, ◌+◌, ◌<◌, ◌≤◌, ◌^◌, cond, true, false, List, [], ◌∷◌, length, get_or, Some, None, IsTrue, vec_capacity}
+use Rattle.std.specs.List.{filter}
+use Rattle.std.specs.Prelude.{◌||◌, is_some, nat_lt, suc, ◌==◌, ◌&&◌, not, Bool, ◌≡◌, ◌↔◌, ◌⊎◌, ℕ, ◌+◌, ◌<◌, ◌≤◌, ◌^◌, cond, true, false, List, [], ◌∷◌, length, get_or, Some, None, IsTrue, vec_capacity}
 use Rattle.rail_base.specs.declared.history.Entry.{Entry}
 use Rattle.rail_base.specs.declared.limits.TheConstants.{SECTIONS, TRAINS}
 use Rattle.rail_rules.specs.Numbers.{sum_below}
@@ -18,13 +19,20 @@ use Rattle.rail_place.specs.Made.{State}
 use Rattle.rail_list.specs.KeptLists.{Kept}
 use Rattle.rail_queue.specs.Order.{first_time_of}
 use Rattle.rail_state.specs.declared.train.TrainState.{TrainState}
-use Rattle.rail_state.specs.TrainStates.{is_untried, state_of}
+use Rattle.rail_state.specs.TrainStates.{is_untried, state_of, state_told}
 use Rattle.rail_state.specs.Representation.{IsNext, Represents, admit_line, is_due_now}
-use Rattle.rail_rules.specs.FcfsAlone.{fcfs_alone}
 use Rattle.rail_ledger.specs.declared.ledger.Ledger.{Ledger}
 use Rattle.rail_ledger.specs.declared.ledger.Listed.{Listed}
 use Rattle.rail_ledger.specs.declared.ledger.Listed.TheVariants as listed
-use Rattle.rail_rules.specs.Orders.{input_of}
+use Rattle.rail_rules.specs.Orders.{told}
+use Rattle.rail_rules.specs.Accepted.{is_accepted_input}
+use Rattle.rail_orders.specs.Told.{AreOrders, Told, closed_in, stop_in, takes_effect_in, told_after}
+use Rattle.rail_base.specs.declared.history.What.{What}
+use Rattle.rail_base.specs.declared.history.What.TheVariants as what
+use Rattle.rail_base.specs.declared.orders.Order.{Order}
+use Rattle.rail_base.specs.declared.orders.Order.TheVariants.{Cancel}
+use Rattle.rail_state.specs.SeenCauses.{stays}
+use Rattle.rail_ledger.specs.Inputs.{dispatch_in, input_in}
 use Rattle.rail_state.specs.declared.pushes.TheConstants.{MOVE_EVENTS}
 
 -- the places are those of the front, with the trains that hold the sections
@@ -41,12 +49,42 @@ pub record IsKept (plant : Plant) (front : Front) (list : Kept) : Type 0 where
 
 -- the ledger stands for the front, but for the list that belongs to its last line
 pub record IsAt (front : Front) (ledger : Ledger) : Type 0 where
-  pub rep : Represents fcfs_alone ledger.plant front ledger.state
-  pub placed : ArePlaces ledger.plant front ledger.places
-  pub keeps : IsKept ledger.plant front ledger.kept
-  pub queue_room : length ledger.state.queue.events + ledger.state.queue.spare ≡ bound ledger.plant 0 + MOVE_EVENTS
+  pub accepted : is_accepted_input (input_in ledger.input) ≡ true
+  pub ordered : AreOrders ledger.input.plant ledger.input.deck.items ledger.input.force
+      (told ledger.input.commands.items front) ledger.orders
+  pub rep : Represents (dispatch_in ledger.input) ledger.input.plant front ledger.state
+  pub placed : ArePlaces ledger.input.plant front ledger.places
+  pub keeps : IsKept ledger.input.plant front ledger.kept
+  pub queue_room : length ledger.state.queue.events + ledger.state.queue.spare ≡ bound ledger.input.plant (length ledger.input.commands.items) + MOVE_EVENTS
   pub list_room : has_ended front ≡ false → TRAINS ≤ vec_capacity ledger.remaining
   pub list_empty : has_ended front ≡ false → ledger.remaining.items ≡ []
+
+-- the order takes effect, by what is kept
+abbrev pub is_effective : Ledger → Order → Bool
+is_effective ledger order = takes_effect_in ledger.orders (has_moved order) order
+  where
+    has_moved : Order → Bool
+    has_moved (Cancel t) = nat_lt 0 (state_of ledger.state.trains t).place
+    has_moved _ = false
+
+-- the command of this number is untold: only the instant changes
+pub record HasPassed (old new : Ledger) (at number : ℕ) (result : What) : Type 0 where
+  pub said : result ≡ what.Untold number
+  pub is : new ≡ record old { state = record old.state { instant = at } }
+
+-- the command of this number, with this order, is told
+pub record HasHeeded (old new : Ledger) (at number : ℕ) (order : Order) (result : What) : Type 0 where
+  pub said : result ≡ what.Told number
+  pub is : new ≡ record old { orders = told_after order old.orders; state = new.state }
+  pub events : new.state.queue.events ≡ filter (stays (order ∷ [])) old.state.queue.events
+  pub room : length new.state.queue.events + new.state.queue.spare ≡ length old.state.queue.events + old.state.queue.spare
+  pub holders : new.state.holders ≡ old.state.holders
+  pub many : length new.state.trains ≡ length old.state.trains
+  pub trains : (t : ℕ) → t < length old.state.trains → state_of new.state.trains t
+      ≡ state_told old.input.plant (order ∷ []) t (state_of old.state.trains t)
+  pub time : new.state.instant ≡ at
+  pub going : new.state.has_ended ≡ old.state.has_ended
+  pub settled : new.state.is_settled ≡ false
 
 -- the ledger stands for some front
 pub record IsSomewhere (ledger : Ledger) : Type 0 where
@@ -82,7 +120,8 @@ untried states = sum_below (λ t. cond (is_untried (state_of states t)) 1 0) (le
 
 -- two ledgers differ in places, kept list, analyst, and what is kept of the trains alone
 pub record AreAlike (first second : Ledger) : Type 0 where
-  pub plant : second.plant ≡ first.plant
+  pub input : second.input ≡ first.input
+  pub orders : second.orders ≡ first.orders
   pub queue : second.state.queue ≡ first.state.queue
   pub holders : second.state.holders ≡ first.state.holders
   pub instant : second.state.instant ≡ first.state.instant
@@ -105,17 +144,17 @@ GivesEntry old new entry = TakesLine old new (line_in new entry)
 
 -- nothing is due at the instant of the front for which the ledger stands
 abbrev pub IsDeciding : Ledger → Type 0
-IsDeciding ledger = (front : Front) → IsAt front ledger → is_deciding (input_of fcfs_alone ledger.plant) front ≡ true
+IsDeciding ledger = (front : Front) → IsAt front ledger → is_deciding (input_in ledger.input) front ≡ true
 
 -- the train waits, no cause of it is known, and nothing bars its next move
 abbrev pub IsNextTrain : Ledger → ℕ → Type 0
-IsNextTrain ledger t = (front : Front) → IsAt front ledger → IsNext fcfs_alone ledger.plant front ledger.state.holders ledger.state.trains t
+IsNextTrain ledger t = (front : Front) → IsAt front ledger → IsNext (dispatch_in ledger.input) ledger.input.plant front ledger.state.holders ledger.state.trains t
 
 -- the line of the entry continues each run front at which the policy in force chooses the train
 abbrev pub ContinuesRun : Ledger → Ledger → ℕ → Entry → Type 0
 ContinuesRun old new t entry = (front : Front) (seats : List Seat) → IsAt front old
-    → IsTrue (is_run (input_of fcfs_alone old.plant) seats front) → is_chosen (input_of fcfs_alone old.plant) seats front t ≡ true
-    → IsTrue (is_run (input_of fcfs_alone old.plant) seats (line_in new entry ∷ front))
+    → IsTrue (is_run (input_in old.input) seats front) → is_chosen (input_in old.input) seats front t ≡ true
+    → IsTrue (is_run (input_in old.input) seats (line_in new entry ∷ front))
 
 -- an entry that is neither an admission nor a hold line
 abbrev pub IsOther : Entry → Type 0
@@ -132,21 +171,21 @@ HasTried old new = (untried new.state.trains < untried old.state.trains) × Stan
 -- some train could be admitted at the instant of the front for which the ledger stands
 abbrev pub CouldGo : Ledger → Type 0
 CouldGo ledger = (front : Front) → IsAt front ledger
-    → (is_deciding (input_of fcfs_alone ledger.plant) front ≡ true) × (t : ℕ) × (could_go (input_of fcfs_alone ledger.plant) front t ≡ true)
+    → (is_deciding (input_in ledger.input) front ≡ true) × (t : ℕ) × (could_go (input_in ledger.input) front t ≡ true)
 
 -- the line may not follow the front for which the ledger stands, and this is the law that it breaks
 abbrev pub IsRefused : Ledger → Line → ℕ → Type 0
 IsRefused ledger line law = (front : Front) → IsAt front ledger
-    → (may_follow (input_of fcfs_alone ledger.plant) front line ≡ false) × (law ≡ broken_law (input_of fcfs_alone ledger.plant) front line)
+    → (may_follow (input_in ledger.input) front line ≡ false) × (law ≡ broken_law (input_in ledger.input) front line)
 
 -- a list brings every train inside to its exit after the train's next move, which the places have made
 pub record HasList (front : Front) (old new : Ledger) (t : ℕ) (note : Note) : Type 0 where
-  pub noted : IsNoted (moves_of old.plant) old.plant.tables.depth (places old.plant front) (kept old.plant front) t note new.kept.trains
-  pub positions : new.places.positions ≡ after (places old.plant front) t
+  pub noted : IsNoted (moves_of old.input.plant) old.input.plant.tables.depth (places old.input.plant front) (kept old.input.plant front) t note new.kept.trains
+  pub positions : new.places.positions ≡ after (places old.input.plant front) t
   pub room : length new.places.owners ≡ SECTIONS
   pub counted : new.places.played < 2 ^ 64
-  pub told : (x u : ℕ) → (get_or new.places.owners x None ≡ Some u) ↔ IsTrue (holds (moves_of old.plant) new.places.positions u x)
-  pub list_room : sum_below (moves old.plant) (trains old.plant) ≤ new.kept.room
+  pub told : (x u : ℕ) → (get_or new.places.owners x None ≡ Some u) ↔ IsTrue (holds (moves_of old.input.plant) new.places.positions u x)
+  pub list_room : sum_below (moves old.input.plant) (trains old.input.plant) ≤ new.kept.room
 
 -- the list that belongs to the line of an admission
 abbrev pub list_with : Note → Listed
@@ -162,6 +201,10 @@ line_with entry list = record { entry = entry; trains = list }
 abbrev pub admission : ℕ → ℕ → ℕ → Note → List ℕ → Line
 admission at t m note list = admit_line at t m note list
 
+-- the train is stopped, or one of these sections is closed, by what is kept
+abbrev pub is_forbidden_by : Told → ℕ → List ℕ → Bool
+is_forbidden_by told t sections = is_some (stop_in told t) || is_some (closed_in told sections)
+
 -- the train waits, and this is its next move
 abbrev pub is_next_move : List TrainState → ℕ → ℕ → Bool
 is_next_move states t m = (state_of states t).waits && (m == suc (state_of states t).place)
@@ -173,9 +216,9 @@ is_in_place ledger at t m held = (at == ledger.state.instant) && not (is_due_now
 
 -- places and kept list are those after an admission of the train with this note and list
 pub record HasGiven (front : Front) (old new : Ledger) (t : ℕ) (note : Note) (list : List ℕ) : Type 0 where
-  pub list_is : new.kept.trains ≡ given_list (moves_of old.plant) (kept old.plant front) t note list
-  pub positions : new.places.positions ≡ after (places old.plant front) t
+  pub list_is : new.kept.trains ≡ given_list (moves_of old.input.plant) (kept old.input.plant front) t note list
+  pub positions : new.places.positions ≡ after (places old.input.plant front) t
   pub room : length new.places.owners ≡ SECTIONS
   pub counted : new.places.played < 2 ^ 64
-  pub told : (x u : ℕ) → (get_or new.places.owners x None ≡ Some u) ↔ IsTrue (holds (moves_of old.plant) new.places.positions u x)
-  pub list_room : sum_below (moves old.plant) (trains old.plant) ≤ new.kept.room
+  pub told : (x u : ℕ) → (get_or new.places.owners x None ≡ Some u) ↔ IsTrue (holds (moves_of old.input.plant) new.places.positions u x)
+  pub list_room : sum_below (moves old.input.plant) (trains old.input.plant) ≤ new.kept.room

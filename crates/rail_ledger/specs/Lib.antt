@@ -1,2 +1,3 @@
 -- What is kept of a ledger, and the front for which that stands.
+pub mod Inputs
 pub mod Ledgers

@@ -1,8 +1,7 @@
 //! A line is judged by what is kept.
 
 ghost use Rattle.std.specs.Prelude.{◌≡◌, ◌≢◌, ◌↔◌, ◌<◌, ◌∷◌, [], cond, is_some, Some, true, false, IsTrue, IsNone, IfSome};
-ghost use Rattle.rail_rules.specs.FcfsAlone.{fcfs_alone};
-ghost use Rattle.rail_ledger.specs.Ledgers.{CouldGo, GivesEntry, HasGiven, IsAt, IsRefused, IsSettled, IsSomewhere, MayGoOn, TakesLine, admission, is_in_place, is_next_move, line_in, line_with, list_in, list_with};
+ghost use Rattle.rail_ledger.specs.Ledgers.{CouldGo, GivesEntry, HasGiven, IsAt, IsRefused, IsSettled, IsSomewhere, MayGoOn, TakesLine, admission, is_forbidden_by, is_in_place, is_next_move, line_in, line_with, list_in, list_with};
 ghost use Rattle.rail_ledger.specs.declared.judgement.Left.TheVariants.{Admission, Hold as HoldLine, Nothing};
 ghost use Rattle.rail_ledger.specs.declared.ledger.Listed.TheVariants as which;
 ghost use Rattle.rail_queue.specs.Order.{first_time_of, is_sorted};
@@ -14,7 +13,7 @@ ghost use Rattle.rail_laws_run.specs.HolderTables.{held_cause};
 ghost use Rattle.rail_list.specs.GivenLists.{may_be_given};
 ghost use Rattle.rail_state.specs.TrainStates.{state_of};
 ghost use Rattle.rail_rules.specs.Plant.{moves_of, needed};
-ghost use Rattle.rail_rules.specs.Orders.{input_of};
+ghost use Rattle.rail_ledger.specs.Inputs.{dispatch_in, input_in};
 
 use crate::ledger::{Ledger, Listed, list_with};
 use rail_base::{Entry, Note, Time, TrainNo, What};
@@ -44,9 +43,9 @@ impl Ledger {
         requires unlisted { self.old.listed ≡ which.Nothing }
         ensures admission { result ≡ Admission → CouldGo self.old }
         ensures hold { (entry : Entry) → result ≡ HoldLine entry
-            → (is_hold entry.what ≡ true) × (self.new.plant ≡ self.old.plant) × GivesEntry self.old self.new entry
+            → (is_hold entry.what ≡ true) × (self.new.input ≡ self.old.input) × GivesEntry self.old self.new entry
             × (list_in self.new ≡ []) }
-        ensures nothing { result ≡ Nothing → (self.new.plant ≡ self.old.plant) × IsSettled self.old self.new }
+        ensures nothing { result ≡ Nothing → (self.new.input ≡ self.old.input) × IsSettled self.old self.new }
     {
         while let Some(train) = self.look() {
             match self.find_list(train) {
@@ -128,13 +127,16 @@ impl Ledger {
         if !self.is_in_place(at, train, place, held) {
             return Some(2);
         }
+        if self.is_forbidden(train) {
+            return Some(3);
+        }
         if self.is_occupied(train) {
             return Some(4);
         }
         if !self.keep_given(train, note, list) {
             return Some(5);
         }
-        self.state.admit(&self.plant, train);
+        self.state.admit(&self.input.plant, train);
         self.listed = list_with(note);
         None
     }
@@ -158,11 +160,24 @@ impl Ledger {
         requires { IsSomewhere self.now }
         ensures { result ≡ is_next_move self.now.state.trains train place }
     {
-        if train.0 >= self.plant.moves().trains() {
+        if train.0 >= self.input.plant.moves().trains() {
             return false;
         }
         let train_state = self.state.trains.get(train);
         train_state.waits && u32::from(place) == u32::from(train_state.place) + 1
+    }
+
+    /// Whether the train is stopped, or a section of its next move is closed.
+    fn is_forbidden(&self, train: TrainNo) -> bool
+        requires running { IsSomewhere self.now }
+        requires waits { (state_of self.now.state.trains train).waits ≡ true }
+        ensures { result ≡ is_forbidden_by self.now.orders train
+            (needed self.now.input.plant train (state_of self.now.state.trains train).place) }
+    {
+        let place = self.state.trains.get(train).place;
+        let row = self.input.plant.move_row(train, place + 1);
+        self.orders.stop_cause(train).is_some()
+            || self.orders.closed_cause(row.sections.as_slice()).is_some()
     }
 
     /// Whether a needed section of the train's next move is held.
@@ -170,10 +185,10 @@ impl Ledger {
         requires running { IsSomewhere self.now }
         requires waits { (state_of self.now.state.trains train).waits ≡ true }
         ensures { result ≡ is_some (held_cause self.now.state.holders
-            (needed self.now.plant train (state_of self.now.state.trains train).place)) }
+            (needed self.now.input.plant train (state_of self.now.state.trains train).place)) }
     {
         let place = self.state.trains.get(train).place;
-        let row = self.plant.move_row(train, place + 1);
+        let row = self.input.plant.move_row(train, place + 1);
         held_cause(&self.state.holders, row.sections.as_slice()).is_some()
     }
 
@@ -183,14 +198,14 @@ impl Ledger {
         requires running { IsSomewhere self.old }
         requires going { self.old.state.has_ended ≡ false }
         requires next { (front : Front) → IsAt front self.old
-            → (is_deciding (input_of fcfs_alone self.old.plant) front ≡ true)
-            × IsAdmissible fcfs_alone self.old.plant front self.old.state.holders self.old.state.trains train }
+            → (is_deciding (input_in self.old.input) front ≡ true)
+            × IsAdmissible (dispatch_in self.old.input) self.old.input.plant front self.old.state.holders self.old.state.trains train }
         ensures lists { self.new ≡ record self.old { places = self.new.places; kept = self.new.kept } }
         ensures exact { (front : Front) → IsAt front self.old → result
-            ≡ may_be_given (moves_of self.old.plant) (places self.old.plant front) (kept self.old.plant front) train note list.now }
+            ≡ may_be_given (moves_of self.old.input.plant) (places self.old.input.plant front) (kept self.old.input.plant front) train note list.now }
         ensures given { IsTrue result → (front : Front) → IsAt front self.old → HasGiven front self.old self.new train note list.now }
     {
-        let moves = self.plant.moves();
+        let moves = self.input.plant.moves();
         moves.trains();
         admit_given(moves, &mut self.places, &mut self.kept, train, note, list)
     }

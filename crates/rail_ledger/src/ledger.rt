@@ -1,7 +1,12 @@
 //! What is kept of a run, and how it goes on line by line.
 
-ghost use Rattle.std.specs.Prelude.{◌≡◌, ◌≢◌, ◌⊎◌, ℕ, suc, ◌<◌, ◌≤◌, [], ◌∷◌, List, Some, None, true, false, length, replicate, vec_capacity, IsTrue, IsNone, IfOk, IfSome};
-ghost use Rattle.rail_ledger.specs.Ledgers.{AreAlike, ContinuesRun, GivesEntry, HasList, HasTried, IsAt, IsDeciding, IsNextTrain, IsOther, IsSettled, IsSomewhere, MayGoOn, StandsAsBefore, list_in, list_with, untried};
+ghost use Rattle.std.specs.Prelude.{◌≡◌, ◌≢◌, ◌⊎◌, ◌↔◌, ℕ, suc, ◌-◌, ◌<◌, ◌≤◌, [], ◌∷◌, slice_get, List, Some, None, true, false, length, replicate, vec_capacity, IsTrue, IsNone, IfOk, IfSome};
+ghost use Rattle.rail_base.specs.declared.orders.Command.{Command};
+ghost use Rattle.rail_queue.specs.declared.event.Class.TheVariants as class;
+ghost use Rattle.rail_rules.specs.Accepted.{is_accepted_input};
+ghost use Rattle.rail_rules.specs.Plant.{moves, trains};
+ghost use Rattle.rail_ledger.specs.Inputs.{input_in};
+ghost use Rattle.rail_ledger.specs.Ledgers.{AreAlike, ContinuesRun, GivesEntry, HasHeeded, HasList, HasPassed, HasTried, IsAt, IsDeciding, IsNextTrain, IsOther, IsSettled, IsSomewhere, MayGoOn, StandsAsBefore, is_effective, list_in, list_with, untried};
 ghost use Rattle.rail_ledger.specs.declared.ledger.Listed.TheVariants as which;
 ghost use Rattle.rail_base.specs.declared.limits.TheConstants.{TRAINS};
 ghost use Rattle.rail_list.specs.KeptLists.{HasRoomFor};
@@ -11,12 +16,14 @@ ghost use Rattle.rail_rules.specs.Fronts.{Front, is_hold};
 ghost use Rattle.rail_state.specs.Representation.{AreAllKnown};
 ghost use Rattle.rail_state.specs.TrainStates.{IsReadyFirst, lacks_hold_line, state_of};
 
+use crate::input::RunInput;
 use rail_base::limits::TRAINS;
-use rail_base::{Entry, Note, OutOfMemory, TrainNo, What};
+use rail_base::{Entry, Note, Order, OutOfMemory, Time, TrainNo, What};
 use rail_consequence::Analyst;
 use rail_list::{KeptList, admit_by_list};
+use rail_orders::ToldOrders;
 use rail_place::{Moves, Places};
-use rail_plan::Plant;
+use rail_queue::{Class, Event};
 use rail_state::RunState;
 use std::alloc::Global;
 
@@ -33,7 +40,9 @@ pub enum Listed {
 
 /// All that is kept of a run.
 pub struct Ledger {
-    pub plant: Plant,
+    pub input: RunInput,
+    /// What the commands told so far mean.
+    pub orders: ToldOrders,
     pub state: RunState,
     pub places: Places,
     pub kept: KeptList,
@@ -46,7 +55,8 @@ pub struct Ledger {
 impl Drop for Ledger {
     fn drop(self) {
         let Ledger {
-            plant: _plant,
+            input: _input,
+            orders: _orders,
             state: _state,
             places: _places,
             kept: _kept,
@@ -58,15 +68,18 @@ impl Drop for Ledger {
 }
 
 impl Ledger {
-    /// The ledger of the plant before the first line. All memory that it needs is taken here.
-    pub fn begin(alloc: Global, plant: Plant) -> Result<Ledger, OutOfMemory>
-        ensures plant { IfOk result (λ ledger. ledger.plant ≡ plant) }
+    /// The ledger of the input before the first line. All memory that it needs is taken here.
+    pub fn begin(alloc: Global, input: RunInput) -> Result<Ledger, OutOfMemory>
+        requires accepted { is_accepted_input (input_in input) ≡ true }
+        ensures input { IfOk result (λ ledger. ledger.input ≡ input) }
         ensures begun { IfOk result (λ ledger. (IsAt [] ledger) × (ledger.listed ≡ which.Nothing)) }
     {
-        let state = RunState::new(alloc, &plant)?;
-        let lists = lists_of(alloc, plant.moves())?;
+        let orders = ToldOrders::new(alloc, &input.plant, &input.deck, input.force)?;
+        let state = RunState::new(alloc, &input.plant, &input.commands)?;
+        let lists = lists_of(alloc, input.plant.moves())?;
         Ok(Ledger {
-            plant,
+            input,
+            orders,
             state,
             places: lists.places,
             kept: lists.kept,
@@ -104,7 +117,7 @@ impl Ledger {
         requires going { self.old.state.has_ended ≡ false }
         requires may { MayGoOn self.old }
         requires unlisted { self.old.listed ≡ which.Nothing }
-        ensures plant { self.new.plant ≡ self.old.plant }
+        ensures input { self.new.input ≡ self.old.input }
         ensures kind { IsOther result }
         ensures line { GivesEntry self.old self.new result }
     {
@@ -119,12 +132,14 @@ impl Ledger {
         requires running { IsSomewhere self.old }
         ensures alike { AreAlike self.old self.new }
         ensures at { StandsAsBefore self.old self.new }
-        ensures none { IsNone result → AreAllKnown self.new.plant self.new.state.trains }
+        ensures none { IsNone result → AreAllKnown self.new.input.plant self.new.state.trains }
         ensures first { IfSome result (IsReadyFirst self.new.state.trains) }
         ensures next { IfSome result (IsNextTrain self.new) }
         ensures fewer { untried self.new.state.trains ≤ untried self.old.state.trains }
     {
-        self.state.trains.look(&self.plant, &self.state.holders)
+        self.state
+            .trains
+            .look(&self.input.plant, &self.orders, &self.state.holders)
     }
 
     /// A list that brings every train inside to its exit after the train's next move, which the places then
@@ -138,8 +153,8 @@ impl Ledger {
             × ((front : Front) → IsAt front self.old → HasList front self.old self.new train note)) }
         ensures none { IsNone result → HasTried self.old self.new }
     {
-        let moves = self.plant.moves();
-        let depth = self.plant.depth();
+        let moves = self.input.plant.moves();
+        let depth = self.input.plant.depth();
         moves.trains();
         match admit_by_list(
             moves,
@@ -166,14 +181,14 @@ impl Ledger {
         requires unlisted { self.old.listed ≡ which.Nothing }
         requires deciding { IsDeciding self.old }
         requires next { IsNextTrain self.old train }
-        ensures plant { self.new.plant ≡ self.old.plant }
+        ensures input { self.new.input ≡ self.old.input }
         ensures line { IfSome result (GivesEntry self.old self.new) }
         ensures run { IfSome result (ContinuesRun self.old self.new train) }
         ensures none { IsNone result → AreAlike self.old self.new × HasTried self.old self.new }
     {
         let note = self.find_list(train)?;
         let place = self.state.trains.get(train).place + 1;
-        self.state.admit(&self.plant, train);
+        self.state.admit(&self.input.plant, train);
         self.listed = list_with(note);
         Some(Entry {
             at: self.state.instant,
@@ -186,10 +201,10 @@ impl Ledger {
         requires running { IsSomewhere self.old }
         requires going { self.old.state.has_ended ≡ false }
         requires deciding { IsDeciding self.old }
-        requires known { AreAllKnown self.old.plant self.old.state.trains }
+        requires known { AreAllKnown self.old.input.plant self.old.state.trains }
         requires unsettled { self.old.state.is_settled ≡ false }
         requires unlisted { self.old.listed ≡ which.Nothing }
-        ensures plant { self.new.plant ≡ self.old.plant }
+        ensures input { self.new.input ≡ self.old.input }
         ensures line { IfSome result (GivesEntry self.old self.new) }
         ensures kind { IfSome result (λ entry. (is_hold entry.what ≡ true) × (self.new.listed ≡ which.Nothing)) }
         ensures none { IsNone result → IsSettled self.old self.new }
@@ -208,13 +223,13 @@ impl Ledger {
         requires running { IsSomewhere self.old }
         requires going { self.old.state.has_ended ≡ false }
         requires deciding { IsDeciding self.old }
-        requires known { AreAllKnown self.old.plant self.old.state.trains }
+        requires known { AreAllKnown self.old.input.plant self.old.state.trains }
         requires unsettled { self.old.state.is_settled ≡ false }
         requires unlisted { self.old.listed ≡ which.Nothing }
         requires train { train < length self.old.state.trains }
         requires lacks { lacks_hold_line (state_of self.old.state.trains train) ≡ true }
         requires first { (u : ℕ) → u < train → lacks_hold_line (state_of self.old.state.trains u) ≡ false }
-        ensures plant { self.new.plant ≡ self.old.plant }
+        ensures input { self.new.input ≡ self.old.input }
         ensures kind { (is_hold result.what ≡ true) × (self.new.listed ≡ which.Nothing) }
         ensures line { GivesEntry self.old self.new result }
     {
@@ -231,15 +246,54 @@ impl Ledger {
         requires going { self.old.state.has_ended ≡ false }
         requires may { MayGoOn self.old }
         requires unlisted { self.old.listed ≡ which.Nothing }
-        ensures plant { self.new.plant ≡ self.old.plant }
+        ensures input { self.new.input ≡ self.old.input }
         ensures none { IsNone result → (self.new ≡ self.old) × (self.old.state.queue.events ≡ []) }
         ensures kind { IfSome result IsOther }
         ensures line { IfSome result (GivesEntry self.old self.new) }
     {
         let event = self.state.queue.pop()?;
         let at = event.at;
-        let what = self.state.happen(&self.plant, event);
+        if is_command(&event) {
+            let what = self.tell(at, event.number);
+            return Some(Entry { at, what });
+        }
+        let what = self.state.happen(&self.input.plant, event);
         Some(Entry { at, what })
+    }
+
+    /// The line of the command of this number, which counts from 1, at this time: it is told where its order takes
+    /// effect.
+    fn tell(&mut self, at: Time, number: u16) -> What
+        requires first { 1 ≤ number }
+        requires listed { number ≤ length self.old.input.commands.items }
+        requires known { length self.old.state.trains ≡ trains self.old.input.plant }
+        requires moves { (t : ℕ) → t < trains self.old.input.plant → (state_of self.old.state.trains t).waits ≡ true
+            → (state_of self.old.state.trains t).place < moves self.old.input.plant t }
+        requires waits { (t : ℕ) → (state_of self.old.state.trains t).waits ≡ false → (state_of self.old.state.trains t).known ≡ None }
+        ensures untold { (command : Command) → slice_get self.old.input.commands.items (number - 1) ≡ Some command
+            → is_effective self.old command.what ≡ false → HasPassed self.old self.new at number result }
+        ensures told { (command : Command) → slice_get self.old.input.commands.items (number - 1) ≡ Some command
+            → is_effective self.old command.what ≡ true → HasHeeded self.old self.new at number command.what result }
+    {
+        let order = self.input.commands[usize::from(number) - 1].what;
+        if !self.is_effective(&order) {
+            self.state.instant = at;
+            return What::Untold { command: number };
+        }
+        self.orders.tell(&order);
+        self.state.tell(&self.input.plant, at, &order);
+        What::Told { command: number }
+    }
+
+    /// Whether the order takes effect now.
+    fn is_effective(&self, order: &Order) -> bool
+        ensures { result ≡ is_effective self.now order.now }
+    {
+        let has_moved = match order {
+            Order::Cancel(train) => self.state.trains.has_moved(*train),
+            _ => false,
+        };
+        self.orders.takes_effect(order, has_moved)
     }
 
     /// The end line.
@@ -248,11 +302,13 @@ impl Ledger {
         requires going { self.old.state.has_ended ≡ false }
         requires settled { self.old.state.is_settled ≡ true }
         requires empty { self.old.state.queue.events ≡ [] }
-        ensures plant { self.new.plant ≡ self.old.plant }
+        ensures input { self.new.input ≡ self.old.input }
         ensures kind { IsOther result }
         ensures line { GivesEntry self.old self.new result }
     {
-        self.state.trains.list_remaining(&mut self.remaining);
+        self.state
+            .trains
+            .list_remaining(&self.orders, &mut self.remaining);
         self.state.has_ended = true;
         self.listed = Listed::Remaining;
         Entry {
@@ -260,6 +316,13 @@ impl Ledger {
             what: What::End,
         }
     }
+}
+
+/// Whether the event is that of a command.
+fn is_command(event: &Event) -> bool
+    ensures { IsTrue result ↔ (event.now.class ≡ class.Command) }
+{
+    matches!(event.class, Class::Command)
 }
 
 /// The list that belongs to the line of an admission with this note.

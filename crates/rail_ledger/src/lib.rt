@@ -11,8 +11,10 @@
 //! touches: no scan of all events, sections or trains.
 #![tactic(auto)]
 
+mod input;
 mod judgement;
 mod ledger;
 
+pub use input::RunInput;
 pub use judgement::Left;
 pub use ledger::{Ledger, Listed};

@@ -101,3 +101,7 @@ pub use Rattle.rail_state.proofs.Touching.{causes_left}
 
 -- A move that is not ready has no hold line, unless its train was cancelled.
 pub use Rattle.rail_state.proofs.Early.{no_early_hold}
+-- TrainNumbers: two tests that agree below a bound are passed by the same numbers below it.
+pub use Rattle.rail_state.proofs.TrainNumbers.{same_pass}
+-- CommandEvents: where all events pass a test, a filter by it keeps them.
+pub use Rattle.rail_state.proofs.CommandEvents.{all_stay}

@@ -6,6 +6,7 @@ use Rattle.std.proofs.lemmas.Bool.Decides.{nat_tests}
 use Rattle.rail_rules.specs.Plant.{Plant, needed}
 use Rattle.rail_laws_run.specs.HolderTables.{held_cause}
 use Rattle.rail_rules.specs.Numbers.{comes_before}
+use Rattle.rail_base.specs.declared.history.Cause.{Cause}
 use Rattle.rail_state.specs.declared.train.TrainState.{TrainState}
 use Rattle.rail_state.specs.TrainStates.{IsReadyFirst, no_state, state_of, is_untried, looked_at, turn}
 use Rattle.rail_state.specs.FirstUntried.{ready_of, earlier, first_with}
@@ -22,8 +23,8 @@ abbrev pub IsFirstOf : List TrainState → ℕ → Option ℕ → Type 0
 IsFirstOf states bound first = MatchOption first ((t : ℕ) → t < bound → is_untried (state_of states t) ≡ false) (IsFirstBelow states bound)
 
 -- the trains below the bound were looked at
-pub record IsLookedAt (plant : Plant) (holders : List (Option ℕ)) (old now : List TrainState) (bound : ℕ) (chosen : Option ℕ) : Type 0 where
-  pub trains : IsChanged (looked_at plant holders) old now bound
+pub record IsLookedAt (plant : Plant) (bar : ℕ → List ℕ → Option Cause) (old now : List TrainState) (bound : ℕ) (chosen : Option ℕ) : Type 0 where
+  pub trains : IsChanged (looked_at plant bar) old now bound
   pub first : IsFirstOf now bound chosen
 
 -- one that is ready later, or at once with no lesser number, doesn't come before
@@ -124,28 +125,28 @@ first_more states i first h =
     (cases_Bool (is_untried (state_of states i)))
 
 -- before the first train nothing was looked at
-pub looked_none : (plant : Plant) (holders : List (Option ℕ)) (old : List TrainState) → IsLookedAt plant holders old old 0 None
-looked_none plant holders old = record {
-  trains = changed_none (looked_at plant holders) old;
+pub looked_none : (plant : Plant) (bar : ℕ → List ℕ → Option Cause) (old : List TrainState) → IsLookedAt plant bar old old 0 None
+looked_none plant bar old = record {
+  trains = changed_none (looked_at plant bar) old;
   first = λ t lt. absurd (omega arith);
 }
 
 -- one more train is looked at
-pub looked_more : (plant : Plant) (holders : List (Option ℕ)) (old now : List TrainState) (i : ℕ) (first : Option ℕ) → i < length old → IsLookedAt plant holders old now i first
-    → IsLookedAt plant holders old (set now i (looked_at plant holders i (state_of now i))) (i + 1) (first_with (set now i (looked_at plant holders i (state_of now i))) first i)
-looked_more plant holders old now i first lt h =
-    let train_state : TrainState = looked_at plant holders i (state_of now i) in
+pub looked_more : (plant : Plant) (bar : ℕ → List ℕ → Option Cause) (old now : List TrainState) (i : ℕ) (first : Option ℕ) → i < length old → IsLookedAt plant bar old now i first
+    → IsLookedAt plant bar old (set now i (looked_at plant bar i (state_of now i))) (i + 1) (first_with (set now i (looked_at plant bar i (state_of now i))) first i)
+looked_more plant bar old now i first lt h =
+    let train_state : TrainState = looked_at plant bar i (state_of now i) in
     record {
-      trains = changed_more (looked_at plant holders) old now i lt h.trains;
+      trains = changed_more (looked_at plant bar) old now i lt h.trains;
       first = first_more (set now i train_state) i first (first_same now (set now i train_state) i first (λ t below. get_or-set_other now i t train_state no_state (omega arith)) h.first);
     }
 
 -- one that isn't untried would be as it was
-pub looked_over : (plant : Plant) (holders : List (Option ℕ)) (old now : List TrainState) (i : ℕ) (first : Option ℕ) → is_untried (state_of old i) ≡ false → IsLookedAt plant holders old now i first → IsLookedAt plant holders old now (i + 1) first
-looked_over plant holders old now i first tried h =
+pub looked_over : (plant : Plant) (bar : ℕ → List ℕ → Option Cause) (old now : List TrainState) (i : ℕ) (first : Option ℕ) → is_untried (state_of old i) ≡ false → IsLookedAt plant bar old now i first → IsLookedAt plant bar old now (i + 1) first
+looked_over plant bar old now i first tried h =
     let train_state : TrainState = state_of old i in
     record {
-      trains = changed_over (looked_at plant holders) old now i (ap (λ b. record train_state { known = cond b (held_cause holders (needed plant i train_state.place)) train_state.known }) tried) h.trains;
+      trains = changed_over (looked_at plant bar) old now i (ap (λ b. record train_state { known = cond b (bar i (needed plant i train_state.place)) train_state.known }) tried) h.trains;
       first = first_kept now i first (ap is_untried (h.trains.from i (omega arith)) ∙ tried) h.first;
     }
 

@@ -2,6 +2,7 @@
 pub mod CallerLemmas
 -- What the events of a move are, counted by tests.
 mod Counting
+mod CommandEvents
 mod Leaving
 -- Lemmas on the list of trains and on that of the watched ones.
 mod TrainNumbers

@@ -15,8 +15,8 @@ use Rattle.rail_rules.specs.Orders.{told, Dispatch, input_of}
 use Rattle.rail_laws_run.specs.Heads.{IsHead}
 use Rattle.rail_list.specs.Repairs.{is_known}
 use Rattle.rail_state.specs.declared.train.TrainState.{TrainState}
-use Rattle.rail_state.specs.TrainStates.{lacks_hold_line, is_untried, state_of}
-use Rattle.rail_state.specs.Representation.{AreAllKnown, HaveHoldLines, IsBound, IsDeferred, IsNext, IsTold, Represents, looked_told, with_trains}
+use Rattle.rail_state.specs.TrainStates.{lacks_hold_line, is_untried, looked_at, state_of}
+use Rattle.rail_state.specs.Representation.{AreAllKnown, HaveHoldLines, IsBound, IsDeferred, IsNext, IsTold, Represents, with_trains}
 use Rattle.rail_state.proofs.Admitting.{repairable_same}
 use Rattle.rail_state.proofs.LineCodes.{one_cause}
 use Rattle.rail_state.proofs.Pending.{held_same}
@@ -85,7 +85,7 @@ module _ (dispatch : Dispatch) (plant : Plant) (front : Front) (state : RunState
 
 -- the trains were looked at
 pub looked_stands : (dispatch : Dispatch) (plant : Plant) (front : Front) (state : RunState) → Represents dispatch plant front state → (states : List TrainState)
-    → length states ≡ length state.trains → ((t : ℕ) → t < trains plant → state_of states t ≡ looked_told dispatch plant front state.holders t (state_of state.trains t))
+    → length states ≡ length state.trains → ((t : ℕ) → t < trains plant → state_of states t ≡ looked_at plant (seen_bar (told dispatch.commands front) state.holders) t (state_of state.trains t))
     → Represents dispatch plant front (with_trains state states)
 looked_stands dispatch plant front state rep states many looked =
     found_out dispatch plant front state rep states many

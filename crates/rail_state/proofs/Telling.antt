@@ -39,7 +39,8 @@ use Rattle.rail_state.proofs.Ceasing.{ceases}
 use Rattle.rail_state.proofs.Touching.{causes_left}
 use Rattle.rail_state.specs.declared.train.TrainState.{TrainState}
 use Rattle.rail_state.specs.TrainStates.{state_of}
-use Rattle.rail_state.specs.Representation.{HasTold, IsBound, Represents, bare_at, deferred_events, is_touched}
+use Rattle.rail_state.specs.TrainStates.{is_touched}
+use Rattle.rail_state.specs.Representation.{HasTold, IsBound, Represents, bare_at, deferred_events}
 use Rattle.rail_state.proofs.Pending.{held_same}
 use Rattle.rail_state.proofs.Times.{times_kept}
 use Rattle.rail_state.specs.declared.run_state.RunState.{RunState}

@@ -1,5 +1,5 @@
 -- The list of trains where some of them are changed in turn.
-use Rattle.std.proofs.Common.{◌≡◌, ◌≢◌, ℕ, ◌+◌, ◌<◌, ◌≤◌, Bool, true, false, not, List, [], ◌∷◌, ◌++◌, length, get_or, set, add-one, refl, sym, ◌∙◌, ap, subst, ⊎_elim, arith}
+use Rattle.std.proofs.Common.{◌≡◌, ◌≢◌, ℕ, ◌+◌, ◌<◌, ◌≤◌, Bool, true, false, not, ◌||◌, List, [], ◌∷◌, ◌++◌, length, get_or, set, add-one, refl, sym, ◌∙◌, ap, subst, ⊎_elim, arith}
 use Rattle.std.specs.List.{filter}
 use Rattle.std.proofs.lemmas.List.{get_or-set_same, get_or-set_other, length-set, get_or_past, get_or_default}
 use Rattle.std.proofs.lemmas.Bool.{cases_lt}
@@ -59,9 +59,11 @@ changed_all change old now h none t =
     (λ above. h.from t above ∙ get_or_past old t no_state above ∙ sym (none t) ∙ ap (change t) (sym (get_or_past old t no_state above)))
     (cases_lt t (length old))
 
--- the item that was read says whether the train stays
-pub stays_read : (states : List TrainState) (i : ℕ) (train_state : TrainState) (is_out : Bool) → i < length states → train_state ≡ get_or states i train_state → train_state.is_out ≡ is_out → not (state_of states i).is_out ≡ not is_out
-stays_read states i train_state is_out lt read is = ap (λ (r : TrainState). not r.is_out) (sym (read ∙ get_or_default states i train_state no_state lt)) ∙ ap not is
+-- the item that was read says whether the train is left
+pub left_read : (states : List TrainState) (cancelled : List Bool) (i : ℕ) (train_state : TrainState) (result left : Bool) → i < length states → train_state ≡ get_or states i train_state
+    → result ≡ not (train_state.is_out || get_or cancelled i false) → result ≡ left → not ((state_of states i).is_out || get_or cancelled i false) ≡ left
+left_read states cancelled i train_state result left lt read said is =
+    ap (λ (r : TrainState). not (r.is_out || get_or cancelled i false)) (sym (read ∙ get_or_default states i train_state no_state lt)) ∙ sym said ∙ is
 
 -- the numbers that pass, with the next one, which passes
 pub passed_here : (p : ℕ → Bool) (i : ℕ) (old new : List ℕ) → p i ≡ true → old ≡ filter p (listed (λ t. t) i) → new ≡ old ++ i ∷ [] → new ≡ filter p (listed (λ t. t) (i + 1))

@@ -1,25 +1,28 @@
 -- What is done to each watched train in turn is done to all trains, and what it makes of the list.
 use Rattle.std.proofs.Common.{◌≡◌, ℕ, ◌+◌, ◌<◌, Bool, true, false, not, ◌&&◌, ◌||◌, cond, nat_le, is_some, List, length, get_or, set, take, ◌==◌, vec_capacity, Option, Some, None, MatchOption, refl, sym, ◌∙◌, ap, subst, ⊎_elim, arith}
-use Rattle.std.specs.List.{filter, find, fold}
+use Rattle.std.specs.List.{filter, find, fold, list_any}
+use Rattle.rail_state.specs.SeenCauses.{touches}
 use Rattle.std.specs.Option.{ForSome}
 use Rattle.std.specs.Global.{Vec}
 use Rattle.std.proofs.lemmas.List.{length-set, get_or_past}
-use Rattle.std.proofs.lemmas.Bool.{cases_lt, cases_Bool, false≢true, or_cases, or_parts, cond-true, cond-false, eq-eqb}
+use Rattle.std.proofs.lemmas.Bool.{cases_lt, cases_Bool, false≢true, or_cases, or_parts, and_parts, cond-true, cond-false, eq-eqb}
 use Rattle.std.proofs.lemmas.Bool.Decides.{nat_tests}
 use Rattle.std.proofs.lemmas.List.Sums.{fold_more}
 use Rattle.std.proofs.lemmas.Option.{same_Some}
 use Rattle.rail_base.specs.declared.history.Cause.{Cause}
-use Rattle.rail_rules.specs.Plant.{Plant, moves, needed, trains}
+use Rattle.rail_base.specs.declared.orders.Order.{Order}
+use Rattle.rail_rules.specs.Orders.{is_cancelled}
+use Rattle.rail_rules.specs.Plant.{Plant, claimed, moves, needed, trains}
 use Rattle.rail_laws_run.specs.HolderTables.{held_cause}
 use Rattle.rail_block.specs.declared.times.MoveTimes.{MoveTimes}
 use Rattle.rail_state.specs.declared.train.TrainState.{TrainState}
-use Rattle.rail_state.specs.TrainStates.{admitted, is_blocked_at, lacks_hold_line, is_untried, looked_at, no_state, state_admitted, state_of, without_known}
+use Rattle.rail_state.specs.TrainStates.{admitted, is_blocked_at, lacks_hold_line, is_untried, is_touched, looked_at, no_state, state_admitted, state_of, state_told, without_known}
 use Rattle.rail_state.specs.FirstUntried.{earlier, first_with, ready_of}
-use Rattle.rail_state.specs.Watched.{AreWatched, forget, is_watched, look_again, look_at, unknown}
+use Rattle.rail_state.specs.Watched.{AreWatched, forget, heed, is_watched, look_again, look_at, unknown}
 use Rattle.rail_state.proofs.TrainsChanged.{IsChanged, changed_none, changed_more, changed_over, changed_all}
 use Rattle.rail_state.proofs.First.{IsLookedAt, looked_none, looked_more, looked_over}
 use Rattle.rail_state.proofs.TrainNumbers.{first_is_least, IsLeast, in_turn, numbers, passes_both, same_pass}
-use Rattle.rail_state.proofs.WatchedKept.{is_watched_in, none_known, not_blocked, not_known, not_untried, still_watched, untold_watched, written}
+use Rattle.rail_state.proofs.WatchedKept.{is_watched_in, none_known, not_blocked, not_known, not_waiting, not_untried, still_watched, untold_watched, written}
 
 -- what is done to each watched train in turn, where it wouldn't change the others
 pub all_watched : {S : Type 0} (step : S → ℕ → S) (Holds : S → ℕ → Type 0) (s : S) (states : List TrainState) (watched : Vec ℕ) → AreWatched states watched → Holds s 0
@@ -84,22 +87,96 @@ admitted_each old mid t times arrival changed lt =
     (ap (admitted times arrival) (each t) ∙ sym (cond-true (t == t) (admitted times arrival (state_of old t)) (unknown (state_of old t)) (eq-eqb t t refl)))
     (λ u ne. each u ∙ sym (cond-false (t == u) (admitted times arrival (state_of old u)) (unknown (state_of old u)) (grind (arith, nat_tests))))
 
+-- a train that neither waits nor has a known cause heeds no order
+heeds_none : (plant : Plant) (orders : List Order) (t : ℕ) (train_state : TrainState) → is_watched train_state ≡ false → state_told plant orders t train_state ≡ train_state
+heeds_none plant orders t train_state off =
+    (λ i. record train_state { known = unknown_stays (is_touched plant orders t train_state) i; waits = idle (is_cancelled t orders) i })
+  where
+    unknown_stays : (b : Bool) → cond b None train_state.known ≡ train_state.known
+    unknown_stays true = none_known train_state.known (not_known train_state off)
+    unknown_stays false = refl
+
+    idle : (b : Bool) → (not b && train_state.waits) ≡ train_state.waits
+    idle true = sym (not_waiting train_state off)
+    idle false = refl
+
+-- each watched train heeds the orders, and so all trains do
+pub heeded_now : (plant : Plant) (orders : List Order) (states shown new : List TrainState) (watched : Vec ℕ) (list : List ℕ) → AreWatched states watched → shown ≡ states
+    → list ≡ watched.items → new ≡ fold (heed plant orders) shown list → IsChanged (state_told plant orders) states new (length states)
+heeded_now plant orders states shown new watched list kept shown_is list_is is =
+    let whole : new ≡ fold (heed plant orders) states watched.items = is ∙ ap (λ (rs : List TrainState). fold (heed plant orders) rs list) shown_is ∙ ap (fold (heed plant orders) states) list_is in
+    subst (λ (now : List TrainState). IsChanged (state_told plant orders) states now (length states)) (sym whole)
+    (all_watched (heed plant orders) (IsChanged (state_told plant orders) states) states states watched kept (changed_none (state_told plant orders) states)
+    (changed_more (state_told plant orders) states)
+    (λ now i off. changed_over (state_told plant orders) states now i (heeds_none plant orders i (state_of states i) off)))
+
+-- a train that is cancelled is touched
+pub touched_by_cancel : (plant : Plant) (orders : List Order) (t : ℕ) (train_state : TrainState) → is_cancelled t orders ≡ true → is_touched plant orders t train_state ≡ true
+touched_by_cancel plant orders t train_state is = ap (λ b. b || list_any (λ order. touches order t (claimed plant t train_state.place)) orders) is
+
+-- behind an order those of the watched trains are watched that wait still, where only waiting trains have a known cause
+pub heeded_kept : (plant : Plant) (orders : List Order) (old new : List TrainState) (watched now : Vec ℕ) → AreWatched old watched → IsChanged (state_told plant orders) old new (length old)
+    → ((t : ℕ) → (state_of old t).waits ≡ false → (state_of old t).known ≡ None)
+    → ((t : ℕ) → is_cancelled t orders ≡ true → is_touched plant orders t (state_of old t) ≡ true)
+    → now.items ≡ filter (λ t. (state_of new t).waits) watched.items → vec_capacity now ≡ vec_capacity watched → AreWatched new now
+heeded_kept plant orders old new watched now kept changed only touched items room =
+    let waits : ℕ → Bool = λ t. (state_of new t).waits in
+    record {
+      few = omega (arith, kept.few, changed.long);
+      exact = items
+          ∙ ap (filter waits) kept.exact
+          ∙ passes_both (is_watched_in old) waits (numbers (length old)) waited
+          ∙ same_pass waits (is_watched_in new) (length old) (λ t lt. sym (watched_is t (changed.below t lt)))
+          ∙ ap (λ n. filter (is_watched_in new) (numbers n)) (sym changed.long);
+      room = omega (arith, kept.room, changed.long, room);
+      free = λ t x off. ⊎_elim
+          (λ below. not_blocked x (state_of new t).known (none_of t (changed.below t below) off))
+          (λ above. ap (is_blocked_at x) (ap (λ (r : TrainState). r.known) (get_or_past new t no_state (omega (arith, above, changed.long)))))
+          (cases_lt t (length old));
+    }
+  where
+    -- what waits then waited before
+    waited : (t : ℕ) → (state_of new t).waits ≡ true → is_watched_in old t ≡ true
+    waited t is = ⊎_elim
+        (λ below. ap (λ waits. waits || is_some (state_of old t).known) (and_parts (not (is_cancelled t orders)) (state_of old t).waits (sym (ap (λ (r : TrainState). r.waits) (changed.below t below)) ∙ is)).1)
+        (λ above. absurd (false≢true (sym (ap (λ (r : TrainState). r.waits) (get_or_past new t no_state (omega (arith, above, changed.long)))) ∙ is)))
+        (cases_lt t (length old))
+
+    -- what doesn't wait then has no known cause
+    none_of : (t : ℕ) → state_of new t ≡ state_told plant orders t (state_of old t) → (state_of new t).waits ≡ false → is_some (state_of new t).known ≡ false
+    none_of t is off =
+        ap (λ (r : TrainState). is_some r.known) is
+        ∙ by (is_cancelled t orders) (is_touched plant orders t (state_of old t)) (state_of old t).waits refl refl refl (sym (ap (λ (r : TrainState). r.waits) is) ∙ off)
+      where
+        by : (c b w : Bool) → is_cancelled t orders ≡ c → is_touched plant orders t (state_of old t) ≡ b → (state_of old t).waits ≡ w → (not c && w) ≡ false → is_some (cond b None (state_of old t).known) ≡ false
+        by c true w c_is b_is w_is off = refl
+        by true false w c_is b_is w_is off = absurd (false≢true (sym b_is ∙ touched t c_is))
+        by false false true c_is b_is w_is off = absurd (false≢true (sym off))
+        by false false false c_is b_is w_is off = ap is_some (only t w_is)
+
+    watched_is : (t : ℕ) → state_of new t ≡ state_told plant orders t (state_of old t) → is_watched_in new t ≡ (state_of new t).waits
+    watched_is t is = by (state_of new t).waits refl
+      where
+        by : (w : Bool) → (state_of new t).waits ≡ w → ((state_of new t).waits || is_some (state_of new t).known) ≡ (state_of new t).waits
+        by true w_is = ap (λ w. w || is_some (state_of new t).known) w_is ∙ sym w_is
+        by false w_is = ap (λ w. w || is_some (state_of new t).known) w_is ∙ none_of t is w_is ∙ sym w_is
+
 -- all trains were looked at
-pub all_looked_at : (plant : Plant) (holders : List (Option ℕ)) (states : List TrainState) (watched : Vec ℕ) → AreWatched states watched
-    → IsLookedAt plant holders states (fold (look_at plant holders) (states, None) watched.items).0 (length states) (fold (look_at plant holders) (states, None) watched.items).1
-all_looked_at plant holders states watched kept =
-    let Holds : List TrainState × Option ℕ → ℕ → Type 0 = λ now i. IsLookedAt plant holders states now.0 i now.1 in
-    all_watched (look_at plant holders) Holds (states, None) states watched kept (looked_none plant holders states)
-    (λ now i lt h. looked_more plant holders states now.0 i now.1 lt h)
-    (λ now i off h. looked_over plant holders states now.0 i now.1 (not_untried (state_of states i) off) h)
+pub all_looked_at : (plant : Plant) (bar : ℕ → List ℕ → Option Cause) (states : List TrainState) (watched : Vec ℕ) → AreWatched states watched
+    → IsLookedAt plant bar states (fold (look_at plant bar) (states, None) watched.items).0 (length states) (fold (look_at plant bar) (states, None) watched.items).1
+all_looked_at plant bar states watched kept =
+    let Holds : List TrainState × Option ℕ → ℕ → Type 0 = λ now i. IsLookedAt plant bar states now.0 i now.1 in
+    all_watched (look_at plant bar) Holds (states, None) states watched kept (looked_none plant bar states)
+    (λ now i lt h. looked_more plant bar states now.0 i now.1 lt h)
+    (λ now i off h. looked_over plant bar states now.0 i now.1 (not_untried (state_of states i) off) h)
 
 -- the trains of the list were looked at
-pub looked_now : (plant : Plant) (holders : List (Option ℕ)) (states shown new : List TrainState) (watched : Vec ℕ) (list : List ℕ) (first : Option ℕ) → AreWatched states watched
-    → shown ≡ states → list ≡ watched.items → (new, first) ≡ fold (look_at plant holders) (shown, None) list → IsLookedAt plant holders states new (length states) first
-looked_now plant holders states shown new watched list first kept shown_is list_is is =
-    let whole : (new, first) ≡ fold (look_at plant holders) (states, None) watched.items = is ∙ ap (λ (rs : List TrainState). fold (look_at plant holders) (rs, None) list) shown_is ∙ ap (fold (look_at plant holders) (states, None)) list_is in
-    let P : List TrainState × Option ℕ → Type 0 = λ now. IsLookedAt plant holders states now.0 (length states) now.1 in
-    subst P (sym whole) (all_looked_at plant holders states watched kept)
+pub looked_now : (plant : Plant) (bar : ℕ → List ℕ → Option Cause) (states shown new : List TrainState) (watched : Vec ℕ) (list : List ℕ) (first : Option ℕ) → AreWatched states watched
+    → shown ≡ states → list ≡ watched.items → (new, first) ≡ fold (look_at plant bar) (shown, None) list → IsLookedAt plant bar states new (length states) first
+looked_now plant bar states shown new watched list first kept shown_is list_is is =
+    let whole : (new, first) ≡ fold (look_at plant bar) (states, None) watched.items = is ∙ ap (λ (rs : List TrainState). fold (look_at plant bar) (rs, None) list) shown_is ∙ ap (fold (look_at plant bar) (states, None)) list_is in
+    let P : List TrainState × Option ℕ → Type 0 = λ now. IsLookedAt plant bar states now.0 (length states) now.1 in
+    subst P (sym whole) (all_looked_at plant bar states watched kept)
 
 -- whether a train is watched doesn't change where it is looked at
 looked_at_watched : (waits : Bool) (known cause : Option Cause) → (waits || is_some (cond (waits && not (is_some known)) cause known)) ≡ (waits || is_some known)
@@ -107,36 +184,36 @@ looked_at_watched true known cause = refl
 looked_at_watched false known cause = refl
 
 -- all trains were looked at, and the list stays
-pub looked_at_kept : (plant : Plant) (holders : List (Option ℕ)) (old new : List TrainState) (watched : Vec ℕ) (first : Option ℕ) → AreWatched old watched → IsLookedAt plant holders old new (length old) first → AreWatched new watched
-looked_at_kept plant holders old new watched first kept looked =
-    let each : (t : ℕ) → state_of new t ≡ looked_at plant holders t (state_of old t) = changed_all (looked_at plant holders) old new looked.trains (λ t. refl) in
+pub looked_at_kept : (plant : Plant) (bar : ℕ → List ℕ → Option Cause) (old new : List TrainState) (watched : Vec ℕ) (first : Option ℕ) → AreWatched old watched → IsLookedAt plant bar old new (length old) first → AreWatched new watched
+looked_at_kept plant bar old new watched first kept looked =
+    let each : (t : ℕ) → state_of new t ≡ looked_at plant bar t (state_of old t) = changed_all (looked_at plant bar) old new looked.trains (λ t. refl) in
     still_watched old new watched kept looked.trains.long
-    (λ t. let train_state : TrainState = state_of old t in ap is_watched (each t) ∙ looked_at_watched train_state.waits train_state.known (held_cause holders (needed plant t train_state.place)))
+    (λ t. let train_state : TrainState = state_of old t in ap is_watched (each t) ∙ looked_at_watched train_state.waits train_state.known (bar t (needed plant t train_state.place)))
     (λ t x off.
     let train_state : TrainState = state_of old t in
     let waits : train_state.waits ≡ false = sym (ap (λ (r : TrainState). r.waits) (each t)) ∙ off in
     ap (λ (r : TrainState). is_blocked_at x r.known) (each t)
-    ∙ ap (λ waits. is_blocked_at x (cond (waits && not (is_some train_state.known)) (held_cause holders (needed plant t train_state.place)) train_state.known)) waits
+    ∙ ap (λ waits. is_blocked_at x (cond (waits && not (is_some train_state.known)) (bar t (needed plant t train_state.place)) train_state.known)) waits
     ∙ kept.free t x waits)
 
 -- one more train of the list is looked at
-pub looked_step : (plant : Plant) (holders : List (Option ℕ)) (start : List TrainState × Option ℕ) (list : List ℕ) (rows new : List TrainState) (first chosen : Option ℕ) (i t : ℕ)
-    → (rows, first) ≡ fold (look_at plant holders) start (take i list) → i < length list → t ≡ get_or list i t → new ≡ set rows t (looked_at plant holders t (state_of rows t))
-    → chosen ≡ first_with new first t → (new, chosen) ≡ fold (look_at plant holders) start (take (i + 1) list)
-looked_step plant holders start list rows new first chosen i t so_far lt item new_is chosen_is =
+pub looked_step : (plant : Plant) (bar : ℕ → List ℕ → Option Cause) (start : List TrainState × Option ℕ) (list : List ℕ) (rows new : List TrainState) (first chosen : Option ℕ) (i t : ℕ)
+    → (rows, first) ≡ fold (look_at plant bar) start (take i list) → i < length list → t ≡ get_or list i t → new ≡ set rows t (looked_at plant bar t (state_of rows t))
+    → chosen ≡ first_with new first t → (new, chosen) ≡ fold (look_at plant bar) start (take (i + 1) list)
+looked_step plant bar start list rows new first chosen i t so_far lt item new_is chosen_is =
     ap (λ (some : Option ℕ). (new, some)) chosen_is
     ∙ ap (λ (rs : List TrainState). (rs, first_with rs first t)) new_is
-    ∙ ap (λ (now : List TrainState × Option ℕ). look_at plant holders now t) so_far
-    ∙ ap (look_at plant holders (fold (look_at plant holders) start (take i list))) item
-    ∙ sym (fold_more (look_at plant holders) start list i t lt)
+    ∙ ap (λ (now : List TrainState × Option ℕ). look_at plant bar now t) so_far
+    ∙ ap (look_at plant bar (fold (look_at plant bar) start (take i list))) item
+    ∙ sym (fold_more (look_at plant bar) start list i t lt)
 
 -- a look leaves that each waiting train has a next move
-pub moves_stay : (plant : Plant) (holders : List (Option ℕ)) (rows new : List TrainState) (t : ℕ) → t < length rows → new ≡ set rows t (looked_at plant holders t (state_of rows t))
+pub moves_stay : (plant : Plant) (bar : ℕ → List ℕ → Option Cause) (rows new : List TrainState) (t : ℕ) → t < length rows → new ≡ set rows t (looked_at plant bar t (state_of rows t))
     → ((u : ℕ) → u < trains plant → (state_of rows u).waits ≡ true → (state_of rows u).place < moves plant u) → (u : ℕ) → u < trains plant → (state_of new u).waits ≡ true
     → (state_of new u).place < moves plant u
-moves_stay plant holders rows new t lt new_is before =
+moves_stay plant bar rows new t lt new_is before =
     subst (λ (rs : List TrainState). (u : ℕ) → u < trains plant → (state_of rs u).waits ≡ true → (state_of rs u).place < moves plant u) (sym new_is)
-    (written (λ u train_state. u < trains plant → train_state.waits ≡ true → train_state.place < moves plant u) rows t (looked_at plant holders t (state_of rows t)) lt (before t) (λ u _. before u))
+    (written (λ u train_state. u < trains plant → train_state.waits ≡ true → train_state.place < moves plant u) rows t (looked_at plant bar t (state_of rows t)) lt (before t) (λ u _. before u))
 
 either_below : (b : Bool) (u t n : ℕ) → u < n → t < n → cond b u t < n
 either_below true u t n first second = first

@@ -21,7 +21,7 @@ abbrev pub is_watched_in : List TrainState → ℕ → Bool
 is_watched_in states t = is_watched (state_of states t)
 
 -- a train that isn't watched doesn't wait
-not_waiting : (train_state : TrainState) → is_watched train_state ≡ false → train_state.waits ≡ false
+pub not_waiting : (train_state : TrainState) → is_watched train_state ≡ false → train_state.waits ≡ false
 not_waiting train_state off = (or_parts train_state.waits (is_some train_state.known) off).0
 
 pub not_known : (train_state : TrainState) → is_watched train_state ≡ false → is_some train_state.known ≡ false

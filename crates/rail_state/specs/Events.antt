@@ -1,8 +1,9 @@
 -- The events that the lines of a history are.
-use Rattle.std.specs.Prelude.{ℕ, List, [], ◌∷◌, ◌++◌, Option, Some, None}
+use Rattle.std.specs.Prelude.{ℕ, suc, List, [], ◌∷◌, ◌++◌, Option, Some, None}
 use Rattle.rail_base.specs.declared.history.Entry.{Entry}
 use Rattle.rail_base.specs.declared.history.What.{What}
 use Rattle.rail_base.specs.declared.history.What.TheVariants as what
+use Rattle.rail_base.specs.declared.orders.Command.{Command}
 use Rattle.rail_rules.specs.Numbers.{gather}
 use Rattle.rail_rules.specs.Plant.{Plant, steps, step_section}
 use Rattle.rail_rules.specs.Intervals.{end_of}
@@ -20,6 +21,15 @@ train_event at class t m = record { at = at; class = class; number = t; place = 
 abbrev pub section_event : ℕ → ℕ → ℕ → Event
 section_event at x t = record { at = at; class = class.Free; number = x; place = 0; train = t }
 
+-- the event of a command, which is numbered from 1
+abbrev pub command_event : ℕ → ℕ → Event
+command_event at k = record { at = at; class = class.Command; number = k; place = 0; train = 0 }
+
+-- the events of commands, so many of which stand before them
+abbrev pub command_events : ℕ → List Command → List Event
+command_events k [] = []
+command_events k (command ∷ commands) = command_event command.at (suc k) ∷ command_events (suc k) commands
+
 -- the event of what a line says at a time; the section that is entered isn't told
 abbrev pub event_at : ℕ → What → Event
 event_at at (what.Free x t) = section_event at x t
@@ -27,9 +37,9 @@ event_at at (what.Arrive t m) = train_event at class.Arrive t m
 event_at at (what.Enter t m x) = train_event at class.Enter t m
 event_at at (what.Out t) = train_event at class.Out t 0
 event_at at (what.Ready t m) = train_event at class.Ready t m
-event_at at (what.Told k) = record { at = at; class = class.Command; number = k; place = 0; train = 0 }
-event_at at (what.Untold k) = record { at = at; class = class.Command; number = k; place = 0; train = 0 }
-event_at at _ = record { at = at; class = class.Command; number = 0; place = 0; train = 0 }
+event_at at (what.Told k) = command_event at k
+event_at at (what.Untold k) = command_event at k
+event_at at _ = command_event at 0
 
 -- the event of a line
 abbrev pub event_of : Entry → Event

@@ -21,7 +21,7 @@ use Rattle.rail_base.specs.declared.orders.Order.{Order}
 use Rattle.rail_rules.specs.Moves.{Moves}
 use Rattle.rail_rules.specs.Places.{after, completes, place_of}
 use Rattle.rail_list.specs.Repairs.{repaired_for}
-use Rattle.rail_state.specs.SeenCauses.{AreDue, seen_bar, seen_cause, stays, touches}
+use Rattle.rail_state.specs.SeenCauses.{AreDue, seen_bar, seen_cause, stays}
 use Rattle.rail_laws_events.specs.Accounts.{tally}
 use Rattle.rail_laws_run.specs.HolderTables.{AreHolders, taken_by}
 use Rattle.rail_laws_run.specs.Heads.{IsHead}
@@ -34,7 +34,7 @@ use Rattle.rail_queue.specs.declared.event.Class.{Class}
 use Rattle.rail_queue.specs.declared.event.Class.TheVariants as class
 use Rattle.rail_state.specs.Events.{end_lines, event_of, deferred_event, step_lines, train_event}
 use Rattle.rail_state.specs.declared.train.TrainState.{TrainState}
-use Rattle.rail_state.specs.TrainStates.{is_untried, is_blocked_at, outside, state_admitted, state_after, state_of, after_hold_line}
+use Rattle.rail_state.specs.TrainStates.{is_blocked_at, is_touched, is_untried, outside, state_admitted, state_after, state_of, state_told, after_hold_line}
 use Rattle.rail_state.specs.declared.run_state.RunState.{RunState}
 
 -- how many moves of each train are admitted, and the times carried for it
@@ -175,14 +175,6 @@ abbrev pub left_of : Dispatch → Plant → Front → List TrainState → List �
 left_of dispatch plant front states =
     filter (λ t. not ((state_of states t).is_out || is_cancelled t (told dispatch.commands front))) (listed (λ t. t) (trains plant))
 
--- a train that is untried is looked at: where an order or a held section bars its next move, that is its cause
-abbrev pub looked_told : Dispatch → Plant → Front → List (Option ℕ) → ℕ → TrainState → TrainState
-looked_told dispatch plant front holders t train_state =
-    record train_state {
-      known = cond (is_untried train_state)
-          (seen_bar (told dispatch.commands front) holders t (claimed plant t train_state.place)) train_state.known;
-    }
-
 -- the end line was given
 pub record IsEndLine (before after : RunState) : Type 0 where
   pub events : after.queue.events ≡ before.queue.events
@@ -275,19 +267,6 @@ pub record IsReadyFor (plant : Plant) (state : RunState) (event : Event) : Type 
   pub step_within : event.class ≡ class.Enter
       → (state_of state.trains event.train).head.step
       ≤ steps plant event.train ((state_of state.trains event.train).head.place - 1)
-
--- the orders told may change the cause of the train's next move, or end its waiting
-abbrev pub is_touched : Plant → List Order → ℕ → TrainState → Bool
-is_touched plant orders t train_state = is_cancelled t orders
-    || list_any (λ order. touches order t (claimed plant t train_state.place)) orders
-
--- what is kept of a train after orders are told: a cause that they may change is no longer known, and a cancelled train doesn't wait
-abbrev pub state_told : Plant → List Order → ℕ → TrainState → TrainState
-state_told plant orders t train_state =
-    record train_state {
-      known = cond (is_touched plant orders t train_state) None train_state.known;
-      waits = not (is_cancelled t orders) && train_state.waits;
-    }
 
 -- the orders were told at a command's event, or none were
 pub record HasTold (plant : Plant) (orders : List Order) (event : Event) (before after : RunState) : Type 0 where

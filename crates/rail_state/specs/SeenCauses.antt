@@ -27,6 +27,11 @@ stays [] event = true
 stays (Cancel t ∷ orders) event = not (is_ready_of t event) && stays orders event
 stays (_ ∷ orders) event = stays orders event
 
+-- the train that an order cancels
+abbrev pub cancelled_by : Order → Option ℕ
+cancelled_by (Cancel t) = Some t
+cancelled_by _ = None
+
 -- what bars the next move of a train, by the orders and the table of holders
 abbrev pub seen_bar : List Order → List (Option ℕ) → ℕ → List ℕ → Option Cause
 seen_bar orders holders t sections = or_else (stop_cause t orders) (or_else (closed_cause sections orders) (held_cause holders sections))

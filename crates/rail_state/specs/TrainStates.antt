@@ -1,15 +1,20 @@
 -- What a run keeps of each train, and how lines change it.
-use Rattle.std.specs.Prelude.{◌≡◌, ℕ, suc, ◌+◌, ◌-◌, ◌==◌, Bool, true, false, not, ◌&&◌, cond, nat_lt, is_some, List, [], ◌∷◌, get_or, Option, Some, None}
+use Rattle.std.specs.Prelude.{◌≡◌, ℕ, suc, ◌+◌, ◌-◌, ◌==◌, Bool, true, false, not, ◌&&◌, ◌||◌, cond, nat_lt, is_some, List, [], ◌∷◌, get_or, Option, Some, None}
+use Rattle.std.specs.List.{list_any}
 use Rattle.rail_base.specs.declared.history.What.{What}
 use Rattle.rail_base.specs.declared.history.What.TheVariants.{Free, Enter, Out, Ready}
 use Rattle.rail_base.specs.declared.history.Cause.{Cause}
 use Rattle.rail_base.specs.declared.history.Cause.TheVariants.{Blocked}
+use Rattle.rail_base.specs.declared.orders.Order.{Order}
+use Rattle.rail_rules.specs.Orders.{is_cancelled}
 use Rattle.rail_rules.specs.Plant.{Plant, claimed, steps}
 use Rattle.rail_rules.specs.Fronts.{same_cause}
-use Rattle.rail_rules.specs.Numbers.{comes_before}
+use Rattle.rail_rules.specs.Numbers.{comes_before, or_else}
+use Rattle.rail_orders.specs.Told.{Told, closed_in, stop_in}
 use Rattle.rail_laws_run.specs.HolderTables.{held_cause}
 use Rattle.rail_block.specs.declared.times.MoveTimes.{MoveTimes}
 use Rattle.rail_block.specs.CarriedTimes.{times_at}
+use Rattle.rail_state.specs.SeenCauses.{touches}
 use Rattle.rail_state.specs.declared.train.Head.{Head}
 use Rattle.rail_state.specs.declared.train.TrainState.{TrainState}
 
@@ -77,11 +82,15 @@ state_after plant _ t train_state = train_state
 abbrev pub is_untried : TrainState → Bool
 is_untried train_state = train_state.waits && not (is_some train_state.known)
 
--- a train that is untried is looked at: where a needed section of its next move is held, that is its cause
-abbrev pub looked_at : Plant → List (Option ℕ) → ℕ → TrainState → TrainState
-looked_at plant holders t train_state =
+-- what bars the next move of a train, by the tables of what was told and of who holds each section
+abbrev pub bar_by : Told → List (Option ℕ) → ℕ → List ℕ → Option Cause
+bar_by told holders t sections = or_else (stop_in told t) (or_else (closed_in told sections) (held_cause holders sections))
+
+-- a train that is untried is looked at: what bars its next move is its cause
+abbrev pub looked_at : Plant → (ℕ → List ℕ → Option Cause) → ℕ → TrainState → TrainState
+looked_at plant bar t train_state =
     record train_state {
-      known = cond (is_untried train_state) (held_cause holders (claimed plant t train_state.place)) train_state.known;
+      known = cond (is_untried train_state) (bar t (claimed plant t train_state.place)) train_state.known;
     }
 
 -- what orders the waiting trains: when they are ready, then their number
@@ -116,3 +125,16 @@ admitted times arrival train_state =
 -- what is kept of the trains after an admission of one of them: no cause is known
 abbrev pub state_admitted : ℕ → MoveTimes → Option ℕ → ℕ → TrainState → TrainState
 state_admitted u times arrival t train_state = cond (u == t) (admitted times arrival train_state) (record train_state { known = None })
+
+-- the orders told may change the cause of the train's next move, or end its waiting
+abbrev pub is_touched : Plant → List Order → ℕ → TrainState → Bool
+is_touched plant orders t train_state = is_cancelled t orders
+    || list_any (λ order. touches order t (claimed plant t train_state.place)) orders
+
+-- what is kept of a train after orders are told: a cause that they may change is no longer known, and a cancelled train doesn't wait
+abbrev pub state_told : Plant → List Order → ℕ → TrainState → TrainState
+state_told plant orders t train_state =
+    record train_state {
+      known = cond (is_touched plant orders t train_state) None train_state.known;
+      waits = not (is_cancelled t orders) && train_state.waits;
+    }

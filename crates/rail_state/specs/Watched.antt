@@ -2,10 +2,12 @@
 use Rattle.std.specs.Prelude.{◌≡◌, ℕ, ◌<◌, ◌≤◌, Bool, false, ◌||◌, cond, nat_lt, is_some, List, [], ◌∷◌, length, set, Option, None, vec_capacity}
 use Rattle.std.specs.List.{filter}
 use Rattle.std.specs.Global.{Vec}
+use Rattle.rail_base.specs.declared.history.Cause.{Cause}
+use Rattle.rail_base.specs.declared.orders.Order.{Order}
 use Rattle.rail_rules.specs.Plant.{Plant}
 use Rattle.rail_rules.specs.Numbers.{listed}
 use Rattle.rail_state.specs.declared.train.TrainState.{TrainState}
-use Rattle.rail_state.specs.TrainStates.{state_of, is_blocked_at, looked_at, without_known}
+use Rattle.rail_state.specs.TrainStates.{state_of, is_blocked_at, looked_at, state_told, without_known}
 use Rattle.rail_state.specs.FirstUntried.{first_with}
 
 -- the train waits, or the cause of its next move is known
@@ -30,13 +32,17 @@ inserted t [] = t ∷ []
 inserted t (u ∷ rest) = cond (nat_lt u t) (u ∷ inserted t rest) (t ∷ u ∷ rest)
 
 -- this train is looked at, and may be the first untried one so far
-abbrev pub look_at : Plant → List (Option ℕ) → List TrainState × Option ℕ → ℕ → List TrainState × Option ℕ
-look_at plant holders so_far t =
-    let states = set so_far.0 t (looked_at plant holders t (state_of so_far.0 t)) in (states, first_with states so_far.1 t)
+abbrev pub look_at : Plant → (ℕ → List ℕ → Option Cause) → List TrainState × Option ℕ → ℕ → List TrainState × Option ℕ
+look_at plant bar so_far t =
+    let states = set so_far.0 t (looked_at plant bar t (state_of so_far.0 t)) in (states, first_with states so_far.1 t)
 
 -- the cause of this train is no longer known where it was this section, and whether it was so for one so far
 abbrev pub look_again : ℕ → List TrainState × Bool → ℕ → List TrainState × Bool
 look_again x so_far t = (set so_far.0 t (without_known x (state_of so_far.0 t)), so_far.1 || is_blocked_at x (state_of so_far.0 t).known)
+
+-- this train heeds the orders that were told
+abbrev pub heed : Plant → List Order → List TrainState → ℕ → List TrainState
+heed plant orders states t = set states t (state_told plant orders t (state_of states t))
 
 -- what is kept of a train once no cause of its next move is known
 abbrev pub unknown : TrainState → TrainState

@@ -1,7 +1,7 @@
 //! The events that lines are.
 
 ghost use Rattle.std.specs.Prelude.{◌≡◌};
-ghost use Rattle.rail_state.specs.Events.{section_event, train_event};
+ghost use Rattle.rail_state.specs.Events.{command_event, section_event, train_event};
 
 use rail_base::{SectionNo, Time, TrainNo};
 use rail_queue::{Class, Event};
@@ -18,6 +18,19 @@ pub fn event_of_train(at: Time, class: Class, train: TrainNo, place: u16) -> Eve
         number,
         place,
         train,
+    }
+}
+
+/// The event of the command of this number, which counts from 1.
+pub fn event_of_command(at: Time, number: u16) -> Event
+    ensures { result ≡ command_event at number }
+{
+    Event {
+        at,
+        class: Class::Command,
+        number,
+        place: 0,
+        train: TrainNo(0),
     }
 }
 

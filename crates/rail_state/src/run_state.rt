@@ -9,18 +9,21 @@ ghost use Rattle.rail_queue.specs.declared.event.Class.TheVariants.{Ready};
 ghost use Rattle.rail_queue.specs.declared.event.Event.{Event};
 ghost use Rattle.rail_rules.specs.Fronts.{Front};
 ghost use Rattle.rail_rules.specs.Numbers.{gather, listed};
-ghost use Rattle.rail_rules.specs.Plant.{bound, claimed, trains};
+ghost use Rattle.rail_rules.specs.Plant.{bound, claimed, moves, trains};
 ghost use Rattle.rail_state.specs.Admissions.{IsGivable};
-ghost use Rattle.rail_state.specs.Events.{deferred_event, train_event};
+ghost use Rattle.rail_state.specs.Events.{command_events, deferred_event, train_event};
 ghost use Rattle.rail_state.specs.Representation.{IsAdmitLine, IsHoldLine, IsReadyFor, StaysSettled, holders_after, what_of};
-ghost use Rattle.rail_state.specs.TrainStates.{outside, lacks_hold_line, state_after, state_of};
+ghost use Rattle.rail_state.specs.SeenCauses.{cancelled_by, stays};
+ghost use Rattle.rail_state.specs.TrainStates.{outside, lacks_hold_line, state_after, state_of, state_told};
+ghost use Rattle.std.specs.List.{filter};
+ghost use Rattle.rail_base.specs.declared.limits.TheConstants.{COMMANDS};
 ghost use Rattle.rail_state.specs.declared.pushes.TheConstants.{MOVE_EVENTS};
 
 use crate::admission::{push_move, take_sections};
-use crate::events::event_of_train;
+use crate::events::{event_of_command, event_of_train};
 use crate::pushes::{MOVE_EVENTS, push_entry};
 use crate::trains::TrainStates;
-use rail_base::{Cause, OutOfMemory, SectionNo, Time, TrainNo, What};
+use rail_base::{Cause, Command, Order, OutOfMemory, SectionNo, Time, TrainNo, What};
 use rail_block::{KnownMove, times_of};
 use rail_plan::Plant;
 use rail_queue::{Class, Event, EventQueue};
@@ -57,11 +60,14 @@ impl Drop for RunState {
 }
 
 impl RunState {
-    /// The state before the first line. All memory that it needs is taken here.
-    pub fn new(alloc: Global, plant: &Plant) -> Result<RunState, OutOfMemory>
+    /// The state before the first line, with the events of the commands. All memory that it needs is taken here.
+    pub fn new(alloc: Global, plant: &Plant, commands: &[Command]) -> Result<RunState, OutOfMemory>
+        requires few { length commands.now ≤ COMMANDS }
         ensures events { IfOk result (λ state. (q : Event → Bool) → count_by q state.queue.events
-            ≡ count_by q (gather (λ t. train_event (state_of state.trains t).times.next_ready Ready t 1 ∷ []) (trains plant.now))) }
-        ensures room { IfOk result (λ state. length state.queue.events + state.queue.spare ≡ bound plant.now 0 + MOVE_EVENTS) }
+            ≡ count_by q (gather (λ t. train_event (state_of state.trains t).times.next_ready Ready t 1 ∷ []) (trains plant.now))
+            + count_by q (command_events 0 commands.now)) }
+        ensures room { IfOk result (λ state. length state.queue.events + state.queue.spare
+            ≡ bound plant.now (length commands.now) + MOVE_EVENTS) }
         ensures trains { IfOk result (λ state. state.trains ≡ listed (outside plant.now) (trains plant.now)) }
         ensures holders { IfOk result (λ state. state.holders ≡ replicate (length plant.now.tables.sections) None) }
         ensures instant { IfOk result (λ state. state.instant ≡ 0) }
@@ -70,7 +76,7 @@ impl RunState {
     {
         let holders = free_sections(alloc, plant)?;
         let trains = TrainStates::new(alloc, plant)?;
-        let queue = first_events(alloc, plant, &trains)?;
+        let queue = first_events(alloc, plant, commands, &trains)?;
         Ok(RunState {
             queue,
             trains,
@@ -132,6 +138,29 @@ impl RunState {
         }
     }
 
+    /// The order is told at this time, which is the instant then: the causes that it may change are no longer
+    /// known, and a train that it cancels neither waits nor will be ready.
+    pub fn tell(&mut self, plant: &Plant, at: Time, order: &Order)
+        requires known { length self.old.trains ≡ trains plant.now }
+        requires moves { (t : ℕ) → t < trains plant.now → (state_of self.old.trains t).waits ≡ true
+            → (state_of self.old.trains t).place < moves plant.now t }
+        requires waits { (t : ℕ) → (state_of self.old.trains t).waits ≡ false → (state_of self.old.trains t).known ≡ None }
+        ensures events { self.new.queue.events ≡ filter (stays (order.now ∷ [])) self.old.queue.events }
+        ensures room { length self.new.queue.events + self.new.queue.spare ≡ length self.old.queue.events + self.old.queue.spare }
+        ensures instant { self.new.instant ≡ at }
+        ensures going { self.new.has_ended ≡ self.old.has_ended }
+        ensures holders { self.new.holders ≡ self.old.holders }
+        ensures settled { self.new.is_settled ≡ false }
+        ensures many { length self.new.trains ≡ length self.old.trains }
+        ensures trains { (t : ℕ) → t < length self.old.trains → state_of self.new.trains t
+            ≡ state_told plant.now (order.now ∷ []) t (state_of self.old.trains t) }
+    {
+        self.instant = at;
+        self.is_settled = false;
+        self.trains.heed(plant, order);
+        forget_cancelled(&mut self.queue, order);
+    }
+
     /// The train's next move is admitted at the instant: its events are pending, its needed sections are held by
     /// the train, and its times are carried.
     pub fn admit(&mut self, plant: &Plant, train: TrainNo)
@@ -188,6 +217,26 @@ fn held(train: TrainNo, place: u16, known: Option<Cause>) -> What
     }
 }
 
+/// Takes out what would make a train ready that the order cancels.
+fn forget_cancelled(queue: &mut EventQueue, order: &Order)
+    ensures events { queue.new.events ≡ filter (stays (order.now ∷ [])) queue.old.events }
+    ensures room { length queue.new.events + queue.new.spare ≡ length queue.old.events + queue.old.spare }
+{
+    if let Some(train) = cancelled_by(order) {
+        queue.forget_ready(train);
+    }
+}
+
+/// The train that the order cancels, where it is a cancel.
+fn cancelled_by(order: &Order) -> Option<TrainNo>
+    ensures { result ≡ cancelled_by order.now }
+{
+    match order {
+        Order::Cancel(train) => Some(*train),
+        _ => None,
+    }
+}
+
 /// Pushes the arrival of the train at the end of this move, where there is one that was deferred.
 fn push_deferred(queue: &mut EventQueue, train: TrainNo, place: u16, arrival: Option<Time>)
     requires { 1 ≤ queue.old.spare }
@@ -207,23 +256,40 @@ fn free_sections(alloc: Global, plant: &Plant) -> Result<Holders, OutOfMemory>
     Holders::new(alloc, plant.names().sections.len() as u16)
 }
 
-/// The queue of the first events: each train's first move is ready.
+/// The queue of the first events: each train's first move is ready, and each command is told.
 fn first_events(
     alloc: Global,
     plant: &Plant,
+    commands: &[Command],
     states: &TrainStates,
 ) -> Result<EventQueue, OutOfMemory>
-    requires { states.now ≡ listed (outside plant.now) (trains plant.now) }
+    requires few { length commands.now ≤ COMMANDS }
+    requires states { states.now ≡ listed (outside plant.now) (trains plant.now) }
     ensures counted { IfOk result (λ queue. (q : Event → Bool) → count_by q queue.events
-        ≡ count_by q (gather (λ t. train_event (state_of states.now t).times.next_ready Ready t 1 ∷ []) (trains plant.now))) }
-    ensures room { IfOk result (λ queue. length queue.events + queue.spare ≡ bound plant.now 0 + MOVE_EVENTS) }
+        ≡ count_by q (gather (λ t. train_event (state_of states.now t).times.next_ready Ready t 1 ∷ []) (trains plant.now))
+        + count_by q (command_events 0 commands.now)) }
+    ensures room { IfOk result (λ queue. length queue.events + queue.spare ≡ bound plant.now (length commands.now) + MOVE_EVENTS) }
 {
     let trains = plant.moves().trains();
-    let room = plant.event_bound(0) as usize + MOVE_EVENTS;
+    let room = plant.event_bound(commands.len() as u64) as usize + MOVE_EVENTS;
     let mut queue = EventQueue::with_room(alloc, room)?;
     for number in 0..trains {
         let train = TrainNo(number);
         push_entry(&mut queue, train, &states.get(train).times);
     }
+    push_commands(&mut queue, commands);
     Ok(queue)
+}
+
+/// Pushes the events of the commands, which are numbered from 1.
+fn push_commands(queue: &mut EventQueue, commands: &[Command])
+    requires few { length commands.now ≤ COMMANDS }
+    requires room { length commands.now ≤ queue.old.spare }
+    ensures counted { (q : Event → Bool) → count_by q queue.new.events
+        ≡ count_by q queue.old.events + count_by q (command_events 0 commands.now) }
+    ensures room { length queue.new.events + queue.new.spare ≡ length queue.old.events + queue.old.spare }
+{
+    for (index, command) in commands.iter().enumerate() {
+        queue.push(event_of_command(command.at, index as u16 + 1));
+    }
 }

@@ -1,15 +1,17 @@
 //! One train.
 
-ghost use Rattle.std.specs.Prelude.{◌≡◌, ◌-◌, ◌<◌, ◌≤◌, [], ◌∷◌, ◌++◌, length, true, vec_len, vec_capacity};
+ghost use Rattle.std.specs.Prelude.{◌≡◌, ◌-◌, ◌<◌, ◌≤◌, ◌||◌, not, [], ◌∷◌, ◌++◌, get_or, length, true, false, None, vec_len, vec_capacity};
 ghost use Rattle.std.specs.List.{All};
 ghost use Rattle.rail_base.specs.declared.limits.TheConstants.{ITINERARY_ROUTES};
 ghost use Rattle.rail_rules.specs.Plant.{moves, needed, steps, trains};
 ghost use Rattle.rail_laws_run.specs.HolderTables.{held_cause};
-ghost use Rattle.rail_state.specs.TrainStates.{admitted, head_behind, is_blocked_at, lacks_hold_line, is_untried, looked_at, outside, after_hold_line, without_known};
+ghost use Rattle.rail_state.specs.TrainStates.{is_touched, state_told};
+ghost use Rattle.rail_state.specs.TrainStates.{admitted, bar_by, head_behind, is_blocked_at, lacks_hold_line, is_untried, looked_at, outside, after_hold_line, without_known};
 ghost use Rattle.rail_state.specs.Watched.{is_watched};
 
-use rail_base::{Cause, SectionNo, Time, TrainNo};
+use rail_base::{Cause, Order, SectionNo, Time, TrainNo};
 use rail_block::{MoveTimes, entry_times};
+use rail_orders::ToldOrders;
 use rail_plan::Plant;
 use rail_release::Holders;
 
@@ -62,6 +64,13 @@ impl TrainState {
         self.waits || self.known.is_some()
     }
 
+    /// Whether the train is neither out nor cancelled.
+    pub(crate) fn is_left(&self, orders: &ToldOrders, train: TrainNo) -> bool
+        ensures { result ≡ not (self.now.is_out || get_or orders.now.cancelled train false) }
+    {
+        !self.is_out && !orders.is_cancelled(train)
+    }
+
     /// Whether the known cause is that this section is blocked.
     pub fn is_blocked_at(&self, freed: SectionNo) -> bool
         ensures { result ≡ is_blocked_at freed self.now.known }
@@ -84,17 +93,55 @@ impl TrainState {
         was_blocked
     }
 
-    /// The cause of the train, where it is untried and a needed section of its next move is held.
-    pub(crate) fn look(&mut self, plant: &Plant, holders: &Holders, train: TrainNo)
+    /// The cause of the train, where it is untried and a command or a held section bars its next move.
+    pub(crate) fn look(
+        &mut self,
+        plant: &Plant,
+        orders: &ToldOrders,
+        holders: &Holders,
+        train: TrainNo,
+    )
         requires known { train < trains plant.now }
         requires sections { length holders.now ≡ length plant.now.tables.sections }
         requires moves { self.old.waits ≡ true → self.old.place < moves plant.now train }
-        ensures { self.new ≡ looked_at plant.now holders.now train self.old }
+        ensures { self.new ≡ looked_at plant.now (bar_by orders.now holders.now) train self.old }
     {
         if self.is_untried() {
             has_few_moves(plant, train);
             let row = plant.move_row(train, self.place + 1);
-            self.known = held_cause(holders, row.sections.as_slice());
+            self.known = bar_of(orders, holders, train, row.sections.as_slice());
+        }
+    }
+
+    /// The order was told: a cause that it may change is no longer known, and a train that it cancels does not wait.
+    pub(crate) fn heed(&mut self, plant: &Plant, order: &Order, train: TrainNo)
+        requires known { train < trains plant.now }
+        requires moves { self.old.waits ≡ true → self.old.place < moves plant.now train }
+        requires waits { self.old.waits ≡ false → self.old.known ≡ None }
+        ensures { self.new ≡ state_told plant.now (order.now ∷ []) train self.old }
+    {
+        if self.waits && self.is_touched(plant, order, train) {
+            self.known = None;
+        }
+        if *order == Order::Cancel(train) {
+            self.waits = false;
+        }
+    }
+
+    /// Whether the order may change the cause of the train's next move, or cancels the train.
+    fn is_touched(&self, plant: &Plant, order: &Order, train: TrainNo) -> bool
+        requires known { train < trains plant.now }
+        requires moves { self.now.place < moves plant.now train }
+        ensures { result ≡ is_touched plant.now (order.now ∷ []) train self.now }
+    {
+        match order {
+            Order::Close(section) | Order::Reopen(section) => {
+                has_few_moves(plant, train);
+                let row = plant.move_row(train, self.place + 1);
+                row.sections.as_slice().contains(section)
+            }
+            Order::Stop(other) | Order::Go(other) | Order::Cancel(other) => *other == train,
+            Order::Policy(_) | Order::Retire(_) | Order::Priority(..) => false,
         }
     }
 
@@ -168,6 +215,28 @@ pub(crate) fn head_behind(plant: &Plant, train: TrainNo, head: Head) -> Head
             step: 1,
         }
     }
+}
+
+/// What bars a move of the train over these sections: that the train is stopped, else the first closed section,
+/// else the first held one.
+pub fn bar_of(
+    orders: &ToldOrders,
+    holders: &Holders,
+    train: TrainNo,
+    sections: &[SectionNo],
+) -> Option<Cause>
+    requires { All (λ x. x < length holders.now) sections.now }
+    ensures { result ≡ bar_by orders.now holders.now train sections.now }
+{
+    let stopped = orders.stop_cause(train);
+    if stopped.is_some() {
+        return stopped;
+    }
+    let closed = orders.closed_cause(sections);
+    if closed.is_some() {
+        return closed;
+    }
+    held_cause(holders, sections)
 }
 
 /// The cause that the first held section of these is.

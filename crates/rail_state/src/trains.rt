@@ -1,19 +1,21 @@
 //! All trains of a run.
 
-ghost use Rattle.std.specs.Prelude.{◌≡◌, ℕ, ◌-◌, ◌<◌, ◌≤◌, not, [], length, set, true, false, IfOk, MatchOption, vec_capacity};
+ghost use Rattle.std.specs.Prelude.{◌≡◌, ℕ, ◌-◌, ◌<◌, ◌≤◌, ◌||◌, not, nat_lt, [], ◌∷◌, None, get_or, length, set, true, false, IfOk, MatchOption, vec_capacity};
 ghost use Rattle.std.specs.List.{filter};
 ghost use Rattle.rail_base.specs.declared.history.Cause.TheVariants.{NoList};
 ghost use Rattle.rail_base.specs.declared.history.What.TheVariants.{Free, Enter, Out, Ready};
 ghost use Rattle.rail_rules.specs.Plant.{Plant, moves, step_section, steps, trains};
 ghost use Rattle.rail_rules.specs.Numbers.{listed};
-ghost use Rattle.rail_state.specs.TrainStates.{IsReadyFirst, is_blocked_at, lacks_hold_line, is_untried, looked_at, outside, state_admitted, state_after, state_of, after_hold_line};
+ghost use Rattle.rail_state.specs.TrainStates.{state_told};
+ghost use Rattle.rail_state.specs.TrainStates.{IsReadyFirst, bar_by, is_blocked_at, lacks_hold_line, is_untried, looked_at, outside, state_admitted, state_after, state_of, after_hold_line};
 
 use crate::train::{TrainState, head_behind, push_outside};
 use crate::watched::{
-    first_lacking, forget_causes, keep_waiting, look_again_at_each, look_at_each, watch,
+    first_lacking, forget_causes, heed_each, keep_waiting, look_again_at_each, look_at_each, watch,
 };
-use rail_base::{Cause, OutOfMemory, SectionNo, Time, TrainNo};
+use rail_base::{Cause, Order, OutOfMemory, SectionNo, Time, TrainNo};
 use rail_block::MoveTimes;
+use rail_orders::ToldOrders;
 use rail_plan::Plant;
 use rail_release::Holders;
 use std::alloc::Global;
@@ -71,6 +73,16 @@ impl TrainStates {
         &self.rows[usize::from(train.0)]
     }
 
+    /// Whether some move of the train is admitted.
+    pub fn has_moved(&self, train: TrainNo) -> bool
+        ensures { result ≡ nat_lt 0 (state_of self.now train).place }
+    {
+        match self.rows.get(usize::from(train.0)) {
+            Some(train_state) => train_state.place > 0,
+            None => false,
+        }
+    }
+
     /// The section that the train's head enters next, after which the next one is that behind it.
     pub fn enter(&mut self, plant: &Plant, train: TrainNo) -> SectionNo
         requires train { train < length self.old }
@@ -122,21 +134,35 @@ impl TrainStates {
         look_again_at_each(&mut self.rows, &self.watched, section)
     }
 
-    /// Looks at the trains that wait without a known cause: where a needed section of the next move is
-    /// held, that is the cause. Of the others, the train that was ready first, and of several that with
-    /// the least number.
-    pub fn look(&mut self, plant: &Plant, holders: &Holders) -> Option<TrainNo>
+    /// Looks at the trains that wait without a known cause: what bars the next move is the cause. Of the
+    /// others, the train that was ready first, and of several that with the least number.
+    pub fn look(&mut self, plant: &Plant, orders: &ToldOrders, holders: &Holders) -> Option<TrainNo>
         requires known { length self.old ≡ trains plant.now }
         requires sections { length holders.now ≡ length plant.now.tables.sections }
         requires moves { (t : ℕ) → t < trains plant.now → (state_of self.old t).waits ≡ true
             → (state_of self.old t).place < moves plant.now t }
         ensures length { length self.new ≡ length self.old }
         ensures trains { (t : ℕ) → t < length self.old → state_of self.new t
-            ≡ looked_at plant.now holders.now t (state_of self.old t) }
+            ≡ looked_at plant.now (bar_by orders.now holders.now) t (state_of self.old t) }
         ensures first { MatchOption result ((t : ℕ) → is_untried (state_of self.new t) ≡ false)
             (λ train. (train < length self.new) × IsReadyFirst self.new train) }
     {
-        look_at_each(&mut self.rows, &self.watched, plant, holders)
+        look_at_each(&mut self.rows, &self.watched, plant, orders, holders)
+    }
+
+    /// The order was told: the causes that it may change are no longer known, and a train that it cancels does
+    /// not wait.
+    pub fn heed(&mut self, plant: &Plant, order: &Order)
+        requires known { length self.old ≡ trains plant.now }
+        requires moves { (t : ℕ) → t < trains plant.now → (state_of self.old t).waits ≡ true
+            → (state_of self.old t).place < moves plant.now t }
+        requires waits { (t : ℕ) → (state_of self.old t).waits ≡ false → (state_of self.old t).known ≡ None }
+        ensures length { length self.new ≡ length self.old }
+        ensures trains { (t : ℕ) → t < length self.old → state_of self.new t
+            ≡ state_told plant.now (order.now ∷ []) t (state_of self.old t) }
+    {
+        heed_each(&mut self.rows, &self.watched, plant, order);
+        keep_waiting(&mut self.watched, &self.rows);
     }
 
     /// No list is known for the train.
@@ -182,15 +208,17 @@ impl TrainStates {
         keep_waiting(&mut self.watched, &self.rows);
     }
 
-    /// Puts the trains that are not out into the list, by number.
-    pub fn list_remaining(&self, into: &mut Vec<TrainNo>)
+    /// Puts the trains that are neither out nor cancelled into the list, by number.
+    pub fn list_remaining(&self, orders: &ToldOrders, into: &mut Vec<TrainNo>)
         requires empty { into.old.items ≡ [] }
         requires room { length self.now ≤ vec_capacity into.old }
-        ensures { into.new.items ≡ filter (λ t. not (state_of self.now t).is_out) (listed (λ t. t) (length self.now)) }
+        ensures { into.new.items ≡ filter (λ t. not ((state_of self.now t).is_out || get_or orders.now.cancelled t false))
+            (listed (λ t. t) (length self.now)) }
     {
         for (number, train_state) in self.rows.iter().enumerate() {
-            if !train_state.is_out {
-                into.push_reserved(TrainNo(number as u16));
+            let train = TrainNo(number as u16);
+            if train_state.is_left(orders, train) {
+                into.push_reserved(train);
             }
         }
     }

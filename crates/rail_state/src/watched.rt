@@ -1,16 +1,17 @@
 //! The trains that a run watches: those that wait, and those with a known cause.
 
-ghost use Rattle.std.specs.Prelude.{◌≡◌, ℕ, ◌<◌, true, false, cond, length, vec_len, vec_capacity, None};
+ghost use Rattle.std.specs.Prelude.{◌≡◌, ℕ, ◌<◌, [], ◌∷◌, true, false, cond, length, vec_len, vec_capacity, None};
 ghost use Rattle.std.specs.List.{All, filter, find, fold};
 ghost use Rattle.std.specs.List.Sorted.{IsNonDecreasing};
 ghost use Rattle.std.specs.Option.{ForSome};
 ghost use Rattle.rail_rules.specs.Plant.{moves, trains};
-ghost use Rattle.rail_state.specs.TrainStates.{lacks_hold_line, state_of};
+ghost use Rattle.rail_state.specs.TrainStates.{bar_by, lacks_hold_line, state_of};
 ghost use Rattle.rail_state.specs.FirstUntried.{first_with};
-ghost use Rattle.rail_state.specs.Watched.{AreWatched, forget, inserted, is_watched, look_again, look_at};
+ghost use Rattle.rail_state.specs.Watched.{AreWatched, forget, heed, inserted, is_watched, look_again, look_at};
 
 use crate::train::TrainState;
-use rail_base::{SectionNo, Time, TrainNo};
+use rail_base::{Order, SectionNo, Time, TrainNo};
+use rail_orders::ToldOrders;
 use rail_plan::Plant;
 use rail_release::Holders;
 
@@ -62,6 +63,7 @@ pub(crate) fn look_at_each(
     rows: &mut [TrainState],
     watched: &[TrainNo],
     plant: &Plant,
+    orders: &ToldOrders,
     holders: &Holders,
 ) -> Option<TrainNo>
     requires watched { All (λ t. t < length rows.old) watched.now }
@@ -69,11 +71,11 @@ pub(crate) fn look_at_each(
     requires sections { length holders.now ≡ length plant.now.tables.sections }
     requires moves { (t : ℕ) → t < trains plant.now → (state_of rows.old t).waits ≡ true
         → (state_of rows.old t).place < moves plant.now t }
-    ensures { (rows.new, result) ≡ fold (look_at plant.now holders.now) (rows.old, None) watched.now }
+    ensures { (rows.new, result) ≡ fold (look_at plant.now (bar_by orders.now holders.now)) (rows.old, None) watched.now }
 {
     let mut first = None;
     for train in watched {
-        rows[usize::from(train.0)].look(plant, holders, *train);
+        rows[usize::from(train.0)].look(plant, orders, holders, *train);
         first = first_with(rows, first, *train);
     }
     first
@@ -130,6 +132,20 @@ pub(crate) fn first_lacking(rows: &[TrainState], watched: &[TrainNo]) -> Option<
         }
     }
     None
+}
+
+/// The order was told: each of these trains heeds it.
+pub(crate) fn heed_each(rows: &mut [TrainState], watched: &[TrainNo], plant: &Plant, order: &Order)
+    requires watched { All (λ t. t < length rows.old) watched.now }
+    requires known { length rows.old ≡ trains plant.now }
+    requires moves { (t : ℕ) → t < trains plant.now → (state_of rows.old t).waits ≡ true
+        → (state_of rows.old t).place < moves plant.now t }
+    requires waits { (t : ℕ) → (state_of rows.old t).waits ≡ false → (state_of rows.old t).known ≡ None }
+    ensures { rows.new ≡ fold (heed plant.now (order.now ∷ [])) rows.old watched.now }
+{
+    for train in watched {
+        rows[usize::from(train.0)].heed(plant, order, *train);
+    }
 }
 
 /// The causes of these trains are no longer known.

@@ -72,8 +72,8 @@ fn run_plant<O: Sink>(alloc: Global, plant: Plant, out: &mut O) -> Result<(), St
 /// Hands on the lines of the engine one by one, until the history has ended. It takes no memory.
 fn write_lines<O: Sink>(engine: &mut Engine, out: &mut O) -> Result<(), Failed>
     requires begun { StandsFor [] engine.old }
-    ensures adds { OnOk result (RunsPlant engine.old.plant (O.written out.old) (O.written out.new)) }
-    ensures failed_adds_prefix { OnErr result (RunsPlantInPart engine.old.plant (O.written out.old) (O.written out.new)) }
+    ensures adds { OnOk result (RunsPlant engine.old.input.plant (O.written out.old) (O.written out.new)) }
+    ensures failed_adds_prefix { OnErr result (RunsPlantInPart engine.old.input.plant (O.written out.old) (O.written out.new)) }
     ensures failed_rose { OnErr result (Rose (O.faults out.old) (O.faults out.new)) }
     ensures faults_never_fall { O.faults out.old ≤ O.faults out.new }
 {

@@ -14,7 +14,7 @@ invariant-loop-train l = record {
   none_due : first_time_of l.ledger.state.queue.events ≢ Some l.ledger.state.instant;
   sorted : IsTrue (is_sorted l.ledger.state.queue.events);
   unlisted : l.ledger.listed ≡ listed.Nothing;
-  plant : l.ledger.plant ≡ l.fn.ledger.plant;
+  input : l.ledger.input ≡ l.fn.ledger.input;
   at : (front : Front) → IsAt front l.fn.ledger → IsAt front l.ledger;
 }
 

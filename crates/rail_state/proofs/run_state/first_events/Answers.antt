@@ -15,7 +15,7 @@ pub overflow_add-room : goal.overflow_add-room
 overflow_add-room c = omega (arith, c.event_bound.ensures, bound_small c.args.plant.now c.moves.ensures.accepted)
 
 pub get-requires : goal.get-requires
-get-requires c = omega (arith, c.loop-number-test.true, c.trains-trains.ensures.count, c.moves.ensures.trains, ap length c.requires, length-listed (outside c.args.plant.now) (trains c.args.plant.now))
+get-requires c = omega (arith, c.loop-number-test.true, c.trains-trains.ensures.count, c.moves.ensures.trains, ap length c.requires.states, length-listed (outside c.args.plant.now) (trains c.args.plant.now))
 
 pub loop-number-preserved : goal.loop-number-preserved
 loop-number-preserved c =

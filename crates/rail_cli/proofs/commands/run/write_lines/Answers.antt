@@ -29,7 +29,7 @@ returns-in_err-write_entry-clause-failed_adds_prefix g c =
     let so_far = c.loop.invariant.so_far in
     let stands = c.in-Some.ensures.line so_far.front so_far.stands in
     let more = c.in_err-write_entry.ensures.failed_adds_prefix c.plant-in-loop.result.now (record { sections = c.names.ensures.sections; trains = c.names.ensures.trains }) in
-    let part : RunsPlantInPart c.args.engine.now.plant (g.O.Sink.written c.args.out.now) (g.O.Sink.written c.write_entry.new.out) =
+    let part : RunsPlantInPart c.args.engine.now.input.plant (g.O.Sink.written c.args.out.now) (g.O.Sink.written c.write_entry.new.out) =
     subst (λ (plant : Plant). RunsPlantInPart plant (g.O.Sink.written c.args.out.now) (g.O.Sink.written c.write_entry.new.out)) c.loop.invariant.plant
     (in_part c.loop.engine c.step.new.self so_far.front c.in-Some.entry c.plant-in-loop.result.now c.listed.result.now
     c.in-Some.ensures.plant c.plant-in-loop.ensures (c.listed.ensures _ stands) stands _ _ _ so_far.adds more) in

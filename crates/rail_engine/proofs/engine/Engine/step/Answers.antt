@@ -11,4 +11,4 @@ use Rattle.rail_engine.proofs.engine.Engine.step.Goals as goal
 pub returns-clause-line : goal.returns-clause-line
 returns-clause-line c =
     subst (λ (old : Ledger). IfSome c.next_line.result (λ (entry : Entry). (front : Front) → StandsFor front old → StandsFor (line_in c.next_line.new.ledger entry ∷ front) c.next_line.new.ledger)) c.self.view_is
-    (stepped c.self.inside.ledger c.next_line.new.ledger c.next_line.ensures.plant c.next_line.result c.next_line.ensures.line c.next_line.ensures.run)
+    (stepped c.self.inside.ledger c.next_line.new.ledger c.next_line.ensures.input c.next_line.result c.next_line.ensures.line c.next_line.ensures.run)

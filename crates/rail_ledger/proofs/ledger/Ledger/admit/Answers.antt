@@ -3,10 +3,10 @@ use Rattle.std.specs.Prelude.{IsTrue}
 use Rattle.rail_base.specs.declared.history.What.{What}
 use Rattle.rail_base.specs.declared.history.What.TheVariants.{Admit}
 use Rattle.rail_base.specs.declared.history.Note.{Note}
-use Rattle.rail_rules.specs.FcfsAlone.{fcfs_alone}
 use Rattle.rail_rules.specs.Fronts.{Line}
 use Rattle.rail_rules.specs.Causes.{place}
-use Rattle.rail_rules.specs.Orders.{input_of}
+use Rattle.rail_ledger.specs.declared.input.RunInput.{RunInput}
+use Rattle.rail_ledger.specs.Inputs.{dispatch_in, input_in}
 use Rattle.rail_rules.specs.Plant.{claimed}
 use Rattle.rail_rules.specs.RunHistories.{is_run}
 use Rattle.rail_laws_run.specs.HolderTables.{held_cause}
@@ -20,7 +20,8 @@ use Rattle.rail_state.proofs.CallerLemmas.{admissible, may_keep, runs}
 use Rattle.rail_ledger.specs.declared.ledger.Ledger.{Ledger}
 use Rattle.rail_ledger.specs.declared.ledger.Listed.{Listed}
 use Rattle.rail_ledger.specs.Ledgers.{HasList, IsAt, line_in, list_with}
-use Rattle.rail_ledger.proofs.Alone.{bar_held}
+use Rattle.rail_rules.specs.Orders.{told}
+use Rattle.rail_ledger.proofs.Ordered.{held_free}
 use Rattle.rail_ledger.proofs.Making.{admitted_at, alike_ledger, givable, listed_with}
 use Rattle.rail_ledger.proofs.Room.{place_fits, room_left}
 use Rattle.rail_ledger.proofs.ledger.Ledger.admit.Goals as goal
@@ -46,10 +47,10 @@ admit-requires-clause-givable c =
     let still = sym at.rep.ended ∙ c.requires.going in
     let has : HasList front old mid c.args.train c.in_ok-note.note = c.in_ok-note.ensures.found.1 front at in (
       front,
-      subst (λ (r : Ledger). IsGivable r.plant front r.state.trains r.state.instant c.args.train) (sym (alike_ledger old mid c.in_ok-note.ensures.alike c.in_ok-note.ensures.found.0))
+      subst (λ (r : Ledger). IsGivable r.input.plant front r.state.trains r.state.instant c.args.train) (sym (alike_ledger old mid c.in_ok-note.ensures.alike c.in_ok-note.ensures.found.0))
           (givable front old at c.requires.going (c.requires.deciding front at) c.args.train
-          (admissible fcfs_alone old.plant front old.state at.rep still
-          (c.requires.deciding front at) c.args.train next c.in_ok-note.note mid.kept.trains has.noted) c.in_ok-note.note mid.kept.trains (may_keep fcfs_alone old.plant front old.state at.rep still (c.requires.deciding front at) c.args.train next c.in_ok-note.note mid.kept.trains has.noted)),
+          (admissible (dispatch_in old.input) old.input.plant front old.state at.rep still
+          (c.requires.deciding front at) c.args.train next c.in_ok-note.note mid.kept.trains has.noted) c.in_ok-note.note mid.kept.trains (may_keep (dispatch_in old.input) old.input.plant front old.state at.rep still (c.requires.deciding front at) c.args.train next c.in_ok-note.note mid.kept.trains has.noted)),
     )
 
 pub admit-requires-clause-room : goal.admit-requires-clause-room
@@ -63,8 +64,8 @@ admit-requires-clause-free c =
     let next = c.requires.next front at in
     let old : Ledger = c.args.self.now in
     let t : ℕ = c.args.train in
-    subst (λ (r : Ledger). held_cause r.state.holders (claimed r.plant t (state_of r.state.trains t).place) ≡ None) (sym (alike_ledger old c.find_list.new.self c.in_ok-note.ensures.alike c.in_ok-note.ensures.found.0))
-    (ap (λ p. held_cause old.state.holders (claimed old.plant t p)) (at.rep.times.places t next.known_train) ∙ sym (bar_held old.plant front old.state.holders t (claimed old.plant t (place front t))) ∙ next.free)
+    subst (λ (r : Ledger). held_cause r.state.holders (claimed r.input.plant t (state_of r.state.trains t).place) ≡ None) (sym (alike_ledger old c.find_list.new.self c.in_ok-note.ensures.alike c.in_ok-note.ensures.found.0))
+    (ap (λ p. held_cause old.state.holders (claimed old.input.plant t p)) (at.rep.times.places t next.known_train) ∙ held_free (told old.input.commands.items front) old.state.holders t (claimed old.input.plant t (place front t)) next.free)
 
 pub returns-clause-line : goal.returns-clause-line
 returns-clause-line c = λ front at.
@@ -78,11 +79,11 @@ returns-clause-line c = λ front at.
     let has : HasList front old mid t note = c.in_ok-note.ensures.found.1 front at in
     let has_now : HasList front old (record old { places = mid.places; kept = mid.kept; analyst = mid.analyst }) t note = record { noted = has.noted; positions = has.positions; room = has.room; counted = has.counted; told = has.told; list_room = has.list_room } in
     let still = sym at.rep.ended ∙ c.requires.going in
-    let can_go = admissible fcfs_alone old.plant front old.state at.rep still (c.requires.deciding front at) t next note mid.kept.trains has.noted in
-    let keeps = may_keep fcfs_alone old.plant front old.state at.rep still (c.requires.deciding front at) t next note mid.kept.trains has.noted in
+    let can_go = admissible (dispatch_in old.input) old.input.plant front old.state at.rep still (c.requires.deciding front at) t next note mid.kept.trains has.noted in
+    let keeps = may_keep (dispatch_in old.input) old.input.plant front old.state at.rep still (c.requires.deciding front at) t next note mid.kept.trains has.noted in
     let can_give = givable front old at c.requires.going (c.requires.deciding front at) t can_go note mid.kept.trains keeps in
-    let given = c.admit.ensures.given front (subst (λ (r : Ledger). IsGivable r.plant front r.state.trains r.state.instant t) (sym same) can_give) in
-    let admits = subst (λ (r : Ledger). IsAdmitLine r.plant front t given.0 given.1 r.state after) same given.2 in
+    let given = c.admit.ensures.given front (subst (λ (r : Ledger). IsGivable r.input.plant front r.state.trains r.state.instant t) (sym same) can_give) in
+    let admits = subst (λ (r : Ledger). IsAdmitLine r.input.plant front t given.0 given.1 r.state after) same given.2 in
     let room = subst (λ (r : Ledger). length after.queue.events + after.queue.spare ≡ length r.state.queue.events + r.state.queue.spare) same c.admit.ensures.room in
     let number : c.get.result.now.place + 1 ≡ suc (place front t) =
     omega (arith, ap (λ (r : TrainState). r.place) (c.get.ensures ∙ ap (λ states. state_of states t) c.in_ok-note.ensures.found.0), at.rep.times.places t next.known_train) in
@@ -105,16 +106,16 @@ returns-clause-run c = λ front seats at of_run chosen.
     let same : mid ≡ record old { places = mid.places; kept = mid.kept; analyst = mid.analyst } = alike_ledger old mid c.in_ok-note.ensures.alike c.in_ok-note.ensures.found.0 in
     let has : HasList front old mid t note = c.in_ok-note.ensures.found.1 front at in
     let still = sym at.rep.ended ∙ c.requires.going in
-    let can_go = admissible fcfs_alone old.plant front old.state at.rep still (c.requires.deciding front at) t next note mid.kept.trains has.noted in
-    let keeps = may_keep fcfs_alone old.plant front old.state at.rep still (c.requires.deciding front at) t next note mid.kept.trains has.noted in
+    let can_go = admissible (dispatch_in old.input) old.input.plant front old.state at.rep still (c.requires.deciding front at) t next note mid.kept.trains has.noted in
+    let keeps = may_keep (dispatch_in old.input) old.input.plant front old.state at.rep still (c.requires.deciding front at) t next note mid.kept.trains has.noted in
     let can_give = givable front old at c.requires.going (c.requires.deciding front at) t can_go note mid.kept.trains keeps in
-    let given = c.admit.ensures.given front (subst (λ (r : Ledger). IsGivable r.plant front r.state.trains r.state.instant t) (sym same) can_give) in
-    let admits = subst (λ (r : Ledger). IsAdmitLine r.plant front t given.0 given.1 r.state after) same given.2 in
+    let given = c.admit.ensures.given front (subst (λ (r : Ledger). IsGivable r.input.plant front r.state.trains r.state.instant t) (sym same) can_give) in
+    let admits = subst (λ (r : Ledger). IsAdmitLine r.input.plant front t given.0 given.1 r.state after) same given.2 in
     let number : c.get.result.now.place + 1 ≡ suc (place front t) =
     omega (arith, ap (λ (r : TrainState). r.place) (c.get.ensures ∙ ap (λ states. state_of states t) c.in_ok-note.ensures.found.0), at.rep.times.places t next.known_train) in
     let what : What = Admit t (c.get.result.now.place + 1) note in
-    subst (λ (r : Ledger). IsTrue (is_run (input_of fcfs_alone old.plant) seats (line_in (record r { state = after; listed = c.list_with-self.result }) (record { at = after.instant; what = what }) ∷ front))) (sym same)
-    (subst (λ (l : Listed). IsTrue (is_run (input_of fcfs_alone old.plant) seats (line_in (record old { places = mid.places; kept = mid.kept; analyst = mid.analyst; state = after; listed = l }) (record { at = after.instant; what = what }) ∷ front))) (sym c.list_with-self.ensures)
-    (subst (λ (line : Line). IsTrue (is_run (input_of fcfs_alone old.plant) seats (line ∷ front)))
+    subst (λ (r : Ledger). IsTrue (is_run (input_in old.input) seats (line_in (record r { state = after; listed = c.list_with-self.result }) (record { at = after.instant; what = what }) ∷ front))) (sym same)
+    (subst (λ (l : Listed). IsTrue (is_run (input_in old.input) seats (line_in (record old { places = mid.places; kept = mid.kept; analyst = mid.analyst; state = after; listed = l }) (record { at = after.instant; what = what }) ∷ front))) (sym c.list_with-self.ensures)
+    (subst (λ (line : Line). IsTrue (is_run (input_in old.input) seats (line ∷ front)))
     (λ i. record { entry = record { at = sym admits.time i; what = Admit t (sym number i) note }; trains = sym (listed_with note mid.kept.trains old.remaining.items) i })
-    (runs fcfs_alone old.plant front old.state at.rep seats of_run still (c.requires.deciding front at) t next note mid.kept.trains has.noted chosen)))
+    (runs (dispatch_in old.input) old.input.plant front old.state at.rep seats of_run still (c.requires.deciding front at) t next note mid.kept.trains has.noted chosen)))

@@ -5,14 +5,14 @@ use Rattle.rail_queue.specs.Order.{first_time_of, is_sorted}
 use Rattle.rail_rules.specs.Causes.{could_go, is_deciding}
 use Rattle.rail_rules.specs.Fronts.{is_hold}
 use Rattle.rail_state.proofs.CallerLemmas.{goes}
-use Rattle.rail_rules.specs.FcfsAlone.{fcfs_alone}
 use Rattle.rail_ledger.specs.declared.judgement.Left.{Left}
 use Rattle.rail_ledger.specs.declared.judgement.Left.TheVariants.{Hold}
 use Rattle.rail_ledger.specs.declared.ledger.Ledger.{Ledger}
 use Rattle.rail_ledger.specs.Ledgers.{HasList, IsAt, line_in, listed_in}
 use Rattle.rail_ledger.proofs.Deciding.{deciding_at}
 use Rattle.rail_ledger.proofs.ledger.Ledger.left_to_decide.Goals as goal
-use Rattle.rail_rules.specs.Orders.{input_of}
+use Rattle.rail_ledger.specs.declared.input.RunInput.{RunInput}
+use Rattle.rail_ledger.specs.Inputs.{dispatch_in, input_in}
 
 abbrev entry_in : Entry → Left → Entry
 entry_in other (Hold entry) = entry
@@ -47,16 +47,16 @@ returns-in-Some-find_list-clause-admission c = λ _ front at.
     let at_loop = inv.at front at in
     let at_now = c.in-Some.ensures.at front at_loop in
     let ledger : Ledger = c.look.new.self in
-    let plant_is = alike.plant ∙ inv.plant in
-    let deciding : is_deciding (input_of fcfs_alone ledger.plant) front ≡ true =
+    let input_is = alike.input ∙ inv.input in
+    let deciding : is_deciding (input_in ledger.input) front ≡ true =
     deciding_at front ledger at_now (alike.has_ended ∙ inv.going) (alike.is_settled ∙ inv.unsettled)
     (λ due. inv.none_due (ap (λ (q : Queue). first_time_of q.events) (sym alike.queue) ∙ due ∙ ap Some alike.instant))
     (ap (λ (q : Queue). is_sorted q.events) alike.queue ∙ inv.sorted) in
     let next = c.in-Some.ensures.next front at_now in
     let has : HasList front ledger c.find_list.new.self c.in-Some.train c.in-Some-find_list.field-0 = c.in-Some-find_list.ensures.found.1 front at_now in
-    let could : could_go (input_of fcfs_alone ledger.plant) front c.in-Some.train ≡ true =
-    goes fcfs_alone ledger.plant front ledger.state at_now.rep (sym at_now.rep.ended ∙ alike.has_ended ∙ inv.going) deciding c.in-Some.train next c.in-Some-find_list.field-0 c.find_list.new.self.kept.trains has.noted in
-    (subst (λ plant. is_deciding (input_of fcfs_alone plant) front ≡ true) plant_is deciding, c.in-Some.train, subst (λ plant. could_go (input_of fcfs_alone plant) front c.in-Some.train ≡ true) plant_is could)
+    let could : could_go (input_in ledger.input) front c.in-Some.train ≡ true =
+    goes (dispatch_in ledger.input) ledger.input.plant front ledger.state at_now.rep (sym at_now.rep.ended ∙ alike.has_ended ∙ inv.going) deciding c.in-Some.train next c.in-Some-find_list.field-0 c.find_list.new.self.kept.trains has.noted in
+    (subst (λ (input : RunInput). is_deciding (input_in input) front ≡ true) input_is deciding, c.in-Some.train, subst (λ (input : RunInput). could_go (input_in input) front c.in-Some.train ≡ true) input_is could)
 
 pub loop-train-preserved : goal.loop-train-preserved
 loop-train-preserved c =
@@ -71,7 +71,7 @@ loop-train-preserved c =
       none_due = λ due. inv.none_due (ap (λ (q : Queue). first_time_of q.events) (sym first.queue ∙ sym second.queue) ∙ due ∙ ap Some (second.instant ∙ first.instant));
       sorted = ap (λ (q : Queue). is_sorted q.events) (second.queue ∙ first.queue) ∙ inv.sorted;
       unlisted = second.listed ∙ first.listed ∙ inv.unlisted;
-      plant = second.plant ∙ first.plant ∙ inv.plant;
+      input = second.input ∙ first.input ∙ inv.input;
       at = λ front at. none.1 front (c.in-Some.ensures.at front (inv.at front at));
     }
 
@@ -83,7 +83,7 @@ returns-in-Some-hold-clause-hold c = λ entry same.
     let is : c.in-Some-hold.entry ≡ entry = ap (entry_in c.in-Some-hold.entry) same in
     let facts = c.in-Some-hold.ensures.kind in (
       ap (λ (e : Entry). is_hold e.what) (sym is) ∙ facts.0,
-      c.in-Some-hold.ensures.plant ∙ alike.plant ∙ inv.plant,
+      c.in-Some-hold.ensures.input ∙ alike.input ∙ inv.input,
       λ front at. subst (λ e. IsAt (line_in new e ∷ front) new) is (c.in-Some-hold.ensures.line front (c.in_default.ensures.at front (inv.at front at))),
       ap (λ l. listed_in l new.kept.trains new.remaining.items) facts.1,
     )
@@ -93,4 +93,4 @@ returns-in-None-hold-clause-nothing c = λ _.
     let inv = c.loop-train.invariant in
     let alike = c.in_default.ensures.alike in
     let none = c.in-None-hold.ensures.none refl in
-    (c.in-None-hold.ensures.plant ∙ alike.plant ∙ inv.plant, (none.0, none.1, none.2, λ front at. none.3 front (c.in_default.ensures.at front (inv.at front at))))
+    (c.in-None-hold.ensures.input ∙ alike.input ∙ inv.input, (none.0, none.1, none.2, λ front at. none.3 front (c.in_default.ensures.at front (inv.at front at))))

@@ -13,7 +13,7 @@ invariant-loop-train l = record {
   none_due : first_time_of l.self.state.queue.events ≢ Some l.self.state.instant;
   sorted : IsTrue (is_sorted l.self.state.queue.events);
   unlisted : l.self.listed ≡ listed.Nothing;
-  plant : l.self.plant ≡ l.fn.self.plant;
+  input : l.self.input ≡ l.fn.self.input;
   at : (front : Front) → IsAt front l.fn.self → IsAt front l.self;
 }
 

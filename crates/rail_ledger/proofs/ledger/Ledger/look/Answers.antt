@@ -1,3 +1,4 @@
+use Rattle.rail_state.specs.TrainStates.{bar_by}
 use Rattle.rail_ledger.proofs.Looking.{first_found, looked, next_found, no_more_untried}
 use Rattle.rail_ledger.proofs.ledger.Ledger.look.Goals as goal
 
@@ -8,7 +9,7 @@ pub returns-clause-next : goal.returns-clause-next
 returns-clause-next c = next_found c.args.self.now c.look.new.self c.look.ensures.length c.look.ensures.trains c.look.result c.look.ensures.first
 
 pub returns-clause-fewer : goal.returns-clause-fewer
-returns-clause-fewer c = no_more_untried c.args.self.now.plant c.args.self.now.state.holders c.args.self.now.state.trains c.look.new.self c.look.ensures.length c.look.ensures.trains
+returns-clause-fewer c = no_more_untried c.args.self.now.input.plant (bar_by c.args.self.now.orders c.args.self.now.state.holders) c.args.self.now.state.trains c.look.new.self c.look.ensures.length c.look.ensures.trains
 
 pub returns-clause-first : goal.returns-clause-first
 returns-clause-first c = first_found c.look.new.self c.look.result c.look.ensures.first

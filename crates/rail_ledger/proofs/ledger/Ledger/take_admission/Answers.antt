@@ -6,7 +6,7 @@ use Rattle.rail_state.specs.Admissions.{IsGivable}
 use Rattle.rail_ledger.specs.Ledgers.{HasGiven, IsAt, admission}
 use Rattle.rail_ledger.proofs.Room.{room_left}
 use Rattle.rail_ledger.specs.declared.ledger.Ledger.{Ledger}
-use Rattle.rail_ledger.proofs.Admissions.{admissible_in_place, can_give, given_at, refused_list, refused_occupied, refused_place, waits_in_place}
+use Rattle.rail_ledger.proofs.Admissions.{admissible_in_place, can_give, given_at, refused_forbidden, refused_list, refused_occupied, refused_place, waits_in_place}
 use Rattle.rail_ledger.proofs.ledger.Ledger.take_admission.Goals as goal
 use Rattle.rail_state.specs.declared.pushes.TheConstants.{MOVE_EVENTS}
 use Rattle.rail_state.specs.declared.run_state.RunState.{RunState}
@@ -14,6 +14,17 @@ use Rattle.rail_state.specs.declared.run_state.RunState.{RunState}
 pub returns-then-not-is_in_place-clause-refused : goal.returns-then-not-is_in_place-clause-refused
 returns-then-not-is_in_place-clause-refused c = λ front at.
     let refused = refused_place front c.args.self.now at c.requires.going c.is_in_place.ensures.sorted c.args.at c.args.train c.args.place c.args.note c.args.list.now c.args.held (c.requires.held front at) (sym c.is_in_place.ensures.exact ∙ c.if-not-is_in_place.true) in
+    (refused.0, sym refused.1)
+
+pub is_forbidden-requires-clause-waits : goal.is_forbidden-requires-clause-waits
+is_forbidden-requires-clause-waits c =
+    let front = c.requires.running.front in
+    let at = c.requires.running.at in
+    waits_in_place front c.args.self.now at c.requires.going c.is_in_place.ensures.sorted c.args.at c.args.train c.args.place c.args.note c.args.list.now c.args.held (c.requires.held front at) (sym c.is_in_place.ensures.exact ∙ c.if-not-is_in_place.false)
+
+pub returns-then-is_forbidden-clause-refused : goal.returns-then-is_forbidden-clause-refused
+returns-then-is_forbidden-clause-refused c = λ front at.
+    let refused = refused_forbidden front c.args.self.now at c.requires.going c.is_in_place.ensures.sorted c.args.at c.args.train c.args.place c.args.note c.args.list.now c.args.held (c.requires.held front at) (sym c.is_in_place.ensures.exact ∙ c.if-not-is_in_place.false) (sym c.is_forbidden.ensures ∙ c.if-is_forbidden.true) in
     (refused.0, sym refused.1)
 
 pub is_occupied-requires-clause-waits : goal.is_occupied-requires-clause-waits
@@ -24,18 +35,18 @@ is_occupied-requires-clause-waits c =
 
 pub returns-then-is_occupied-clause-refused : goal.returns-then-is_occupied-clause-refused
 returns-then-is_occupied-clause-refused c = λ front at.
-    let refused = refused_occupied front c.args.self.now at c.requires.going c.is_in_place.ensures.sorted c.args.at c.args.train c.args.place c.args.note c.args.list.now c.args.held (c.requires.held front at) (sym c.is_in_place.ensures.exact ∙ c.if-not-is_in_place.false) (sym c.is_occupied.ensures ∙ c.if-is_occupied.true) in
+    let refused = refused_occupied front c.args.self.now at c.requires.going c.is_in_place.ensures.sorted c.args.at c.args.train c.args.place c.args.note c.args.list.now c.args.held (c.requires.held front at) (sym c.is_in_place.ensures.exact ∙ c.if-not-is_in_place.false) (sym c.is_forbidden.ensures ∙ c.if-is_forbidden.false) (sym c.is_occupied.ensures ∙ c.if-is_occupied.true) in
     (refused.0, sym refused.1)
 
 pub keep_given-requires-clause-next : goal.keep_given-requires-clause-next
 keep_given-requires-clause-next c = λ front at.
     admissible_in_place front c.args.self.now at c.requires.going c.is_in_place.ensures.sorted c.args.at c.args.train c.args.place c.args.note c.args.list.now c.args.held
-    (c.requires.held front at) (sym c.is_in_place.ensures.exact ∙ c.if-not-is_in_place.false) (sym c.is_occupied.ensures ∙ c.if-is_occupied.false)
+    (c.requires.held front at) (sym c.is_in_place.ensures.exact ∙ c.if-not-is_in_place.false) (sym c.is_forbidden.ensures ∙ c.if-is_forbidden.false) (sym c.is_occupied.ensures ∙ c.if-is_occupied.false)
 
 pub returns-then-not-keep_given-clause-refused : goal.returns-then-not-keep_given-clause-refused
 returns-then-not-keep_given-clause-refused c = λ front at.
     let refused = refused_list front c.args.self.now at c.requires.going c.is_in_place.ensures.sorted c.args.at c.args.train c.args.place c.args.note c.args.list.now c.args.held
-    (c.requires.held front at) (sym c.is_in_place.ensures.exact ∙ c.if-not-is_in_place.false) (sym c.is_occupied.ensures ∙ c.if-is_occupied.false)
+    (c.requires.held front at) (sym c.is_in_place.ensures.exact ∙ c.if-not-is_in_place.false) (sym c.is_forbidden.ensures ∙ c.if-is_forbidden.false) (sym c.is_occupied.ensures ∙ c.if-is_occupied.false)
     (sym (c.keep_given.ensures.exact front at) ∙ c.if-not-keep_given.true) in
     (refused.0, sym refused.1)
 
@@ -45,9 +56,9 @@ admit-requires-clause-givable c =
     let at = c.requires.running.at in
     let old : Ledger = c.args.self.now in (
       front,
-      subst (λ (r : Ledger). IsGivable r.plant front r.state.trains r.state.instant c.args.train) (sym c.keep_given.ensures.lists)
+      subst (λ (r : Ledger). IsGivable r.input.plant front r.state.trains r.state.instant c.args.train) (sym c.keep_given.ensures.lists)
           (can_give front old at c.requires.going c.is_in_place.ensures.sorted c.args.at c.args.train c.args.place c.args.note c.args.list.now c.args.held (c.requires.held front at)
-          (sym c.is_in_place.ensures.exact ∙ c.if-not-is_in_place.false) (sym c.is_occupied.ensures ∙ c.if-is_occupied.false)
+          (sym c.is_in_place.ensures.exact ∙ c.if-not-is_in_place.false) (sym c.is_forbidden.ensures ∙ c.if-is_forbidden.false) (sym c.is_occupied.ensures ∙ c.if-is_occupied.false)
           (sym (c.keep_given.ensures.exact front at) ∙ c.if-not-keep_given.false)),
     )
 
@@ -62,16 +73,16 @@ returns-clause-taken c = λ _ front at.
     let t : ℕ = c.args.train in
     let same : mid ≡ record old { places = mid.places; kept = mid.kept } = c.keep_given.ensures.lists in
     let givable_now = can_give front old at c.requires.going c.is_in_place.ensures.sorted c.args.at c.args.train c.args.place c.args.note c.args.list.now c.args.held
-    (c.requires.held front at) (sym c.is_in_place.ensures.exact ∙ c.if-not-is_in_place.false) (sym c.is_occupied.ensures ∙ c.if-is_occupied.false)
+    (c.requires.held front at) (sym c.is_in_place.ensures.exact ∙ c.if-not-is_in_place.false) (sym c.is_forbidden.ensures ∙ c.if-is_forbidden.false) (sym c.is_occupied.ensures ∙ c.if-is_occupied.false)
     (sym (c.keep_given.ensures.exact front at) ∙ c.if-not-keep_given.false) in
     let after : RunState = c.admit.new.self in
-    let given = c.admit.ensures.given front (subst (λ (r : Ledger). IsGivable r.plant front r.state.trains r.state.instant t) (sym same) givable_now) in
-    let admits = subst (λ (r : Ledger). IsAdmitLine r.plant front t given.0 given.1 r.state after) same given.2 in
+    let given = c.admit.ensures.given front (subst (λ (r : Ledger). IsGivable r.input.plant front r.state.trains r.state.instant t) (sym same) givable_now) in
+    let admits = subst (λ (r : Ledger). IsAdmitLine r.input.plant front t given.0 given.1 r.state after) same given.2 in
     let room = subst (λ (r : Ledger). length after.queue.events + after.queue.spare ≡ length r.state.queue.events + r.state.queue.spare) same c.admit.ensures.room in
     let has = subst (λ (r : Ledger). HasGiven front old r t c.args.note c.args.list.now) same (c.keep_given.ensures.given (c.if-not-keep_given.false) front at) in
     let line : Line = admission c.args.at t c.args.place c.args.note c.args.list.now in
     subst (λ (r : Ledger). IsAt (line ∷ front) (record r { state = after; listed = c.list_with-self.result })) (sym same)
     (subst (λ (l : Listed). IsAt (line ∷ front) (record old { places = mid.places; kept = mid.kept; state = after; listed = l })) (sym c.list_with-self.ensures)
     (given_at front old at c.requires.going c.is_in_place.ensures.sorted c.args.at c.args.train c.args.place c.args.note c.args.list.now c.args.held (c.requires.held front at)
-    (sym c.is_in_place.ensures.exact ∙ c.if-not-is_in_place.false) (sym c.is_occupied.ensures ∙ c.if-is_occupied.false)
+    (sym c.is_in_place.ensures.exact ∙ c.if-not-is_in_place.false) (sym c.is_forbidden.ensures ∙ c.if-is_forbidden.false) (sym c.is_occupied.ensures ∙ c.if-is_occupied.false)
     (sym (c.keep_given.ensures.exact front at) ∙ c.if-not-keep_given.false) mid.places mid.kept after has room given.0 given.1 admits))

@@ -1,0 +1,2 @@
+-- What the commands told so far mean.
+pub mod Told
