@@ -29,7 +29,7 @@ EXAMPLES = "rail_worked"
 
 # Definitions of the top call's crate of which it is told how much they reach.
 PARTS = (
-    ("IsRun", "what `run` writes where it ends `Done`, of a plant"),
+    ("IsRun", "what `run` writes where it ends `Done`, of an input"),
     ("AnswersRun", "the same with the plant of a scene file, and its refusals"),
     ("AnswersInfra", "what `infra` answers"),
     ("AnswersPlay", "what `play` answers"),

@@ -5,6 +5,10 @@
 use rail_base::Word;
 use rail_cli::{HELP, Status, VERSION, rail};
 use rail_io::{FileShelf, OutSink};
+use rail_policy::{
+    FcfsPolicy, Policy, PriorityPolicy, RotatingPolicy, TimetablePolicy, deck_is_fine,
+};
+use std::alloc::AllocError;
 use std::env;
 use std::io::{self, ErrorKind};
 use std::process::ExitCode;
@@ -39,11 +43,29 @@ fn answer(rt: &HostRuntime, words: &[Word]) -> ExitCode {
         [word] if word.as_str() == "--help" => show(rt, HELP),
         [word] if word.as_str() == "--version" => show(rt, VERSION),
         _ => {
-            let mut shelf = FileShelf::new(rt);
-            let mut out = OutSink::new(rt);
-            end(rt, rail(rt.alloc(), words, &mut shelf, &mut out))
+            match run(rt, words) {
+                Ok(status) => end(rt, status),
+                Err(_) => end(rt, Status::OutOfMemory),
+            }
         }
     }
+}
+
+/// What the words ask for, with the four built-in policies, on the system's files and standard output.
+fn run(rt: &HostRuntime, words: &[Word]) -> Result<Status, AllocError> {
+    let alloc = rt.alloc();
+    let mut deck: Vec<Box<dyn Policy>> = Vec::with_capacity(alloc, 4)?;
+    deck.push_reserved(Box::new(alloc, PriorityPolicy::new())?);
+    deck.push_reserved(Box::new(alloc, TimetablePolicy::new())?);
+    deck.push_reserved(Box::new(alloc, FcfsPolicy::new())?);
+    deck.push_reserved(Box::new(alloc, RotatingPolicy::new())?);
+    // The four names differ; the prover does not look into the boxes, so the deck is looked at here.
+    if !deck_is_fine(&deck) {
+        return Ok(Status::OutOfMemory);
+    }
+    let mut shelf = FileShelf::new(rt);
+    let mut out = OutSink::new(rt);
+    Ok(rail(alloc, words, &mut shelf, &mut out, deck))
 }
 
 /// Prints a text on standard output.

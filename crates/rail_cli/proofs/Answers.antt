@@ -8,7 +8,8 @@ use Rattle.rail_rules.specs.Numbers.{or_else}
 use Rattle.rail_io.specs.Writes.{Adds, AddsPrefix}
 use Rattle.rail_cli.specs.declared.status.Status.{Status}
 use Rattle.rail_cli.specs.declared.status.Status.TheVariants.{Done, Usage, Refused, ReadFault, WriteFault, OutOfMemory, CheckedNo}
-use Rattle.rail_cli.specs.Answers.{Decides, IsAnswer, plant_in}
+use Rattle.rail_input.specs.Inputs.{plant_in}
+use Rattle.rail_cli.specs.Answers.{Decides, IsAnswer}
 use Rattle.rail_io.specs.declared.shelf.Shelf.{Ghosts}
 use Rattle.rail_cli.specs.Files.{IsFileAnswer, too_large, too_many_bytes}
 use Rattle.rail_cli.specs.Promises.{ended}

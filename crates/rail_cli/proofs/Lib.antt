@@ -1,5 +1,7 @@
 mod LineBounds
 mod Histories
+mod Barring
+mod Endings
 mod Progress
 mod InfraTexts
 mod Writes
@@ -7,3 +9,5 @@ mod Lists
 mod Answers
 mod Forms
 mod Parts
+mod Reading
+mod RunAnswers

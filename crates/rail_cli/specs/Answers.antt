@@ -6,12 +6,6 @@ use Rattle.rail_base.specs.declared.refusals.Part.TheVariants.{Root}
 use Rattle.rail_base.specs.declared.refusals.Fault.{Fault}
 use Rattle.rail_base.specs.declared.refusals.Fault.TheVariants as fault
 use Rattle.rail_io.specs.Writes.{Adds, AddsPrefix}
-use Rattle.rail_rules.specs.Numbers.{or_else}
-use Rattle.rail_rules.specs.Plant.{Plant}
-use Rattle.rail_scene.specs.Order.{scene_refusal}
-use Rattle.rail_scene.specs.SpelledScenes.{spelled_scene}
-use Rattle.rail_compile.specs.Refusals.{compile_refusal}
-use Rattle.rail_compile.specs.Itineraries.{plant_of_scene}
 use Rattle.rail_cli.specs.declared.status.Status.{Status}
 use Rattle.rail_cli.specs.declared.status.Status.TheVariants.{Done, Usage, Refused, ReadFault, WriteFault, OutOfMemory, CheckedNo}
 
@@ -51,11 +45,3 @@ not_yet = record { reason = NotYet; part = Root; item = 0; step = 0 }
 abbrev pub status_of : Fault → Status
 status_of (fault.Refused refusal) = Refused refusal
 status_of fault.OutOfMemory = OutOfMemory
-
--- why a scene and its plant are refused
-abbrev pub plant_refusal : List ℕ → Option Refusal
-plant_refusal bytes = or_else (scene_refusal bytes) (compile_refusal (spelled_scene bytes))
-
--- the plant that a scene file spells
-abbrev pub plant_in : List ℕ → Plant
-plant_in bytes = plant_of_scene (spelled_scene bytes)

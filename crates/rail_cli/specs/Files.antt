@@ -1,10 +1,14 @@
 -- The files of a command, and why one is not read.
-use Rattle.std.specs.Prelude.{◌≡◌, ◌⊎◌, ℕ, suc, ◌<◌, Bool, true, false, not, cond, nat_lt, length, List, [], ◌∷◌, Option, Some, None}
+use Rattle.std.specs.Prelude.{◌≡◌, ◌⊎◌, ℕ, suc, ◌<◌, Bool, true, false, not, cond, nat_lt, length, List, [], ◌∷◌, Option, Some, None, codes, option_and_then}
+use Rattle.std.specs.Option.{option_map}
+use Rattle.std.specs.Str.{bytes_eq}
+use Rattle.std.specs.Global.{Vec}
 use Rattle.rail_base.specs.Limits.{most, FileBytes}
 use Rattle.rail_base.specs.Refusals.{is_file}
 use Rattle.rail_base.specs.declared.refusals.Refusal.{Refusal}
 use Rattle.rail_base.specs.declared.refusals.Reason.TheVariants.{TooMany}
 use Rattle.rail_base.specs.declared.refusals.Part.TheVariants.{File}
+use Rattle.rail_rules.specs.Numbers.{or_else}
 use Rattle.rail_io.specs.FaultCounts.{Rose}
 use Rattle.rail_io.specs.declared.shelf.Shelf.{Ghosts}
 use Rattle.rail_cli.specs.declared.status.Status.{Status}
@@ -22,22 +26,43 @@ too_large number bytes = cond (nat_lt (most FileBytes) (length bytes)) (Some (to
 abbrev pub FitsWhereTold : (List ℕ → Option (List ℕ)) → ℕ → List ℕ → Type 0
 FitsWhereTold told number file = (bytes : List ℕ) → told file ≡ Some bytes → too_large number bytes ≡ None
 
--- a call failed at one of the files, which are numbered from this number on; no file before it is too large where its
--- bytes are told
-abbrev pub IsOneOf : (List ℕ → Option (List ℕ)) → ℕ → List (List ℕ) → Option (List ℕ) → Type 0
+-- the word that stands for no file
+abbrev pub no_file : List ℕ
+no_file = codes "-"
+
+-- the file that a word names, where it names one
+abbrev pub named_file : List ℕ → Option (List ℕ)
+named_file word = cond (bytes_eq word no_file) None (Some word)
+
+-- the bytes of a file, where they are told; of no file there are none
+abbrev pub told_of : (List ℕ → Option (List ℕ)) → Option (List ℕ) → Option (Option (List ℕ))
+told_of told None = Some None
+told_of told (Some file) = option_map (λ bytes. Some bytes) (told file)
+
+-- the bytes that were read of a file that may be missing
+abbrev pub content_of : Option (Vec ℕ) → Option (List ℕ)
+content_of bytes = option_map (λ (read : Vec ℕ). read.items) bytes
+
+-- the same refusal of a file that may be missing
+abbrev pub too_large_if_any : ℕ → Option (List ℕ) → Option Refusal
+too_large_if_any number content = option_and_then (too_large number) content
+
+-- a call failed at one of the files, which are numbered from this number on, the missing ones too; no file before it is
+-- too large where its bytes are told
+abbrev pub IsOneOf : (List ℕ → Option (List ℕ)) → ℕ → List (Option (List ℕ)) → Option (List ℕ) → Type 0
 IsOneOf told number [] failed = ⊥
-IsOneOf told number (file ∷ files) failed =
+IsOneOf told number (None ∷ files) failed = IsOneOf told (suc number) files failed
+IsOneOf told number (Some file ∷ files) failed =
     (failed ≡ Some file) ⊎ (FitsWhereTold told number file × IsOneOf told (suc number) files failed)
 
--- the last of the files
-abbrev pub last_file : List (List ℕ) → Option (List ℕ)
+-- the last of the files that is there
+abbrev pub last_file : List (Option (List ℕ)) → Option (List ℕ)
 last_file [] = None
-last_file (file ∷ []) = Some file
-last_file (file ∷ next ∷ files) = last_file (next ∷ files)
+last_file (file ∷ files) = or_else (last_file files) file
 
 -- a fault of reading: the count of faults rose, and the failed name is that of one of the files, none before which
 -- is refused for its size
-pub record IsReadFault {S : Type 0} (shelf : Ghosts S) (files : List (List ℕ)) (before now : S) : Type 0 where
+pub record IsReadFault {S : Type 0} (shelf : Ghosts S) (files : List (Option (List ℕ))) (before now : S) : Type 0 where
   pub rose : Rose (shelf.faults before) (shelf.faults now)
   pub named : IsOneOf (shelf.told before) 1 files (shelf.failed now)
 
@@ -54,10 +79,11 @@ pub record IsTooLarge {S : Type 0} (shelf : Ghosts S) (number : ℕ) (file : Lis
   pub over : most FileBytes < shelf.moved now
   pub larger : (bytes : List ℕ) → shelf.told before file ≡ Some bytes → too_large number bytes ≡ Some answer
 
--- one of the files, which are numbered from this number on, is too large
-abbrev pub IsOneTooLarge : {S : Type 0} → Ghosts S → ℕ → List (List ℕ) → S → S → Refusal → Type 0
+-- one of the files, which are numbered from this number on, the missing ones too, is too large
+abbrev pub IsOneTooLarge : {S : Type 0} → Ghosts S → ℕ → List (Option (List ℕ)) → S → S → Refusal → Type 0
 IsOneTooLarge shelf number [] before now answer = ⊥
-IsOneTooLarge shelf number (file ∷ files) before now answer =
+IsOneTooLarge shelf number (None ∷ files) before now answer = IsOneTooLarge shelf (suc number) files before now answer
+IsOneTooLarge shelf number (Some file ∷ files) before now answer =
     IsTooLarge shelf number file before now answer ⊎ IsOneTooLarge shelf (suc number) files before now answer
 
 -- why the file of this name, which has this number, was not read
@@ -65,10 +91,20 @@ abbrev pub IsFileAnswer : {S : Type 0} → Ghosts S → ℕ → List ℕ → S �
 IsFileAnswer shelf number file before now Done = ⊥
 IsFileAnswer shelf number file before now Usage = ⊥
 IsFileAnswer shelf number file before now (Refused refusal) = IsTooLarge shelf number file before now refusal
-IsFileAnswer shelf number file before now ReadFault = IsReadFault shelf (file ∷ []) before now
+IsFileAnswer shelf number file before now ReadFault = IsReadFault shelf (Some file ∷ []) before now
 IsFileAnswer shelf number file before now WriteFault = ⊥
 IsFileAnswer shelf number file before now OutOfMemory = Unit {0}
 IsFileAnswer shelf number file before now (CheckedNo line law) = ⊥
+
+-- why a file that may be missing was not read
+abbrev pub IsNamedAnswer : {S : Type 0} → Ghosts S → ℕ → Option (List ℕ) → S → S → Status → Type 0
+IsNamedAnswer shelf number None before now status = ⊥
+IsNamedAnswer shelf number (Some file) before now status = IsFileAnswer shelf number file before now status
+
+-- a file was read to its end, where there is one
+abbrev pub IsReadIfAny : {S : Type 0} → Ghosts S → Option (List ℕ) → S → S → Type 0
+IsReadIfAny shelf None before now = now ≡ before
+IsReadIfAny shelf (Some file) before now = IsRead shelf file now
 
 -- with this status the last file was read to its end: it is no fault of reading, no want of memory and no refusal of a file for its size
 abbrev pub comes_of_files : Status → Bool

@@ -4,41 +4,48 @@ use Rattle.std.specs.Option.{option_map_or}
 use Rattle.rail_words.specs.Forms.{form_named}
 use Rattle.rail_words.specs.declared.forms.Form.{Form}
 use Rattle.rail_words.specs.declared.forms.Form.TheVariants as form
+use Rattle.rail_policy.specs.Seats.{DeskSeat}
+use Rattle.rail_input.specs.Inputs.{plant_refusal}
 use Rattle.rail_cli.specs.declared.status.Status.{Status}
 use Rattle.rail_cli.specs.declared.status.Status.TheVariants.{Refused}
 use Rattle.rail_rules.specs.Numbers.{or_else}
-use Rattle.rail_cli.specs.Files.{too_large}
-use Rattle.rail_cli.specs.Answers.{Told, not_yet, plant_refusal}
-use Rattle.rail_cli.specs.Runs.{AnswersRun, run_refusal}
+use Rattle.rail_cli.specs.Files.{named_file, no_file, too_large}
+use Rattle.rail_cli.specs.Answers.{Told, not_yet}
+use Rattle.rail_cli.specs.Runs.{AnswersRun, IsAcceptedRun}
 use Rattle.rail_cli.specs.Infra.{AnswersInfra}
 use Rattle.rail_cli.specs.Plays.{AnswersPlay, play_refusal}
 
--- what is answered to words of the form; forms that are not built are refused before any file
-abbrev pub AnswersForm : Form → List (List ℕ) → Told → Option (List ℕ) → Option (List ℕ) → Status → Type 0
-AnswersForm form.Run (verb ∷ scene ∷ []) told before now status = AnswersRun scene told before now status
-AnswersForm form.Infra (verb ∷ scene ∷ []) told before now status = AnswersInfra scene told before now status
-AnswersForm form.Play (verb ∷ scene ∷ list ∷ []) told before now status = AnswersPlay scene list told before now status
-AnswersForm form words told before now status = status ≡ Refused not_yet
+-- what is answered to words of the form, with this deck; forms that are not built are refused before any file
+abbrev pub AnswersForm : Form → List (List ℕ) → List DeskSeat → Told → Option (List ℕ) → Option (List ℕ) → Status → Type 0
+AnswersForm form.Run (verb ∷ scene ∷ []) deck told before now status = AnswersRun scene no_file no_file deck told before now status
+AnswersForm form.Run (verb ∷ scene ∷ timetable ∷ []) deck told before now status = AnswersRun scene timetable no_file deck told before now status
+AnswersForm form.Run (verb ∷ scene ∷ timetable ∷ commands ∷ []) deck told before now status = AnswersRun scene timetable commands deck told before now status
+AnswersForm form.Infra (verb ∷ scene ∷ []) deck told before now status = AnswersInfra scene told before now status
+AnswersForm form.Play (verb ∷ scene ∷ list ∷ []) deck told before now status = AnswersPlay scene list told before now status
+AnswersForm form words deck told before now status = status ≡ Refused not_yet
 
 -- nothing is refused in what words of the form name: the bytes of the files are told, and accepted
-abbrev pub IsAcceptedInput : Form → List (List ℕ) → Told → Type 0
-IsAcceptedInput form.Run (verb ∷ scene ∷ []) told = (bytes : List ℕ) × (told scene ≡ Some bytes)
-    × (or_else (too_large 1 bytes) (run_refusal bytes) ≡ None)
-IsAcceptedInput form.Infra (verb ∷ scene ∷ []) told = (bytes : List ℕ) × (told scene ≡ Some bytes)
+abbrev pub IsAcceptedInput : Form → List (List ℕ) → List DeskSeat → Told → Type 0
+IsAcceptedInput form.Run (verb ∷ scene ∷ []) deck told = IsAcceptedRun scene no_file no_file deck told
+IsAcceptedInput form.Run (verb ∷ scene ∷ timetable ∷ []) deck told = IsAcceptedRun scene timetable no_file deck told
+IsAcceptedInput form.Run (verb ∷ scene ∷ timetable ∷ commands ∷ []) deck told = IsAcceptedRun scene timetable commands deck told
+IsAcceptedInput form.Infra (verb ∷ scene ∷ []) deck told = (bytes : List ℕ) × (told scene ≡ Some bytes)
     × (or_else (too_large 1 bytes) (plant_refusal bytes) ≡ None)
-IsAcceptedInput form.Play (verb ∷ scene ∷ list ∷ []) told = (bytes : List ℕ) × (listed : List ℕ)
+IsAcceptedInput form.Play (verb ∷ scene ∷ list ∷ []) deck told = (bytes : List ℕ) × (listed : List ℕ)
     × (told scene ≡ Some bytes) × (told list ≡ Some listed)
     × (or_else (too_large 1 bytes) (or_else (too_large 2 listed) (play_refusal bytes listed)) ≡ None)
-IsAcceptedInput form words told = ⊥
+IsAcceptedInput form words deck told = ⊥
 
 -- the files that words of the form name, in the order in which they are read; a form that is not built reads none
-abbrev pub files_of : Form → List (List ℕ) → List (List ℕ)
-files_of form.Run (verb ∷ scene ∷ []) = scene ∷ []
-files_of form.Infra (verb ∷ scene ∷ []) = scene ∷ []
-files_of form.Play (verb ∷ scene ∷ list ∷ []) = scene ∷ list ∷ []
+abbrev pub files_of : Form → List (List ℕ) → List (Option (List ℕ))
+files_of form.Run (verb ∷ scene ∷ []) = Some scene ∷ named_file no_file ∷ named_file no_file ∷ []
+files_of form.Run (verb ∷ scene ∷ timetable ∷ []) = Some scene ∷ named_file timetable ∷ named_file no_file ∷ []
+files_of form.Run (verb ∷ scene ∷ timetable ∷ commands ∷ []) = Some scene ∷ named_file timetable ∷ named_file commands ∷ []
+files_of form.Infra (verb ∷ scene ∷ []) = Some scene ∷ []
+files_of form.Play (verb ∷ scene ∷ list ∷ []) = Some scene ∷ Some list ∷ []
 files_of form words = []
 
 -- the files that the words name, by the form of their verb
-abbrev pub files_named : List (List ℕ) → List (List ℕ)
+abbrev pub files_named : List (List ℕ) → List (Option (List ℕ))
 files_named [] = []
 files_named (verb ∷ others) = option_map_or (λ (form : Form). files_of form (verb ∷ others)) (form_named verb) []

@@ -11,7 +11,8 @@ use Rattle.rail_scene.specs.declared.scene.Scene.{Scene}
 use Rattle.rail_scene.specs.SpelledScenes.{spelled_scene}
 use Rattle.rail_rules.specs.Texts.{behind}
 use Rattle.rail_cli.specs.declared.status.Status.{Status}
-use Rattle.rail_cli.specs.Answers.{IsTextAnswer, Told, plant_refusal}
+use Rattle.rail_input.specs.Inputs.{plant_refusal}
+use Rattle.rail_cli.specs.Answers.{IsTextAnswer, Told}
 use Rattle.rail_cli.specs.Files.{too_large}
 
 -- a word and the number of the things that it counts

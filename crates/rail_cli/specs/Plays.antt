@@ -18,7 +18,8 @@ use Rattle.rail_rules.specs.Texts.{behind}
 use Rattle.rail_words.specs.Lists.{Listed, list_line_refusal, listed_in, places_test}
 use Rattle.rail_cli.specs.declared.status.Status.{Status}
 use Rattle.rail_cli.specs.declared.status.Status.TheVariants.{Refused}
-use Rattle.rail_cli.specs.Answers.{Decides, IsTextAnswer, Told, plant_in, plant_refusal}
+use Rattle.rail_input.specs.Inputs.{plant_in, plant_refusal}
+use Rattle.rail_cli.specs.Answers.{Decides, IsTextAnswer, Told}
 use Rattle.rail_cli.specs.Files.{too_large, too_many_bytes}
 
 -- the names of the sections and of the trains, in the order of their numbers

@@ -1,5 +1,5 @@
 -- What every form promises beside its answer, by the status that it ends with.
-use Rattle.std.specs.Prelude.{◌≡◌, ◌≢◌, ◌⊎◌, ℕ, ◌≤◌, Bool, true, false, not, List, [], Result, Ok, Err, IfSome, OnOk, OnErr}
+use Rattle.std.specs.Prelude.{◌≡◌, ◌≢◌, ◌⊎◌, ℕ, ◌≤◌, Bool, true, false, not, List, [], Option, Result, Ok, Err, IfSome, OnOk, OnErr}
 use Rattle.rail_base.specs.Refusals.{is_file}
 use Rattle.rail_base.specs.declared.refusals.Refusal.{Refusal}
 use Rattle.rail_io.specs.FaultCounts.{Rose}
@@ -31,7 +31,7 @@ is_of_bytes (Refused refusal) = not (is_file refusal.part)
 is_of_bytes status = true
 
 -- what a command that reads these files in this order promises of the shelf
-pub record ReadsFiles {S : Type 0} (shelf : ShelfGhosts S) (files : List (List ℕ)) (before now : S) (status : Status) : Type 0 where
+pub record ReadsFiles {S : Type 0} (shelf : ShelfGhosts S) (files : List (Option (List ℕ))) (before now : S) (status : Status) : Type 0 where
   -- the count of faults rose, and the failed name is that of one of the files
   pub read_fault : status ≡ ReadFault → IsReadFault shelf files before now
   -- a file is refused for its size only where more of its bytes were moved than a file may have
@@ -61,7 +61,7 @@ IsComplete shelf sink accepted before now out_before out_now status = accepted
     → (status ≡ Done) ⊎ (status ≡ OutOfMemory)
 
 -- what a form that reads these files in this order promises beside its answer
-pub record KeepsPromise {S O : Type 0} (shelf : ShelfGhosts S) (sink : SinkGhosts O) (files : List (List ℕ))
+pub record KeepsPromise {S O : Type 0} (shelf : ShelfGhosts S) (sink : SinkGhosts O) (files : List (Option (List ℕ)))
     (before now : S) (out_before out_now : O) (status : Status) : Type 0 where
   pub reads : ReadsFiles shelf files before now status
   pub writes : WritesAnswer sink out_before out_now status

@@ -1,6 +1,5 @@
 -- The form `run`: the history of a scene.
-use Rattle.std.specs.Prelude.{◌≡◌, ◌≢◌, ◌⊎◌, ℕ, suc, ◌<◌, ◌≤◌, Bool, false, cond, IsTrue, List, ◌∷◌, ◌++◌, codes, Option, Some, None}
-use Rattle.rail_base.specs.NameForms.{same_name}
+use Rattle.std.specs.Prelude.{◌≡◌, ◌≢◌, ◌⊎◌, ℕ, suc, ◌<◌, ◌≤◌, false, IsTrue, List, [], ◌∷◌, ◌++◌, length, Option, Some, None}
 use Rattle.rail_base.specs.declared.refusals.Refusal.{Refusal}
 use Rattle.rail_base.specs.declared.history.Note.{Note}
 use Rattle.rail_base.specs.declared.history.Note.TheVariants.{Fresh}
@@ -8,89 +7,129 @@ use Rattle.rail_base.specs.declared.history.Cause.{Cause}
 use Rattle.rail_base.specs.declared.history.What.TheVariants.{Admit, End, Hold}
 use Rattle.rail_rules.specs.LineCounts.{holds_train, lines_that}
 use Rattle.rail_io.specs.Writes.{Adds, AddsPrefix}
-use Rattle.rail_rules.specs.Accepted.{is_accepted}
+use Rattle.rail_rules.specs.Accepted.{is_accepted_input}
 use Rattle.rail_rules.specs.Causes.{cause, is_ready, is_repairable, last_hold, place}
 use Rattle.rail_rules.specs.Fronts.{Front, Line, instant, kept, lines_beside_holds, places}
-use Rattle.rail_rules.specs.Lawful.{is_out}
+use Rattle.rail_rules.specs.Lawful.{is_out, remaining}
 use Rattle.rail_rules.specs.Places.{completes}
-use Rattle.rail_rules.specs.Plant.{Plant, bound, moves_of, trains}
-use Rattle.rail_rules.specs.RunHistories.{is_chosen, is_run, is_run_history}
+use Rattle.rail_rules.specs.Plant.{bound, moves_of, trains}
+use Rattle.rail_rules.specs.RunHistories.{Seat, is_chosen, is_run, is_run_history}
 use Rattle.rail_rules.specs.Texts.{text}
-use Rattle.rail_rules.specs.FcfsAlone.{fcfs_alone, seats}
 use Rattle.rail_rules.specs.Overlaps.{NeverOverlap}
-use Rattle.rail_rules.specs.Orders.{Input, input_of}
+use Rattle.rail_rules.specs.Orders.{Input, is_cancelled, is_closed, is_stopped, told}
 use Rattle.rail_rules.specs.Numbers.{or_else}
-use Rattle.rail_scene.specs.SpelledScenes.{spelled_scene}
-use Rattle.rail_scene.specs.declared.scene.Scene.{Scene}
+use Rattle.rail_policy.specs.Seats.{DeskSeat, handed_in, names_of}
+use Rattle.rail_input.specs.Inputs.{input_in, input_refusal, plant_refusal}
 use Rattle.rail_cli.specs.declared.status.Status.{Status}
-use Rattle.rail_cli.specs.Answers.{IsAnswer, Told, not_yet, plant_in, plant_refusal}
-use Rattle.rail_cli.specs.Files.{too_large}
-
--- the input of a run: the plant, no commands, and the one policy `fcfs`
-abbrev pub run_input : Plant → Input
-run_input plant = input_of fcfs_alone plant
-
--- the scene's policy is `fcfs`, by which the train that was ready first goes first
-abbrev pub is_first_come : Scene → Bool
-is_first_come scene = same_name scene.policy (codes "fcfs")
-
--- why a run is refused; scenes of other policies are not run yet
-abbrev pub run_refusal : List ℕ → Option Refusal
-run_refusal bytes = or_else (plant_refusal bytes) (cond (is_first_come (spelled_scene bytes)) None (Some not_yet))
+use Rattle.rail_cli.specs.declared.status.Status.TheVariants.{Refused}
+use Rattle.rail_cli.specs.Answers.{Decides, IsAnswer, Told}
+use Rattle.rail_cli.specs.Files.{named_file, told_of, too_large, too_large_if_any, too_many_bytes}
 
 -- the next move of the train waits for a cause that is true and that its last hold line states
-pub record WaitsForStated (plant : Plant) (front : Front) (t : ℕ) : Type 0 where
+pub record WaitsForStated (input : Input) (front : Front) (t : ℕ) : Type 0 where
   pub why : Cause
-  pub true_cause : cause (run_input plant) front t ≡ Some why
+  pub true_cause : cause input front t ≡ Some why
   pub stated : last_hold front t (suc (place front t)) ≡ Some why
 
--- what a run keeps at each of its lines: blocking intervals of one section never overlap; the kept list always brings
--- every train inside to its exit; each hold line names the true cause; the train that the policy chooses is admitted;
--- whenever time goes on, and at the end, each train that is ready waits for a stated true cause; a repaired list goes
--- before a fresh one; and no line and no hold line of a train is more than the bound says
-pub record IsSafe (plant : Plant) (front : Front) : Type 0 where
-  pub apart : NeverOverlap plant front
+-- what a run keeps at each of its lines: no overlap; a list by which every train inside comes to its exit; true causes on
+-- hold lines, and of each wait when time goes on; the policy obeyed; repair before a fresh list; no more lines than the bound
+pub record IsSafe (input : Input) (seats : List Seat) (front : Front) : Type 0 where
+  pub apart : NeverOverlap input.plant front
   pub complete : (later before : Front) → front ≡ later ++ before
-      → IsTrue (completes (moves_of plant) (places plant before) (kept plant before))
+      → IsTrue (completes (moves_of input.plant) (places input.plant before) (kept input.plant before))
   pub causes : (later before : Front) (line : Line) (t m : ℕ) (why : Cause) → front ≡ later ++ line ∷ before
-      → line.entry.what ≡ Hold t m why → cause (run_input plant) before t ≡ Some why
+      → line.entry.what ≡ Hold t m why → cause input before t ≡ Some why
   pub obeyed : (later before : Front) (line : Line) (t m : ℕ) (note : Note) → front ≡ later ++ line ∷ before
-      → line.entry.what ≡ Admit t m note → IsTrue (is_chosen (run_input plant) seats before t)
+      → line.entry.what ≡ Admit t m note → IsTrue (is_chosen input seats before t)
   pub waits : (later before : Front) (line : Line) (t : ℕ) → front ≡ later ++ line ∷ before
       → (line.entry.at ≢ instant before) ⊎ (line.entry.what ≡ End)
-      → t < trains plant → IsTrue (is_ready (run_input plant) before t) → WaitsForStated plant before t
+      → t < trains input.plant → IsTrue (is_ready input before t) → WaitsForStated input before t
   pub repaired : (later before : Front) (line : Line) (t m : ℕ) → front ≡ later ++ line ∷ before
-      → line.entry.what ≡ Admit t m Fresh → is_repairable (run_input plant) before t ≡ false
-  pub few : lines_beside_holds front ≤ bound plant 0
-  pub few_holds : (t : ℕ) → lines_that (holds_train t) front ≤ bound plant 0
+      → line.entry.what ≡ Admit t m Fresh → is_repairable input before t ≡ false
+  pub few : lines_beside_holds front ≤ bound input.plant (length input.commands)
+  pub few_holds : (t : ℕ) → lines_that (holds_train t) front ≤ bound input.plant (length input.commands)
 
--- the bytes added are the text of a run history, in which every event line is the due one; at its end every train has left,
--- and it has exactly as many lines as the bound says, hold lines aside
-pub record IsRun (plant : Plant) (before now : Option (List ℕ)) : Type 0 where
+-- no section of the plant is closed and no train is stopped, by the orders that the front tells
+pub record NothingIsBarred (input : Input) (front : Front) : Type 0 where
+  pub opened : (x : ℕ) → x < length input.plant.tables.sections → is_closed x (told input.commands front) ≡ false
+  pub going : (t : ℕ) → t < trains input.plant → is_stopped t (told input.commands front) ≡ false
+
+-- what holds at the end of a run
+pub record IsFinished (input : Input) (front : Front) : Type 0 where
+  -- the last line is the end line
+  pub last : Line
+  pub before : Front
+  pub is_last : front ≡ last ∷ before
+  pub is_end : last.entry.what ≡ End
+  -- it names, by number, exactly the trains that are neither out nor cancelled
+  pub names : last.trains ≡ remaining input front
+  -- where nothing is barred it names nobody, and each train is out or cancelled
+  pub nobody : NothingIsBarred input front → last.trains ≡ []
+  pub left : NothingIsBarred input front → (t : ℕ) → t < trains input.plant
+      → IsTrue (is_out front t) ⊎ IsTrue (is_cancelled t (told input.commands front))
+  -- where moreover no train is cancelled there are exactly as many lines as the bound says, hold lines aside
+  pub exact : NothingIsBarred input front
+      → ((t : ℕ) → t < trains input.plant → is_cancelled t (told input.commands front) ≡ false)
+      → lines_beside_holds front ≡ bound input.plant (length input.commands)
+  -- so without commands every train is out, and there are exactly so many lines
+  pub all_left : input.commands ≡ [] → (t : ℕ) → t < trains input.plant → IsTrue (is_out front t)
+  pub all_lines : input.commands ≡ [] → lines_beside_holds front ≡ bound input.plant 0
+
+-- the bytes added are the text of a run history, in which every event line is the due one
+pub record IsRun (input : Input) (seats : List Seat) (before now : Option (List ℕ)) : Type 0 where
   pub front : Front
-  pub history : IsTrue (is_run_history (run_input plant) seats front)
-  pub safe : IsSafe plant front
-  pub left : (t : ℕ) → t < trains plant → IsTrue (is_out front t)
-  pub exact : lines_beside_holds front ≡ bound plant 0
-  pub adds : Adds before now (text plant front)
+  pub history : IsTrue (is_run_history input seats front)
+  pub safe : IsSafe input seats front
+  pub finished : IsFinished input front
+  pub adds : Adds before now (text input.plant front)
 
 -- the bytes added are a first part of the text of a run front
-pub record IsRunInPart (plant : Plant) (before now : Option (List ℕ)) : Type 0 where
+pub record IsRunInPart (input : Input) (seats : List Seat) (before now : Option (List ℕ)) : Type 0 where
   pub front : Front
-  pub run : IsTrue (is_run (run_input plant) seats front)
-  pub safe : IsSafe plant front
-  pub adds : AddsPrefix before now (text plant front)
+  pub run : IsTrue (is_run input seats front)
+  pub safe : IsSafe input seats front
+  pub adds : AddsPrefix before now (text input.plant front)
 
--- the plant may be run: it is within the limits, so that the laws on all such plants speak of it; and its run was added
-abbrev pub RunsPlant : Plant → Option (List ℕ) → Option (List ℕ) → Type 0
-RunsPlant plant before now = IsTrue (is_accepted plant) × IsRun plant before now
+-- the input may be run: it is within the limits, so that the laws on all such inputs speak of it; and its run, with the
+-- boxes as they were handed in, was added
+abbrev pub RunsInput : Input → List Seat → Option (List ℕ) → Option (List ℕ) → Type 0
+RunsInput input seats before now = IsTrue (is_accepted_input input) × IsRun input seats before now
 
--- the plant may be run, and a first part of its run was added
-abbrev pub RunsPlantInPart : Plant → Option (List ℕ) → Option (List ℕ) → Type 0
-RunsPlantInPart plant before now = IsTrue (is_accepted plant) × IsRunInPart plant before now
+-- the input may be run, and a first part of its run was added
+abbrev pub RunsInputInPart : Input → List Seat → Option (List ℕ) → Option (List ℕ) → Type 0
+RunsInputInPart input seats before now = IsTrue (is_accepted_input input) × IsRunInPart input seats before now
 
--- the history of the scene, where the bytes of its file are told
-abbrev pub AnswersRun : List ℕ → Told → Option (List ℕ) → Option (List ℕ) → Status → Type 0
-AnswersRun scene told before now status = (bytes : List ℕ) → told scene ≡ Some bytes
-    → IsAnswer (or_else (too_large 1 bytes) (run_refusal bytes))
-    (RunsPlant (plant_in bytes) before now) (RunsPlantInPart (plant_in bytes) before now) status
+-- why a run is refused whose files hold this, with this deck: for the size of each file in turn, and then for what they spell
+abbrev pub run_refusal : List ℕ → Option (List ℕ) → Option (List ℕ) → List DeskSeat → Option Refusal
+run_refusal scene timetable commands deck =
+    or_else (too_large 1 scene)
+    (or_else (too_large_if_any 2 timetable)
+    (or_else (too_large_if_any 3 commands)
+    (input_refusal scene timetable commands (names_of deck))))
+
+-- the history of the scene with the timetable and the commands that these words name, with this deck
+pub record AnswersRun (scene timetable commands : List ℕ) (deck : List DeskSeat) (told : Told) (before now : Option (List ℕ))
+    (status : Status) : Type 0 where
+  -- where the bytes of all files are told
+  pub all : (bytes : List ℕ) (calls orders : Option (List ℕ)) → told scene ≡ Some bytes
+      → told_of told (named_file timetable) ≡ Some calls → told_of told (named_file commands) ≡ Some orders
+      → IsAnswer (run_refusal bytes calls orders deck)
+      (RunsInput (input_in bytes calls orders (names_of deck)) (handed_in deck) before now)
+      (RunsInputInPart (input_in bytes calls orders (names_of deck)) (handed_in deck) before now)
+      status
+  -- where those of the scene are told, whatever the other files are: the size of the scene's file, and behind the sizes of
+  -- the others the refusals of the scene
+  pub of_size : (bytes : List ℕ) → told scene ≡ Some bytes → Decides (too_large 1 bytes) status
+  pub of_scene : (bytes : List ℕ) → told scene ≡ Some bytes
+      → status ≢ Refused (too_many_bytes 2) → status ≢ Refused (too_many_bytes 3)
+      → Decides (or_else (too_large 1 bytes) (plant_refusal bytes)) status
+
+-- the bytes of the files are told, and nothing is refused
+pub record IsAcceptedRun (scene timetable commands : List ℕ) (deck : List DeskSeat) (told : Told) : Type 0 where
+  pub bytes : List ℕ
+  pub calls : Option (List ℕ)
+  pub orders : Option (List ℕ)
+  pub scene_told : told scene ≡ Some bytes
+  pub calls_told : told_of told (named_file timetable) ≡ Some calls
+  pub orders_told : told_of told (named_file commands) ≡ Some orders
+  pub fine : run_refusal bytes calls orders deck ≡ None

@@ -1,8 +1,8 @@
 //! The files of a command, read one after another.
 
-ghost use Rattle.std.specs.Prelude.{◌≡◌, ◌≤◌, ℕ, List, None, Some, IfOk, IfErr, OnOk, length};
+ghost use Rattle.std.specs.Prelude.{◌≡◌, ◌≤◌, ℕ, List, Option, None, Some, IfOk, IfErr, IfSome, OnOk, length};
 ghost use Rattle.rail_base.specs.declared.limits.TheConstants.{FILE_BYTES};
-ghost use Rattle.rail_cli.specs.Files.{IsFileAnswer, IsRead, too_large, too_many_bytes};
+ghost use Rattle.rail_cli.specs.Files.{IsFileAnswer, IsNamedAnswer, IsRead, IsReadIfAny, content_of, named_file, told_of, too_large, too_large_if_any, too_many_bytes};
 
 use crate::status::Status;
 use rail_base::limits::FILE_BYTES;
@@ -33,6 +33,33 @@ pub fn read_file<S: Shelf>(
         Err(ReadWhole::TooLarge) => Err(Status::Refused(too_many_bytes(number))),
         Err(ReadWhole::OutOfMemory) => Err(Status::OutOfMemory),
     }
+}
+
+/// The word that stands for no file.
+pub const NO_FILE: &str = "-";
+
+/// The bytes of the file that the word names, which has this number among the file words of the command; none where
+/// the word is `-`. It ends as `read_file` does.
+pub fn read_named<S: Shelf>(
+    alloc: Global,
+    shelf: &mut S,
+    word: &str,
+    number: u32,
+) -> Result<Option<Vec<u8>>, Status>
+    ensures content { IfOk result (λ bytes. (content : Option (List ℕ))
+        → told_of (S.told shelf.old) (named_file word.now) ≡ Some content → content_of bytes ≡ content) }
+    ensures short { IfOk result (λ bytes. IfSome (content_of bytes) (λ b. length b ≤ FILE_BYTES)) }
+    ensures fits { IfOk result (λ bytes. too_large_if_any number (content_of bytes) ≡ None) }
+    ensures read { OnOk result (IsReadIfAny S.Shelf (named_file word.now) shelf.old shelf.new) }
+    ensures refused { IfErr result (IsNamedAnswer S.Shelf number (named_file word.now) shelf.old shelf.new) }
+    ensures told_stays { S.told shelf.new ≡ S.told shelf.old }
+    ensures faults_never_fall { S.faults shelf.old ≤ S.faults shelf.new }
+{
+    if word == NO_FILE {
+        return Ok(None);
+    }
+    let bytes = read_file(alloc, shelf, word, number)?;
+    Ok(Some(bytes))
 }
 
 /// The refusal of a file for its size, by its number.

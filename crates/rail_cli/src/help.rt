@@ -4,14 +4,15 @@
 pub const HELP: &str = "\
 rail simulates the operation of railway lines and stations, and proves what it prints.
 
-    rail run SCENE          the history of the scene, line by line
-    rail infra SCENE        counts, routes with their lengths, and train kinds of the scene
-    rail play SCENE LIST    whether a list of moves brings every train inside to its exit
-    rail --help             this text
-    rail --version          the version
+    rail run SCENE [TIMETABLE [COMMANDS]]    the history of the scene, line by line
+    rail infra SCENE                         counts, and routes with their lengths
+    rail play SCENE LIST                     whether a list of moves brings every train inside to its exit
+    rail --help                              this text
+    rail --version                           the version
 
-SCENE is a TOML file and LIST a file of lines. `run` takes scenes of the policy `fcfs`, which is that of
-a scene that names none, and refuses scenes of other policies with `refused 39`.
+SCENE is a TOML file, TIMETABLE a CSV file, COMMANDS and LIST are files of lines. A `-` for TIMETABLE or
+COMMANDS stands for no file. The policies are `priority`, `timetable`, `fcfs` and `rotating`; a scene that
+names none is run by `fcfs`.
 
 Exit status: 0 done, 1 words not in the table, 2 input refused, 3 read fault, 4 write fault, 5 out of
 memory, 7 words that are no text. The status text is the last line on standard error.

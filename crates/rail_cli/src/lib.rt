@@ -11,7 +11,6 @@
 mod commands;
 mod files;
 mod help;
-mod scenes;
 mod status;
 mod top;
 

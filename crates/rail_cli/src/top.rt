@@ -1,6 +1,7 @@
 //! The top call: what the words ask for, on files and an output.
 
-ghost use Rattle.std.specs.Prelude.{◌≡◌, ◌↔◌};
+ghost use Rattle.std.specs.Prelude.{◌≡◌, ◌↔◌, IsTrue, map};
+ghost use Rattle.rail_policy.specs.Seats.{is_fine_deck};
 ghost use Rattle.rail_words.specs.Forms.{IsForm};
 ghost use Rattle.rail_words.specs.declared.forms.Form.{Form};
 ghost use Rattle.rail_cli.specs.declared.status.Status.TheVariants as status;
@@ -8,9 +9,11 @@ ghost use Rattle.rail_cli.specs.Forms.{AnswersForm, IsAcceptedInput, files_named
 ghost use Rattle.rail_cli.specs.Promises.{IsComplete, KeepsPromise, ReadsFiles, WritesAnswer, ended};
 
 use crate::commands::{infra, play, run};
+use crate::files::NO_FILE;
 use crate::status::{NOT_YET, Status};
 use rail_base::Word;
 use rail_io::{Shelf, Sink};
+use rail_policy::Policy;
 use rail_words::{Form, form_of};
 use std::alloc::Global;
 
@@ -21,25 +24,36 @@ use std::alloc::Global;
 /// `Done` has added the text of one history in which every event line is the due one, blocking intervals of
 /// one section never overlap, the kept list brings every train inside to its exit after every line, each hold
 /// line names the true cause, the policy is obeyed, each ready train waits for a stated true cause whenever
-/// time goes on, a repaired list goes before a fresh one, every train has left at the end, and there are
-/// exactly as many lines as the bound says, hold lines aside.
+/// time goes on, and a repaired list goes before a fresh one; at the end, where no section stays closed and no
+/// train stopped, every train is out or cancelled, and where none is cancelled there are exactly as many lines as
+/// the bound says, hold lines aside. So it is of any commands and any policies, whatever these answer.
+///
+/// The policies of the deck are those that the scene and the commands may name, 1 to 16 with distinct names.
 ///
 /// A command whose input is accepted is done where no count of faults rose, unless memory is wanting.
 ///
 /// `Usage` comes exactly where the words are not in the table of words, and before any file. A refusal is
 /// the first one in the order of refusals. `ReadFault` and `WriteFault` come only where the count of
 /// faults of the shelf and of the output rose in this call.
-pub fn rail<S: Shelf, O: Sink>(alloc: Global, words: &[Word], shelf: &mut S, out: &mut O) -> Status
+pub fn rail<S: Shelf, O: Sink>(
+    alloc: Global,
+    words: &[Word],
+    shelf: &mut S,
+    out: &mut O,
+    deck: Vec<Box<dyn Policy>>,
+) -> Status
+    requires fine { IsTrue (is_fine_deck (map ⟦<Box<dyn Policy> as Policy>⟧.seat deck.items)) }
     ensures usage { (result ≡ status.Usage) ↔ ((form : Form) → IsForm form words.now → ⊥) }
     ensures answer { (form : Form) → IsForm form words.now
-        → AnswersForm form words.now (S.told shelf.old) (O.written out.old) (O.written out.new) result }
+        → AnswersForm form words.now (map ⟦<Box<dyn Policy> as Policy>⟧.seat deck.items)
+        (S.told shelf.old) (O.written out.old) (O.written out.new) result }
     ensures complete { (form : Form) → IsForm form words.now
-        → IsComplete S.Shelf O.Sink (IsAcceptedInput form words.now (S.told shelf.old)) shelf.old shelf.new out.old out.new result }
+        → IsComplete S.Shelf O.Sink (IsAcceptedInput form words.now (map ⟦<Box<dyn Policy> as Policy>⟧.seat deck.items) (S.told shelf.old)) shelf.old shelf.new out.old out.new result }
     ensures reads { ReadsFiles S.Shelf (files_named words.now) shelf.old shelf.new result }
     ensures writes { WritesAnswer O.Sink out.old out.new result }
 {
     match form_of(words) {
-        Some(form) => status_of(answer(alloc, form, words, shelf, out)),
+        Some(form) => status_of(answer(alloc, form, words, shelf, out, deck)),
         None => Status::Usage,
     }
 }
@@ -51,12 +65,25 @@ fn answer<S: Shelf, O: Sink>(
     words: &[Word],
     shelf: &mut S,
     out: &mut O,
+    deck: Vec<Box<dyn Policy>>,
 ) -> Result<(), Status>
+    requires fine { IsTrue (is_fine_deck (map ⟦<Box<dyn Policy> as Policy>⟧.seat deck.items)) }
     ensures kept { KeepsPromise S.Shelf O.Sink (files_of form words.now) shelf.old shelf.new out.old out.new (ended result) }
-    ensures answer { AnswersForm form words.now (S.told shelf.old) (O.written out.old) (O.written out.new) (ended result) }
+    ensures answer { AnswersForm form words.now (map ⟦<Box<dyn Policy> as Policy>⟧.seat deck.items)
+        (S.told shelf.old) (O.written out.old) (O.written out.new) (ended result) }
 {
     match (form, words) {
-        (Form::Run, [_, scene]) => run::answer(alloc, scene.as_str(), shelf, out),
+        (Form::Run, [_, scene]) => {
+            run::answer(alloc, scene.as_str(), NO_FILE, NO_FILE, shelf, out, deck)
+        }
+        (Form::Run, [_, scene, timetable]) => {
+            let timetable = timetable.as_str();
+            run::answer(alloc, scene.as_str(), timetable, NO_FILE, shelf, out, deck)
+        }
+        (Form::Run, [_, scene, timetable, commands]) => {
+            let (timetable, commands) = (timetable.as_str(), commands.as_str());
+            run::answer(alloc, scene.as_str(), timetable, commands, shelf, out, deck)
+        }
         (Form::Infra, [_, scene]) => infra::answer(alloc, scene.as_str(), shelf, out),
         (Form::Play, [_, scene, list]) => {
             play::answer(alloc, scene.as_str(), list.as_str(), shelf, out)

@@ -1,2 +1,8 @@
 -- Lemmas on the engine.
-mod Obeying
+mod Asking
+mod Beginning
+mod Choosing
+mod Continuing
+mod Desks
+mod Offering
+mod Trying

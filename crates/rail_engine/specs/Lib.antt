@@ -1,2 +1,6 @@
--- The front for which an engine stands.
+-- The desk, the offers of a round, that the policy in force was asked, and the front for which an engine stands.
+pub mod Asked
+pub mod Desks
 pub mod Engines
+pub mod Rounds
+pub mod Starts

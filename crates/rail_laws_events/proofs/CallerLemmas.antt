@@ -48,6 +48,8 @@ pub use Rattle.rail_laws_events.proofs.Bounded.{met}
 
 -- a cancelled train has no admission
 pub use Rattle.rail_laws_events.proofs.Cancelled.{cancelled_never_goes}
+-- a told line tells an order that takes effect, and every other line tells none
+pub use Rattle.rail_laws_events.proofs.Cancelled.{TellsOne, told_effect, told_tells}
 -- SameCauses: the cause of a train's waiting comes from the orders, the admissions, the instant and the kept list alone.
 pub use Rattle.rail_laws_events.proofs.SameCauses.{cause_same, place_same}
 -- two fronts with the same orders, admissions, instant and kept list

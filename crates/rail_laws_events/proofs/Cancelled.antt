@@ -1,5 +1,5 @@
 -- What a told line tells takes effect, and so a cancelled train is never admitted.
-use Rattle.std.proofs.Common.{◌≡◌, ℕ, suc, ◌-◌, Bool, true, false, not, ◌||◌, cond, eqb, List, [], ◌∷◌, ◌++◌, length, refl, sym, ap, ◌∙◌, subst, ◌⊎◌, inl, inr, ⊎_elim, arith}
+use Rattle.std.proofs.Common.{◌≡◌, ℕ, suc, ◌-◌, ◌≤◌, Bool, true, false, not, ◌||◌, cond, eqb, List, [], ◌∷◌, ◌++◌, length, refl, sym, ap, ◌∙◌, subst, ◌⊎◌, inl, inr, ⊎_elim, arith}
 use Rattle.std.specs.List.{slice_get}
 use Rattle.std.proofs.lemmas.Bool.{cases_eq, false≢true, and_parts, or_cases, eqb-true, cond-true}
 use Rattle.rail_base.specs.declared.history.Entry.{Entry}
@@ -19,8 +19,9 @@ use Rattle.rail_rules.specs.LineCounts.{is_command}
 use Rattle.rail_laws_events.proofs.Commands.{command_new}
 
 -- the order that a told line tells took effect before it
-record TellsOne (input : Input) (front : Front) (line : Line) : Type 0 where
+pub record TellsOne (input : Input) (front : Front) (line : Line) : Type 0 where
   pub order : Order
+  pub counted : (k : ℕ) → line.entry.what ≡ Told k → 1 ≤ k
   pub orders : orders_of input.commands line.entry.what ≡ order ∷ []
   pub effect : takes_effect input front (told input.commands front) order ≡ true
 
@@ -30,10 +31,11 @@ tells_one input front line k happens is =
     let b : Bool = takes_effect input front (told input.commands front) new.command.what in
     let what_is : Told k ≡ cond b (Told (suc new.index)) (Untold (suc new.index)) = sym is ∙ ap (λ (x : Entry). x.what) new.line_is in
     let effect : b ≡ true = told_true b new.index what_is in
-    let number : k ≡ suc new.index = told_number new.index (what_is ∙ cond-true b (Told (suc new.index)) (Untold (suc new.index)) effect) in
+    let number : k ≡ suc new.index = told_number k new.index (what_is ∙ cond-true b (Told (suc new.index)) (Untold (suc new.index)) effect) in
     let index : k - 1 ≡ new.index = omega arith in
     record {
       order = new.command.what;
+      counted = λ n told. omega (arith, told_number n (new.index) (sym told ∙ is ∙ ap Told number));
       orders = ap (orders_of input.commands) is ∙ ap (λ i. orders_at (slice_get input.commands i)) index ∙ ap orders_at new.listed;
       effect = effect;
     }
@@ -42,8 +44,8 @@ tells_one input front line k happens is =
     told_true true i e = refl
     told_true false i e = cc
 
-    told_number : (i : ℕ) → Told k ≡ Told (suc i) → k ≡ suc i
-    told_number i e = cc
+    told_number : (n i : ℕ) → Told n ≡ Told (suc i) → n ≡ suc i
+    told_number n i e = cc
 
 -- a told cancel finds no admission of its train
 cancel_effect : (input : Input) (front : Front) (t : ℕ) (order : Order) → takes_effect input front (told input.commands front) order ≡ true → is_cancelled t (order ∷ []) ≡ true → place front t ≡ 0
@@ -128,3 +130,30 @@ cancelled_never_goes input (line ∷ front) lawful t h = step (cancelled_never_g
       where
         clash : (k : ℕ) → End ≡ Told k → ⊥
         clash k e = cc
+
+-- a told line tells an order that takes effect
+pub told_tells : (input : Input) (line : Line) (front : Front) (k : ℕ) → is_lawful input (line ∷ front) ≡ true → line.entry.what ≡ Told k → TellsOne input front line
+told_tells input line front k lawful told = by (lawful_last input line front lawful)
+  where
+    by : Follows input front line → TellsOne input front line
+    by (by_event happens) = tells_one input front line k happens told
+    by (by_admission u m note admits) = absurd (clash (sym admits.what ∙ told))
+      where
+        clash : Admit u m note ≡ Told k → ⊥
+        clash e = cc
+    by (by_hold u m why holds) = absurd (clash (sym holds.what ∙ told))
+      where
+        clash : Hold u m why ≡ Told k → ⊥
+        clash e = cc
+    by (by_end ends) = absurd (clash (sym ends.what ∙ told))
+      where
+        clash : End ≡ Told k → ⊥
+        clash e = cc
+
+-- a line tells no order, or one that takes effect
+pub told_effect : (input : Input) (line : Line) (front : Front) → is_lawful input (line ∷ front) ≡ true → (orders_of input.commands line.entry.what ≡ []) ⊎ TellsOne input front line
+told_effect input line front lawful =
+    ⊎_elim
+    (λ told. inr (told_tells input line front told.0 lawful told.1))
+    (λ none. inl (tells_nothing input.commands line.entry.what none))
+    (told_line line.entry.what)

@@ -2,5 +2,15 @@
 
 -- Deciding: nothing is pending at the instant, so it is decided who goes.
 pub use Rattle.rail_ledger.proofs.Deciding.{deciding_at}
+-- Another list that belongs to the last line leaves the front.
+pub use Rattle.rail_ledger.proofs.Judged.{listed_as}
 -- A hold line is no admission.
 pub use Rattle.rail_ledger.proofs.Judged.{hold_none}
+-- A train that waits without a known cause and that nothing bars is next.
+pub use Rattle.rail_ledger.proofs.Looking.{next_unbarred}
+-- A train that waits has a move left.
+pub use Rattle.rail_ledger.proofs.Admissions.{left_of}
+-- What an accepted input says of its plant and its commands.
+pub use Rattle.rail_ledger.proofs.Ordered.{InputParts, input_parts}
+-- The number of a train's next move fits.
+pub use Rattle.rail_ledger.proofs.Room.{place_fits}

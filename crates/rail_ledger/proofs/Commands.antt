@@ -1,10 +1,9 @@
 -- A command's line.
-use Rattle.std.proofs.Common.{◌≡◌, ℕ, zero, suc, ◌+◌, ◌-◌, ◌<◌, ◌≤◌, Bool, true, false, not, ◌&&◌, cond, List, [], ◌∷◌, ◌++◌, length, Option, Some, None, refl, sym, ap, ◌∙◌, subst, ◌⊎◌, inl, inr, ⊎_elim, arith}
+use Rattle.std.proofs.Common.{◌≡◌, ℕ, suc, ◌+◌, ◌-◌, ◌<◌, Bool, true, false, List, [], ◌∷◌, ◌++◌, length, Option, Some, None, refl, sym, ap, ◌∙◌, subst, ◌⊎◌, inl, inr, ⊎_elim, arith}
 use Rattle.std.specs.Prelude.{slice_get}
-use Rattle.std.specs.List.{filter, list_any}
+use Rattle.std.specs.List.{list_any}
 use Rattle.std.proofs.lemmas.Bool.{cases_lt, cond-true, cond-false, false≢true}
 use Rattle.std.proofs.lemmas.List.{get_or_past}
-use Rattle.std.proofs.lemmas.Option.{none-some}
 use Rattle.rail_base.specs.declared.history.Cause.{Cause}
 use Rattle.rail_base.specs.declared.history.What.{What}
 use Rattle.rail_base.specs.declared.history.What.TheVariants.{Told, Untold}
@@ -20,8 +19,7 @@ use Rattle.rail_queue.specs.Order.{first_time_of, goes_before}
 use Rattle.rail_queue.specs.Queue.{Queue}
 use Rattle.rail_orders.specs.Told.{AreOrders, told_after}
 use Rattle.rail_orders.proofs.CallerLemmas.{order_told}
-use Rattle.rail_state.specs.SeenCauses.{stays}
-use Rattle.rail_state.specs.TrainStates.{is_touched, no_state, state_of, state_told}
+use Rattle.rail_state.specs.TrainStates.{no_state, state_of}
 use Rattle.rail_state.specs.Representation.{HasTold, IsCommandOf, Represents, bare_at}
 use Rattle.rail_state.proofs.CallerLemmas.{all_stay, commanded, listed_command}
 use Rattle.rail_state.specs.declared.run_state.RunState.{RunState}

@@ -1,5 +1,5 @@
 -- The next event happens, or the ledger ends.
-use Rattle.std.proofs.Common.{◌≡◌, ℕ, ◌+◌, Bool, true, false, not, ◌||◌, List, [], ◌∷◌, get_or, length, Some, refl, sym, ap, ◌∙◌, subst, ◌⊎◌, inl, inr, ⊎_elim, arith}
+use Rattle.std.proofs.Common.{◌≡◌, ℕ, ◌+◌, true, false, not, ◌||◌, List, [], ◌∷◌, get_or, length, Some, refl, sym, ap, ◌∙◌, subst, ◌⊎◌, inl, inr, ⊎_elim, arith}
 use Rattle.std.specs.List.{filter, list_any}
 use Rattle.std.specs.Option.{option_map_or}
 use Rattle.std.specs.Global.{Vec}
@@ -15,7 +15,6 @@ use Rattle.rail_queue.specs.declared.event.Event.{Event}
 use Rattle.rail_queue.specs.declared.event.Class.TheVariants as class
 use Rattle.rail_queue.specs.Order.{first_time_of, goes_before}
 use Rattle.rail_queue.specs.Queue.{Queue}
-use Rattle.rail_state.specs.declared.train.TrainState.{TrainState}
 use Rattle.rail_state.specs.TrainStates.{state_after, state_of}
 use Rattle.rail_state.specs.Representation.{IsReadyFor, Represents, StaysSettled, bare_at, holders_after, left_of, what_of}
 use Rattle.rail_rules.specs.Orders.{is_cancelled, told}
@@ -25,7 +24,7 @@ use Rattle.rail_ledger.specs.declared.ledger.Listed.TheVariants as listed
 use Rattle.rail_base.specs.declared.orders.Order.{Order}
 use Rattle.rail_laws_events.specs.Accounts.{is_train_event}
 use Rattle.rail_orders.specs.Told.{AreOrders}
-use Rattle.rail_ledger.specs.Inputs.{dispatch_in, input_in}
+use Rattle.rail_ledger.specs.Inputs.{dispatch_in}
 use Rattle.rail_ledger.specs.Ledgers.{ArePlaces, IsAt, IsKept, MayGoOn}
 use Rattle.rail_state.specs.declared.run_state.RunState.{RunState}
 

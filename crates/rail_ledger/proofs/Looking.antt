@@ -14,7 +14,7 @@ use Rattle.rail_state.specs.TrainStates.{IsReadyFirst, bar_by, is_untried, looke
 use Rattle.rail_state.specs.Representation.{IsNext}
 use Rattle.rail_state.proofs.CallerLemmas.{looked_stands}
 use Rattle.rail_ledger.specs.declared.ledger.Ledger.{Ledger}
-use Rattle.rail_ledger.specs.Ledgers.{IsAt, untried}
+use Rattle.rail_ledger.specs.Ledgers.{AreUnbarred, IsAt, IsNextTrain, IsUnbarred, untried}
 use Rattle.rail_ledger.specs.Inputs.{dispatch_in, input_in}
 use Rattle.rail_ledger.proofs.Admissions.{left_of}
 use Rattle.rail_ledger.proofs.Ordered.{bar_is, input_parts, sections_known}
@@ -102,3 +102,26 @@ no_more_untried plant bar old new many each =
         (λ is. omega (arith, cond-true {A = ℕ} (is_untried (state_of new t)) 1 0 is, cond-true {A = ℕ} (is_untried (state_of old t)) 1 0 (untried_before plant bar t (state_of old t) (state_of new t) (each t lt) is).0))
         (λ is_no. omega (arith, cond-false {A = ℕ} (is_untried (state_of new t)) 1 0 is_no))
         h
+
+-- nothing bars those that are untried after the look
+pub unbarred_found : (ledger : Ledger) (states : List TrainState) → length states ≡ length ledger.state.trains
+    → ((t : ℕ) → t < length ledger.state.trains → state_of states t ≡ looked_at ledger.input.plant (bar_by ledger.orders ledger.state.holders) t (state_of ledger.state.trains t))
+    → AreUnbarred (record ledger { state = record ledger.state { trains = states } })
+unbarred_found ledger states many each = λ t lt untried.
+    let here : t < length ledger.state.trains = omega (arith, lt, many) in
+    let bar : ℕ → List ℕ → Option Cause = bar_by ledger.orders ledger.state.holders in
+    ap (λ (r : TrainState). bar t (needed ledger.input.plant t r.place)) (each t here)
+    ∙ (untried_before ledger.input.plant bar t (state_of ledger.state.trains t) (state_of states t) (each t here) untried).1
+
+-- a train that waits without a known cause and that nothing bars is next
+pub next_unbarred : (ledger : Ledger) (t : ℕ) → t < length ledger.state.trains → is_untried (state_of ledger.state.trains t) ≡ true → IsUnbarred ledger t → IsNextTrain ledger t
+next_unbarred ledger t lt untried unbarred = λ front at.
+    let known : t < trains ledger.input.plant = omega (arith, lt, at.rep.times.many) in
+    let waits = (and_parts (state_of ledger.state.trains t).waits (not (is_some (state_of ledger.state.trains t).known)) untried).0 in
+    record {
+      known_train = known;
+      untried = untried;
+      free = sym (bar_is front ledger at t known (needed ledger.input.plant t (place front t))
+          (sections_known ledger.input.plant (input_parts (input_in ledger.input) at.accepted).plant t known (place front t) (left_of front ledger at t waits)))
+          ∙ ap (λ p. bar_by ledger.orders ledger.state.holders t (needed ledger.input.plant t p)) (sym (at.rep.times.places t known)) ∙ unbarred;
+    }

@@ -1,14 +1,12 @@
 -- What the commands told so far mean, by what is kept.
-use Rattle.std.proofs.Common.{◌≡◌, ℕ, zero, suc, ◌+◌, ◌-◌, ◌<◌, ◌≤◌, Bool, true, false, not, ◌&&◌, ◌||◌, cond, eqb, nat_lt, List, [], ◌∷◌, length, Option, Some, None, is_some, refl, sym, ap, ◌∙◌, subst, ⊎_elim, arith}
+use Rattle.std.proofs.Common.{◌≡◌, ℕ, zero, suc, ◌+◌, ◌<◌, ◌≤◌, Bool, true, false, not, ◌&&◌, cond, eqb, nat_lt, List, [], ◌∷◌, length, Option, Some, None, refl, sym, ap, ◌∙◌, subst, arith}
 use Rattle.std.specs.Prelude.{slice_get, count_by, nat_le}
 use Rattle.std.specs.List.{list_all}
 use Rattle.std.proofs.lemmas.Bool.{and_parts, leb-true, lt-ltb, ltb-true, ne_eqb}
-use Rattle.std.proofs.lemmas.List.{get_or_past}
 use Rattle.std.proofs.lemmas.List.Sums.{sum_by-cons}
 use Rattle.std.proofs.lemmas.Option.{none-some, same_Some}
 use Rattle.rail_base.specs.declared.history.Cause.{Cause}
 use Rattle.rail_base.specs.declared.history.Entry.{Entry}
-use Rattle.rail_base.specs.declared.history.What.{What}
 use Rattle.rail_base.specs.declared.history.What.TheVariants.{Told, Untold}
 use Rattle.rail_base.specs.declared.orders.Command.{Command}
 use Rattle.rail_base.specs.declared.orders.Order.{Order}
@@ -16,7 +14,7 @@ use Rattle.rail_base.specs.declared.orders.Order.TheVariants.{Policy, Retire, Cl
 use Rattle.rail_base.specs.declared.limits.TheConstants.{COMMANDS}
 use Rattle.rail_rules.specs.Accepted.{are_commands_in_range, is_accepted, is_accepted_input, is_order_in_range}
 use Rattle.rail_rules.specs.Causes.{closed_cause, stop_cause}
-use Rattle.rail_rules.specs.Events.{command_line, commands_due}
+use Rattle.rail_rules.specs.Events.{commands_due}
 use Rattle.rail_rules.specs.Fronts.{Front, admissions}
 use Rattle.rail_rules.specs.Numbers.{or_else}
 use Rattle.rail_rules.specs.Orders.{Input, takes_effect, told}
@@ -25,11 +23,11 @@ use Rattle.rail_rules.proofs.CallerLemmas.{accepted_parts, move_in_range, row_in
 use Rattle.rail_laws_events.specs.Accounts.{tally}
 use Rattle.rail_laws_run.specs.HolderTables.{held_cause}
 use Rattle.rail_queue.specs.declared.event.Event.{Event}
-use Rattle.rail_orders.specs.Told.{closed_in, stop_in}
+use Rattle.rail_orders.specs.Told.{closed_in}
 use Rattle.rail_orders.proofs.CallerLemmas.{closed_is, effect_is, stop_is}
 use Rattle.rail_state.specs.Events.{command_event, command_events, event_of}
 use Rattle.rail_state.specs.SeenCauses.{seen_bar}
-use Rattle.rail_state.specs.TrainStates.{bar_by, no_state, state_of}
+use Rattle.rail_state.specs.TrainStates.{bar_by, state_of}
 use Rattle.rail_ledger.specs.declared.ledger.Ledger.{Ledger}
 use Rattle.rail_ledger.specs.Inputs.{dispatch_in, input_in}
 use Rattle.rail_ledger.specs.Ledgers.{IsAt, is_effective}

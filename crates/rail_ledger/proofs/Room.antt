@@ -9,7 +9,7 @@ use Rattle.rail_laws_run.proofs.CallerLemmas.{due_bound}
 use Rattle.rail_state.specs.TrainStates.{state_of}
 use Rattle.rail_state.proofs.CallerLemmas.{well_formed_plant, count-all}
 use Rattle.rail_ledger.specs.declared.ledger.Ledger.{Ledger}
-use Rattle.rail_ledger.specs.Inputs.{dispatch_in, input_in}
+use Rattle.rail_ledger.specs.Inputs.{input_in}
 use Rattle.rail_ledger.specs.Ledgers.{IsAt}
 use Rattle.rail_base.specs.declared.limits.TheConstants.{ITINERARY_ROUTES}
 use Rattle.rail_state.specs.declared.pushes.TheConstants.{MOVE_EVENTS}

@@ -1,15 +1,16 @@
 -- The front that a ledger stands for.
 use Rattle.std.specs.List.{filter}
-use Rattle.std.specs.Prelude.{◌||◌, is_some, nat_lt, suc, ◌==◌, ◌&&◌, not, Bool, ◌≡◌, ◌↔◌, ◌⊎◌, ℕ, ◌+◌, ◌<◌, ◌≤◌, ◌^◌, cond, true, false, List, [], ◌∷◌, length, get_or, Some, None, IsTrue, vec_capacity}
+use Rattle.std.specs.Prelude.{◌||◌, is_some, nat_lt, suc, ◌==◌, ◌&&◌, not, Bool, ◌≡◌, ◌↔◌, ◌⊎◌, ℕ, ◌+◌, ◌<◌, ◌≤◌, ◌^◌, cond, true, false, List, [], ◌∷◌, length, get_or, set, Some, None, IsTrue, vec_capacity}
 use Rattle.rail_base.specs.declared.history.Entry.{Entry}
 use Rattle.rail_base.specs.declared.limits.TheConstants.{SECTIONS, TRAINS}
 use Rattle.rail_rules.specs.Numbers.{sum_below}
+use Rattle.rail_base.specs.declared.history.Cause.TheVariants.{NoList}
 use Rattle.rail_base.specs.declared.history.Note.{Note}
 use Rattle.rail_base.specs.declared.history.Note.TheVariants.{Pulled, Appended, Fresh}
 use Rattle.rail_list.specs.Repairs.{IsNoted}
 use Rattle.rail_list.specs.GivenLists.{given_list}
 use Rattle.rail_rules.specs.Places.{after, holds}
-use Rattle.rail_rules.specs.Plant.{Plant, bound, moves, moves_of, trains}
+use Rattle.rail_rules.specs.Plant.{Plant, bound, claimed, moves, moves_of, trains}
 use Rattle.rail_rules.specs.Causes.{could_go, is_deciding}
 use Rattle.rail_rules.specs.Fronts.{Front, Line, has_ended, is_admission, is_hold, kept, places}
 use Rattle.rail_rules.specs.Lawful.{may_follow}
@@ -19,7 +20,7 @@ use Rattle.rail_place.specs.Made.{State}
 use Rattle.rail_list.specs.KeptLists.{Kept}
 use Rattle.rail_queue.specs.Order.{first_time_of}
 use Rattle.rail_state.specs.declared.train.TrainState.{TrainState}
-use Rattle.rail_state.specs.TrainStates.{is_untried, state_of, state_told}
+use Rattle.rail_state.specs.TrainStates.{bar_by, is_untried, state_of, state_told}
 use Rattle.rail_state.specs.Representation.{IsNext, Represents, admit_line, is_due_now}
 use Rattle.rail_ledger.specs.declared.ledger.Ledger.{Ledger}
 use Rattle.rail_ledger.specs.declared.ledger.Listed.{Listed}
@@ -150,11 +151,25 @@ IsDeciding ledger = (front : Front) → IsAt front ledger → is_deciding (input
 abbrev pub IsNextTrain : Ledger → ℕ → Type 0
 IsNextTrain ledger t = (front : Front) → IsAt front ledger → IsNext (dispatch_in ledger.input) ledger.input.plant front ledger.state.holders ledger.state.trains t
 
+-- nothing bars the next move of the train, by what is kept
+abbrev pub IsUnbarred : Ledger → ℕ → Type 0
+IsUnbarred ledger t =
+    bar_by ledger.orders ledger.state.holders t (claimed ledger.input.plant t (state_of ledger.state.trains t).place) ≡ None
+
+-- nothing bars the next moves of the trains that wait without a known cause
+abbrev pub AreUnbarred : Ledger → Type 0
+AreUnbarred ledger = (t : ℕ) → t < length ledger.state.trains → is_untried (state_of ledger.state.trains t) ≡ true → IsUnbarred ledger t
+
 -- the line of the entry continues each run front at which the policy in force chooses the train
 abbrev pub ContinuesRun : Ledger → Ledger → ℕ → Entry → Type 0
 ContinuesRun old new t entry = (front : Front) (seats : List Seat) → IsAt front old
     → IsTrue (is_run (input_in old.input) seats front) → is_chosen (input_in old.input) seats front t ≡ true
     → IsTrue (is_run (input_in old.input) seats (line_in new entry ∷ front))
+
+-- the entry is the admission of the train's next move, behind so many
+pub record IsAdmissionOf (t place : ℕ) (entry : Entry) : Type 0 where
+  pub note : Note
+  pub what : entry.what ≡ what.Admit t (suc place) note
 
 -- an entry that is neither an admission nor a hold line
 abbrev pub IsOther : Entry → Type 0
@@ -164,9 +179,10 @@ IsOther entry = (is_admission entry.what ≡ false) × (is_hold entry.what ≡ f
 abbrev pub IsSettled : Ledger → Ledger → Type 0
 IsSettled old new = (new.state.has_ended ≡ false) × (new.state.is_settled ≡ true) × (new.listed ≡ listed.Nothing) × StandsAsBefore old new
 
--- one waiting train less has no known cause, and the ledger stands as before
-abbrev pub HasTried : Ledger → Ledger → Type 0
-HasTried old new = (untried new.state.trains < untried old.state.trains) × StandsAsBefore old new
+-- that no list is known is the cause of the train now: one waiting train less has no known cause, and the ledger stands as before
+abbrev pub HasTried : Ledger → Ledger → ℕ → Type 0
+HasTried old new t = (untried new.state.trains < untried old.state.trains) × StandsAsBefore old new
+    × (new.state.trains ≡ set old.state.trains t (record (state_of old.state.trains t) { known = Some NoList }))
 
 -- some train could be admitted at the instant of the front for which the ledger stands
 abbrev pub CouldGo : Ledger → Type 0

@@ -6,7 +6,7 @@ ghost use Rattle.rail_queue.specs.declared.event.Class.TheVariants as class;
 ghost use Rattle.rail_rules.specs.Accepted.{is_accepted_input};
 ghost use Rattle.rail_rules.specs.Plant.{moves, trains};
 ghost use Rattle.rail_ledger.specs.Inputs.{input_in};
-ghost use Rattle.rail_ledger.specs.Ledgers.{AreAlike, ContinuesRun, GivesEntry, HasHeeded, HasList, HasPassed, HasTried, IsAt, IsDeciding, IsNextTrain, IsOther, IsSettled, IsSomewhere, MayGoOn, StandsAsBefore, is_effective, list_in, list_with, untried};
+ghost use Rattle.rail_ledger.specs.Ledgers.{AreAlike, AreUnbarred, ContinuesRun, GivesEntry, HasHeeded, HasList, HasPassed, HasTried, IsAdmissionOf, IsAt, IsDeciding, IsNextTrain, IsOther, IsSettled, IsSomewhere, MayGoOn, StandsAsBefore, is_effective, list_in, list_with, untried};
 ghost use Rattle.rail_ledger.specs.declared.ledger.Listed.TheVariants as which;
 ghost use Rattle.rail_base.specs.declared.limits.TheConstants.{TRAINS};
 ghost use Rattle.rail_list.specs.KeptLists.{HasRoomFor};
@@ -111,6 +111,18 @@ impl Ledger {
         self.state.is_settled || first == Some(self.state.instant)
     }
 
+    /// Where some train waits, it is decided once more who goes at this instant.
+    pub fn decide_again(&mut self)
+        ensures input { self.new.input ≡ self.old.input }
+        ensures ended { self.new.state.has_ended ≡ self.old.state.has_ended }
+        ensures listed { self.new.listed ≡ self.old.listed }
+        ensures at { StandsAsBefore self.old self.new }
+    {
+        if self.state.trains.is_any_waiting() {
+            self.state.is_settled = false;
+        }
+    }
+
     /// The line of the next event, or the end line where there is none.
     pub fn go_on(&mut self) -> Entry
         requires running { IsSomewhere self.old }
@@ -135,6 +147,7 @@ impl Ledger {
         ensures none { IsNone result → AreAllKnown self.new.input.plant self.new.state.trains }
         ensures first { IfSome result (IsReadyFirst self.new.state.trains) }
         ensures next { IfSome result (IsNextTrain self.new) }
+        ensures unbarred { AreUnbarred self.new }
         ensures fewer { untried self.new.state.trains ≤ untried self.old.state.trains }
     {
         self.state
@@ -151,7 +164,7 @@ impl Ledger {
         ensures alike { AreAlike self.old self.new }
         ensures found { IfSome result (λ note. (self.new.state.trains ≡ self.old.state.trains)
             × ((front : Front) → IsAt front self.old → HasList front self.old self.new train note)) }
-        ensures none { IsNone result → HasTried self.old self.new }
+        ensures none { IsNone result → HasTried self.old self.new train }
     {
         let moves = self.input.plant.moves();
         let depth = self.input.plant.depth();
@@ -183,8 +196,9 @@ impl Ledger {
         requires next { IsNextTrain self.old train }
         ensures input { self.new.input ≡ self.old.input }
         ensures line { IfSome result (GivesEntry self.old self.new) }
+        ensures entry { IfSome result (IsAdmissionOf train (state_of self.old.state.trains train).place) }
         ensures run { IfSome result (ContinuesRun self.old self.new train) }
-        ensures none { IsNone result → AreAlike self.old self.new × HasTried self.old self.new }
+        ensures none { IsNone result → AreAlike self.old self.new × HasTried self.old self.new train }
     {
         let note = self.find_list(train)?;
         let place = self.state.trains.get(train).place + 1;

@@ -1,11 +1,13 @@
 -- The box of a name, and a desk without one of its boxes.
-use Rattle.std.proofs.Common.{◌≡◌, ◌≢◌, ℕ, ◌-◌, ◌<◌, cond, List, length, get_or, ap, ◌∙◌, ⊎_elim, arith}
-use Rattle.std.specs.List.{remove}
-use Rattle.std.specs.Prelude.{Some}
+use Rattle.std.proofs.Common.{◌≡◌, ◌≢◌, ℕ, ◌-◌, ◌<◌, cond, nat_lt, true, List, length, get_or, sym, ap, ◌∙◌, ⊎_elim, arith}
+use Rattle.std.specs.List.{list_any, position_or_len, remove}
+use Rattle.std.specs.Prelude.{None, Some}
 use Rattle.std.specs.Cmp.Lexicographic.{bytes_decides}
-use Rattle.std.proofs.lemmas.Bool.{cases_lt, lt-ltb, le-ltb}
+use Rattle.std.proofs.lemmas.Bool.{cases_lt, cond-true, false≢true, lt-ltb, le-ltb}
 use Rattle.std.proofs.lemmas.List.Edits.{get_or-remove_above, get_or-remove_below}
+use Rattle.std.proofs.lemmas.List.Folds.{Any-from_list_any}
 use Rattle.std.proofs.lemmas.List.Quantifiers.{position-Some}
+use Rattle.std.proofs.lemmas.List.Sums.{fails_before_first}
 use Rattle.rail_policy.specs.Seats.{DeskSeat, is_named, no_seat, place_of, seat_at}
 use Rattle.rail_policy.specs.Desks.{Table, seat_in_force, without}
 
@@ -26,3 +28,15 @@ seat_in_force-without table after place after_is lt ne =
     (λ behind. ap (λ b. get_or (remove table.seats place) (cond b (table.force - 1) table.force) no_seat) (le-ltb place table.force behind)
     ∙ get_or-remove_below table.seats place no_seat table.force (omega arith) lt)
     (cases_lt place table.force)
+
+-- a policy of a name that the desk has is found
+pub place_of-found : (seats : List DeskSeat) (name : List ℕ) → list_any (is_named name) seats ≡ true
+    → (place : ℕ) × (place_of seats name ≡ Some place) × (place < length seats)
+place_of-found seats name any =
+    let found = Any-from_list_any (is_named name) seats any in
+    let place : ℕ = position_or_len (is_named name) seats in
+    let inside : place < length seats = ⊎_elim
+    (λ lt. lt)
+    (λ past. absurd (false≢true (sym (fails_before_first (is_named name) seats found.0 found.1 (omega (arith, past, found.2))) ∙ ap (is_named name) found.3 ∙ found.4)))
+    (cases_lt place (length seats)) in
+    (place, cond-true (nat_lt place (length seats)) (Some place) None (lt-ltb place (length seats) inside), inside)

@@ -1,11 +1,11 @@
 -- The desk as callers see it, and what a call leaves of it.
-use Rattle.std.specs.Prelude.{◌≡◌, ℕ, ◌-◌, cond, nat_lt, List, Option, Some, length, map, set, slice_get}
+use Rattle.std.specs.Prelude.{◌≡◌, ℕ, ◌-◌, cond, nat_lt, List, Option, Some, length, set, slice_get}
 use Rattle.std.specs.List.{remove}
 use Rattle.std.specs.Option.{option_map}
 use Rattle.rail_rules.specs.RunHistories.{Seat}
 use Rattle.rail_policy.specs.declared.offer.Offer.{Offer}
 use Rattle.rail_policy.specs.declared.desk.Asked.{Asked}
-use Rattle.rail_policy.specs.Seats.{DeskSeat, asked, noted, place_of, seat_at}
+use Rattle.rail_policy.specs.Seats.{DeskSeat, asked, handed_in, noted, place_of, seat_at}
 
 -- a desk as it is seen: its boxes in order, the place of the box in force, and what the last turn was about
 pub record Table : Type 0 where
@@ -13,9 +13,9 @@ pub record Table : Type 0 where
   pub force : ℕ
   pub last : Option Asked
 
--- the boxes as run histories speak of them: what they answered is left out
+-- the boxes of a desk as run histories speak of them
 abbrev pub run_seats : Table → List Seat
-run_seats table = map (λ (seat : DeskSeat). record { name = seat.name; kind = seat.kind; mark = seat.mark }) table.seats
+run_seats table = handed_in table.seats
 
 -- the box in force
 abbrev pub seat_in_force : Table → DeskSeat

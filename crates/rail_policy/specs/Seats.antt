@@ -1,10 +1,11 @@
 -- The boxes of a deck as they are seen, and what a call does to one.
-use Rattle.std.specs.Prelude.{ℕ, ◌+◌, ◌%◌, Bool, ◌&&◌, List, [], Option, get_or, length, position}
+use Rattle.std.specs.Prelude.{ℕ, ◌+◌, ◌%◌, Bool, ◌&&◌, List, [], Option, get_or, length, map, position}
 use Rattle.rail_base.specs.Limits.{is_from_one, most, Policies}
 use Rattle.rail_base.specs.Lists.{are_distinct}
 use Rattle.rail_base.specs.declared.orders.PolicyKind.{PolicyKind}
 use Rattle.rail_base.specs.declared.orders.PolicyKind.TheVariants.{Rotating, Custom}
 use Rattle.rail_rules.specs.Numbers.{same_numbers}
+use Rattle.rail_rules.specs.RunHistories.{Seat}
 
 -- a box as it is seen: its name and kind, which never change, its mark, and what it answered last
 pub record DeskSeat : Type 0 where
@@ -42,6 +43,14 @@ no_seat = record { name = []; kind = Custom; mark = 0; answered = 0 }
 -- the box at this place
 abbrev pub seat_at : List DeskSeat → ℕ → DeskSeat
 seat_at seats place = get_or seats place no_seat
+
+-- the names of the boxes, in order
+abbrev pub names_of : List DeskSeat → List (List ℕ)
+names_of seats = map (λ (seat : DeskSeat). seat.name) seats
+
+-- the boxes as run histories speak of them: what they answered is left out
+abbrev pub handed_in : List DeskSeat → List Seat
+handed_in seats = map (λ (seat : DeskSeat). record { name = seat.name; kind = seat.kind; mark = seat.mark }) seats
 
 -- the box has this name
 abbrev pub is_named : List ℕ → DeskSeat → Bool

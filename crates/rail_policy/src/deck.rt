@@ -1,18 +1,37 @@
-ghost use Rattle.std.specs.Prelude.{◌≡◌, ◌+◌, ◌<◌, length, map, set, vec_len};
+ghost use Rattle.std.specs.Prelude.{◌≡◌, ◌+◌, ◌<◌, length, map, set, vec_len, IfOk};
 ghost use Rattle.std.specs.List.{list_any, remove};
 ghost use Rattle.rail_policy.specs.Choices.{MayChoose};
-ghost use Rattle.rail_policy.specs.Seats.{asked, noted, have_distinct_names, is_fine_deck, is_named, place_of, seat_at};
+ghost use Rattle.rail_policy.specs.Seats.{asked, noted, have_distinct_names, is_fine_deck, is_named, names_of, place_of, seat_at};
 
 use crate::offer::Offer;
 use crate::policy::Policy;
 use rail_base::limits::POLICIES;
-use rail_base::{Name, TrainNo};
+use rail_base::{Name, OutOfMemory, TrainNo};
+use std::alloc::Global;
 
 /// Whether the boxes can be handed to a desk: there are 1 to 16, and no two have one name.
 pub fn deck_is_fine(deck: &[Box<dyn Policy>]) -> bool
     ensures { result ≡ is_fine_deck (map ⟦<Box<dyn Policy> as Policy>⟧.seat deck.now) }
 {
     !deck.is_empty() && deck.len() <= POLICIES && have_distinct_names(deck)
+}
+
+/// The names of the policies, in order.
+pub fn names_of(alloc: Global, deck: &[Box<dyn Policy>]) -> Result<Vec<Name>, OutOfMemory>
+    ensures { IfOk result (λ names. names.items ≡ names_of (map ⟦<Box<dyn Policy> as Policy>⟧.seat deck.now)) }
+{
+    names_in(alloc, deck)
+}
+
+/// The names of the policies of any deck, in order.
+pub(crate) fn names_in<P: Policy>(alloc: Global, deck: &[P]) -> Result<Vec<Name>, OutOfMemory>
+    ensures { IfOk result (λ names. names.items ≡ names_of (map P.seat deck.now)) }
+{
+    let mut names = Vec::with_capacity(alloc, deck.len())?;
+    for policy in deck {
+        names.push_reserved(policy.name());
+    }
+    Ok(names)
 }
 
 /// Whether no two policies have one name. There are few policies, so each name is compared with all later ones.

@@ -1,13 +1,14 @@
-ghost use Rattle.std.specs.Prelude.{◌≡◌, ◌≢◌, ◌<◌, ◌↔◌, IfSome, Some, None, IsErr, IsErrOf, IsTrue, OnOk, OnErr, length, map, vec_len};
+ghost use Rattle.std.specs.Prelude.{◌≡◌, ◌≢◌, ◌<◌, ◌↔◌, IfOk, IfSome, Some, None, IsErr, IsErrOf, IsTrue, OnOk, OnErr, length, map, vec_len};
 ghost use Rattle.rail_policy.specs.Choices.{HasLeastKey, MayChoose};
 ghost use Rattle.rail_policy.specs.Desks.{Drops, PutsInForce, after_answer, after_note, after_turn, seat_in_force, within, without};
-ghost use Rattle.rail_policy.specs.Seats.{is_fine_deck, place_of, seat_at};
+ghost use Rattle.rail_policy.specs.Seats.{is_fine_deck, names_of, place_of, seat_at};
 
 use crate::deck;
 use crate::offer::Offer;
 use crate::policy::Policy;
 use crate::seen::Seen;
-use rail_base::{Name, PolicyKind, TrainNo};
+use rail_base::{Name, OutOfMemory, PolicyKind, TrainNo};
+use std::alloc::Global;
 use thiserror::Error;
 
 /// What a turn was about: the offer that it chose, and how many were handed in.
@@ -77,6 +78,13 @@ impl Desk {
         ensures { result ≡ (seat_at (⟦<Desk as Seen>⟧.table self.now).seats index).name }
     {
         self.deck[index].name()
+    }
+
+    /// The names of the policies, in order.
+    pub fn names(&self, alloc: Global) -> Result<Vec<Name>, OutOfMemory>
+        ensures { IfOk result (λ names. names.items ≡ names_of (⟦<Desk as Seen>⟧.table self.now).seats) }
+    {
+        deck::names_in(alloc, &self.deck)
     }
 
     /// The place of the policy in force.

@@ -17,4 +17,3 @@ pub mod Accepted
 pub mod LineCounts
 pub mod Writable
 pub mod Overlaps
-pub mod FcfsAlone

@@ -1,5 +1,5 @@
 -- An admission: that its line may follow.
-use Rattle.std.proofs.Common.{◌≡◌, ℕ, suc, ◌<◌, Bool, true, false, not, ◌&&◌, ◌||◌, cond, eqb, List, [], ◌∷◌, length, Option, Some, None, is_some, refl, sym, ap, ◌∙◌, subst, ⊎_elim, arith}
+use Rattle.std.proofs.Common.{◌≡◌, ℕ, suc, ◌<◌, Bool, true, false, not, ◌&&◌, ◌||◌, cond, eqb, List, ◌∷◌, length, Option, Some, None, is_some, refl, sym, ap, ◌∙◌, subst, ⊎_elim, arith}
 use Rattle.std.specs.Prelude.{nat_lt}
 use Rattle.std.proofs.lemmas.Bool.{and_from, and_parts, cases_Bool, cond-false, cond-true, eq-eqb, false_from_ne_true, false≢true, lt-ltb, ltb-true, ne_eqb, not-true, not_from_false, or_left, or_right}
 use Rattle.rail_base.specs.declared.history.Note.{Note}
@@ -10,21 +10,18 @@ use Rattle.rail_rules.specs.Numbers.{comes_before, or_else}
 use Rattle.rail_rules.specs.Places.{after, completes, place_of}
 use Rattle.rail_rules.specs.Analysis.{finds}
 use Rattle.rail_rules.specs.Plant.{Plant, trains, moves, moves_of}
-use Rattle.rail_rules.specs.Times.{ready}
 use Rattle.rail_rules.specs.Fronts.{Front, Line, admissions, has_ended, has_held, instant, kept, places, with_rest_of, without_first}
 use Rattle.rail_rules.specs.Causes.{bar, cause, could_go, is_deciding, is_ready, is_repairable, list_cause, place, places_after}
 use Rattle.rail_rules.specs.Lawful.{is_lawful, may_follow, note_fits}
 use Rattle.rail_rules.specs.Orders.{is_cancelled, told, Dispatch, input_of}
 use Rattle.rail_rules.specs.RunHistories.{Seat, force_of, is_chosen, is_run, key, repairs_first, seat_of}
 use Rattle.rail_rules.proofs.CallerLemmas.{all_below_from}
-use Rattle.rail_base.specs.declared.orders.PolicyKind.TheVariants.{Fcfs}
 use Rattle.rail_laws_front.specs.Views.{Admits}
 use Rattle.rail_laws_front.proofs.CallerLemmas.{place_in}
 use Rattle.rail_list.specs.Repairs.{IsNoted, is_repairable_for}
 use Rattle.rail_laws_run.proofs.CallerLemmas.{admits_follows, run_continued}
-use Rattle.rail_state.specs.TrainStates.{IsReadyFirst, is_untried, state_of, turn}
+use Rattle.rail_state.specs.TrainStates.{is_untried, state_of}
 use Rattle.rail_state.specs.Representation.{IsAdmissible, IsNext, MayKeep, Represents, admit_line}
-use Rattle.rail_state.proofs.Next.{carried_ready}
 use Rattle.rail_state.proofs.Settling.{bar_seen, cause_seen}
 use Rattle.rail_state.specs.declared.run_state.RunState.{RunState}
 
@@ -177,6 +174,20 @@ module _ (dispatch : Dispatch) (plant : Plant) (front : Front) (state : RunState
       of Pulled l h fresh = absurd (false≢true (ap is_fresh fresh))
       of Appended l h fresh = absurd (false≢true (ap is_fresh fresh))
 
+-- a train that could go waits without a known cause
+pub could_go-untried : (dispatch : Dispatch) (plant : Plant) (front : Front) (state : RunState) → Represents dispatch plant front state → is_deciding (input_of dispatch plant) front ≡ true
+    → (u : ℕ) → u < trains plant → could_go (input_of dispatch plant) front u ≡ true → is_untried (state_of state.trains u) ≡ true
+could_go-untried dispatch plant front state rep deciding u lt goes =
+    let both = and_parts (is_ready (input_of dispatch plant) front u) (not (is_some (cause (input_of dispatch plant) front u))) goes in
+    let waits_u : (state_of state.trains u).waits ≡ true = rep.waiting.ready u lt ∙ both.0 in
+    let unknown : is_some (state_of state.trains u).known ≡ false =
+    unknown_if (state_of state.trains u).known (λ c k. false≢true (sym (not-true (is_some (cause (input_of dispatch plant) front u)) both.1) ∙ ap is_some (cause_seen dispatch plant front state rep deciding u ∙ rep.known.cause u c lt k))) in
+    and_from (state_of state.trains u).waits (not (is_some (state_of state.trains u).known)) waits_u (not_from_false (is_some (state_of state.trains u).known) unknown)
+  where
+    unknown_if : (o : Option Cause) → ((c : Cause) → o ≡ Some c → ⊥) → is_some o ≡ false
+    unknown_if None none = refl
+    unknown_if (Some c) none = absurd (none c refl)
+
 -- the train that the policy in force chooses among those whose cause isn't known obeys it
 pub chosen_obeys : (dispatch : Dispatch) (plant : Plant) (front : Front) (state : RunState) → Represents dispatch plant front state → is_deciding (input_of dispatch plant) front ≡ true → (seats : List Seat) (t : ℕ)
     → ((u : ℕ) → u < trains plant → is_untried (state_of state.trains u) ≡ true
@@ -196,27 +207,4 @@ chosen_obeys dispatch plant front state rep deciding seats t chosen =
     let parts_of = and_parts (could_go (input_of dispatch plant) front u)
     (comes_before (key (input_of dispatch plant) seats front u (seat_of seats (force_of (input_of dispatch plant) front)).kind)
     (key (input_of dispatch plant) seats front t (seat_of seats (force_of (input_of dispatch plant) front)).kind)) h in
-    let both = and_parts (is_ready (input_of dispatch plant) front u) (not (is_some (cause (input_of dispatch plant) front u))) parts_of.0 in
-    let waits_u : (state_of state.trains u).waits ≡ true = rep.waiting.ready u lt ∙ both.0 in
-    let unknown : is_some (state_of state.trains u).known ≡ false =
-    unknown_if (state_of state.trains u).known (λ c k. false≢true (sym (not-true (is_some (cause (input_of dispatch plant) front u)) both.1) ∙ ap is_some (cause_seen dispatch plant front state rep deciding u ∙ rep.known.cause u c lt k))) in
-    false≢true (sym (chosen u lt (and_from (state_of state.trains u).waits (not (is_some (state_of state.trains u).known)) waits_u (not_from_false (is_some (state_of state.trains u).known) unknown))) ∙ parts_of.1))))
-  where
-    unknown_if : (o : Option Cause) → ((c : Cause) → o ≡ Some c → ⊥) → is_some o ≡ false
-    unknown_if None none = refl
-    unknown_if (Some c) none = absurd (none c refl)
-
--- the train that was ready first obeys a box of kind `fcfs`
-pub first_obeys : (dispatch : Dispatch) (plant : Plant) (front : Front) (state : RunState) → Represents dispatch plant front state → is_deciding (input_of dispatch plant) front ≡ true → (seats : List Seat) → (seat_of seats (force_of (input_of dispatch plant) front)).kind ≡ Fcfs
-    → (t : ℕ) → t < trains plant → IsReadyFirst state.trains t → is_chosen (input_of dispatch plant) seats front t ≡ true
-first_obeys dispatch plant front state rep deciding seats kind t known first =
-    chosen_obeys dispatch plant front state rep deciding seats t (λ u lt untried.
-    ap (λ k. comes_before (key (input_of dispatch plant) seats front u k) (key (input_of dispatch plant) seats front t k)) kind
-    ∙ ap (λ n. comes_before (n ∷ u ∷ []) (ready plant t (admissions front t) (place front t) ∷ t ∷ [])) (sym (ready_is u lt untried))
-    ∙ ap (λ n. comes_before (turn state.trains u) (n ∷ t ∷ [])) (sym (ready_is t known first.untried))
-    ∙ first.first u untried)
-  where
-    ready_is : (v : ℕ) → v < trains plant → is_untried (state_of state.trains v) ≡ true → (state_of state.trains v).times.next_ready ≡ ready plant v (admissions front v) (place front v)
-    ready_is v lv untried =
-        let waits = (and_parts (state_of state.trains v).waits (not (is_some (state_of state.trains v).known)) untried).0 in
-        ap (λ ts. ts.next_ready) (rep.times.times v lv) ∙ carried_ready plant v (admissions front v) (place front v) (left_of_ready dispatch plant front v (sym (rep.waiting.ready v lv) ∙ waits))
+    false≢true (sym (chosen u lt (could_go-untried dispatch plant front state rep deciding u lt parts_of.0)) ∙ parts_of.1))))

@@ -15,6 +15,8 @@ pub use Rattle.rail_state.proofs.Next.{carried_ready}
 
 -- what bars a train at a decision is told by the orders and the table of holders
 pub use Rattle.rail_state.proofs.Settling.{bar_seen}
+-- Where some train waits, it may be decided once more who goes: a state that says that not all is settled represents the same front.
+pub use Rattle.rail_state.proofs.Settling.{unsettled_stands}
 -- Happening: an event line: what it changes.
 pub use Rattle.rail_state.proofs.Happening.{event_idle}
 -- Happened: the first pending event happens: the run then stands for the front with its line.
@@ -37,8 +39,8 @@ pub use Rattle.rail_state.proofs.Admitting.{goes, kept_is, lawful_line, ready_it
 pub use Rattle.rail_state.proofs.Admitting.{admissible}
 -- The train that the policy in force chooses among those whose cause is not known obeys it.
 pub use Rattle.rail_state.proofs.Admitting.{chosen_obeys}
--- Where a box of kind `fcfs` is in force, the train that was ready first among those whose cause is not known obeys it.
-pub use Rattle.rail_state.proofs.Admitting.{first_obeys}
+-- a train that could go waits without a known cause
+pub use Rattle.rail_state.proofs.Admitting.{could_go-untried}
 -- a train that is ready has a move left
 pub use Rattle.rail_state.proofs.Admitting.{left_of_ready}
 -- A train that is next, with a list that a run takes, may be admitted.

@@ -4,7 +4,6 @@ use Rattle.std.proofs.lemmas.List.{get_or-set_other, get_or_past}
 use Rattle.std.proofs.lemmas.Bool.{cases_lt, cases_Bool, cond-true, cond-false, false≢true, or_parts}
 use Rattle.std.proofs.lemmas.Bool.Decides.{nat_tests}
 use Rattle.rail_rules.specs.Plant.{Plant, needed}
-use Rattle.rail_laws_run.specs.HolderTables.{held_cause}
 use Rattle.rail_rules.specs.Numbers.{comes_before}
 use Rattle.rail_base.specs.declared.history.Cause.{Cause}
 use Rattle.rail_state.specs.declared.train.TrainState.{TrainState}

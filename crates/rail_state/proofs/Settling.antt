@@ -1,12 +1,14 @@
 -- What is decided at an instant at which nothing is due, and when all is settled.
-use Rattle.std.proofs.Common.{◌≡◌, ℕ, true, false, not, List, [], ◌∷◌, refl, sym, ap, ◌∙◌}
-use Rattle.std.proofs.lemmas.Bool.{and_from}
+use Rattle.std.proofs.Common.{◌≡◌, ℕ, true, false, not, List, [], ◌∷◌, refl, sym, ap, ◌∙◌, arith}
+use Rattle.std.proofs.lemmas.Bool.{and_from, false≢true}
 use Rattle.rail_rules.specs.Numbers.{or_else}
 use Rattle.rail_rules.specs.Plant.{Plant, needed}
 use Rattle.rail_rules.specs.Fronts.{Front, Line, has_ended, instant}
 use Rattle.rail_rules.specs.Orders.{told, Dispatch, input_of}
 use Rattle.rail_rules.specs.Events.{due_lines, is_quiet}
-use Rattle.rail_rules.specs.Causes.{bar, cause, closed_cause, is_deciding, is_settled, list_cause, place, stop_cause}
+use Rattle.rail_rules.specs.Causes.{bar, cause, closed_cause, is_deciding, is_ready, is_settled, list_cause, place, stop_cause}
+use Rattle.rail_laws_run.proofs.CallerLemmas.{nobody_ready}
+use Rattle.rail_state.specs.TrainStates.{IsAnyWaiting}
 use Rattle.rail_state.specs.Representation.{Represents}
 use Rattle.rail_state.specs.SeenCauses.{seen_bar, seen_cause}
 use Rattle.rail_state.proofs.Below.{settled_when_told, holders_block}
@@ -43,3 +45,23 @@ settled_front dispatch plant (line ∷ before) state rep going settled quiet =
       is_cause = cause_seen dispatch plant (line ∷ before) state rep deciding t ∙ rep.known.cause t told.why known told.known;
       is_told = sym (rep.waiting.told t known) ∙ told.told;
     })
+
+-- where some train waits, a state that says that not all is settled represents the same front
+pub unsettled_stands : (dispatch : Dispatch) (plant : Plant) (front : Front) (state : RunState) → Represents dispatch plant front state → IsAnyWaiting state.trains
+    → Represents dispatch plant front (record state { is_settled = false })
+unsettled_stands dispatch plant front state rep some = record {
+  accepted = rep.accepted;
+  lawful = rep.lawful;
+  time = rep.time;
+  ended = rep.ended;
+  begun = λ empty. absurd (false≢true (sym (nobody_ready (input_of dispatch plant) some.train)
+      ∙ ap (λ (f : Front). is_ready (input_of dispatch plant) f some.train) (sym empty)
+      ∙ sym (rep.waiting.ready some.train (omega (arith, some.there, rep.times.many))) ∙ some.waits));
+  times = rep.times;
+  pending = rep.pending;
+  heads = rep.heads;
+  waiting = rep.waiting;
+  holders = rep.holders;
+  known = rep.known;
+  settled = λ is. absurd (false≢true is);
+}

@@ -1,12 +1,12 @@
 -- Those of the numbers below a bound that pass a test, in order.
 use Rattle.std.proofs.Common.{◌≡◌, ◌≢◌, ℕ, zero, suc, ◌+◌, ◌<◌, ◌≤◌, Bool, true, false, cond, nat_lt, List, [], ◌∷◌, ◌++◌, length, get_or, Option, Some, None, MatchOption, refl, sym, ◌∙◌, ap, subst, ⊎_elim, arith, add-one, length-append}
-use Rattle.std.specs.List.{All, filter, find, fold, insert}
+use Rattle.std.specs.List.{All, Contains, filter, find, fold, insert}
 use Rattle.std.specs.List.Sorted.{IsNonDecreasing}
 use Rattle.std.specs.Option.{option_or}
 use Rattle.std.proofs.lemmas.List.{append-nil}
 use Rattle.std.proofs.lemmas.Bool.{cases_Bool, cases_lt, cond-true, cond-false, false≢true}
 use Rattle.std.proofs.lemmas.Bool.Decides.{nat_tests}
-use Rattle.std.proofs.lemmas.List.Elements.{All-filter, filter-append}
+use Rattle.std.proofs.lemmas.List.Elements.{All-filter, Contains-append_left, Contains-push, filter-append}
 use Rattle.std.proofs.lemmas.List.Folds.{find-append}
 use Rattle.std.proofs.lemmas.List.Kept.{IsNonDecreasingBy-filter}
 use Rattle.std.proofs.lemmas.List.Sums.{fold_push}
@@ -75,6 +75,22 @@ passing_below p n = All-filter p (λ t. t < n) (numbers n) (λ k d lt.
     let within : k < n = omega (arith, lt, length-listed (λ t. t) n) in
     let P : ℕ → Type 0 = λ t. t < n in
     subst P (sym (get_or-listed (λ t. t) n k d within)) within)
+
+-- each number that passes stands among them
+pub passing_there : (p : ℕ → Bool) (n t : ℕ) → t < n → p t ≡ true → Contains (filter p (numbers n)) t
+passing_there p zero t lt passes = absurd (omega (arith, lt))
+passing_there p (suc n) t lt passes =
+    let P : List ℕ → Type 0 = λ list. Contains list t in
+    ⊎_elim
+    (λ below. ⊎_elim
+    (λ too. subst P (sym (passes_too p n too)) (Contains-append_left (filter p (numbers n)) (n ∷ []) t (passing_there p n t below passes)))
+    (λ fails. subst P (sym (passes_not p n fails)) (passing_there p n t below passes))
+    (cases_Bool (p n)))
+    (λ from.
+    let here : t ≡ n = omega (arith, from, lt) in
+    let Q : ℕ → Type 0 = λ k. Contains (filter p (numbers (suc n))) k in
+    subst Q (sym here) (subst (λ list. Contains list n) (sym (passes_too p n (ap p (sym here) ∙ passes))) (Contains-push (filter p (numbers n)) n)))
+    (cases_lt t n)
 
 -- the numbers that pass are in order
 pub in_order : (p : ℕ → Bool) (n : ℕ) → IsNonDecreasing (filter p (numbers n))

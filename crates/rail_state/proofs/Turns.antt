@@ -13,7 +13,6 @@ use Rattle.rail_base.specs.declared.history.Cause.{Cause}
 use Rattle.rail_base.specs.declared.orders.Order.{Order}
 use Rattle.rail_rules.specs.Orders.{is_cancelled}
 use Rattle.rail_rules.specs.Plant.{Plant, claimed, moves, needed, trains}
-use Rattle.rail_laws_run.specs.HolderTables.{held_cause}
 use Rattle.rail_block.specs.declared.times.MoveTimes.{MoveTimes}
 use Rattle.rail_state.specs.declared.train.TrainState.{TrainState}
 use Rattle.rail_state.specs.TrainStates.{admitted, is_blocked_at, lacks_hold_line, is_untried, is_touched, looked_at, no_state, state_admitted, state_of, state_told, without_known}

@@ -1,6 +1,6 @@
 -- The list of the trains that are watched, and what keeps it.
 use Rattle.std.proofs.Common.{◌≡◌, ◌≢◌, ℕ, ◌<◌, ◌≤◌, Bool, true, false, not, ◌&&◌, ◌||◌, cond, is_some, List, [], ◌++◌, length, get_or, set, take, drop, vec_capacity, Option, Some, None, refl, sym, ◌∙◌, ap, subst, ⊎_elim, arith}
-use Rattle.std.specs.List.{All, filter}
+use Rattle.std.specs.List.{All, Contains, filter}
 use Rattle.std.specs.List.Sorted.{IsNonDecreasing}
 use Rattle.std.specs.Global.{Vec}
 use Rattle.std.proofs.lemmas.List.{get_or-set_same, get_or-set_other, length-set, get_or_default, get_or_past}
@@ -14,7 +14,7 @@ use Rattle.rail_laws_front.proofs.CallerLemmas.{get_or-listed, length-listed}
 use Rattle.rail_state.specs.declared.train.TrainState.{TrainState}
 use Rattle.rail_state.specs.TrainStates.{is_blocked_at, lacks_hold_line, is_untried, no_state, outside, state_of}
 use Rattle.rail_state.specs.Watched.{AreWatched, inserted, is_watched}
-use Rattle.rail_state.proofs.TrainNumbers.{passing_below, in_order, none_passes, numbers, one_fails, one_more_passes, same_pass}
+use Rattle.rail_state.proofs.TrainNumbers.{passing_below, passing_there, in_order, none_passes, numbers, one_fails, one_more_passes, same_pass}
 
 -- the train of this number is watched
 abbrev pub is_watched_in : List TrainState → ℕ → Bool
@@ -48,6 +48,12 @@ pub watched_below : (states : List TrainState) (watched : Vec ℕ) → AreWatche
 watched_below states watched kept =
     let P : List ℕ → Type 0 = λ list. All (λ t. t < length states) list in
     subst P (sym kept.exact) (passing_below (is_watched_in states) (length states))
+
+-- the trains that wait are among them
+pub waiting_watched : (states : List TrainState) (watched : Vec ℕ) → AreWatched states watched → (t : ℕ) → t < length states → (state_of states t).waits ≡ true → Contains watched.items t
+waiting_watched states watched kept t lt waits =
+    subst (λ list. Contains list t) (sym kept.exact)
+    (passing_there (is_watched_in states) (length states) t lt (ap (λ b. b || is_some (state_of states t).known) waits))
 
 -- the watched trains are in order
 pub watched_in_order : (states : List TrainState) (watched : Vec ℕ) → AreWatched states watched → IsNonDecreasing watched.items

@@ -1,5 +1,5 @@
 -- What a run keeps of each train, and how lines change it.
-use Rattle.std.specs.Prelude.{◌≡◌, ℕ, suc, ◌+◌, ◌-◌, ◌==◌, Bool, true, false, not, ◌&&◌, ◌||◌, cond, nat_lt, is_some, List, [], ◌∷◌, get_or, Option, Some, None}
+use Rattle.std.specs.Prelude.{◌≡◌, ℕ, suc, ◌+◌, ◌-◌, ◌<◌, ◌==◌, Bool, true, false, not, ◌&&◌, ◌||◌, cond, nat_lt, is_some, List, [], ◌∷◌, get_or, length, Option, Some, None}
 use Rattle.std.specs.List.{list_any}
 use Rattle.rail_base.specs.declared.history.What.{What}
 use Rattle.rail_base.specs.declared.history.What.TheVariants.{Free, Enter, Out, Ready}
@@ -85,6 +85,12 @@ is_untried train_state = train_state.waits && not (is_some train_state.known)
 -- what bars the next move of a train, by the tables of what was told and of who holds each section
 abbrev pub bar_by : Told → List (Option ℕ) → ℕ → List ℕ → Option Cause
 bar_by told holders t sections = or_else (stop_in told t) (or_else (closed_in told sections) (held_cause holders sections))
+
+-- some train waits
+pub record IsAnyWaiting (states : List TrainState) : Type 0 where
+  pub train : ℕ
+  pub there : train < length states
+  pub waits : (state_of states train).waits ≡ true
 
 -- a train that is untried is looked at: what bars its next move is its cause
 abbrev pub looked_at : Plant → (ℕ → List ℕ → Option Cause) → ℕ → TrainState → TrainState

@@ -1,17 +1,18 @@
 //! All trains of a run.
 
-ghost use Rattle.std.specs.Prelude.{◌≡◌, ℕ, ◌-◌, ◌<◌, ◌≤◌, ◌||◌, not, nat_lt, [], ◌∷◌, None, get_or, length, set, true, false, IfOk, MatchOption, vec_capacity};
-ghost use Rattle.std.specs.List.{filter};
+ghost use Rattle.std.specs.Prelude.{◌≡◌, ℕ, ◌-◌, ◌<◌, ◌≤◌, ◌||◌, not, nat_lt, [], ◌∷◌, None, get_or, length, set, true, false, IfOk, IsTrue, MatchOption, vec_capacity};
+ghost use Rattle.std.specs.List.{All, Contains, filter};
 ghost use Rattle.rail_base.specs.declared.history.Cause.TheVariants.{NoList};
 ghost use Rattle.rail_base.specs.declared.history.What.TheVariants.{Free, Enter, Out, Ready};
 ghost use Rattle.rail_rules.specs.Plant.{Plant, moves, step_section, steps, trains};
 ghost use Rattle.rail_rules.specs.Numbers.{listed};
 ghost use Rattle.rail_state.specs.TrainStates.{state_told};
-ghost use Rattle.rail_state.specs.TrainStates.{IsReadyFirst, bar_by, is_blocked_at, lacks_hold_line, is_untried, looked_at, outside, state_admitted, state_after, state_of, after_hold_line};
+ghost use Rattle.rail_state.specs.TrainStates.{IsAnyWaiting, IsReadyFirst, bar_by, is_blocked_at, lacks_hold_line, is_untried, looked_at, outside, state_admitted, state_after, state_of, after_hold_line};
 
 use crate::train::{TrainState, head_behind, push_outside};
 use crate::watched::{
-    first_lacking, forget_causes, heed_each, keep_waiting, look_again_at_each, look_at_each, watch,
+    first_lacking, forget_causes, heed_each, is_any_waiting, keep_waiting, look_again_at_each,
+    look_at_each, watch,
 };
 use rail_base::{Cause, Order, OutOfMemory, SectionNo, Time, TrainNo};
 use rail_block::MoveTimes;
@@ -63,6 +64,22 @@ impl TrainStates {
             push_outside(&mut rows, plant, TrainNo(number));
         }
         Ok(TrainStates { rows, watched })
+    }
+
+    /// By number, the trains that wait, and those with a known cause.
+    pub fn watched(&self) -> &[TrainNo]
+        ensures known { All (λ t. t < length self.now) result.now }
+        ensures few { length result.now ≤ length self.now }
+        ensures waiting { (t : ℕ) → t < length self.now → (state_of self.now t).waits ≡ true → Contains result.now t }
+    {
+        &self.watched
+    }
+
+    /// Whether some train waits.
+    pub fn is_any_waiting(&self) -> bool
+        ensures { IsTrue result → IsAnyWaiting self.now }
+    {
+        is_any_waiting(&self.rows, &self.watched)
     }
 
     /// What is kept of the train.

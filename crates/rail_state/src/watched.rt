@@ -1,11 +1,11 @@
 //! The trains that a run watches: those that wait, and those with a known cause.
 
-ghost use Rattle.std.specs.Prelude.{◌≡◌, ℕ, ◌<◌, [], ◌∷◌, true, false, cond, length, vec_len, vec_capacity, None};
+ghost use Rattle.std.specs.Prelude.{◌≡◌, ℕ, ◌<◌, [], ◌∷◌, true, false, cond, length, vec_len, vec_capacity, IsTrue, None};
 ghost use Rattle.std.specs.List.{All, filter, find, fold};
 ghost use Rattle.std.specs.List.Sorted.{IsNonDecreasing};
 ghost use Rattle.std.specs.Option.{ForSome};
 ghost use Rattle.rail_rules.specs.Plant.{moves, trains};
-ghost use Rattle.rail_state.specs.TrainStates.{bar_by, lacks_hold_line, state_of};
+ghost use Rattle.rail_state.specs.TrainStates.{IsAnyWaiting, bar_by, lacks_hold_line, state_of};
 ghost use Rattle.rail_state.specs.FirstUntried.{first_with};
 ghost use Rattle.rail_state.specs.Watched.{AreWatched, forget, heed, inserted, is_watched, look_again, look_at};
 
@@ -55,6 +55,19 @@ fn waits(rows: &[TrainState], train: TrainNo) -> bool
         Some(train_state) => train_state.waits,
         None => false,
     }
+}
+
+/// Whether some of the trains waits.
+pub(crate) fn is_any_waiting(rows: &[TrainState], trains: &[TrainNo]) -> bool
+    requires { All (λ t. t < length rows.now) trains.now }
+    ensures { IsTrue result → IsAnyWaiting rows.now }
+{
+    for train in trains {
+        if rows[usize::from(train.0)].waits {
+            return true;
+        }
+    }
+    false
 }
 
 /// Looks at each of these trains. Of those that are untried then, the one that was ready first, and of

@@ -10,6 +10,7 @@ use rail_block::{KnownMove, KnownStep, MoveTimes, enter_time, entry_times, inter
 use rail_compile::compile;
 use rail_engine::Engine;
 use rail_plan::Plant;
+use rail_policy::{Desk, FcfsPolicy, Policy, deck_is_fine};
 use rail_scene::read_scene;
 use scenes::{LOOP, TURN};
 use std::alloc::Global;
@@ -134,40 +135,45 @@ fn keeps_the_moves_that_are_left(rt: HostRuntime) {
     let Ok(plant) = plant_of(rt.alloc(), LOOP) else {
         panic!(rt; "no plant");
     };
-    let Ok(mut engine) = Engine::begin(rt.alloc(), plant) else {
+    let mut deck: Vec<Box<dyn Policy>> = Vec::new(rt.alloc());
+    let Ok(first_come) = Box::new(rt.alloc(), FcfsPolicy::new()) else {
+        panic!(rt; "no memory");
+    };
+    if deck.push(first_come).is_err() {
+        panic!(rt; "no memory");
+    }
+    assert!(rt; deck_is_fine(&deck) && deck.len() == 1);
+    let desk = Desk::new(deck, 0);
+    let Ok(mut engine) = Engine::begin(rt.alloc(), plant, Vec::new(rt.alloc()), desk) else {
         panic!(rt; "no memory");
     };
     assert_eq!(rt; engine.plant().moves().trains(), 2);
     assert!(rt; engine.kept().is_empty());
-    is_admitted(&rt, &mut engine, A, 1, &[A]);
-    is_admitted(&rt, &mut engine, B, 1, &[A, B]);
-    is_admitted(&rt, &mut engine, A, 2, &[B]);
-    is_admitted(&rt, &mut engine, B, 2, &[]);
-    assert!(rt; next_admission(&mut engine).is_none());
+    let mut last = None;
+    for _ in 0..100 {
+        let Some(entry) = engine.step() else {
+            break;
+        };
+        assert!(rt; cause_of(entry.what).is_none());
+        if let Some((train, place)) = admission_of(entry.what) {
+            assert!(rt; is_kept_after(train, place, engine.kept()));
+            assert!(rt; engine.listed().is_empty());
+            last = Some((train, place));
+        }
+    }
+    assert!(rt; last == Some((B, 2)));
     assert!(rt; engine.step().is_none());
 }
 
-/// The next admission is that of this move of the train, after which the kept list is this.
-fn is_admitted(rt: &impl Abort, engine: &mut Engine, train: TrainNo, place: u16, kept: &[TrainNo]) {
-    assert!(rt; next_admission(engine) == Some((train, place)));
-    assert!(rt; engine.kept() == kept);
-    assert!(rt; engine.listed().is_empty());
-}
-
-/// The train and the move of the next admission, if there is one among the next lines and no train is
-/// held before it.
-fn next_admission(engine: &mut Engine) -> Option<(TrainNo, u16)> {
-    for _ in 0..100 {
-        let entry = engine.step()?;
-        if cause_of(entry.what).is_some() {
-            return None;
-        }
-        let admitted = admission_of(entry.what);
-        if admitted.is_some() {
-            return admitted;
-        }
+/// Whether this is the kept list after the admission of this move of the train.
+fn is_kept_after(train: TrainNo, place: u16, kept: &[TrainNo]) -> bool {
+    match (train, place) {
+        (A, 1) => kept == [A].as_slice(),
+        (B, 1) => kept == [A, B].as_slice(),
+        (A, 2) => kept == [B].as_slice(),
+        (B, 2) => kept.is_empty(),
+        _ => false,
     }
-    None
 }
 
 /// Why a line holds a train, if it is a hold line.

@@ -1,13 +1,23 @@
 //! What the top call answers.
 mod cases;
+mod commands;
+mod decks;
 mod pieces;
+mod policies;
+mod run_refusals;
+mod timetables;
 
 use cases::{AMONG, CASES};
+use commands::COMMANDS;
+use decks::{Deck, ask};
 use pieces::piece;
+use policies::{LAST, OUT_OF_RANGE, POLICIES, POLICIES_AMONG};
 use rail_base::{Seq, Word};
-use rail_cli::{HELP, Status, VERSION, rail};
+use rail_cli::{HELP, Status, VERSION};
 use rail_io::{File, MemoryShelf, MemorySink};
+use run_refusals::{RUN_LIMITS, RUN_REFUSALS};
 use std::alloc::{AllocError, Global};
+use timetables::TIMETABLES;
 
 #[test]
 fn names_the_forms_that_are_built(rt: HostRuntime) {
@@ -23,14 +33,26 @@ fn names_the_forms_that_are_built(rt: HostRuntime) {
 
 #[test]
 fn answers_the_words(rt: HostRuntime) {
-    let other = first_other(rt.alloc(), CASES, true);
-    assert!(rt; other.is_none(), "{other:?}");
+    for cases in [CASES, TIMETABLES, COMMANDS, POLICIES, RUN_REFUSALS] {
+        let other = first_other(rt.alloc(), cases, Deck::BuiltIn, true);
+        assert!(rt; other.is_none(), "{other:?}");
+    }
 }
 
 #[test]
 fn runs_with_these_lines_among_others(rt: HostRuntime) {
-    let other = first_other(rt.alloc(), AMONG, false);
-    assert!(rt; other.is_none(), "{other:?}");
+    for cases in [AMONG, POLICIES_AMONG, RUN_LIMITS] {
+        let other = first_other(rt.alloc(), cases, Deck::BuiltIn, false);
+        assert!(rt; other.is_none(), "{other:?}");
+    }
+}
+
+#[test]
+fn asks_a_custom_policy(rt: HostRuntime) {
+    for (cases, always) in [(LAST, None), (OUT_OF_RANGE, Some(9_999))] {
+        let other = first_other(rt.alloc(), cases, Deck::Odd { always }, true);
+        assert!(rt; other.is_none(), "{other:?}");
+    }
 }
 
 #[test]
@@ -61,9 +83,9 @@ fn runs_same(
 ) -> bool {
     match words_of(alloc, "run scene") {
         Ok(words) => {
-            let once = rail(alloc, &words, shelf, first);
-            let again = rail(alloc, &words, shelf, second);
-            once == Status::Done && again == Status::Done && have_same(first, second)
+            let once = ask(alloc, &words, shelf, first, Deck::BuiltIn);
+            let again = ask(alloc, &words, shelf, second, Deck::BuiltIn);
+            once == Some(Status::Done) && again == once && have_same(first, second)
         }
         Err(_) => false,
     }
@@ -77,32 +99,34 @@ fn have_same(first: &MemorySink, second: &MemorySink) -> bool {
     }
 }
 
-/// The first of the cases that is answered otherwise than it says. Its output is whole, or has the lines in
-/// this order among others.
-fn first_other(alloc: Global, cases: &str, is_whole: bool) -> Option<&str> {
+/// The first of the cases that is answered otherwise than it says, with these policies. Its output is whole, or
+/// has the lines in this order among others.
+fn first_other(alloc: Global, cases: &str, deck: Deck, is_whole: bool) -> Option<&str> {
     for case in cases.split("== ").skip(1) {
-        if !holds(alloc, case, is_whole).unwrap_or(false) {
+        if !holds(alloc, case, deck, is_whole).unwrap_or(false) {
             return Some(case);
         }
     }
     None
 }
 
-/// What a case wants to be answered.
+/// What a case wants to be answered, and with which policies.
 #[derive(Clone, Copy)]
 struct Want<'a> {
+    deck: Deck,
     status: &'a str,
     output: &'a str,
     is_whole: bool,
 }
 
 /// Whether the case is answered as it says.
-fn holds(alloc: Global, case: &str, is_whole: bool) -> Option<bool> {
+fn holds(alloc: Global, case: &str, deck: Deck, is_whole: bool) -> Option<bool> {
     let (head, output) = case.split_once("\n")?;
     let (asked, status) = head.rsplit_once(" / ")?;
     let (words, rest) = asked.split_once(" / ")?;
     let (files, call) = rest.rsplit_once(" / ")?;
     let want = Want {
+        deck,
         status,
         output,
         is_whole,
@@ -123,7 +147,10 @@ fn is_answered(
 ) -> bool {
     match sink_of(alloc, call) {
         Ok(mut sink) => match words_of(alloc, words) {
-            Ok(words) => is_told(rail(alloc, &words, shelf, &mut sink), &sink, want),
+            Ok(words) => match ask(alloc, &words, shelf, &mut sink, want.deck) {
+                Some(status) => is_told(status, &sink, want),
+                None => false,
+            },
             Err(_) => false,
         },
         Err(_) => false,
@@ -166,24 +193,31 @@ fn has_lines(output: &str, lines: &str) -> bool {
 /// The sink in which the call fails, if it is one of the sink.
 fn sink_of(alloc: Global, call: &str) -> Result<MemorySink, AllocError> {
     let fails = fails(alloc, call, "sink")?;
-    match MemorySink::with_room(alloc, 4096, fails) {
+    match MemorySink::with_room(alloc, 32_768, fails) {
         Ok(sink) => Ok(sink),
         Err(_) => Err(AllocError),
     }
 }
 
-/// The shelf with the files `scene` and `list`, in which the call fails, if it is one of the shelf.
+/// The shelf with the files, in which the call fails, if it is one of the shelf.
 fn shelf_of(alloc: Global, files: &str, call: &str) -> Option<MemoryShelf> {
-    let (scene, list) = files.split_once(" / ")?;
+    let (scene, others) = files.split_once(" / ")?;
     let fails = fails(alloc, call, "shelf").ok()?;
-    let files = files_of(alloc, scene, list).ok()?;
+    let files = files_of(alloc, scene, others).ok()?;
     Some(MemoryShelf::new(files, fails))
 }
 
-fn files_of(alloc: Global, scene: &str, list: &str) -> Result<Vec<File>, AllocError> {
+/// The file `scene`, and beside it `list`, or `timetable` and `commands`.
+fn files_of(alloc: Global, scene: &str, others: &str) -> Result<Vec<File>, AllocError> {
     let mut files = Vec::new(alloc);
     files.push(file(alloc, "scene", scene_of(alloc, scene)?)?)?;
-    files.push(file(alloc, "list", list_of(alloc, list)?)?)?;
+    match others.split_once(" / ") {
+        Some((timetable, commands)) => {
+            files.push(file(alloc, "timetable", lines_of(alloc, timetable)?)?)?;
+            files.push(file(alloc, "commands", lines_of(alloc, commands)?)?)?;
+        }
+        None => files.push(file(alloc, "list", lines_of(alloc, others)?)?)?,
+    }
     Ok(files)
 }
 
@@ -235,9 +269,12 @@ fn push_piece(alloc: Global, text: &mut String, name: &str) -> Result<(), AllocE
     text.push_str(piece(name))
 }
 
-/// The list file of these lines; `~N` is a comment of so many bytes.
-fn list_of(alloc: Global, lines: &str) -> Result<String, AllocError> {
+/// The file of these lines; `~N` is a comment of so many bytes, and `*N` are so many commands.
+fn lines_of(alloc: Global, lines: &str) -> Result<String, AllocError> {
     let mut text = String::new(alloc);
+    if lines.is_empty() {
+        return Ok(text);
+    }
     for line in lines.split(", ") {
         push_line(&mut text, line)?;
     }
@@ -248,8 +285,18 @@ fn push_line(text: &mut String, line: &str) -> Result<(), AllocError> {
     if let Some(length) = line.strip_prefix("~") {
         return push_comment(text, number(length));
     }
+    if let Some(count) = line.strip_prefix("*") {
+        return push_commands(text, number(count));
+    }
     text.push_str(line)?;
     text.push_str("\n")
+}
+
+fn push_commands(text: &mut String, count: u32) -> Result<(), AllocError> {
+    for _ in 0..count {
+        text.push_str("00:00:00 stop A\n")?;
+    }
+    Ok(())
 }
 
 fn number(text: &str) -> u32 {

@@ -1,18 +1,19 @@
 //! `infra SCENE`: the counts of the scene, and its routes.
 
-ghost use Rattle.std.specs.Prelude.{◌≡◌, ◌+◌, ◌≤◌, ◌++◌, ◌∷◌, [], length, true};
+ghost use Rattle.std.specs.Prelude.{◌≡◌, ◌+◌, ◌≤◌, ◌++◌, ◌∷◌, [], Some, length, true};
 ghost use Rattle.rail_base.specs.declared.limits.TheConstants.{ROUTE_SECTIONS};
 ghost use Rattle.rail_rules.specs.Texts.{behind};
 ghost use Rattle.rail_history.specs.declared.line.TheConstants.{ROOM};
 ghost use Rattle.rail_scene.specs.SpelledScenes.{spelled_scene};
-ghost use Rattle.rail_cli.specs.Answers.{IsTextAnswer, plant_refusal};
+ghost use Rattle.rail_input.specs.Inputs.{plant_refusal};
+ghost use Rattle.rail_cli.specs.Answers.{IsTextAnswer};
 ghost use Rattle.rail_cli.specs.Infra.{AnswersInfra, count_words, counts_line, infra_text, route_length, route_line, route_lines, section_and_post_counts, step_length, train_counts, turn_and_route_counts};
 ghost use Rattle.rail_cli.specs.Promises.{KeepsPromise, WritesAnswer, WritesText, ended, is_of_bytes};
 
 use crate::files::read_file;
-use crate::scenes::read_plant;
 use crate::status::Status;
 use rail_history::Line;
+use rail_input::read_plant;
 use rail_io::{Failed, Shelf, Sink, write_whole};
 use rail_routes::{Network, Route, Step};
 use rail_scene::Scene;
@@ -25,7 +26,7 @@ pub fn answer<S: Shelf, O: Sink>(
     shelf: &mut S,
     out: &mut O,
 ) -> Result<(), Status>
-    ensures kept { KeepsPromise S.Shelf O.Sink (scene.now ∷ []) shelf.old shelf.new out.old out.new (ended result) }
+    ensures kept { KeepsPromise S.Shelf O.Sink (Some scene.now ∷ []) shelf.old shelf.new out.old out.new (ended result) }
     ensures answer { AnswersInfra scene.now (S.told shelf.old) (O.written out.old) (O.written out.new) (ended result) }
 {
     let scene = read_file(alloc, shelf, scene, 1)?;

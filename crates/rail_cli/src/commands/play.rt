@@ -1,17 +1,18 @@
 //! `play SCENE LIST`: what the player answers to the list, as a line.
 
-ghost use Rattle.std.specs.Prelude.{◌≡◌, ◌+◌, ◌-◌, ◌<◌, ◌≤◌, ◌^◌, ◌++◌, ◌∷◌, [], get_or, length, true};
+ghost use Rattle.std.specs.Prelude.{◌≡◌, ◌+◌, ◌-◌, ◌<◌, ◌≤◌, ◌^◌, ◌++◌, ◌∷◌, [], Some, get_or, length, true};
 ghost use Rattle.rail_rules.specs.Texts.{behind};
 ghost use Rattle.rail_history.specs.declared.line.TheConstants.{ROOM};
-ghost use Rattle.rail_cli.specs.Answers.{IsTextAnswer, plant_in};
+ghost use Rattle.rail_input.specs.Inputs.{plant_in};
+ghost use Rattle.rail_cli.specs.Answers.{IsTextAnswer};
 ghost use Rattle.rail_cli.specs.Plays.{AnswersPlay, bar_words, list_refusal, names_in, play_refusal, play_text, played_line, played_words, section_name, shared_at, train_name};
 ghost use Rattle.rail_cli.specs.Promises.{KeepsPromise, WritesAnswer, WritesText, ended, is_of_bytes};
 
 use crate::files::read_file;
-use crate::scenes::read_plant;
 use crate::status::Status;
 use rail_base::{Names, Part, Reason, Refusal, SectionNo, TrainNo};
 use rail_history::Line;
+use rail_input::read_plant;
 use rail_io::{Failed, Shelf, Sink, write_whole};
 use rail_place::{Barred, Places, PlacesFault, Played};
 use rail_plan::Plant;
@@ -26,7 +27,7 @@ pub fn answer<S: Shelf, O: Sink>(
     shelf: &mut S,
     out: &mut O,
 ) -> Result<(), Status>
-    ensures kept { KeepsPromise S.Shelf O.Sink (scene.now ∷ list.now ∷ []) shelf.old shelf.new out.old out.new (ended result) }
+    ensures kept { KeepsPromise S.Shelf O.Sink (Some scene.now ∷ Some list.now ∷ []) shelf.old shelf.new out.old out.new (ended result) }
     ensures answer { AnswersPlay scene.now list.now (S.told shelf.old) (O.written out.old) (O.written out.new) (ended result) }
 {
     let scene = read_file(alloc, shelf, scene, 1)?;

@@ -3,8 +3,9 @@
 /// Cases, each begun by a line `== WORDS / SCENE / LIST / CALL / STATUS`, behind which stands the output.
 ///
 /// SCENE names the pieces of which the file `scene` is made; LIST has the lines of the file `list`, with
-/// `, ` between them; CALL is the call of the shelf or of the sink that fails. The calls of the shelf
-/// are the beginning of the file, a read of it, and a read at its end; those of the sink are its lines.
+/// `, ` between them. In its place may stand `TIMETABLE / COMMANDS`, which have the lines of the files `timetable`
+/// and `commands`. CALL is the call of the shelf or of the sink that fails. The calls of the shelf are, file
+/// by file, the beginning of the file, a read of it, and a read at its end; those of the sink are its lines.
 pub const CASES: &str = "\
 == run scene / three at-2 /  / sure 0 / \n\
 00:01:48.0 ready A 1\n\
@@ -141,7 +142,6 @@ illegal 1 held B PW A\n\
 == run scene list list list / three none /  / sure 0 / usage\n\
 == run absent / three none /  / sure 0 / read fault\n\
 == play scene absent / loop apart /  / sure 0 / read fault\n\
-== run scene list / three none /  / sure 0 / refused 39 NotYet root 0 0\n\
 == report absent / three none /  / sure 0 / refused 39 NotYet root 0 0\n\
 == run scene / loop apart /  / sure 0 / \n\
 00:01:48.0 ready A 1\n\
@@ -244,7 +244,6 @@ illegal 1 held B PW A\n\
 == run scene / loop broken /  / sure 0 / refused 13 ItineraryBroken train 1 1\n\
 == run scene / none none /  / sure 0 / refused 2 KeyMissing root 0 1\n\
 == run scene / cut none /  / sure 0 / refused 1 NotToml bytes 0 0\n\
-== run scene / three best /  / sure 0 / refused 39 NotYet root 0 0\n\
 == run scene / three no-kind /  / sure 0 / refused 7 Unknown train 1 2\n\
 == play scene list / loop apart / at Z 1 / sure 0 / refused 35 ListName line 1 0\n\
 == play scene absent / cut none /  / sure 0 / read fault\n\

@@ -7,13 +7,19 @@ pub fn piece(name: &str) -> &'static str {
         "at-2" => AT_2_MINUTES,
         "at-5" => AT_5_SECONDS,
         "no-kind" => OF_NO_KIND,
-        "best" => POLICY,
+        "best" => "policy = \"best\"\n",
+        "by-priority" => "policy = \"priority\"\n",
+        "by-timetable" => "policy = \"timetable\"\n",
+        "in-turn" => "policy = \"rotating\"\n",
+        "odd" => "policy = \"odd\"\n",
         "long" => LONG_TRAIN,
         "slow" => SLOW_FIRST,
         "once" => AT_ONCE,
         "release" => NO_RELEASE,
         "loop" => LOOP,
         "apart" => APART,
+        "alone" => ALONE,
+        "pair" => PAIR,
         "one-track" => ON_ONE_TRACK,
         "too-long" => TOO_LONG,
         "fits" => JUST_FITS,
@@ -32,9 +38,6 @@ pub fn piece(name: &str) -> &'static str {
 
 /// No TOML.
 const CUT_OFF: &str = "version = 1\n[[section";
-
-/// A policy other than the default.
-const POLICY: &str = "policy = \"best\"\n";
 
 /// A train of a kind that is not there.
 const OF_NO_KIND: &str = r#"train = [{ name = "A", kind = "Q", entry = "00:02:00", routes = ["r"] }]
@@ -177,6 +180,19 @@ const APART: &str = r#"kind = [{ name = "R", length = 90, speed = 90, start = 10
 train = [
     { name = "A", kind = "R", entry = "00:02:00", routes = ["we1", "ee1"] },
     { name = "B", kind = "R", entry = "00:02:00", routes = ["ww2", "xw2"] },
+]
+"#;
+
+/// One train, over the first track.
+const ALONE: &str = r#"kind = [{ name = "R", length = 90, speed = 90, start = 100, stop = 50 }]
+train = [{ name = "A", kind = "R", entry = "00:02:00", routes = ["we1", "ee1"] }]
+"#;
+
+/// Two trains in one direction, over different tracks, of which the second is the more important.
+const PAIR: &str = r#"kind = [{ name = "R", length = 90, speed = 90, start = 100, stop = 50 }]
+train = [
+    { name = "A", kind = "R", entry = "00:02:00", priority = 5, routes = ["we1", "ee1"] },
+    { name = "B", kind = "R", entry = "00:02:00", priority = 1, routes = ["we2", "ee2"] },
 ]
 "#;
 

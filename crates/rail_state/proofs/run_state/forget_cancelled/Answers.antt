@@ -1,4 +1,4 @@
-use Rattle.std.proofs.Common.{◌≡◌, sym, ◌∙◌}
+use Rattle.std.proofs.Common.{sym, ◌∙◌}
 use Rattle.rail_state.proofs.CommandEvents.{none_forgotten, one_forgotten}
 use Rattle.rail_state.proofs.run_state.forget_cancelled.Goals as goal
 

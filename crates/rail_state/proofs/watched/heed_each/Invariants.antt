@@ -1,4 +1,4 @@
-use Rattle.std.proofs.Common.{◌≡◌, ℕ, ◌<◌, true, false, [], ◌∷◌, length, take, None}
+use Rattle.std.proofs.Common.{◌≡◌, ℕ, ◌<◌, true, false, [], ◌∷◌, take, None}
 use Rattle.std.specs.List.{fold}
 use Rattle.rail_rules.specs.Plant.{moves, trains}
 use Rattle.rail_state.specs.TrainStates.{state_of}

@@ -2,7 +2,8 @@ use Rattle.std.proofs.Common.{◌≡◌, ℕ, List, None, Some, Option, sym, sub
 use Rattle.rail_base.specs.declared.refusals.Refusal.{Refusal}
 use Rattle.rail_rules.specs.Numbers.{or_else}
 use Rattle.rail_cli.specs.declared.status.Status.{Status}
-use Rattle.rail_cli.specs.Answers.{Decides, Told, plant_refusal}
+use Rattle.rail_input.specs.Inputs.{plant_refusal}
+use Rattle.rail_cli.specs.Answers.{Decides, Told}
 use Rattle.rail_cli.specs.Files.{too_large}
 use Rattle.rail_cli.specs.Plays.{AnswersPlay}
 use Rattle.rail_cli.specs.Promises.{ended}

@@ -2,7 +2,8 @@ use Rattle.std.proofs.Common.{subst}
 use Rattle.rail_rules.specs.Plant.{Plant}
 use Rattle.rail_rules.specs.Numbers.{or_else}
 use Rattle.rail_io.specs.Writes.{Adds, AddsPrefix}
-use Rattle.rail_cli.specs.Answers.{IsAnswer, plant_refusal}
+use Rattle.rail_input.specs.Inputs.{plant_refusal}
+use Rattle.rail_cli.specs.Answers.{IsAnswer}
 use Rattle.rail_cli.specs.Plays.{list_refusal, play_text}
 use Rattle.rail_cli.specs.Promises.{ended}
 use Rattle.rail_cli.proofs.Answers.{answer_after}

@@ -1,18 +1,47 @@
-use Rattle.std.proofs.Common.{◌≡◌, ℕ, List, None, Some, sym, subst, ◌∙◌}
-use Rattle.rail_rules.specs.Numbers.{or_else}
-use Rattle.rail_cli.specs.Answers.{IsAnswer, plant_in}
-use Rattle.rail_cli.specs.Files.{too_large}
-use Rattle.rail_cli.specs.Promises.{ended}
-use Rattle.rail_cli.specs.Runs.{RunsPlant, RunsPlantInPart, run_refusal}
-use Rattle.rail_cli.proofs.Answers.{answer_after}
+use Rattle.std.proofs.Common.{◌∷◌, [], Some, sym, ap, subst, ◌∙◌, arith}
+use Rattle.std.specs.Option.{option_copied}
+use Rattle.rail_cli.specs.declared.status.Status.{Status}
+use Rattle.rail_cli.specs.Answers.{Told}
+use Rattle.rail_cli.specs.Files.{content_of, named_file, told_of, too_large, too_large_if_any}
+use Rattle.rail_cli.specs.Promises.{KeepsPromise}
+use Rattle.rail_cli.proofs.Answers.{ended_with}
+use Rattle.rail_cli.proofs.RunAnswers.{all_files, copied_is, fit_named, keeps_unnamed, no_commands, no_timetable}
 use Rattle.rail_cli.proofs.commands.run.answer.Goals as goal
 
+pub returns-in_err-timetable-clause-answer : goal.returns-in_err-timetable-clause-answer
+returns-in_err-timetable-clause-answer g c =
+    no_timetable _ _ _ _ _ _ _ _ c.in_ok-scene.scene.items c.in_ok-scene.ensures.bytes c.in_ok-scene.ensures.fits g.S.Shelf _ _ c.in_err-timetable.field-0.0
+    (ended_with c.from_residual-in_err-timetable.result c.in_err-timetable.field-0.0 c.from_residual-in_err-timetable.ensures.1) c.in_ok-scene.ensures.told_stays c.in_err-timetable.ensures.refused
+
+pub returns-in_err-commands-clause-answer : goal.returns-in_err-commands-clause-answer
+returns-in_err-commands-clause-answer g c =
+    let still = c.in_ok-scene.ensures.told_stays in
+    no_commands _ _ _ _ _ _ _ _ c.in_ok-scene.scene.items c.in_ok-scene.ensures.bytes c.in_ok-scene.ensures.fits
+    (content_of c.in_ok-timetable.timetable) (λ content at. c.in_ok-timetable.ensures.content content (ap (λ (t : Told). told_of t (named_file c.args.timetable.now)) still ∙ at)) c.in_ok-timetable.ensures.fits
+    g.S.Shelf _ _ c.in_err-commands.field-0.0 (ended_with c.from_residual-in_err-commands.result c.in_err-commands.field-0.0 c.from_residual-in_err-commands.ensures.1)
+    (c.in_ok-timetable.ensures.told_stays ∙ still) c.in_err-commands.ensures.refused
+
+pub returns-in_err-commands-clause-kept : goal.returns-in_err-commands-clause-kept
+returns-in_err-commands-clause-kept g c =
+    let still = c.in_ok-scene.ensures.told_stays in
+    subst (λ (status : Status). KeepsPromise g.S.Shelf g.O.Sink (Some c.args.scene.now ∷ named_file c.args.timetable.now ∷ named_file c.args.commands.now ∷ []) c.args.shelf.now c.read_named-2.new.shelf c.args.out.now c.args.out.now status)
+    (sym (ended_with c.from_residual-in_err-commands.result c.in_err-commands.field-0.0 c.from_residual-in_err-commands.ensures.1))
+    (keeps_unnamed g.S.Shelf g.O.Sink (Some c.args.scene.now ∷ named_file c.args.timetable.now ∷ []) [] (named_file c.args.commands.now) c.args.shelf.now c.read_named.new.shelf c.read_named-2.new.shelf c.args.out.now c.in_err-commands.field-0.0 (
+      λ bytes at. ap (too_large 1) (sym (c.in_ok-scene.ensures.bytes bytes at)) ∙ c.in_ok-scene.ensures.fits,
+      fit_named (g.S.Shelf.told c.args.shelf.now) 2 (named_file c.args.timetable.now) [] (content_of c.in_ok-timetable.timetable)
+          (λ content at. c.in_ok-timetable.ensures.content content (ap (λ (t : Told). told_of t (named_file c.args.timetable.now)) still ∙ at)) c.in_ok-timetable.ensures.fits tt,
+    )
+    (c.in_ok-timetable.ensures.told_stays ∙ still) (omega (arith, c.in_ok-scene.ensures.faults_never_fall, c.in_ok-timetable.ensures.faults_never_fall))
+    c.in_err-commands.ensures.told_stays c.in_err-commands.ensures.faults_never_fall c.in_err-commands.ensures.refused)
+
 pub returns-clause-answer : goal.returns-clause-answer
-returns-clause-answer g c = λ bytes told.
-    let before = g.O.Sink.written c.args.out.now in
-    let now = g.O.Sink.written c.run_scene.new.out in
-    let fits : too_large 1 c.deref.result.now ≡ None = subst (λ (xs : List ℕ). too_large 1 xs ≡ None) (sym c.deref.ensures.value) c.in_ok-scene.ensures.fits in
-    subst
-    (λ (xs : List ℕ). IsAnswer (or_else (too_large 1 xs) (run_refusal xs)) (RunsPlant (plant_in xs) before now) (RunsPlantInPart (plant_in xs) before now) (ended c.run_scene.result))
-    (c.deref.ensures.value ∙ c.in_ok-scene.ensures.bytes bytes told)
-    (answer_after _ _ _ _ _ fits c.run_scene.ensures.answer)
+returns-clause-answer g c =
+    let still = c.in_ok-scene.ensures.told_stays in
+    let still_then = c.in_ok-timetable.ensures.told_stays ∙ still in
+    let timetable = copied_is c.as_deref.result ∙ c.as_deref.ensures.value in
+    let commands = copied_is c.as_deref-2.result ∙ c.as_deref-2.ensures.value in
+    all_files _ _ _ _ _ _ _ _ c.deref.result.now (λ bytes at. c.deref.ensures.value ∙ c.in_ok-scene.ensures.bytes bytes at) (ap (too_large 1) c.deref.ensures.value ∙ c.in_ok-scene.ensures.fits)
+    (option_copied c.as_deref.result) (λ content at. timetable ∙ c.in_ok-timetable.ensures.content content (ap (λ (t : Told). told_of t (named_file c.args.timetable.now)) still ∙ at))
+    (ap (too_large_if_any 2) timetable ∙ c.in_ok-timetable.ensures.fits)
+    (option_copied c.as_deref-2.result) (λ content at. commands ∙ c.in_ok-commands.ensures.content content (ap (λ (t : Told). told_of t (named_file c.args.commands.now)) still_then ∙ at))
+    (ap (too_large_if_any 3) commands ∙ c.in_ok-commands.ensures.fits) c.run_files.ensures.answer

@@ -5,7 +5,6 @@ use Rattle.rail_base.specs.declared.history.What.TheVariants.{Admit}
 use Rattle.rail_base.specs.declared.history.Note.{Note}
 use Rattle.rail_rules.specs.Fronts.{Line}
 use Rattle.rail_rules.specs.Causes.{place}
-use Rattle.rail_ledger.specs.declared.input.RunInput.{RunInput}
 use Rattle.rail_ledger.specs.Inputs.{dispatch_in, input_in}
 use Rattle.rail_rules.specs.Plant.{claimed}
 use Rattle.rail_rules.specs.RunHistories.{is_run}
@@ -119,3 +118,9 @@ returns-clause-run c = λ front seats at of_run chosen.
     (subst (λ (line : Line). IsTrue (is_run (input_in old.input) seats (line ∷ front)))
     (λ i. record { entry = record { at = sym admits.time i; what = Admit t (sym number i) note }; trains = sym (listed_with note mid.kept.trains old.remaining.items) i })
     (runs (dispatch_in old.input) old.input.plant front old.state at.rep seats of_run still (c.requires.deciding front at) t next note mid.kept.trains has.noted chosen)))
+
+pub returns-clause-entry : goal.returns-clause-entry
+returns-clause-entry c = record {
+  note = c.in_ok-note.note;
+  what = ap (λ n. Admit c.args.train n c.in_ok-note.note) (omega (arith, ap (λ (r : TrainState). r.place) (c.get.ensures ∙ ap (λ states. state_of states c.args.train) c.in_ok-note.ensures.found.0)));
+}

@@ -32,4 +32,5 @@ returns-in-None-clause-none c = λ none.
       λ front at. no_list_at c.moves-moves.result.now front c.args.self.now c.admit_by_list.new.places c.admit_by_list.new.kept c.admit_by_list.new.analyst c.args.train c.moves-moves.ensures.moves at (c.requires.next front at) c.in-None.ensures.made facts.0 facts.1
           (subst (λ (d : ℕ). is_known (moves_in c.moves-moves.result.now) d c.args.self.now.places.positions c.args.self.now.kept.trains c.args.train ≡ false) c.depth-depth.ensures facts.2)
           c.note_no_list.new.self c.note_no_list.ensures,
+      c.note_no_list.ensures,
     )

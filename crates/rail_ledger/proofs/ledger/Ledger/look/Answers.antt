@@ -1,5 +1,5 @@
 use Rattle.rail_state.specs.TrainStates.{bar_by}
-use Rattle.rail_ledger.proofs.Looking.{first_found, looked, next_found, no_more_untried}
+use Rattle.rail_ledger.proofs.Looking.{first_found, looked, next_found, no_more_untried, unbarred_found}
 use Rattle.rail_ledger.proofs.ledger.Ledger.look.Goals as goal
 
 pub returns-clause-at : goal.returns-clause-at
@@ -13,3 +13,6 @@ returns-clause-fewer c = no_more_untried c.args.self.now.input.plant (bar_by c.a
 
 pub returns-clause-first : goal.returns-clause-first
 returns-clause-first c = first_found c.look.new.self c.look.result c.look.ensures.first
+
+pub returns-clause-unbarred : goal.returns-clause-unbarred
+returns-clause-unbarred c = unbarred_found c.args.self.now c.look.new.self c.look.ensures.length c.look.ensures.trains

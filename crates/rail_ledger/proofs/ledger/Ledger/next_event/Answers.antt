@@ -2,7 +2,6 @@ use Rattle.std.proofs.Common.{◌∷◌, sym, ap, ◌∙◌, subst, arith}
 use Rattle.std.proofs.lemmas.Bool.{false≢true}
 use Rattle.std.proofs.lemmas.Option.{slice_get_within}
 use Rattle.rail_rules.specs.Fronts.{Line}
-use Rattle.rail_queue.specs.declared.event.Class.TheVariants as class
 use Rattle.rail_ledger.specs.declared.ledger.Ledger.{Ledger}
 use Rattle.rail_ledger.specs.Ledgers.{IsAt, listed_in}
 use Rattle.rail_ledger.proofs.Commands.{given, idle_unknown, it}

@@ -2,7 +2,6 @@ use Rattle.std.proofs.Common.{◌≡◌, ◌∷◌, true, false, sym, ◌∙◌,
 use Rattle.rail_base.specs.declared.history.Entry.{Entry}
 use Rattle.rail_rules.specs.Fronts.{Front, Line}
 use Rattle.rail_rules.specs.Lawful.{is_lawful, may_follow}
-use Rattle.rail_rules.specs.Plant.{Plant}
 use Rattle.rail_judging.specs.Verdicts.{broken_law}
 use Rattle.rail_judging.proofs.CallerLemmas.{refused_next}
 use Rattle.rail_ledger.specs.declared.ledger.Ledger.{Ledger}
@@ -10,7 +9,7 @@ use Rattle.rail_ledger.specs.Ledgers.{IsAt, line_in, line_with}
 use Rattle.rail_ledger.proofs.Judged.{mapped}
 use Rattle.rail_ledger.proofs.ledger.Ledger.take_next.Goals as goal
 use Rattle.rail_ledger.specs.declared.input.RunInput.{RunInput}
-use Rattle.rail_ledger.specs.Inputs.{dispatch_in, input_in}
+use Rattle.rail_ledger.specs.Inputs.{input_in}
 
 pub returns-clause-taken : goal.returns-clause-taken
 returns-clause-taken c = λ none front at. subst (λ line. IsAt (line ∷ front) c.go_on-given.new.self) (c.compare.ensures.same none) (c.go_on-given.ensures.line front at)

@@ -1,7 +1,6 @@
 use Rattle.std.proofs.Common.{◌≡◌, ◌∷◌, true, false, refl, sym, ◌∙◌, subst}
 use Rattle.rail_rules.specs.Fronts.{Front, Line}
 use Rattle.rail_rules.specs.Lawful.{is_lawful, may_follow}
-use Rattle.rail_rules.specs.Plant.{Plant}
 use Rattle.rail_judging.specs.Verdicts.{broken_law}
 use Rattle.rail_judging.proofs.CallerLemmas.{refused_held, refused_open}
 use Rattle.rail_ledger.specs.declared.ledger.Ledger.{Ledger}
@@ -10,7 +9,7 @@ use Rattle.rail_ledger.specs.declared.ledger.Listed.TheVariants as which
 use Rattle.rail_ledger.proofs.Judged.{hold_none, listed_as, mapped}
 use Rattle.rail_ledger.proofs.ledger.Ledger.take_other.Goals as goal
 use Rattle.rail_ledger.specs.declared.input.RunInput.{RunInput}
-use Rattle.rail_ledger.specs.Inputs.{dispatch_in, input_in}
+use Rattle.rail_ledger.specs.Inputs.{input_in}
 
 pub returns-in-Admission-clause-refused : goal.returns-in-Admission-clause-refused
 returns-in-Admission-clause-refused c = λ front at.

@@ -1,8 +1,8 @@
-use Rattle.std.proofs.Common.{◌≡◌, ℕ, [], ◌∷◌, length, List, ◌++◌, take, drop, true, false, None, ap, sym, refl, subst, ◌∙◌, arith}
+use Rattle.std.proofs.Common.{◌≡◌, ℕ, [], ◌∷◌, length, List, ◌++◌, take, drop, false, None, ap, sym, subst, ◌∙◌, arith}
 use Rattle.std.specs.List.{filter}
 use Rattle.rail_state.specs.declared.train.TrainState.{TrainState}
 use Rattle.rail_state.specs.TrainStates.{state_of, state_told}
-use Rattle.rail_state.proofs.TrainsChanged.{IsChanged, changed_all}
+use Rattle.rail_state.proofs.TrainsChanged.{IsChanged}
 use Rattle.rail_state.proofs.WatchedKept.{shown_below, written_back}
 use Rattle.rail_state.proofs.Turns.{heeded_kept, heeded_now, touched_by_cancel}
 use Rattle.rail_state.proofs.trains.TrainStates.heed.Goals as goal

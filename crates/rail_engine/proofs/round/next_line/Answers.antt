@@ -1,0 +1,20 @@
+use Rattle.std.proofs.Common.{Some, refl}
+use Rattle.rail_ledger.specs.declared.ledger.Listed.TheVariants.{Nothing}
+use Rattle.rail_ledger.proofs.CallerLemmas.{listed_as}
+use Rattle.rail_engine.proofs.Asking.{asked_before}
+use Rattle.rail_engine.proofs.Continuing.{gone_after}
+use Rattle.rail_engine.proofs.round.next_line.Goals as goal
+
+pub returns-in-None-clause-line : goal.returns-in-None-clause-line
+returns-in-None-clause-line g c = λ front at.
+    c.go_on-in-None.ensures.line front ((c.in-None.ensures.none refl).3 front (c.offers_all-all.ensures.at front (listed_as front c.args.ledger.now Nothing at)))
+
+pub returns-in-None-clause-run : goal.returns-in-None-clause-run
+returns-in-None-clause-run g c =
+    gone_after c.args.ledger.now c.offers_all-all.new.ledger c.decide.new.ledger c.go_on-in-None.new.ledger _ _ _ c.go_on-in-None.result c.offers_all-all.ensures.input c.decide.ensures.input
+    (λ front at. c.offers_all-all.ensures.at front (listed_as front c.args.ledger.now Nothing at)) (λ front at. (c.in-None.ensures.none refl).3 front at) (c.in-None.ensures.desk refl) c.go_on-in-None.ensures.run
+
+pub returns-in-Some-clause-asked : goal.returns-in-Some-clause-asked
+returns-in-Some-clause-asked g c =
+    asked_before c.args.ledger.now c.offers_all-all.new.ledger _ _ (Some c.in-Some.entry) c.offers_all-all.ensures.input
+    (λ front at. c.offers_all-all.ensures.at front (listed_as front c.args.ledger.now Nothing at)) c.in-Some.ensures.asked

@@ -1,0 +1,4 @@
+-- The lemmas of this crate, all private to it.
+mod OfBytes
+mod Policies
+mod FileOrder

@@ -1,0 +1,2 @@
+-- What the contracts of this crate, and of the crates above it, speak of.
+pub mod Inputs
