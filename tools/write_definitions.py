@@ -31,8 +31,26 @@ EXAMPLES = "rail_worked"
 PARTS = (
     ("IsRun", "what `run` writes where it ends `Done`, of an input"),
     ("AnswersRun", "the same with the plant of a scene file, and its refusals"),
+    ("AnswersCheck", "what `check` answers"),
     ("AnswersInfra", "what `infra` answers"),
     ("AnswersPlay", "what `play` answers"),
+)
+
+# The headline in words, and the fields of records of the top call's crate that say each part of it.
+HEADLINE = (
+    ("For every accepted input and every policy behaviour", (("AnswersRun", "all"), ("RunsInput", "accepted"))),
+    ("a `run` that ends `Done` writes one history", (("IsRun", "history"), ("IsRun", "adds"), ("RunsInput", "only"))),
+    ("in which blocking intervals of a section never overlap,", (("IsSafe", "apart"),)),
+    ("the kept list always brings every train inside to its exit,", (("IsSafe", "complete"),)),
+    ("each wait has its stated true cause,",
+     (("IsSafe", "waits"), ("WaitsForStated", "true_cause"), ("WaitsForStated", "stated"), ("IsSafe", "causes"))),
+    ("every line follows from the admissions,",
+     (("IsRun", "history"), ("IsSafe", "obeyed"), ("IsSafe", "repaired"), ("RunsInput", "timely"))),
+    ("and, unless a closure or a stop remains,", (("NothingIsBarred", "opened"), ("NothingIsBarred", "going"))),
+    ("every train that was not cancelled leaves",
+     (("IsFinished", "names"), ("IsFinished", "nobody"), ("IsFinished", "left"))),
+    ("within a stated number of lines, hold lines aside.",
+     (("IsSafe", "few"), ("IsFinished", "exact"), ("IsSafe", "few_holds"))),
 )
 
 
@@ -147,7 +165,30 @@ class Page:
         head += ["", "| Crate | Definitions | Lines |", "|---|---|---|"]
         head += ["| `%s` | %d | %d |" % (crate, definitions[crate], lines[crate]) for crate in self.reader.specs.order
                  if definitions[crate]]
-        return head + self.shares() + parts + data + constants + kit
+        return head + self.shares() + self.headline() + parts + data + constants + kit
+
+    def clause(self, record, field):
+        """The field of a record of the top call's crate, as its file has it."""
+        module = next(it for it in self.reader.specs.modules.values()
+                      if it.crate == TOP[0] and record in it.definitions)
+        lines = module.path.read_text().splitlines()
+        start = next(at for at, line in enumerate(lines) if line.startswith("pub record %s " % record))
+        end = lines.index("", start)
+        first = next(at for at in range(start, end) if lines[at].startswith("  pub %s :" % field))
+        last = first + 1
+        while last < end and lines[last].startswith("   "):
+            last += 1
+        return ["-- of %s" % record] + [line.removeprefix("  ").removeprefix("pub ") for line in lines[first:last]]
+
+    def headline(self):
+        """The headline part by part, with the clauses that say it."""
+        parts = ["", "### The headline, part by part", ""] + paragraph(
+            "Each part of the headline, and below it the clauses that say it, as they stand in `Runs.antt`.",
+            "README.md has them in plain words.")
+        for words, fields in HEADLINE:
+            quoted = [line for record, field in fields for line in self.clause(record, field)]
+            parts += ["", "**%s**" % words, "", "```antt"] + quoted + ["```"]
+        return parts
 
     def shares(self):
         """How much single parts of the contract reach."""

@@ -1,8 +1,7 @@
 -- What a form answers, put together from what its parts answer.
-use Rattle.std.proofs.Common.{◌≡◌, ◌≢◌, ℕ, ◌≤◌, ltb, cond, List, length, Option, Some, None, Result, Ok, Err, IsErrAnd, refl, ◌∙◌, ◌⊎◌, inl, inr, sym, ap, subst, ⊎_elim, arith}
-use Rattle.std.proofs.lemmas.Bool.{cases_Bool, ltb-true}
+use Rattle.std.proofs.Common.{◌≡◌, ◌≢◌, ℕ, ◌≤◌, false, nat_lt, cond, List, length, Option, Some, None, Result, Ok, Err, IsErrAnd, refl, ◌∙◌, ◌⊎◌, inl, inr, sym, ap, subst, arith}
+use Rattle.std.proofs.lemmas.Bool.Decides.{nat_tests}
 use Rattle.std.proofs.lemmas.Option.{none-some, same_Some}
-use Rattle.rail_base.specs.declared.limits.TheConstants.{FILE_BYTES}
 use Rattle.rail_base.specs.declared.refusals.Refusal.{Refusal}
 use Rattle.rail_rules.specs.Numbers.{or_else}
 use Rattle.rail_io.specs.Writes.{Adds, AddsPrefix}
@@ -11,14 +10,16 @@ use Rattle.rail_cli.specs.declared.status.Status.TheVariants.{Done, Usage, Refus
 use Rattle.rail_input.specs.Inputs.{plant_in}
 use Rattle.rail_cli.specs.Answers.{Decides, IsAnswer}
 use Rattle.rail_io.specs.declared.shelf.Shelf.{Ghosts}
-use Rattle.rail_cli.specs.Files.{IsFileAnswer, too_large, too_many_bytes}
+use Rattle.rail_cli.specs.Files.{IsFileAnswer, most_bytes, too_large, too_many_bytes}
 use Rattle.rail_cli.specs.Promises.{ended}
 use Rattle.rail_cli.specs.Plays.{play_refusal, play_text}
 
+not_more : (n m : ℕ) → m ≤ n → nat_lt n m ≡ false
+not_more n m le = grind (arith, nat_tests)
+
 -- a file that is short enough is not refused for its size
-pub short_enough : (number : ℕ) (bytes : List ℕ) → length bytes ≤ FILE_BYTES → too_large number bytes ≡ None
-short_enough number bytes few = ap (λ b. cond b (Some (too_many_bytes number)) None)
-    (⊎_elim (λ large. absurd (omega (arith, ltb-true FILE_BYTES (length bytes) large, few))) (λ small. small) (cases_Bool (ltb FILE_BYTES (length bytes))))
+pub short_enough : (number : ℕ) (bytes : List ℕ) → length bytes ≤ most_bytes number → too_large number bytes ≡ None
+short_enough number bytes few = ap (λ b. cond b (Some (too_many_bytes number)) None) (not_more (most_bytes number) (length bytes) few)
 
 -- where nothing is refused at first, the answer is that of what comes after it
 pub answer_after : (first later : Option Refusal) (whole part : Type 0) (status : Status) → first ≡ None → IsAnswer later whole part status → IsAnswer (or_else first later) whole part status
@@ -47,7 +48,7 @@ first_decides (Some first) later whole part (Refused refusal) answer = sym (same
 first_decides (Some first) later whole part ReadFault answer = tt
 first_decides (Some first) later whole part WriteFault answer = absurd (none-some first (sym answer.0))
 first_decides (Some first) later whole part OutOfMemory answer = tt
-first_decides (Some first) later whole part (CheckedNo line law) answer = tt
+first_decides (Some first) later whole part (CheckedNo line law) answer = absurd answer
 
 pub answer_decides : (first : Option Refusal) (whole part : Type 0) (status : Status) → IsAnswer first whole part status → Decides first status
 answer_decides None whole part status answer = tt

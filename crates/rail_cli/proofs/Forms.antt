@@ -10,8 +10,9 @@ use Rattle.rail_cli.specs.declared.status.Status.TheVariants.{Done, ReadFault, W
 use Rattle.rail_cli.specs.Answers.{Told}
 use Rattle.rail_policy.specs.Seats.{DeskSeat}
 use Rattle.rail_cli.specs.Runs.{AnswersRun, IsAcceptedRun}
-use Rattle.rail_cli.specs.Forms.{AnswersForm, IsAcceptedInput, files_named, files_of}
+use Rattle.rail_cli.specs.Forms.{AnswersForm, IsAcceptedInput, IsDone, files_named, files_of}
 use Rattle.rail_cli.proofs.Answers.{complete_answer}
+use Rattle.rail_cli.proofs.CheckAnswers.{complete_check}
 
 -- words ask for one form at most
 one_form : (form other : Form) (words : List (List ℕ)) → IsForm form words → IsForm other words → form ≡ other
@@ -38,7 +39,7 @@ complete_run scene timetable commands deck told before now status answer ok read
 -- a command whose input is accepted is done, unless a call failed or memory is wanting
 pub complete_form : (form : Form) (words : List (List ℕ)) (deck : List DeskSeat) (told : Told) (before now : Option (List ℕ)) (status : Status)
     → AnswersForm form words deck told before now status → IsAcceptedInput form words deck told → (status ≡ ReadFault → ⊥) → (status ≡ WriteFault → ⊥)
-    → (status ≡ Done) ⊎ (status ≡ OutOfMemory)
+    → IsDone form status ⊎ (status ≡ OutOfMemory)
 complete_form form.Run (verb ∷ scene ∷ []) deck told before now status answer ok read write = complete_run _ _ _ deck told before now status answer ok read write
 complete_form form.Run (verb ∷ scene ∷ timetable ∷ []) deck told before now status answer ok read write = complete_run _ _ _ deck told before now status answer ok read write
 complete_form form.Run (verb ∷ scene ∷ timetable ∷ commands ∷ []) deck told before now status answer ok read write = complete_run _ _ _ deck told before now status answer ok read write
@@ -55,7 +56,14 @@ complete_form form.Play [] deck told before now status answer ok read write = ab
 complete_form form.Play (verb ∷ []) deck told before now status answer ok read write = absurd ok
 complete_form form.Play (verb ∷ scene ∷ []) deck told before now status answer ok read write = absurd ok
 complete_form form.Play (verb ∷ scene ∷ list ∷ other ∷ more) deck told before now status answer ok read write = absurd ok
-complete_form form.Check words deck told before now status answer ok read write = absurd ok
+complete_form form.Check (verb ∷ scene ∷ timetable ∷ commands ∷ history ∷ []) deck told before now status answer ok read write =
+    complete_check scene timetable commands history deck told before now status answer ok read write
+complete_form form.Check [] deck told before now status answer ok read write = absurd ok
+complete_form form.Check (verb ∷ []) deck told before now status answer ok read write = absurd ok
+complete_form form.Check (verb ∷ scene ∷ []) deck told before now status answer ok read write = absurd ok
+complete_form form.Check (verb ∷ scene ∷ timetable ∷ []) deck told before now status answer ok read write = absurd ok
+complete_form form.Check (verb ∷ scene ∷ timetable ∷ commands ∷ []) deck told before now status answer ok read write = absurd ok
+complete_form form.Check (verb ∷ scene ∷ timetable ∷ commands ∷ history ∷ other ∷ more) deck told before now status answer ok read write = absurd ok
 complete_form form.Stairs words deck told before now status answer ok read write = absurd ok
 complete_form form.Report words deck told before now status answer ok read write = absurd ok
 complete_form form.Capacity words deck told before now status answer ok read write = absurd ok

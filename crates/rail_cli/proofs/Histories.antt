@@ -6,7 +6,9 @@ use Rattle.rail_base.specs.declared.history.What.TheVariants.{Free, Arrive, Ente
 use Rattle.rail_base.specs.declared.history.Note.{Note}
 use Rattle.rail_base.specs.declared.history.Note.TheVariants.{Fresh}
 use Rattle.rail_base.specs.declared.history.Cause.{Cause}
-use Rattle.rail_laws_events.proofs.CallerLemmas.{bounded, holds_bounded, input_parts}
+use Rattle.rail_laws_end.specs.Forks.{IsFork, are_marks}
+use Rattle.rail_laws_end.proofs.CallerLemmas.{one_run}
+use Rattle.rail_laws_events.proofs.CallerLemmas.{bounded, holds_bounded, input_parts, times_below}
 use Rattle.rail_laws_front.specs.Premises.{IsWellFormed}
 use Rattle.rail_laws_front.proofs.CallerLemmas.{never_overlap, kept_completes, well_formed_from_accepted}
 use Rattle.rail_laws_run.proofs.CallerLemmas.{nobody_ready, run_lawful}
@@ -18,9 +20,9 @@ use Rattle.rail_rules.specs.Lawful.{is_lawful, may_follow, may_follow_as, may_ha
 use Rattle.rail_rules.specs.Numbers.{all_below}
 use Rattle.rail_rules.specs.Orders.{Input}
 use Rattle.rail_rules.specs.Plant.{trains}
-use Rattle.rail_rules.specs.RunHistories.{Seat, is_run, is_run_line, is_chosen, repairs_first}
+use Rattle.rail_rules.specs.RunHistories.{Seat, is_run, is_run_history, is_run_line, is_chosen, repairs_first}
 use Rattle.rail_rules.proofs.CallerLemmas.{all_below_at}
-use Rattle.rail_cli.specs.Runs.{IsSafe, WaitsForStated}
+use Rattle.rail_cli.specs.Runs.{IsBeforeLimit, IsSafe, IsTheOnlyOne, WaitsForStated}
 
 -- the first lines of a run are a run
 first_lines : (input : Input) (seats : List Seat) (later before : Front) → is_run input seats (later ++ before) ≡ true → is_run input seats before ≡ true
@@ -130,3 +132,17 @@ safe_run input seats ok front run =
       few = bounded input fine front lawful;
       few_holds = λ t. holds_bounded input fine t front lawful;
     }
+
+-- its times are below the limit
+pub timely_run : (input : Input) (seats : List Seat) → is_accepted_input input ≡ true → (front : Front) → is_run input seats front ≡ true → IsBeforeLimit front
+timely_run input seats ok front run later before line is =
+    let first = first_lines input seats later (line ∷ before) (subst (λ (f : Front). is_run input seats f ≡ true) is run) in
+    times_below input ok line before (run_lawful input seats (line ∷ before) first)
+
+-- a history of built-in policies without a fresh list is the only one
+pub only_run : (input : Input) (seats : List Seat) → is_accepted_input input ≡ true → are_marks seats ≡ true → (front : Front) → is_run_history input seats front ≡ true → IsTheOnlyOne input seats front
+only_run input seats ok marks front history built_in no_fresh other other_history =
+    ⊎_elim
+    (λ same. sym same)
+    (λ (fork : IsFork front other). absurd (no_fresh fork.later fork.common fork.line fork.forked.train fork.forked.move fork.of_first fork.forked.fresh))
+    (one_run input (input_parts input ok).0 seats marks front other history other_history built_in)

@@ -7,6 +7,7 @@ mod InfraTexts
 mod Writes
 mod Lists
 mod Answers
+mod CheckAnswers
 mod Forms
 mod Parts
 mod Reading

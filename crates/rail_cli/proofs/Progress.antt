@@ -23,12 +23,13 @@ use Rattle.rail_laws_front.specs.Views.{Follows}
 use Rattle.rail_laws_front.specs.Views.Follows.{by_event, by_admission, by_hold, by_end}
 use Rattle.rail_laws_front.proofs.CallerLemmas.{well_formed_from_accepted, lawful_last}
 use Rattle.rail_laws_events.proofs.CallerLemmas.{input_parts}
+use Rattle.rail_laws_end.specs.Forks.{are_marks}
 use Rattle.rail_laws_run.proofs.CallerLemmas.{run_lawful}
 use Rattle.rail_laws_text.proofs.CallerLemmas.{line_writable}
 use Rattle.rail_cli.specs.Runs.{RunsInput, RunsInputInPart}
 use Rattle.rail_cli.proofs.LineBounds.{lines_at_most}
 use Rattle.rail_cli.proofs.Endings.{finished_run}
-use Rattle.rail_cli.proofs.Histories.{safe_run}
+use Rattle.rail_cli.proofs.Histories.{only_run, safe_run, timely_run}
 
 -- the engine stands for a front of so many lines, whose text was added
 pub record IsSoFar (count : ℕ) (seats : List Seat) (engine : Ledger) (desk : Table) (before now : Option (List ℕ)) : Type 0 where
@@ -99,30 +100,33 @@ module _ (input : Input) (seats : List Seat) (ok : is_accepted_input input ≡ t
   -- it was not written to its end
   pub in_part : (before now then : Option (List ℕ)) → Adds before now (text input.plant front) → AddsPrefix now then (line_text plant (line_of line.entry list))
       → RunsInputInPart input seats before then
-  in_part before now then so_far more = (
-    ok,
-    record {
+  in_part before now then so_far more = record {
+    accepted = ok;
+    run = record {
       front = line ∷ front;
       run = run;
       safe = safe_run input seats ok (line ∷ front) run;
       adds = AddsPrefix-append so_far (subst (AddsPrefix now then) same_text more);
-    },
-  )
+    };
+    timely = timely_run input seats ok (line ∷ front) run;
+  }
 
 -- all lines
-pub all_written : (input : Input) (seats : List Seat) → is_accepted_input input ≡ true → (front : Front) → is_run input seats front ≡ true → has_ended front ≡ true
+pub all_written : (input : Input) (seats : List Seat) → is_accepted_input input ≡ true → are_marks seats ≡ true → (front : Front) → is_run input seats front ≡ true → has_ended front ≡ true
     → (before now : Option (List ℕ)) → Adds before now (text input.plant front) → RunsInput input seats before now
-all_written input seats ok front run ended before now adds =
-    let history : is_run_history input seats front ≡ true = and_from (is_run input seats front) (has_ended front) run ended in (
-      ok,
-      record {
+all_written input seats ok marks front run ended before now adds =
+    let history : is_run_history input seats front ≡ true = and_from (is_run input seats front) (has_ended front) run ended in record {
+      accepted = ok;
+      run = record {
         front = front;
         history = history;
         safe = safe_run input seats ok front run;
         finished = finished_run input seats ok front history;
         adds = adds;
-      },
-    )
+      };
+      timely = timely_run input seats ok front run;
+      only = only_run input seats ok marks front history;
+    }
 
 -- there are at most so many lines
 pub few_lines : (input : Input) (seats : List Seat) → is_accepted_input input ≡ true → (front : Front) → is_run input seats front ≡ true

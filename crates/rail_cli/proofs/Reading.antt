@@ -78,7 +78,7 @@ module _ {S : Type 0} (shelf : Ghosts S) (first later : List (Option (List ℕ))
       unread ReadFault answer = refl
       unread WriteFault answer = absurd answer
       unread OutOfMemory answer = refl
-      unread (CheckedNo line law) answer = refl
+      unread (CheckedNo line law) answer = absurd answer
 
   -- and nothing was written
   pub keeps_failed : {O : Type 0} (sink : SinkGhosts O) (out : O) (status : Status) → IsFileAnswer shelf (1 + length first) file between now status
@@ -117,3 +117,8 @@ pub last_read : {S : Type 0} (shelf : Ghosts S) (file : List ℕ) (second third 
 last_read shelf file second (Some third) one two three first_read second_read third_read = third_read
 last_read shelf file (Some second) None one two three first_read second_read same = subst (IsRead shelf second) (sym same) second_read
 last_read shelf file None None one two three first_read same then_same = subst (IsRead shelf file) (sym (then_same ∙ same)) first_read
+
+-- the same of four, of which the last one is there
+pub last_read_of_four : {S : Type 0} (shelf : Ghosts S) (file : List ℕ) (second third : Option (List ℕ)) (fourth : List ℕ) (four : S) → IsRead shelf fourth four
+    → IfSome (last_file (Some file ∷ second ∷ third ∷ Some fourth ∷ [])) (λ last. IsRead shelf last four)
+last_read_of_four shelf file second third fourth four read = read

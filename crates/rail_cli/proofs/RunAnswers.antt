@@ -1,5 +1,5 @@
 -- What a run answers, put together from what its files answer.
-use Rattle.std.proofs.Common.{Bor, suc, ◌≡◌, ◌≢◌, ℕ, ◌+◌, ◌≤◌, true, List, ◌∷◌, ◌++◌, length, map, Option, Some, None, refl, sym, ap, ◌∙◌, subst}
+use Rattle.std.proofs.Common.{Bor, suc, ◌≡◌, ◌≢◌, ℕ, ◌+◌, ◌≤◌, Bool, true, ◌&&◌, nat_lt, List, [], ◌∷◌, ◌++◌, length, map, Option, Some, None, refl, sym, ap, ◌∙◌, subst}
 use Rattle.std.specs.Option.{option_copied, option_map}
 use Rattle.std.proofs.lemmas.Option.{none-some, same_Some}
 use Rattle.rail_base.specs.Refusals.{AnswersFirst}
@@ -17,7 +17,8 @@ use Rattle.rail_policy.specs.Desks.{Table, run_seats}
 use Rattle.rail_base.specs.Limits.{is_from_one, most, Policies}
 use Rattle.rail_rules.specs.Accepted.{are_distinct_names, is_accepted_input}
 use Rattle.rail_policy.proofs.CallerLemmas.{fine_names}
-use Rattle.rail_policy.specs.Seats.{DeskSeat, handed_in, is_fine_deck, names_of}
+use Rattle.rail_policy.specs.Seats.{DeskSeat, are_marks_small, handed_in, is_fine_deck, names_of}
+use Rattle.rail_laws_end.specs.Forks.{are_marks}
 use Rattle.rail_engine.specs.Starts.{run_input}
 use Rattle.rail_input.specs.Inputs.{input_in, input_refusal, plant_refusal}
 use Rattle.rail_cli.specs.declared.status.Status.{Status}
@@ -44,6 +45,10 @@ names_answer refusal names shown whole part status why same is answers =
 -- the names of boxes that a reference shows
 pub names_shown : {X : Type 0} (seat : X → DeskSeat) (shown boxes : List X) → shown ≡ boxes → names_of (map seat shown) ≡ names_of (map seat boxes)
 names_shown seat shown boxes same = ap (λ xs. names_of (map seat xs)) same
+
+-- the marks of boxes that a reference shows
+pub marks_shown : {X : Type 0} (seat : X → DeskSeat) (shown boxes : List X) → shown ≡ boxes → are_marks_small (map seat shown) ≡ true → are_marks_small (map seat boxes) ≡ true
+marks_shown seat shown boxes same small = subst (λ xs. are_marks_small (map seat xs) ≡ true) same small
 
 -- the bytes that a reference shows
 pub copied_is : (shown : Option (Bor (List ℕ))) → option_copied shown ≡ option_map (λ (r : Bor (List ℕ)). r.now) shown
@@ -74,6 +79,16 @@ accepted_read input plant commands table seats force is plant_is commands_is for
 pub seats_of : (table first : Table) (seats : List DeskSeat) (force : ℕ) → table ≡ first → first ≡ record { seats = seats; force = force; last = None } → run_seats table ≡ handed_in seats
 seats_of table first seats force same is = ap run_seats (same ∙ is)
 
+-- the marks of the boxes handed in are those that were read
+small_marks : (seats : List DeskSeat) → are_marks (handed_in seats) ≡ are_marks_small seats
+small_marks [] = refl
+small_marks (seat ∷ seats) = ap (λ (b : Bool). nat_lt seat.mark 65536 && b) (small_marks seats)
+
+-- and so are those of the desk that was made of them
+pub marks_of : (table first : Table) (seats : List DeskSeat) (force : ℕ) → table ≡ first → first ≡ record { seats = seats; force = force; last = None } → are_marks_small seats ≡ true
+    → are_marks (run_seats table) ≡ true
+marks_of table first seats force same is small = ap are_marks (seats_of table first seats force same is) ∙ small_marks seats ∙ small
+
 -- a run of the same input and seats
 pub runs_same : (input other : Input) (seats other_seats : List Seat) (before now : Option (List ℕ)) → input ≡ other → seats ≡ other_seats → RunsInput input seats before now → RunsInput other other_seats before now
 runs_same input other seats other_seats before now same same_seats runs = subst (λ i. RunsInput i other_seats before now) same (subst (λ s. RunsInput input s before now) same_seats runs)
@@ -82,7 +97,7 @@ pub runs_same_in_part : (input other : Input) (seats other_seats : List Seat) (b
 runs_same_in_part input other seats other_seats before now same same_seats runs = subst (λ i. RunsInputInPart i other_seats before now) same (subst (λ s. RunsInputInPart input s before now) same_seats runs)
 
 -- what is answered where a file that may be missing was not read
-named_answer : {S : Type 0} (shelf : Ghosts S) (number : ℕ) (file : Option (List ℕ)) (before now : S) (content : Option (List ℕ)) (later : Option Refusal) (whole part : Type 0) (status : Status)
+pub named_answer : {S : Type 0} (shelf : Ghosts S) (number : ℕ) (file : Option (List ℕ)) (before now : S) (content : Option (List ℕ)) (later : Option Refusal) (whole part : Type 0) (status : Status)
     → IsNamedAnswer shelf number file before now status → told_of (shelf.told before) file ≡ Some content
     → IsAnswer (or_else (too_large_if_any number content) later) whole part status
 named_answer shelf number None before now content later whole part status answer told = absurd answer
@@ -95,7 +110,7 @@ named_answer shelf number (Some file) before now content later whole part status
         (file_answer shelf number file before now bytes later whole part status answer is)
 
 -- where it was not for its size, nothing else is decided against
-named_decides : {S : Type 0} (shelf : Ghosts S) (number : ℕ) (file : Option (List ℕ)) (before now : S) (first : Option Refusal) (status : Status)
+pub named_decides : {S : Type 0} (shelf : Ghosts S) (number : ℕ) (file : Option (List ℕ)) (before now : S) (first : Option Refusal) (status : Status)
     → IsNamedAnswer shelf number file before now status → status ≢ Refused (too_many_bytes number) → Decides first status
 named_decides shelf number None before now first status answer other = absurd answer
 named_decides shelf number (Some file) before now first status answer other = unread_decides shelf number file before now first status answer other

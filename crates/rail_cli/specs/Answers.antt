@@ -31,6 +31,7 @@ Decides None status = Unit {0}
 Decides (Some first) Done = ⊥
 Decides (Some first) (Refused refusal) = refusal ≡ first
 Decides (Some first) WriteFault = ⊥
+Decides (Some first) (CheckedNo line law) = ⊥
 Decides (Some first) status = Unit {0}
 
 -- the same of a text, all of which is added, or a first part of it

@@ -1,9 +1,9 @@
 -- The files of a command, and why one is not read.
-use Rattle.std.specs.Prelude.{◌≡◌, ◌⊎◌, ℕ, suc, ◌<◌, Bool, true, false, not, cond, nat_lt, length, List, [], ◌∷◌, Option, Some, None, codes, option_and_then}
+use Rattle.std.specs.Prelude.{◌≡◌, ◌⊎◌, ℕ, suc, ◌<◌, ◌==◌, Bool, true, false, not, cond, nat_lt, length, List, [], ◌∷◌, Option, Some, None, codes, option_and_then}
 use Rattle.std.specs.Option.{option_map}
 use Rattle.std.specs.Str.{bytes_eq}
 use Rattle.std.specs.Global.{Vec}
-use Rattle.rail_base.specs.Limits.{most, FileBytes}
+use Rattle.rail_base.specs.Limits.{most, FileBytes, HistoryBytes}
 use Rattle.rail_base.specs.Refusals.{is_file}
 use Rattle.rail_base.specs.declared.refusals.Refusal.{Refusal}
 use Rattle.rail_base.specs.declared.refusals.Reason.TheVariants.{TooMany}
@@ -18,11 +18,15 @@ use Rattle.rail_cli.specs.declared.status.Status.TheVariants.{Done, Usage, Refus
 abbrev pub too_many_bytes : ℕ → Refusal
 too_many_bytes number = record { reason = TooMany; part = File; item = number; step = 0 }
 
--- why bytes of the file of this number are refused before they are read: they are more than a file may have
-abbrev pub too_large : ℕ → List ℕ → Option Refusal
-too_large number bytes = cond (nat_lt (most FileBytes) (length bytes)) (Some (too_many_bytes number)) None
+-- how many bytes the file of this number may have: the fourth file of a command is a history
+abbrev pub most_bytes : ℕ → ℕ
+most_bytes number = cond (number == 4) (most HistoryBytes) (most FileBytes)
 
--- where the bytes of the file of this number are told, they are no more than a file may have
+-- why bytes of the file of this number are refused before they are read: they are more than it may have
+abbrev pub too_large : ℕ → List ℕ → Option Refusal
+too_large number bytes = cond (nat_lt (most_bytes number) (length bytes)) (Some (too_many_bytes number)) None
+
+-- where the bytes of the file of this number are told, they are no more than it may have
 abbrev pub FitsWhereTold : (List ℕ → Option (List ℕ)) → ℕ → List ℕ → Type 0
 FitsWhereTold told number file = (bytes : List ℕ) → told file ≡ Some bytes → too_large number bytes ≡ None
 
@@ -72,11 +76,11 @@ pub record IsRead {S : Type 0} (shelf : Ghosts S) (file : List ℕ) (now : S) : 
   pub is_ended : shelf.ended now ≡ true
   pub none_failed : shelf.failed now ≡ None
 
--- the file is too large: it was begun, more of its bytes were moved than a file may have, and where they are told they are more
+-- the file is too large: it was begun, more of its bytes were moved than it may have, and where they are told they are more
 pub record IsTooLarge {S : Type 0} (shelf : Ghosts S) (number : ℕ) (file : List ℕ) (before now : S) (answer : Refusal) : Type 0 where
   pub is : answer ≡ too_many_bytes number
   pub begun : shelf.begun now ≡ Some file
-  pub over : most FileBytes < shelf.moved now
+  pub over : most_bytes number < shelf.moved now
   pub larger : (bytes : List ℕ) → shelf.told before file ≡ Some bytes → too_large number bytes ≡ Some answer
 
 -- one of the files, which are numbered from this number on, the missing ones too, is too large
@@ -111,4 +115,5 @@ abbrev pub comes_of_files : Status → Bool
 comes_of_files Done = true
 comes_of_files WriteFault = true
 comes_of_files (Refused refusal) = not (is_file refusal.part)
+comes_of_files (CheckedNo line law) = true
 comes_of_files status = false

@@ -7,11 +7,12 @@ use Rattle.rail_words.specs.declared.forms.Form.TheVariants as form
 use Rattle.rail_policy.specs.Seats.{DeskSeat}
 use Rattle.rail_input.specs.Inputs.{plant_refusal}
 use Rattle.rail_cli.specs.declared.status.Status.{Status}
-use Rattle.rail_cli.specs.declared.status.Status.TheVariants.{Refused}
+use Rattle.rail_cli.specs.declared.status.Status.TheVariants.{Done, Refused}
 use Rattle.rail_rules.specs.Numbers.{or_else}
 use Rattle.rail_cli.specs.Files.{named_file, no_file, too_large}
 use Rattle.rail_cli.specs.Answers.{Told, not_yet}
 use Rattle.rail_cli.specs.Runs.{AnswersRun, IsAcceptedRun}
+use Rattle.rail_cli.specs.Checks.{AnswersCheck, IsAcceptedCheck, done_with}
 use Rattle.rail_cli.specs.Infra.{AnswersInfra}
 use Rattle.rail_cli.specs.Plays.{AnswersPlay, play_refusal}
 
@@ -22,6 +23,7 @@ AnswersForm form.Run (verb ∷ scene ∷ timetable ∷ []) deck told before now 
 AnswersForm form.Run (verb ∷ scene ∷ timetable ∷ commands ∷ []) deck told before now status = AnswersRun scene timetable commands deck told before now status
 AnswersForm form.Infra (verb ∷ scene ∷ []) deck told before now status = AnswersInfra scene told before now status
 AnswersForm form.Play (verb ∷ scene ∷ list ∷ []) deck told before now status = AnswersPlay scene list told before now status
+AnswersForm form.Check (verb ∷ scene ∷ timetable ∷ commands ∷ history ∷ []) deck told before now status = AnswersCheck scene timetable commands history deck told before now status
 AnswersForm form words deck told before now status = status ≡ Refused not_yet
 
 -- nothing is refused in what words of the form name: the bytes of the files are told, and accepted
@@ -34,7 +36,13 @@ IsAcceptedInput form.Infra (verb ∷ scene ∷ []) deck told = (bytes : List ℕ
 IsAcceptedInput form.Play (verb ∷ scene ∷ list ∷ []) deck told = (bytes : List ℕ) × (listed : List ℕ)
     × (told scene ≡ Some bytes) × (told list ≡ Some listed)
     × (or_else (too_large 1 bytes) (or_else (too_large 2 listed) (play_refusal bytes listed)) ≡ None)
+IsAcceptedInput form.Check (verb ∷ scene ∷ timetable ∷ commands ∷ history ∷ []) deck told = IsAcceptedCheck scene timetable commands history deck told
 IsAcceptedInput form words deck told = ⊥
+
+-- a command of the form is done: a check also where it ends with a verdict that is no
+abbrev pub IsDone : Form → Status → Type 0
+IsDone form.Check status = done_with status ≡ Done
+IsDone form status = status ≡ Done
 
 -- the files that words of the form name, in the order in which they are read; a form that is not built reads none
 abbrev pub files_of : Form → List (List ℕ) → List (Option (List ℕ))
@@ -43,6 +51,7 @@ files_of form.Run (verb ∷ scene ∷ timetable ∷ []) = Some scene ∷ named_f
 files_of form.Run (verb ∷ scene ∷ timetable ∷ commands ∷ []) = Some scene ∷ named_file timetable ∷ named_file commands ∷ []
 files_of form.Infra (verb ∷ scene ∷ []) = Some scene ∷ []
 files_of form.Play (verb ∷ scene ∷ list ∷ []) = Some scene ∷ Some list ∷ []
+files_of form.Check (verb ∷ scene ∷ timetable ∷ commands ∷ history ∷ []) = Some scene ∷ named_file timetable ∷ named_file commands ∷ Some history ∷ []
 files_of form words = []
 
 -- the files that the words name, by the form of their verb

@@ -6,4 +6,5 @@ pub mod Answers
 pub mod Runs
 pub mod Infra
 pub mod Plays
+pub mod Checks
 pub mod Forms

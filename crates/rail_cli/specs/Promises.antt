@@ -8,7 +8,7 @@ use Rattle.rail_io.specs.declared.shelf.Shelf.{Ghosts as ShelfGhosts}
 use Rattle.rail_io.specs.declared.sink.Sink.{Ghosts as SinkGhosts}
 use Rattle.rail_io.specs.declared.sink.Failed.{Failed}
 use Rattle.rail_cli.specs.declared.status.Status.{Status}
-use Rattle.rail_cli.specs.declared.status.Status.TheVariants.{Done, Usage, Refused, ReadFault, WriteFault, OutOfMemory}
+use Rattle.rail_cli.specs.declared.status.Status.TheVariants.{CheckedNo, Done, Usage, Refused, ReadFault, WriteFault, OutOfMemory}
 use Rattle.rail_cli.specs.Files.{IsOneTooLarge, IsRead, IsReadFault, comes_of_files, last_file}
 
 -- the status of a command that ended so
@@ -20,6 +20,7 @@ ended (Err status) = status
 abbrev pub may_write : Status → Bool
 may_write Done = true
 may_write WriteFault = true
+may_write (CheckedNo line law) = true
 may_write status = false
 
 -- what is done with bytes that were read may end so: with no fault of reading, with no refusal of a file for its size, and
@@ -55,10 +56,10 @@ pub record WritesAnswer {O : Type 0} (sink : SinkGhosts O) (before now : O) (sta
   pub faults_never_fall : sink.faults before ≤ sink.faults now
 
 -- where the input is accepted and no count of faults rose, the command was done, or memory was wanting
-abbrev pub IsComplete : {S O : Type 0} → ShelfGhosts S → SinkGhosts O → Type 0 → S → S → O → O → Status → Type 0
-IsComplete shelf sink accepted before now out_before out_now status = accepted
+abbrev pub IsComplete : {S O : Type 0} → ShelfGhosts S → SinkGhosts O → Type 0 → Type 0 → S → S → O → O → Status → Type 0
+IsComplete shelf sink accepted done before now out_before out_now status = accepted
     → (Rose (shelf.faults before) (shelf.faults now) → ⊥) → (Rose (sink.faults out_before) (sink.faults out_now) → ⊥)
-    → (status ≡ Done) ⊎ (status ≡ OutOfMemory)
+    → done ⊎ (status ≡ OutOfMemory)
 
 -- what a form that reads these files in this order promises beside its answer
 pub record KeepsPromise {S O : Type 0} (shelf : ShelfGhosts S) (sink : SinkGhosts O) (files : List (Option (List ℕ)))

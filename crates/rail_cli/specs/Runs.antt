@@ -1,5 +1,5 @@
 -- The form `run`: the history of a scene.
-use Rattle.std.specs.Prelude.{◌≡◌, ◌≢◌, ◌⊎◌, ℕ, suc, ◌<◌, ◌≤◌, false, IsTrue, List, [], ◌∷◌, ◌++◌, length, Option, Some, None}
+use Rattle.std.specs.Prelude.{◌≡◌, ◌≢◌, ◌⊎◌, ℕ, suc, ◌<◌, ◌≤◌, ◌^◌, false, IsTrue, List, [], ◌∷◌, ◌++◌, length, Option, Some, None}
 use Rattle.rail_base.specs.declared.refusals.Refusal.{Refusal}
 use Rattle.rail_base.specs.declared.history.Note.{Note}
 use Rattle.rail_base.specs.declared.history.Note.TheVariants.{Fresh}
@@ -18,6 +18,7 @@ use Rattle.rail_rules.specs.Texts.{text}
 use Rattle.rail_rules.specs.Overlaps.{NeverOverlap}
 use Rattle.rail_rules.specs.Orders.{Input, is_cancelled, is_closed, is_stopped, told}
 use Rattle.rail_rules.specs.Numbers.{or_else}
+use Rattle.rail_laws_end.specs.Forks.{is_built_in_throughout}
 use Rattle.rail_policy.specs.Seats.{DeskSeat, handed_in, names_of}
 use Rattle.rail_input.specs.Inputs.{input_in, input_refusal, plant_refusal}
 use Rattle.rail_cli.specs.declared.status.Status.{Status}
@@ -90,14 +91,33 @@ pub record IsRunInPart (input : Input) (seats : List Seat) (before now : Option 
   pub safe : IsSafe input seats front
   pub adds : AddsPrefix before now (text input.plant front)
 
+-- every time of the front is below 2^50 tenths of a second
+abbrev pub IsBeforeLimit : Front → Type 0
+IsBeforeLimit front = (later before : Front) (line : Line) → front ≡ later ++ line ∷ before → line.entry.at < 2 ^ 50
+
+-- no admission of the front has a fresh list
+abbrev pub HasNoFreshList : Front → Type 0
+HasNoFreshList front = (later before : Front) (line : Line) (t m : ℕ) → front ≡ later ++ line ∷ before → line.entry.what ≢ Admit t m Fresh
+
+-- where a built-in kind was in force at each of its admissions, and none of them has a fresh list, the front is the one
+-- run history of the input
+abbrev pub IsTheOnlyOne : Input → List Seat → Front → Type 0
+IsTheOnlyOne input seats front = IsTrue (is_built_in_throughout input seats front) → HasNoFreshList front
+    → (other : Front) → IsTrue (is_run_history input seats other) → other ≡ front
+
 -- the input may be run: it is within the limits, so that the laws on all such inputs speak of it; and its run, with the
 -- boxes as they were handed in, was added
-abbrev pub RunsInput : Input → List Seat → Option (List ℕ) → Option (List ℕ) → Type 0
-RunsInput input seats before now = IsTrue (is_accepted_input input) × IsRun input seats before now
+pub record RunsInput (input : Input) (seats : List Seat) (before now : Option (List ℕ)) : Type 0 where
+  pub accepted : IsTrue (is_accepted_input input)
+  pub run : IsRun input seats before now
+  pub timely : IsBeforeLimit run.front
+  pub only : IsTheOnlyOne input seats run.front
 
 -- the input may be run, and a first part of its run was added
-abbrev pub RunsInputInPart : Input → List Seat → Option (List ℕ) → Option (List ℕ) → Type 0
-RunsInputInPart input seats before now = IsTrue (is_accepted_input input) × IsRunInPart input seats before now
+pub record RunsInputInPart (input : Input) (seats : List Seat) (before now : Option (List ℕ)) : Type 0 where
+  pub accepted : IsTrue (is_accepted_input input)
+  pub run : IsRunInPart input seats before now
+  pub timely : IsBeforeLimit run.front
 
 -- why a run is refused whose files hold this, with this deck: for the size of each file in turn, and then for what they spell
 abbrev pub run_refusal : List ℕ → Option (List ℕ) → Option (List ℕ) → List DeskSeat → Option Refusal

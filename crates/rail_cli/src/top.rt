@@ -5,10 +5,10 @@ ghost use Rattle.rail_policy.specs.Seats.{is_fine_deck};
 ghost use Rattle.rail_words.specs.Forms.{IsForm};
 ghost use Rattle.rail_words.specs.declared.forms.Form.{Form};
 ghost use Rattle.rail_cli.specs.declared.status.Status.TheVariants as status;
-ghost use Rattle.rail_cli.specs.Forms.{AnswersForm, IsAcceptedInput, files_named, files_of};
+ghost use Rattle.rail_cli.specs.Forms.{AnswersForm, IsAcceptedInput, IsDone, files_named, files_of};
 ghost use Rattle.rail_cli.specs.Promises.{IsComplete, KeepsPromise, ReadsFiles, WritesAnswer, ended};
 
-use crate::commands::{infra, play, run};
+use crate::commands::{check, infra, play, run};
 use crate::files::NO_FILE;
 use crate::status::{NOT_YET, Status};
 use rail_base::Word;
@@ -30,6 +30,10 @@ use std::alloc::Global;
 ///
 /// The policies of the deck are those that the scene and the commands may name, 1 to 16 with distinct names.
 ///
+/// What a check promises is `IsJudged` in `specs/Checks.antt`: where nothing is refused and the history file is the
+/// text of lines, `check` adds `yes` and ends `Done` exactly where these are a history that is lawful to its end; else
+/// it adds the first line that may not follow and the law that it breaks, and ends `CheckedNo` with both.
+///
 /// A command whose input is accepted is done where no count of faults rose, unless memory is wanting.
 ///
 /// `Usage` comes exactly where the words are not in the table of words, and before any file. A refusal is
@@ -48,7 +52,8 @@ pub fn rail<S: Shelf, O: Sink>(
         → AnswersForm form words.now (map ⟦<Box<dyn Policy> as Policy>⟧.seat deck.items)
         (S.told shelf.old) (O.written out.old) (O.written out.new) result }
     ensures complete { (form : Form) → IsForm form words.now
-        → IsComplete S.Shelf O.Sink (IsAcceptedInput form words.now (map ⟦<Box<dyn Policy> as Policy>⟧.seat deck.items) (S.told shelf.old)) shelf.old shelf.new out.old out.new result }
+        → IsComplete S.Shelf O.Sink (IsAcceptedInput form words.now (map ⟦<Box<dyn Policy> as Policy>⟧.seat deck.items) (S.told shelf.old))
+        (IsDone form result) shelf.old shelf.new out.old out.new result }
     ensures reads { ReadsFiles S.Shelf (files_named words.now) shelf.old shelf.new result }
     ensures writes { WritesAnswer O.Sink out.old out.new result }
 {
@@ -87,6 +92,20 @@ fn answer<S: Shelf, O: Sink>(
         (Form::Infra, [_, scene]) => infra::answer(alloc, scene.as_str(), shelf, out),
         (Form::Play, [_, scene, list]) => {
             play::answer(alloc, scene.as_str(), list.as_str(), shelf, out)
+        }
+        (Form::Check, [_, scene, timetable, commands, history]) => {
+            let (timetable, commands) = (timetable.as_str(), commands.as_str());
+            let history = history.as_str();
+            check::answer(
+                alloc,
+                scene.as_str(),
+                timetable,
+                commands,
+                history,
+                shelf,
+                out,
+                &deck,
+            )
         }
         _ => Err(Status::Refused(NOT_YET)),
     }

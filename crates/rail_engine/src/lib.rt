@@ -16,3 +16,4 @@ mod offers;
 mod round;
 
 pub use engine::Engine;
+pub use rail_laws_end::one_history;

@@ -1,5 +1,5 @@
 -- The lines of a history that is read, from the first on.
-use Rattle.std.proofs.Common.{◌≡◌, ℕ, ◌+◌, ◌<◌, ◌≤◌, Bool, true, false, ◌&&◌, cond, List, [], ◌∷◌, ◌++◌, length, drop, get_or, refl, sym, ap, ◌∙◌, subst, arith, append_assoc, length-append}
+use Rattle.std.proofs.Common.{◌≡◌, ℕ, suc, ◌+◌, ◌<◌, ◌≤◌, Bool, true, false, ◌&&◌, cond, List, [], ◌∷◌, ◌++◌, length, drop, get_or, refl, sym, ap, ◌∙◌, subst, arith, append_assoc, length-append}
 use Rattle.std.specs.List.{count_by, list_all, list_any}
 use Rattle.std.proofs.lemmas.Bool.{and_parts, and_from}
 use Rattle.std.proofs.lemmas.List.{append-nil, reverse-append}
@@ -92,6 +92,11 @@ paired_push entries ls entry kept same =
         → count_by (λ (e : Entry). does_list e.what) (entries ++ entry ∷ []) ≡ length (ls ++ lists_more b kept)
     by true one long = omega (arith, one, long, same)
     by false one long = omega (arith, one, long, same)
+
+-- an entry is a line
+pub length-lines_in : (entries : List Entry) (lists_of : List (List ℕ)) → length (lines_in entries lists_of) ≡ length entries
+length-lines_in [] ls = refl
+length-lines_in (e ∷ es) ls = ap suc (length-lines_in es (cond (does_list e.what) (drop 1 ls) ls))
 
 -- the lines so far, and what is left of the bytes
 pub record IsFront (plant : Plant) (bytes : List ℕ) (lines : List Line) (rest : List ℕ) : Type 0 where

@@ -14,3 +14,7 @@ mod LineRead
 mod Histories
 -- Lemmas on lines and files.
 mod FileLines
+-- The bytes of one history.
+mod OneHistory
+-- The lemmas of this crate; those for the crates above stand in CallerLemmas.
+pub mod CallerLemmas

@@ -19,7 +19,7 @@ use Rattle.std.specs.Io.KnownBytes.{append_known}
 use Rattle.std.specs.Prelude.{Option, IsSomeAnd}
 use Rattle.rail_history.specs.declared.read_line.ReadLine.{ReadLine}
 use Rattle.rail_history.specs.LineReads.{line_read}
-use Rattle.rail_history.specs.HistoryLines.{IsSpelled, is_history_line, is_list_within, is_told}
+use Rattle.rail_history.specs.HistoryLines.{IsSpelled, is_history_line, is_list_within, is_history_what}
 use Rattle.rail_history.specs.Lines.{HasNames, brought, line_of}
 use Rattle.rail_history.specs.ReadWords.{is_small_what, is_spaceless, joined}
 use Rattle.rail_history.proofs.FileLines.{is_feed}
@@ -35,14 +35,14 @@ pub record AreKept (plant : Plant) (line : Line) : Type 0 where
 
 pub kept_of : (plant : Plant) (line : Line) → is_history_line plant line ≡ true → AreKept plant line
 kept_of plant line is =
-    let one = and_parts (does_fit_counter line.entry.at) (is_told plant line) is in
+    let one = and_parts (does_fit_counter line.entry.at) (is_history_what plant line) is in
     let two = and_parts (is_writable_what plant line line.entry.what && is_small_what line.entry.what) (is_list_within line.entry.what line.trains) one.1 in
     let three = and_parts (is_writable_what plant line line.entry.what) (is_small_what line.entry.what) two.0 in
     record { at = ltb-true line.entry.at (2 ^ 64) one.0; writable = three.0; small = three.1; within = two.1 }
 
 pub can_write : (plant : Plant) (line : Line) → is_history_line plant line ≡ true → is_writable plant line ≡ true
 can_write plant line is =
-    let one = and_parts (does_fit_counter line.entry.at) (is_told plant line) is in
+    let one = and_parts (does_fit_counter line.entry.at) (is_history_what plant line) is in
     and_from (does_fit_counter line.entry.at) (is_writable_what plant line line.entry.what) one.0 (kept_of plant line is).writable
 
 pub words_spaceless : (plant : Plant) → IsNamed plant → (line : Line) → is_history_line plant line ≡ true → list_all is_spaceless (line_words plant line) ≡ true

@@ -54,13 +54,13 @@ abbrev pub is_list_within : What → List ℕ → Bool
 is_list_within what list = cond (is_fresh what) (is_fresh_list list) true
 
 -- what a line says may stand in the file: its trains and sections are those of the plant, its numbers fit 16 bits, and its list is within the limits
-abbrev pub is_told : Plant → Line → Bool
-is_told plant line =
+abbrev pub is_history_what : Plant → Line → Bool
+is_history_what plant line =
     is_writable_what plant line line.entry.what && is_small_what line.entry.what && is_list_within line.entry.what line.trains
 
 -- a line of the file: such a line at a time that fits 64 bits
 abbrev pub is_history_line : Plant → Line → Bool
-is_history_line plant line = does_fit_counter line.entry.at && is_told plant line
+is_history_line plant line = does_fit_counter line.entry.at && is_history_what plant line
 
 -- lines of the file, of which no more have a fresh list than a plant has moves
 pub record AreHistoryLines (plant : Plant) (lines : List Line) : Type 0 where

@@ -35,6 +35,7 @@ pub fn read_history(alloc: Global, names: &Names, bytes: &[u8]) -> Result<Histor
     requires short { length bytes.now < 2 ^ 32 - 1 }
     ensures read { IfOk result (λ history. (plant : Plant) → HasNames plant names.now → IsHistory plant bytes.now (lines_of history)) }
     ensures paired { IfOk result (λ history. IsPaired history) }
+    ensures short { IfOk result (λ history. length history.entries.items ≤ length bytes.now) }
     ensures refused { IfErr result (IsRefusedFor names.now bytes.now) }
 {
     let mut history = History {

@@ -11,8 +11,9 @@
 
 mod cutting;
 mod files;
+mod history_lines;
+mod laws;
 mod line;
-mod lines_told;
 mod read_line;
 mod read_time;
 mod read_trains;
@@ -24,6 +25,7 @@ mod writing;
 mod written;
 
 pub use files::{History, read_history};
+pub use laws::{a_file_with_a_wrong_line_is_no_history, a_history_file_has_one_history};
 pub use line::{Line, ROOM};
 pub use read_what::likely_what;
 pub use read_words::{Reason, Verb};

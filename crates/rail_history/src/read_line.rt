@@ -9,7 +9,7 @@ ghost use Rattle.rail_history.specs.ReadWords.{is_spaceless, joined};
 ghost use Rattle.rail_rules.specs.Plant.{Plant};
 
 use crate::cutting::cut;
-use crate::lines_told::is_history_line;
+use crate::history_lines::is_history_line;
 use crate::read_time::likely_time;
 use crate::read_trains::likely_trains;
 use crate::read_what::likely_what;

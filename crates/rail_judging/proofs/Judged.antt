@@ -169,7 +169,7 @@ module _ (input : Input) (accepted : is_accepted input.plant ≡ true) (front : 
   undecided_where_held line t m why holds =
       and_from (is_deciding input front) (not (is_settled input front)) holds.deciding (not_from_false (is_settled input front) (false_from_ne_true (is_settled input front) (hold_unsettles input fine_now few_now [] refl front lawful line t m why holds)))
 
-  decided_where_settled : is_settled input front ≡ true → is_undecided input front ≡ false
+  pub decided_where_settled : is_settled input front ≡ true → is_undecided input front ≡ false
   decided_where_settled settled = and_right (is_deciding input front) (not (is_settled input front)) (not_from_true (is_settled input front) settled)
 
   pub decided_where_others_follow : (line : Line) → may_follow input front line ≡ true → is_admission line.entry.what ≡ false → is_hold line.entry.what ≡ false → is_undecided input front ≡ false
@@ -187,6 +187,28 @@ module _ (input : Input) (accepted : is_accepted input.plant ≡ true) (front : 
       of (by_admission u m note h) = absurd (false≢true (sym none ∙ ap is_admission h.what))
       of (by_hold u m why h) = absurd (false≢true (sym held ∙ ap is_hold h.what))
       of (by_end h) = decided_where_settled h.settled
+
+  -- where a hold line may follow something is left to decide
+  pub undecided_before_hold : (given : Line) → is_lawful input (given ∷ front) ≡ true → is_hold given.entry.what ≡ true → is_undecided input front ≡ true
+  undecided_before_hold given after hold = of (viewed input front given (and_parts (is_lawful input front) (may_follow input front given) after).1)
+    where
+      not_hold : (w : What) → is_event w ≡ true → is_hold w ≡ false
+      not_hold (Admit t m n) e = refl
+      not_hold (Hold t m c) e = absurd (false≢true e)
+      not_hold End e = refl
+      not_hold (Free x t) e = refl
+      not_hold (Arrive t m) e = refl
+      not_hold (Enter t m x) e = refl
+      not_hold (Out t) e = refl
+      not_hold (Ready t m) e = refl
+      not_hold (Told k) e = refl
+      not_hold (Untold k) e = refl
+
+      of : Follows input front given → is_undecided input front ≡ true
+      of (by_event h) = absurd (false≢true (sym (not_hold given.entry.what h.event) ∙ hold))
+      of (by_admission t m note h) = absurd (false≢true (sym (ap is_hold h.what) ∙ hold))
+      of (by_hold t m why h) = undecided_where_held given t m why h
+      of (by_end h) = absurd (false≢true (sym (ap is_hold h.what) ∙ hold))
 
   -- the law that a line beside admissions breaks where this is left to decide or not
   other_law : (line : Line) → has_ended front ≡ false → is_admission line.entry.what ≡ false → broken_law input front line ≡ cond (is_hold line.entry.what) 6 (cond (is_undecided input front) 6 1)
@@ -228,25 +250,7 @@ module _ (input : Input) (accepted : is_accepted input.plant ≡ true) (front : 
     refused_next no_hold other = (others_may_not other, law_where_decided line (not_ended input front given given_may) line_none (decided_where_others_follow given given_may given_none no_hold))
 
     pub refused_held : is_hold given.entry.what ≡ true → (given ≡ line → ⊥) → (may_follow input front line ≡ false) × (broken_law input front line ≡ 6)
-    refused_held hold other = (others_may_not other, law_where_undecided line (not_ended input front given given_may) line_none (of (viewed input front given given_may)))
-      where
-        of : Follows input front given → is_undecided input front ≡ true
-        of (by_event h) = absurd (false≢true (sym (not_hold given.entry.what h.event) ∙ hold))
-          where
-            not_hold : (w : What) → is_event w ≡ true → is_hold w ≡ false
-            not_hold (Admit t m n) e = refl
-            not_hold (Hold t m c) e = absurd (false≢true e)
-            not_hold End e = refl
-            not_hold (Free x t) e = refl
-            not_hold (Arrive t m) e = refl
-            not_hold (Enter t m x) e = refl
-            not_hold (Out t) e = refl
-            not_hold (Ready t m) e = refl
-            not_hold (Told k) e = refl
-            not_hold (Untold k) e = refl
-        of (by_admission t m note h) = absurd (false≢true (sym given_none ∙ ap is_admission h.what))
-        of (by_hold t m why h) = undecided_where_held given t m why h
-        of (by_end h) = absurd (false≢true (sym (ap is_hold h.what) ∙ hold))
+    refused_held hold other = (others_may_not other, law_where_undecided line (not_ended input front given given_may) line_none (undecided_before_hold given after hold))
 
   pub refused_open : (line : Line) (t : ℕ) → has_ended front ≡ false → is_deciding input front ≡ true → could_go input front t ≡ true → is_admission line.entry.what ≡ false → (may_follow input front line ≡ false) × (broken_law input front line ≡ 6)
   refused_open line t going deciding goes none = (only_admissions input accepted front lawful line t deciding goes none, law_where_undecided line going none (undecided_where_one_goes t deciding goes))

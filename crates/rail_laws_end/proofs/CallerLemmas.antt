@@ -8,3 +8,5 @@ pub use Rattle.rail_laws_end.proofs.Ending.{complete_out}
 pub use Rattle.rail_laws_end.proofs.Steps.{event_alone, hold_unsettles, next_lines, ready_known, settled_parts}
 -- a due line isn't at an instant where nothing is due
 pub use Rattle.rail_laws_end.proofs.Steps.{not_now}
+-- Compared: two run histories of one input are one, or part at a fresh admission.
+pub use Rattle.rail_laws_end.proofs.Compared.{one_run}

@@ -18,4 +18,4 @@ pub use completion::{
 pub use continuation::{
     a_front_that_has_not_ended_has_a_next_line, every_lawful_front_can_be_continued,
 };
-pub use unique::an_input_has_one_run_history;
+pub use unique::one_history;

@@ -11,4 +11,5 @@ mod Deciding
 mod Ordered
 mod Commands
 mod Judged
+mod Missing
 mod Admissions

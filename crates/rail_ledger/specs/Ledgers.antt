@@ -12,16 +12,16 @@ use Rattle.rail_list.specs.GivenLists.{given_list}
 use Rattle.rail_rules.specs.Places.{after, holds}
 use Rattle.rail_rules.specs.Plant.{Plant, bound, claimed, moves, moves_of, trains}
 use Rattle.rail_rules.specs.Causes.{could_go, is_deciding}
-use Rattle.rail_rules.specs.Fronts.{Front, Line, has_ended, is_admission, is_hold, kept, places}
+use Rattle.rail_rules.specs.Fronts.{Front, Line, has_ended, has_held, is_admission, is_hold, kept, places}
 use Rattle.rail_rules.specs.Lawful.{may_follow}
-use Rattle.rail_judging.specs.Verdicts.{broken_law}
+use Rattle.rail_judging.specs.Verdicts.{broken_law, missing_law}
 use Rattle.rail_rules.specs.RunHistories.{Seat, is_chosen, is_run}
 use Rattle.rail_place.specs.Made.{State}
 use Rattle.rail_list.specs.KeptLists.{Kept}
 use Rattle.rail_queue.specs.Order.{first_time_of}
 use Rattle.rail_state.specs.declared.train.TrainState.{TrainState}
 use Rattle.rail_state.specs.TrainStates.{bar_by, is_untried, state_of, state_told}
-use Rattle.rail_state.specs.Representation.{IsNext, Represents, admit_line, is_due_now}
+use Rattle.rail_state.specs.Representation.{IsAdmissible, IsNext, Represents, admit_line, is_due_now, list_for}
 use Rattle.rail_ledger.specs.declared.ledger.Ledger.{Ledger}
 use Rattle.rail_ledger.specs.declared.ledger.Listed.{Listed}
 use Rattle.rail_ledger.specs.declared.ledger.Listed.TheVariants as listed
@@ -194,6 +194,40 @@ abbrev pub IsRefused : Ledger → Line → ℕ → Type 0
 IsRefused ledger line law = (front : Front) → IsAt front ledger
     → (may_follow (input_in ledger.input) front line ≡ false) × (law ≡ broken_law (input_in ledger.input) front line)
 
+-- the ledger stands for the front, and this says whether its last line is a hold line
+abbrev pub IsAtWith : Bool → Ledger → Front → Type 0
+IsAtWith held ledger front = IsAt front ledger × (held ≡ has_held front)
+
+-- the ledger stands for some front of which this says whether its last line is a hold line
+pub record IsSomewhereWith (held : Bool) (ledger : Ledger) : Type 0 where
+  pub front : Front
+  pub at : IsAtWith held ledger front
+
+-- the line may follow each such front for which the ledger stood, and it stands for the front with the line
+abbrev pub TakesLineWith : Bool → Ledger → Ledger → Line → Type 0
+TakesLineWith held old new line = (front : Front) → IsAtWith held old front → IsAt (line ∷ front) new
+
+-- the line may not follow each such front for which the ledger stands, and this is the law that it breaks
+abbrev pub IsRefusedWith : Bool → Ledger → Line → ℕ → Type 0
+IsRefusedWith held ledger line law = (front : Front) → IsAtWith held ledger front
+    → (may_follow (input_in ledger.input) front line ≡ false) × (law ≡ broken_law (input_in ledger.input) front line)
+
+-- nothing is due at the instant of a front for which the ledger stands, and nothing but a list is wanting for the train's next move
+pub record IsAdmissibleNow (ledger : Ledger) (t : ℕ) : Type 0 where
+  pub front : Front
+  pub at : IsAt front ledger
+  pub deciding : is_deciding (input_in ledger.input) front ≡ true
+  pub admissible : IsAdmissible (dispatch_in ledger.input) ledger.input.plant front ledger.state.holders ledger.state.trains t
+
+-- the front for which the ledger stands has ended
+abbrev pub IsEnded : Ledger → Type 0
+IsEnded ledger = (front : Front) → IsAt front ledger → has_ended front ≡ true
+
+-- the front for which the ledger stands has not ended, and where no line follows this is the law that is broken
+abbrev pub IsUnended : Ledger → ℕ → Type 0
+IsUnended ledger law = (front : Front) → IsAt front ledger
+    → (has_ended front ≡ false) × (law ≡ missing_law (input_in ledger.input) front)
+
 -- a list brings every train inside to its exit after the train's next move, which the places have made
 pub record HasList (front : Front) (old new : Ledger) (t : ℕ) (note : Note) : Type 0 where
   pub noted : IsNoted (moves_of old.input.plant) old.input.plant.tables.depth (places old.input.plant front) (kept old.input.plant front) t note new.kept.trains
@@ -238,3 +272,12 @@ pub record HasGiven (front : Front) (old new : Ledger) (t : ℕ) (note : Note) (
   pub counted : new.places.played < 2 ^ 64
   pub told : (x u : ℕ) → (get_or new.places.owners x None ≡ Some u) ↔ IsTrue (holds (moves_of old.input.plant) new.places.positions u x)
   pub list_room : sum_below (moves old.input.plant) (trains old.input.plant) ≤ new.kept.room
+
+-- of these trains, those of the line that says this: of an admission a fresh list alone
+abbrev pub trains_taken : What → List ℕ → List ℕ
+trains_taken (what.Admit t m note) list = list_for note list
+trains_taken _ list = list
+
+-- the line of an entry that is taken with this list
+abbrev pub line_taken : Entry → List ℕ → Line
+line_taken entry list = record { entry = entry; trains = trains_taken entry.what list }

@@ -1,19 +1,16 @@
 //! A line is judged by what is kept.
 
 ghost use Rattle.std.specs.Prelude.{◌≡◌, ◌≢◌, ◌↔◌, ◌<◌, ◌∷◌, [], cond, is_some, Some, true, false, IsTrue, IsNone, IfSome};
-ghost use Rattle.rail_ledger.specs.Ledgers.{CouldGo, GivesEntry, HasGiven, IsAt, IsRefused, IsSettled, IsSomewhere, MayGoOn, TakesLine, admission, is_forbidden_by, is_in_place, is_next_move, line_in, line_with, list_in, list_with};
+ghost use Rattle.rail_ledger.specs.Ledgers.{CouldGo, GivesEntry, HasGiven, IsAdmissibleNow, IsAt, IsEnded, IsRefused, IsRefusedWith, IsSettled, IsSomewhere, IsSomewhereWith, IsUnended, MayGoOn, TakesLine, TakesLineWith, admission, is_forbidden_by, is_in_place, is_next_move, line_in, line_taken, line_with, list_in, list_with};
 ghost use Rattle.rail_ledger.specs.declared.judgement.Left.TheVariants.{Admission, Hold as HoldLine, Nothing};
 ghost use Rattle.rail_ledger.specs.declared.ledger.Listed.TheVariants as which;
 ghost use Rattle.rail_queue.specs.Order.{first_time_of, is_sorted};
-ghost use Rattle.rail_rules.specs.Causes.{is_deciding};
-ghost use Rattle.rail_rules.specs.Fronts.{Front, has_held, is_admission, is_hold, kept, places};
+ghost use Rattle.rail_rules.specs.Fronts.{Front, is_admission, is_hold, kept, places};
 ghost use Rattle.rail_base.specs.declared.history.Entry.{Entry};
-ghost use Rattle.rail_state.specs.Representation.{IsAdmissible};
 ghost use Rattle.rail_laws_run.specs.HolderTables.{held_cause};
 ghost use Rattle.rail_list.specs.GivenLists.{may_be_given};
 ghost use Rattle.rail_state.specs.TrainStates.{state_of};
 ghost use Rattle.rail_rules.specs.Plant.{moves_of, needed};
-ghost use Rattle.rail_ledger.specs.Inputs.{dispatch_in, input_in};
 
 use crate::ledger::{Ledger, Listed, list_with};
 use rail_base::{Entry, Note, Time, TrainNo, What};
@@ -59,13 +56,56 @@ impl Ledger {
         }
     }
 
+    /// Takes a line, with the list of a fresh admission or the trains that an end line names, and without trains else:
+    /// `None` where it may follow, and then what is kept stands for the lines with it; else the law that it breaks.
+    /// `held` tells whether the last line was a hold line. The line may name any train, section and command.
+    pub fn take(&mut self, entry: Entry, trains: &[TrainNo], held: bool) -> Option<u8>
+        requires running { IsSomewhereWith held self.old }
+        ensures taken { IsNone result → TakesLineWith held self.old self.new (line_taken entry trains.now) }
+        ensures refused { IfSome result (IsRefusedWith held self.old (line_taken entry trains.now)) }
+        ensures input { IsNone result → self.new.input ≡ self.old.input }
+    {
+        if self.state.has_ended {
+            return Some(1);
+        }
+        let what = entry.what;
+        match what {
+            What::Admit { train, place, note } => {
+                self.take_admission(entry.at, train, place, note, trains, held)
+            }
+            _ => self.take_other(entry, trains),
+        }
+    }
+
+    /// Judges that no line follows: `None` after the end line; else the law that is broken, 6 where something is
+    /// left to decide at this instant, and 7 where nothing is.
+    pub fn judge_end(&mut self) -> Option<u8>
+        requires running { IsSomewhere self.old }
+        ensures ended { IsNone result → IsEnded self.old }
+        ensures missing { IfSome result (IsUnended self.old) }
+    {
+        if self.state.has_ended {
+            return None;
+        }
+        self.listed = Listed::Nothing;
+        if self.may_go_on() {
+            return Some(7);
+        }
+        match self.left_to_decide() {
+            Left::Admission => Some(6),
+            Left::Hold(_) => Some(6),
+            Left::Nothing => Some(7),
+        }
+    }
+
     /// Takes a line that is no admission: `None` where it may follow, and then what is kept stands for the
     /// lines with it; else the law that it breaks.
-    pub fn take_other(&mut self, entry: Entry, trains: &[TrainNo]) -> Option<u8>
+    fn take_other(&mut self, entry: Entry, trains: &[TrainNo]) -> Option<u8>
         requires running { IsSomewhere self.old }
         requires other { is_admission entry.what ≡ false }
         ensures taken { IsNone result → TakesLine self.old self.new (line_with entry trains.now) }
         ensures refused { IfSome result (IsRefused self.old (line_with entry trains.now)) }
+        ensures input { IsNone result → self.new.input ≡ self.old.input }
     {
         if self.state.has_ended {
             return Some(1);
@@ -90,6 +130,7 @@ impl Ledger {
         requires other { is_admission entry.what ≡ false }
         ensures taken { IsNone result → TakesLine self.old self.new (line_with entry trains.now) }
         ensures refused { IfSome result (IsRefused self.old (line_with entry trains.now)) }
+        ensures input { IsNone result → self.new.input ≡ self.old.input }
     {
         let given = self.go_on();
         self.compare(entry, trains, given, law_of_other(&entry))
@@ -109,7 +150,7 @@ impl Ledger {
 
     /// Takes an admission: `None` where it may follow, and then what is kept stands for the lines with it;
     /// else the law that it breaks. `held` tells whether the last line was a hold line.
-    pub fn take_admission(
+    fn take_admission(
         &mut self,
         at: Time,
         train: TrainNo,
@@ -118,11 +159,11 @@ impl Ledger {
         list: &[TrainNo],
         held: bool,
     ) -> Option<u8>
-        requires running { IsSomewhere self.old }
+        requires running { IsSomewhereWith held self.old }
         requires going { self.old.state.has_ended ≡ false }
-        requires held { (front : Front) → IsAt front self.old → held ≡ has_held front }
-        ensures taken { IsNone result → TakesLine self.old self.new (admission at train place note list.now) }
-        ensures refused { IfSome result (IsRefused self.old (admission at train place note list.now)) }
+        ensures taken { IsNone result → TakesLineWith held self.old self.new (admission at train place note list.now) }
+        ensures refused { IfSome result (IsRefusedWith held self.old (admission at train place note list.now)) }
+        ensures input { IsNone result → self.new.input ≡ self.old.input }
     {
         if !self.is_in_place(at, train, place, held) {
             return Some(2);
@@ -195,11 +236,8 @@ impl Ledger {
     /// Makes the train's next move on the places, and keeps the list that its admission with this note keeps,
     /// where that completes after it.
     fn keep_given(&mut self, train: TrainNo, note: Note, list: &[TrainNo]) -> bool
-        requires running { IsSomewhere self.old }
+        requires next { IsAdmissibleNow self.old train }
         requires going { self.old.state.has_ended ≡ false }
-        requires next { (front : Front) → IsAt front self.old
-            → (is_deciding (input_in self.old.input) front ≡ true)
-            × IsAdmissible (dispatch_in self.old.input) self.old.input.plant front self.old.state.holders self.old.state.trains train }
         ensures lists { self.new ≡ record self.old { places = self.new.places; kept = self.new.kept } }
         ensures exact { (front : Front) → IsAt front self.old → result
             ≡ may_be_given (moves_of self.old.input.plant) (places self.old.input.plant front) (kept self.old.input.plant front) train note list.now }

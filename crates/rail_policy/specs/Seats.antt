@@ -1,5 +1,6 @@
 -- The boxes of a deck as they are seen, and what a call does to one.
-use Rattle.std.specs.Prelude.{ℕ, ◌+◌, ◌%◌, Bool, ◌&&◌, List, [], Option, get_or, length, map, position}
+use Rattle.std.specs.Prelude.{ℕ, ◌+◌, ◌%◌, Bool, ◌&&◌, List, [], Option, get_or, length, map, nat_lt, position}
+use Rattle.std.specs.List.{list_all}
 use Rattle.rail_base.specs.Limits.{is_from_one, most, Policies}
 use Rattle.rail_base.specs.Lists.{are_distinct}
 use Rattle.rail_base.specs.declared.orders.PolicyKind.{PolicyKind}
@@ -63,6 +64,10 @@ place_of seats name = position (is_named name) seats
 -- no two boxes have one name
 abbrev pub have_distinct_names : List DeskSeat → Bool
 have_distinct_names = are_distinct (λ (seat : DeskSeat). is_named seat.name)
+
+-- each mark is a 16-bit number
+abbrev pub are_marks_small : List DeskSeat → Bool
+are_marks_small seats = list_all (λ (seat : DeskSeat). nat_lt seat.mark 65536) seats
 
 -- a deck has 1 to 16 boxes with distinct names
 abbrev pub is_fine_deck : List DeskSeat → Bool

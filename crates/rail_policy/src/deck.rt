@@ -1,7 +1,7 @@
-ghost use Rattle.std.specs.Prelude.{◌≡◌, ◌+◌, ◌<◌, length, map, set, vec_len, IfOk};
+ghost use Rattle.std.specs.Prelude.{◌≡◌, ◌+◌, ◌<◌, true, length, map, set, vec_len, IfOk};
 ghost use Rattle.std.specs.List.{list_any, remove};
 ghost use Rattle.rail_policy.specs.Choices.{MayChoose};
-ghost use Rattle.rail_policy.specs.Seats.{asked, noted, have_distinct_names, is_fine_deck, is_named, names_of, place_of, seat_at};
+ghost use Rattle.rail_policy.specs.Seats.{are_marks_small, asked, noted, have_distinct_names, is_fine_deck, is_named, names_of, place_of, seat_at};
 
 use crate::offer::Offer;
 use crate::policy::Policy;
@@ -14,6 +14,23 @@ pub fn deck_is_fine(deck: &[Box<dyn Policy>]) -> bool
     ensures { result ≡ is_fine_deck (map ⟦<Box<dyn Policy> as Policy>⟧.seat deck.now) }
 {
     !deck.is_empty() && deck.len() <= POLICIES && have_distinct_names(deck)
+}
+
+/// Reads the mark of each policy, which is a number of 16 bits. It changes nothing: a caller learns by its contract
+/// that all marks are such numbers.
+pub fn read_marks(deck: &[Box<dyn Policy>])
+    ensures { are_marks_small (map ⟦<Box<dyn Policy> as Policy>⟧.seat deck.now) ≡ true }
+{
+    read_marks_of(deck);
+}
+
+/// Reads the mark of each policy of any deck.
+fn read_marks_of<P: Policy>(deck: &[P])
+    ensures { are_marks_small (map P.seat deck.now) ≡ true }
+{
+    for policy in deck {
+        policy.mark();
+    }
 }
 
 /// The names of the policies, in order.

@@ -21,7 +21,7 @@ mod policy;
 mod seen;
 
 pub use built_in::{FcfsPolicy, PriorityPolicy, RotatingPolicy, TimetablePolicy};
-pub use deck::{deck_is_fine, names_of};
+pub use deck::{deck_is_fine, names_of, read_marks};
 pub use desk::{Asked, Desk, Retire, UnknownName};
 pub use offer::Offer;
 pub use policy::Policy;

@@ -1,10 +1,10 @@
 ghost use Rattle.std.specs.Prelude.{◌≡◌, ℕ, ◌+◌, ◌≤◌, Bool, false, List, [], ◌∷◌, IfOk, IsTrue, IsNone, IfSome, ◌↔◌, MatchOption, count_by, length, not, ◌&&◌, vec_capacity};
 ghost use Rattle.std.specs.List.{filter, list_any};
 ghost use Rattle.rail_queue.specs.declared.event.Event.{Event};
-ghost use Rattle.rail_queue.specs.Order.{goes_before, inserted, is_ready_of, is_sorted, first_time_of};
+ghost use Rattle.rail_queue.specs.Order.{goes_before, inserted, is_of, is_sorted, first_time_of};
 
-use crate::event::Event;
-use rail_base::{OutOfMemory, Time, TrainNo};
+use crate::event::{Class, Event};
+use rail_base::{OutOfMemory, Time};
 use std::alloc::Global;
 use std::marker::Model;
 
@@ -76,14 +76,14 @@ impl EventQueue {
         self.pending.pop()
     }
 
-    /// Takes out what would make the train ready. The others stay in their order.
-    pub fn forget_ready(&mut self, train: TrainNo)
-        ensures events { self.new.events ≡ filter (λ event. not (is_ready_of train event)) self.old.events }
+    /// Takes out the events of the class with the number. The others stay in their order.
+    pub fn forget(&mut self, class: Class, number: u16)
+        ensures events { self.new.events ≡ filter (λ event. not (is_of class number event)) self.old.events }
         ensures counted { (p : Event → Bool)
-            → count_by p self.new.events ≡ count_by (λ event. not (is_ready_of train event) && p event) self.old.events }
+            → count_by p self.new.events ≡ count_by (λ event. not (is_of class number event) && p event) self.old.events }
         ensures room { length self.new.events + self.new.spare ≡ length self.old.events + self.old.spare }
     {
-        keep_others(&mut self.pending, train);
+        keep_others(&mut self.pending, class, number);
     }
 
     /// When the next event happens, if there is one.
@@ -95,10 +95,10 @@ impl EventQueue {
     }
 }
 
-/// Keeps what doesn't make the train ready.
-fn keep_others(pending: &mut Vec<Event>, train: TrainNo)
-    ensures events { pending.new.items ≡ filter (λ event. not (is_ready_of train event)) pending.old.items }
+/// Keeps what is not of the class with the number.
+fn keep_others(pending: &mut Vec<Event>, class: Class, number: u16)
+    ensures events { pending.new.items ≡ filter (λ event. not (is_of class number event)) pending.old.items }
     ensures room { vec_capacity pending.new ≡ vec_capacity pending.old }
 {
-    pending.retain(|event| !event.is_ready_of(train));
+    pending.retain(|event| !event.is_of(class, number));
 }

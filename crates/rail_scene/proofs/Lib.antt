@@ -12,3 +12,6 @@ mod Documents
 mod Whole
 mod Spelled
 mod OfBytes
+mod TomlRests
+mod TomlLists
+mod ItemNumbers

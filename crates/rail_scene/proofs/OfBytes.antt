@@ -1,5 +1,5 @@
 -- No refusal of a scene is one of a file for its size.
-use Rattle.std.proofs.Common.{◌≡◌, ℕ, ◌+◌, Bool, false, List, [], ◌∷◌, ◌++◌, Some, refl}
+use Rattle.std.proofs.Common.{◌≡◌, ℕ, ◌+◌, Bool, false, List, [], ◌∷◌, Some, refl}
 use Rattle.toml.specs.Data.{Data}
 use Rattle.rail_base.specs.FirstRefusals.{Test}
 use Rattle.rail_base.specs.Refusals.{is_file}

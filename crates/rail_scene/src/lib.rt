@@ -16,10 +16,12 @@ mod entries;
 mod fields;
 mod forms;
 mod keys;
+mod laws;
 mod places;
 mod reading;
 mod rosters;
 mod scene;
 
+pub use laws::the_number_of_an_item_is_told_as_it_is;
 pub use reading::read_scene;
 pub use scene::{Scene, SceneTrain};

@@ -15,6 +15,8 @@ pub use Rattle.rail_state.proofs.Next.{carried_ready}
 
 -- what bars a train at a decision is told by the orders and the table of holders
 pub use Rattle.rail_state.proofs.Settling.{bar_seen}
+-- everything is settled where nothing is due and all were told why they wait
+pub use Rattle.rail_state.proofs.Settling.{settled_front}
 -- Where some train waits, it may be decided once more who goes: a state that says that not all is settled represents the same front.
 pub use Rattle.rail_state.proofs.Settling.{unsettled_stands}
 -- Happening: an event line: what it changes.
@@ -81,6 +83,8 @@ pub use Rattle.rail_state.proofs.Commanding.{commanded}
 pub use Rattle.rail_state.proofs.Commanding.{listed_command}
 -- Judging: an admission is judged by what is kept.
 pub use Rattle.rail_state.proofs.Judging.{waits_is}
+-- It is decided who goes exactly where no pending event has the instant.
+pub use Rattle.rail_state.proofs.Judging.{deciding_is}
 -- Whether an admission may follow is told by what is kept.
 pub use Rattle.rail_state.proofs.Judging.{judged}
 -- Least: the first pending event is the least due line.

@@ -7,7 +7,8 @@ use Rattle.rail_base.specs.declared.orders.Command.{Command}
 use Rattle.rail_base.specs.declared.orders.Order.{Order}
 use Rattle.rail_base.specs.declared.orders.Order.TheVariants.{Policy, Retire, Close, Reopen, Stop, Go, Cancel, Priority}
 use Rattle.rail_queue.specs.declared.event.Event.{Event}
-use Rattle.rail_queue.specs.Order.{is_ready_of}
+use Rattle.rail_queue.specs.declared.event.Class.TheVariants.{Ready}
+use Rattle.rail_queue.specs.Order.{is_of}
 use Rattle.rail_state.specs.Events.{command_event, command_events}
 use Rattle.rail_state.specs.SeenCauses.{cancelled_by, stays}
 use Rattle.rail_state.proofs.Counts.{count-append}
@@ -62,10 +63,10 @@ none_forgotten (Priority t n) events none = sym (all_stay events)
 none_forgotten (Cancel t) events none = absurd (none-some t (sym none))
 
 -- an order that cancels a train leaves what doesn't make it ready
-pub one_forgotten : (order : Order) (t : ℕ) (events : List Event) → cancelled_by order ≡ Some t → filter (λ event. not (is_ready_of t event)) events ≡ filter (stays (order ∷ [])) events
+pub one_forgotten : (order : Order) (t : ℕ) (events : List Event) → cancelled_by order ≡ Some t → filter (λ event. not (is_of Ready t event)) events ≡ filter (stays (order ∷ [])) events
 one_forgotten (Cancel u) t events some =
-    ap (λ v. filter (λ event. not (is_ready_of v event)) events) (sym (same_Some u t some))
-    ∙ ap (λ (p : Event → Bool). filter p events) (λ i event. passes (not (is_ready_of u event)) i)
+    ap (λ v. filter (λ event. not (is_of Ready v event)) events) (sym (same_Some u t some))
+    ∙ ap (λ (p : Event → Bool). filter p events) (λ i event. passes (not (is_of Ready u event)) i)
   where
     passes : (b : Bool) → b ≡ (b && true)
     passes true = refl

@@ -223,7 +223,7 @@ fn forget_cancelled(queue: &mut EventQueue, order: &Order)
     ensures room { length queue.new.events + queue.new.spare ≡ length queue.old.events + queue.old.spare }
 {
     if let Some(train) = cancelled_by(order) {
-        queue.forget_ready(train);
+        queue.forget(Class::Ready, train.0);
     }
 }
 

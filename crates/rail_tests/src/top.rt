@@ -1,15 +1,19 @@
 //! What the top call answers.
 mod cases;
+mod checks;
 mod commands;
 mod decks;
+mod line;
 mod pieces;
 mod policies;
 mod run_refusals;
 mod timetables;
 
 use cases::{AMONG, CASES};
+use checks::CHECKS;
 use commands::COMMANDS;
 use decks::{Deck, ask};
+use line::{CALLS, push_line};
 use pieces::piece;
 use policies::{LAST, OUT_OF_RANGE, POLICIES, POLICIES_AMONG};
 use rail_base::{Seq, Word};
@@ -25,6 +29,7 @@ fn names_the_forms_that_are_built(rt: HostRuntime) {
         "rail run SCENE ",
         "rail infra SCENE ",
         "rail play SCENE LIST ",
+        "rail check SCENE TIMETABLE COMMANDS HISTORY",
     ] {
         assert!(rt; HELP.contains(form), "{form}");
     }
@@ -37,6 +42,12 @@ fn answers_the_words(rt: HostRuntime) {
         let other = first_other(rt.alloc(), cases, Deck::BuiltIn, true);
         assert!(rt; other.is_none(), "{other:?}");
     }
+}
+
+#[test]
+fn checks_histories(rt: HostRuntime) {
+    let other = first_other(rt.alloc(), CHECKS, Deck::BuiltIn, true);
+    assert!(rt; other.is_none(), "{other:?}");
 }
 
 #[test]
@@ -56,16 +67,81 @@ fn asks_a_custom_policy(rt: HostRuntime) {
 }
 
 #[test]
-fn runs_the_same_twice(rt: HostRuntime) {
-    assert!(rt; is_same_twice(rt.alloc()));
+fn has_so_many_lines_beside_hold_lines(rt: HostRuntime) {
+    let alloc = rt.alloc();
+    assert!(rt; has_lines_beside_holds(alloc, "loop apart", "", 35));
+    assert!(rt; has_lines_beside_holds(alloc, "loop one-track", "", 38));
+    assert!(rt; has_lines_beside_holds(alloc, "line", CALLS, 1_081));
 }
 
-/// Whether the scene in which a list needs a free leg is run with the same output twice.
-fn is_same_twice(alloc: Global) -> bool {
-    match shelf_of(alloc, "one-free-leg opposed / ", "sure 0") {
+/// Whether the history of the scene and the timetable has so many lines beside hold lines, and its end line names
+/// nobody.
+fn has_lines_beside_holds(alloc: Global, scene: &str, timetable: &str, lines: usize) -> bool {
+    match format!(in alloc; "{scene} / {timetable} / ") {
+        Ok(files) => match shelf_of(alloc, &files, "sure 0") {
+            Some(mut shelf) => match sink_of(alloc, "sure 0") {
+                Ok(mut sink) => match words_of(alloc, words_for(timetable)) {
+                    Ok(words) => {
+                        let status = ask(alloc, &words, &mut shelf, &mut sink, Deck::BuiltIn);
+                        status == Some(Status::Done) && ends_with_lines(&sink, lines)
+                    }
+                    Err(_) => false,
+                },
+                Err(_) => false,
+            },
+            None => false,
+        },
+        Err(_) => false,
+    }
+}
+
+/// The words of a run with this timetable.
+fn words_for(timetable: &str) -> &'static str {
+    if timetable.is_empty() {
+        "run scene"
+    } else {
+        "run scene timetable"
+    }
+}
+
+/// Whether the output has so many lines beside hold lines, and an end line that names nobody.
+fn ends_with_lines(sink: &MemorySink, lines: usize) -> bool {
+    match sink.bytes() {
+        Some(bytes) => match str::from_utf8(bytes) {
+            Ok(output) => {
+                let holds = output.matches(" hold ").count();
+                output.matches("\n").count() == holds.saturating_add(lines)
+                    && output.ends_with(" end\n")
+            }
+            Err(_) => false,
+        },
+        None => false,
+    }
+}
+
+#[test]
+fn runs_the_same_twice(rt: HostRuntime) {
+    assert!(rt; are_same_twice(rt.alloc()));
+}
+
+/// Whether the scene in which a list needs a free leg, and the line with six stations, are run with the same output
+/// twice.
+fn are_same_twice(alloc: Global) -> bool {
+    match format!(in alloc; "line / {CALLS} / ") {
+        Ok(line) => {
+            is_same_twice(alloc, "one-free-leg opposed / ", "run scene")
+                && is_same_twice(alloc, &line, "run scene timetable")
+        }
+        Err(_) => false,
+    }
+}
+
+/// Whether the words are answered with the same output twice, over these files.
+fn is_same_twice(alloc: Global, files: &str, words: &str) -> bool {
+    match shelf_of(alloc, files, "sure 0") {
         Some(mut shelf) => match sink_of(alloc, "sure 0") {
             Ok(mut first) => match sink_of(alloc, "sure 0") {
-                Ok(mut second) => runs_same(alloc, &mut shelf, &mut first, &mut second),
+                Ok(mut second) => runs_same(alloc, words, &mut shelf, &mut first, &mut second),
                 Err(_) => false,
             },
             Err(_) => false,
@@ -74,14 +150,15 @@ fn is_same_twice(alloc: Global) -> bool {
     }
 }
 
-/// Whether both outputs come to have the same history of the scene.
+/// Whether both outputs come to have the same history.
 fn runs_same(
     alloc: Global,
+    words: &str,
     shelf: &mut MemoryShelf,
     first: &mut MemorySink,
     second: &mut MemorySink,
 ) -> bool {
-    match words_of(alloc, "run scene") {
+    match words_of(alloc, words) {
         Ok(words) => {
             let once = ask(alloc, &words, shelf, first, Deck::BuiltIn);
             let again = ask(alloc, &words, shelf, second, Deck::BuiltIn);
@@ -193,7 +270,7 @@ fn has_lines(output: &str, lines: &str) -> bool {
 /// The sink in which the call fails, if it is one of the sink.
 fn sink_of(alloc: Global, call: &str) -> Result<MemorySink, AllocError> {
     let fails = fails(alloc, call, "sink")?;
-    match MemorySink::with_room(alloc, 32_768, fails) {
+    match MemorySink::with_room(alloc, 65_536, fails) {
         Ok(sink) => Ok(sink),
         Err(_) => Err(AllocError),
     }
@@ -258,8 +335,12 @@ fn scene_of(alloc: Global, names: &str) -> Result<String, AllocError> {
     Ok(text)
 }
 
-/// Adds a piece: `~N` is a comment of so many bytes, and `+N` are so many sections, which touch nowhere.
+/// Adds a piece: `line` is the line with six stations, `~N` is a comment of so many bytes, and `+N` are so many
+/// sections, which touch nowhere.
 fn push_piece(alloc: Global, text: &mut String, name: &str) -> Result<(), AllocError> {
+    if name == "line" {
+        return push_line(text);
+    }
     if let Some(length) = name.strip_prefix("~") {
         return push_comment(text, number(length));
     }
@@ -276,12 +357,12 @@ fn lines_of(alloc: Global, lines: &str) -> Result<String, AllocError> {
         return Ok(text);
     }
     for line in lines.split(", ") {
-        push_line(&mut text, line)?;
+        push_words(&mut text, line)?;
     }
     Ok(text)
 }
 
-fn push_line(text: &mut String, line: &str) -> Result<(), AllocError> {
+fn push_words(text: &mut String, line: &str) -> Result<(), AllocError> {
     if let Some(length) = line.strip_prefix("~") {
         return push_comment(text, number(length));
     }

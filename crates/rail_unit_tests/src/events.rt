@@ -37,3 +37,35 @@ fn events_come_by_time_class_and_number(rt: HostRuntime) {
     assert_eq!(rt; queue.pop(), None);
     assert_eq!(rt; queue.spare(), 4);
 }
+
+#[test]
+fn events_of_a_class_and_a_number_are_forgotten(rt: HostRuntime) {
+    let Ok(mut queue) = EventQueue::with_room(rt.alloc(), 5) else {
+        panic!(rt; "no memory");
+    };
+    queue.push(event(20, Class::Free, 1, 1));
+    queue.push(event(10, Class::Free, 1, 2));
+    queue.push(event(10, Class::Free, 2, 3));
+    queue.push(event(10, Class::Ready, 1, 4));
+    queue.push(event(30, Class::Free, 3, 5));
+    queue.forget(Class::Free, 1);
+    assert_eq!(rt; queue.spare(), 2);
+    assert_eq!(rt; next_place(&mut queue), Some(3));
+    assert_eq!(rt; next_place(&mut queue), Some(4));
+    assert_eq!(rt; next_place(&mut queue), Some(5));
+    assert_eq!(rt; queue.pop(), None);
+}
+
+#[test]
+fn nothing_is_forgotten_where_the_number_is_of_another_class(rt: HostRuntime) {
+    let Ok(mut queue) = EventQueue::with_room(rt.alloc(), 2) else {
+        panic!(rt; "no memory");
+    };
+    queue.push(event(10, Class::Enter, 4, 1));
+    queue.push(event(10, Class::Command, 3, 2));
+    queue.forget(Class::Enter, 3);
+    queue.forget(Class::Command, 4);
+    assert_eq!(rt; next_place(&mut queue), Some(1));
+    assert_eq!(rt; next_place(&mut queue), Some(2));
+    assert_eq!(rt; queue.spare(), 2);
+}

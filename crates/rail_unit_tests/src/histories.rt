@@ -1,5 +1,6 @@
 //! History files: what is read, and the first line that is none.
 
+use crate::reports::HELD;
 use indexmap::IndexSet;
 use rail_base::{Fault, Name, Names};
 use rail_history::read_history;
@@ -13,6 +14,7 @@ const FILES: &str = "
 00:01:48.0 end| = 1 1 0
 00:01:48.0 end = refused 1
 00:01:48.0 end;| = refused 1
+00:01:48.0 out A|00:01:48.0 out B;|00:01:48.0 end| = refused 2
 | = refused 1
 00:01:48 end| = refused 1
  00:01:48.0 end| = refused 1
@@ -52,6 +54,56 @@ const FILES: &str = "
 00:01:48.0 admit A 1 pulled A| = refused 1
 ";
 
+// Two trains that pass each other at a station with two tracks.
+const PASSING: &str = "\
+00:01:48.0 ready A 1
+00:01:48.0 ready B 1
+00:01:48.0 admit A 1 appended
+00:01:48.0 admit B 1 appended
+00:02:00.0 enter A 1 W
+00:02:00.0 enter B 1 E
+00:02:40.0 enter A 1 PW
+00:02:40.0 enter B 1 PE
+00:02:42.0 enter A 1 L1
+00:02:42.0 enter B 1 L2
+00:02:45.6 free W A
+00:02:45.6 free E B
+00:02:47.6 free PW A
+00:02:47.6 free PE B
+00:03:10.0 ready A 2
+00:03:10.0 ready B 2
+00:03:10.0 admit A 2 pulled
+00:03:10.0 admit B 2 pulled
+00:03:22.0 arrive A 1
+00:03:22.0 arrive B 1
+00:03:22.0 enter A 2 PE
+00:03:22.0 enter B 2 PW
+00:03:24.0 enter A 2 E
+00:03:24.0 enter B 2 W
+00:03:27.6 free L1 A
+00:03:27.6 free L2 B
+00:03:29.6 free PW B
+00:03:29.6 free PE A
+00:04:04.0 arrive A 2
+00:04:04.0 arrive B 2
+00:04:07.6 out A
+00:04:07.6 out B
+00:04:09.6 free W B
+00:04:09.6 free E A
+00:04:09.6 end
+";
+
+#[test]
+fn reads_whole_histories(rt: HostRuntime) {
+    let sections = "W PW L1 L2 PE E";
+    let held = told_of(rt.alloc(), sections, "A B", HELD.as_bytes());
+    assert!(rt; held.is_ok_and(|told| told.as_str() == "41 1 0"));
+    let passing = told_of(rt.alloc(), sections, "A B", PASSING.as_bytes());
+    assert!(rt; passing.is_ok_and(|told| told.as_str() == "35 1 0"));
+    let one_train = told_of(rt.alloc(), sections, "A", PASSING.as_bytes());
+    assert!(rt; one_train.is_ok_and(|told| told.as_str() == "refused 2"));
+}
+
 #[test]
 fn reads_a_history_or_refuses_the_first_line_that_is_none(rt: HostRuntime) {
     for case in FILES.split("\n") {
@@ -66,15 +118,24 @@ fn reads_a_history_or_refuses_the_first_line_that_is_none(rt: HostRuntime) {
 
 /// What is read of the file, as it stands in the table.
 fn told(alloc: Global, file: &str) -> Result<String, AllocError> {
-    let bytes = bytes_of(alloc, file)?;
+    told_of(alloc, "X Y", "A B", bytes_of(alloc, file)?.as_slice())
+}
+
+/// What is read of the bytes, for these sections and trains, as it stands in the table.
+fn told_of(
+    alloc: Global,
+    sections: &str,
+    trains: &str,
+    bytes: &[u8],
+) -> Result<String, AllocError> {
     let names = Names {
-        sections: names_of(alloc, "X Y")?,
-        trains: names_of(alloc, "A B")?,
+        sections: names_of(alloc, sections)?,
+        trains: names_of(alloc, trains)?,
     };
     if bytes.len() > 1_000_000 || names.sections.len() > 9 || names.trains.len() > 9 {
         return Err(AllocError);
     }
-    match read_history(alloc, &names, bytes.as_slice()) {
+    match read_history(alloc, &names, bytes) {
         Ok(history) => {
             let entries = history.entries.len();
             let lists = history.lists.len();

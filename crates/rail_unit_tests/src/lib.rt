@@ -29,6 +29,8 @@ mod plants;
 #[cfg(test)]
 mod policies;
 #[cfg(test)]
+mod reports;
+#[cfg(test)]
 mod shelves;
 #[cfg(test)]
 mod times;

@@ -5,6 +5,7 @@ ghost use Rattle.rail_base.specs.declared.limits.TheConstants.{COMMANDS};
 ghost use Rattle.rail_engine.specs.Engines.{StandsFor};
 ghost use Rattle.rail_input.specs.Inputs.{input_in as input_spelled, input_refusal};
 ghost use Rattle.rail_io.specs.FaultCounts.{Rose};
+ghost use Rattle.rail_laws_end.specs.Forks.{are_marks};
 ghost use Rattle.rail_ledger.specs.Inputs.{input_in};
 ghost use Rattle.rail_policy.specs.Desks.{run_seats};
 ghost use Rattle.rail_policy.specs.Seats.{handed_in, is_fine_deck, names_of};
@@ -21,7 +22,7 @@ use rail_history::write_entry;
 use rail_input::{ReadInput, read_input};
 use rail_io::{Failed, Shelf, Sink};
 use rail_plan::Plant;
-use rail_policy::{Desk, Policy, Seen, names_of};
+use rail_policy::{Desk, Policy, Seen, names_of, read_marks};
 use std::alloc::Global;
 
 /// Writes the history of the scene in the file of this name, with the timetable and the commands in the files that
@@ -75,6 +76,7 @@ fn run_files<O: Sink>(
     ensures of_bytes { is_of_bytes (ended result) ≡ true }
 {
     let names = names_of(alloc, &deck)?;
+    read_marks(&deck);
     let ReadInput {
         plant,
         commands,
@@ -89,6 +91,7 @@ fn run_files<O: Sink>(
 /// Hands on the lines of the engine one by one, until the history has ended. It takes no memory.
 fn write_lines<O: Sink>(engine: &mut Engine, out: &mut O) -> Result<(), Failed>
     requires begun { let desk = ⟦<Desk as Seen>⟧.table engine.old.desk in StandsFor (run_seats desk) [] engine.old.core desk }
+    requires marks { IsTrue (are_marks (run_seats (⟦<Desk as Seen>⟧.table engine.old.desk))) }
     ensures adds { OnOk result (RunsInput (input_in engine.old.core.input) (run_seats (⟦<Desk as Seen>⟧.table engine.old.desk))
         (O.written out.old) (O.written out.new)) }
     ensures failed_adds_prefix { OnErr result (RunsInputInPart (input_in engine.old.core.input) (run_seats (⟦<Desk as Seen>⟧.table engine.old.desk))

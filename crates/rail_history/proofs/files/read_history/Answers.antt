@@ -2,7 +2,7 @@ use Rattle.std.proofs.Common.{◌+◌, length, ap, sym, ◌∙◌, arith}
 use Rattle.std.proofs.lemmas.Bool.{eqb-false}
 use Rattle.std.proofs.lemmas.Result.{err_from_is_err_and}
 use Rattle.rail_history.specs.LineReads.{lines_of}
-use Rattle.rail_history.proofs.Histories.{first_wrong, refused_for}
+use Rattle.rail_history.proofs.Histories.{first_wrong, length-lines_in, refused_for}
 use Rattle.rail_history.proofs.files.read_history.Goals as goal
 
 pub returns-in_err-fresh-clause-refused : goal.returns-in_err-fresh-clause-refused
@@ -18,3 +18,8 @@ returns-in_err-fresh-clause-refused c =
     c.cut_line.ensures.line wrong)
     c.in_err-fresh.field-0.0 c.in_err-fresh.ensures.refused in
     rw (p.1, p.2) first
+
+pub returns-clause-short : goal.returns-clause-short
+returns-clause-short c =
+    let at = c.loop-text.invariant in
+    omega (arith, at.numbered, at.short, length-lines_in c.loop-text.history.entries.items c.loop-text.history.lists.items)

@@ -17,7 +17,7 @@ pub returns-in_default-clause-adds : goal.returns-in_default-clause-adds
 returns-in_default-clause-adds g c =
     let so_far = c.loop.invariant.so_far in
     let engine = c.loop.engine.core in
-    runs_same _ _ _ _ _ _ (ap input_in c.loop.invariant.input) refl (all_written (input_in engine.input) _ so_far.stands.at.accepted so_far.front so_far.stands.run.of_run
+    runs_same _ _ _ _ _ _ (ap input_in c.loop.invariant.input) refl (all_written (input_in engine.input) _ so_far.stands.at.accepted c.requires.marks so_far.front so_far.stands.run.of_run
     (c.in_default.ensures.ended refl _ so_far.front so_far.stands) _ _ so_far.adds)
 
 pub write_entry-requires : goal.write_entry-requires

@@ -4,15 +4,15 @@ use Rattle.rail_ledger.proofs.Finding.{list_completes, made_for}
 use Rattle.rail_ledger.proofs.ledger.Ledger.keep_given.Goals as goal
 
 pub admit_given-requires-clause-made : goal.admit_given-requires-clause-made
-admit_given-requires-clause-made c = made_for c.moves-moves.result.now c.requires.running.front c.args.self.now c.trains.ensures.table c.moves-moves.ensures.moves c.requires.running.at
+admit_given-requires-clause-made c = made_for c.moves-moves.result.now c.requires.next.front c.args.self.now c.trains.ensures.table c.moves-moves.ensures.moves c.requires.next.at
 
 pub admit_given-requires-clause-completes : goal.admit_given-requires-clause-completes
-admit_given-requires-clause-completes c = list_completes c.moves-moves.result.now c.requires.running.front c.args.self.now c.moves-moves.ensures.moves c.requires.running.at
+admit_given-requires-clause-completes c = list_completes c.moves-moves.result.now c.requires.next.front c.args.self.now c.moves-moves.ensures.moves c.requires.next.at
 
 pub admit_given-requires-clause-legal : goal.admit_given-requires-clause-legal
 admit_given-requires-clause-legal c =
-    let next = c.requires.next c.requires.running.front c.requires.running.at in
-    legal_admissible c.moves-moves.result.now c.requires.running.front c.args.self.now c.moves-moves.ensures.moves c.requires.running.at next.0 c.args.train next.1
+    let next = c.requires.next in
+    legal_admissible c.moves-moves.result.now next.front c.args.self.now c.moves-moves.ensures.moves next.at next.deciding c.args.train next.admissible
 
 pub returns-clause-exact : goal.returns-clause-exact
 returns-clause-exact c = λ front at. c.admit_given.ensures.exact ∙ given_exact c.moves-moves.result.now front c.args.self.now c.moves-moves.ensures.moves at c.args.train c.args.note c.args.list.now

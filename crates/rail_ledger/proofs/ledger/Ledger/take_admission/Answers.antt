@@ -12,68 +12,85 @@ use Rattle.rail_state.specs.declared.pushes.TheConstants.{MOVE_EVENTS}
 use Rattle.rail_state.specs.declared.run_state.RunState.{RunState}
 
 pub returns-then-not-is_in_place-clause-refused : goal.returns-then-not-is_in_place-clause-refused
-returns-then-not-is_in_place-clause-refused c = λ front at.
-    let refused = refused_place front c.args.self.now at c.requires.going c.is_in_place.ensures.sorted c.args.at c.args.train c.args.place c.args.note c.args.list.now c.args.held (c.requires.held front at) (sym c.is_in_place.ensures.exact ∙ c.if-not-is_in_place.true) in
+returns-then-not-is_in_place-clause-refused c = λ front with_held.
+    let at = with_held.0 in
+    let held = with_held.1 in
+    let refused = refused_place front c.args.self.now at c.requires.going c.is_in_place.ensures.sorted c.args.at c.args.train c.args.place c.args.note c.args.list.now c.args.held held (sym c.is_in_place.ensures.exact ∙ c.if-not-is_in_place.true) in
     (refused.0, sym refused.1)
 
 pub is_forbidden-requires-clause-waits : goal.is_forbidden-requires-clause-waits
 is_forbidden-requires-clause-waits c =
     let front = c.requires.running.front in
-    let at = c.requires.running.at in
-    waits_in_place front c.args.self.now at c.requires.going c.is_in_place.ensures.sorted c.args.at c.args.train c.args.place c.args.note c.args.list.now c.args.held (c.requires.held front at) (sym c.is_in_place.ensures.exact ∙ c.if-not-is_in_place.false)
+    let at = c.requires.running.at.0 in
+    let held = c.requires.running.at.1 in
+    waits_in_place front c.args.self.now at c.requires.going c.is_in_place.ensures.sorted c.args.at c.args.train c.args.place c.args.note c.args.list.now c.args.held held (sym c.is_in_place.ensures.exact ∙ c.if-not-is_in_place.false)
 
 pub returns-then-is_forbidden-clause-refused : goal.returns-then-is_forbidden-clause-refused
-returns-then-is_forbidden-clause-refused c = λ front at.
-    let refused = refused_forbidden front c.args.self.now at c.requires.going c.is_in_place.ensures.sorted c.args.at c.args.train c.args.place c.args.note c.args.list.now c.args.held (c.requires.held front at) (sym c.is_in_place.ensures.exact ∙ c.if-not-is_in_place.false) (sym c.is_forbidden.ensures ∙ c.if-is_forbidden.true) in
+returns-then-is_forbidden-clause-refused c = λ front with_held.
+    let at = with_held.0 in
+    let held = with_held.1 in
+    let refused = refused_forbidden front c.args.self.now at c.requires.going c.is_in_place.ensures.sorted c.args.at c.args.train c.args.place c.args.note c.args.list.now c.args.held held (sym c.is_in_place.ensures.exact ∙ c.if-not-is_in_place.false) (sym c.is_forbidden.ensures ∙ c.if-is_forbidden.true) in
     (refused.0, sym refused.1)
 
 pub is_occupied-requires-clause-waits : goal.is_occupied-requires-clause-waits
 is_occupied-requires-clause-waits c =
     let front = c.requires.running.front in
-    let at = c.requires.running.at in
-    waits_in_place front c.args.self.now at c.requires.going c.is_in_place.ensures.sorted c.args.at c.args.train c.args.place c.args.note c.args.list.now c.args.held (c.requires.held front at) (sym c.is_in_place.ensures.exact ∙ c.if-not-is_in_place.false)
+    let at = c.requires.running.at.0 in
+    let held = c.requires.running.at.1 in
+    waits_in_place front c.args.self.now at c.requires.going c.is_in_place.ensures.sorted c.args.at c.args.train c.args.place c.args.note c.args.list.now c.args.held held (sym c.is_in_place.ensures.exact ∙ c.if-not-is_in_place.false)
 
 pub returns-then-is_occupied-clause-refused : goal.returns-then-is_occupied-clause-refused
-returns-then-is_occupied-clause-refused c = λ front at.
-    let refused = refused_occupied front c.args.self.now at c.requires.going c.is_in_place.ensures.sorted c.args.at c.args.train c.args.place c.args.note c.args.list.now c.args.held (c.requires.held front at) (sym c.is_in_place.ensures.exact ∙ c.if-not-is_in_place.false) (sym c.is_forbidden.ensures ∙ c.if-is_forbidden.false) (sym c.is_occupied.ensures ∙ c.if-is_occupied.true) in
+returns-then-is_occupied-clause-refused c = λ front with_held.
+    let at = with_held.0 in
+    let held = with_held.1 in
+    let refused = refused_occupied front c.args.self.now at c.requires.going c.is_in_place.ensures.sorted c.args.at c.args.train c.args.place c.args.note c.args.list.now c.args.held held (sym c.is_in_place.ensures.exact ∙ c.if-not-is_in_place.false) (sym c.is_forbidden.ensures ∙ c.if-is_forbidden.false) (sym c.is_occupied.ensures ∙ c.if-is_occupied.true) in
     (refused.0, sym refused.1)
 
 pub keep_given-requires-clause-next : goal.keep_given-requires-clause-next
-keep_given-requires-clause-next c = λ front at.
-    admissible_in_place front c.args.self.now at c.requires.going c.is_in_place.ensures.sorted c.args.at c.args.train c.args.place c.args.note c.args.list.now c.args.held
-    (c.requires.held front at) (sym c.is_in_place.ensures.exact ∙ c.if-not-is_in_place.false) (sym c.is_forbidden.ensures ∙ c.if-is_forbidden.false) (sym c.is_occupied.ensures ∙ c.if-is_occupied.false)
+keep_given-requires-clause-next c =
+    let front = c.requires.running.front in
+    let at = c.requires.running.at.0 in
+    let held = c.requires.running.at.1 in
+    let next = admissible_in_place front c.args.self.now at c.requires.going c.is_in_place.ensures.sorted c.args.at c.args.train c.args.place c.args.note c.args.list.now c.args.held
+    held (sym c.is_in_place.ensures.exact ∙ c.if-not-is_in_place.false) (sym c.is_forbidden.ensures ∙ c.if-is_forbidden.false) (sym c.is_occupied.ensures ∙ c.if-is_occupied.false) in
+    record { front = front; at = at; deciding = next.0; admissible = next.1 }
 
 pub returns-then-not-keep_given-clause-refused : goal.returns-then-not-keep_given-clause-refused
-returns-then-not-keep_given-clause-refused c = λ front at.
+returns-then-not-keep_given-clause-refused c = λ front with_held.
+    let at = with_held.0 in
+    let held = with_held.1 in
     let refused = refused_list front c.args.self.now at c.requires.going c.is_in_place.ensures.sorted c.args.at c.args.train c.args.place c.args.note c.args.list.now c.args.held
-    (c.requires.held front at) (sym c.is_in_place.ensures.exact ∙ c.if-not-is_in_place.false) (sym c.is_forbidden.ensures ∙ c.if-is_forbidden.false) (sym c.is_occupied.ensures ∙ c.if-is_occupied.false)
+    held (sym c.is_in_place.ensures.exact ∙ c.if-not-is_in_place.false) (sym c.is_forbidden.ensures ∙ c.if-is_forbidden.false) (sym c.is_occupied.ensures ∙ c.if-is_occupied.false)
     (sym (c.keep_given.ensures.exact front at) ∙ c.if-not-keep_given.true) in
     (refused.0, sym refused.1)
 
 pub admit-requires-clause-givable : goal.admit-requires-clause-givable
 admit-requires-clause-givable c =
     let front = c.requires.running.front in
-    let at = c.requires.running.at in
+    let at = c.requires.running.at.0 in
+    let held = c.requires.running.at.1 in
     let old : Ledger = c.args.self.now in (
       front,
       subst (λ (r : Ledger). IsGivable r.input.plant front r.state.trains r.state.instant c.args.train) (sym c.keep_given.ensures.lists)
-          (can_give front old at c.requires.going c.is_in_place.ensures.sorted c.args.at c.args.train c.args.place c.args.note c.args.list.now c.args.held (c.requires.held front at)
+          (can_give front old at c.requires.going c.is_in_place.ensures.sorted c.args.at c.args.train c.args.place c.args.note c.args.list.now c.args.held held
           (sym c.is_in_place.ensures.exact ∙ c.if-not-is_in_place.false) (sym c.is_forbidden.ensures ∙ c.if-is_forbidden.false) (sym c.is_occupied.ensures ∙ c.if-is_occupied.false)
           (sym (c.keep_given.ensures.exact front at) ∙ c.if-not-keep_given.false)),
     )
 
 pub admit-requires-clause-room : goal.admit-requires-clause-room
 admit-requires-clause-room c =
-    subst (λ (r : Ledger). MOVE_EVENTS ≤ r.state.queue.spare) (sym c.keep_given.ensures.lists) (room_left c.requires.running.front c.args.self.now c.requires.running.at)
+    subst (λ (r : Ledger). MOVE_EVENTS ≤ r.state.queue.spare) (sym c.keep_given.ensures.lists) (room_left c.requires.running.front c.args.self.now c.requires.running.at.0)
 
 pub returns-clause-taken : goal.returns-clause-taken
-returns-clause-taken c = λ _ front at.
+returns-clause-taken c = λ _ front with_held.
+    let at = with_held.0 in
+    let held = with_held.1 in
     let old : Ledger = c.args.self.now in
     let mid : Ledger = c.keep_given.new.self in
     let t : ℕ = c.args.train in
     let same : mid ≡ record old { places = mid.places; kept = mid.kept } = c.keep_given.ensures.lists in
     let givable_now = can_give front old at c.requires.going c.is_in_place.ensures.sorted c.args.at c.args.train c.args.place c.args.note c.args.list.now c.args.held
-    (c.requires.held front at) (sym c.is_in_place.ensures.exact ∙ c.if-not-is_in_place.false) (sym c.is_forbidden.ensures ∙ c.if-is_forbidden.false) (sym c.is_occupied.ensures ∙ c.if-is_occupied.false)
+    held (sym c.is_in_place.ensures.exact ∙ c.if-not-is_in_place.false) (sym c.is_forbidden.ensures ∙ c.if-is_forbidden.false) (sym c.is_occupied.ensures ∙ c.if-is_occupied.false)
     (sym (c.keep_given.ensures.exact front at) ∙ c.if-not-keep_given.false) in
     let after : RunState = c.admit.new.self in
     let given = c.admit.ensures.given front (subst (λ (r : Ledger). IsGivable r.input.plant front r.state.trains r.state.instant t) (sym same) givable_now) in
@@ -83,6 +100,6 @@ returns-clause-taken c = λ _ front at.
     let line : Line = admission c.args.at t c.args.place c.args.note c.args.list.now in
     subst (λ (r : Ledger). IsAt (line ∷ front) (record r { state = after; listed = c.list_with-self.result })) (sym same)
     (subst (λ (l : Listed). IsAt (line ∷ front) (record old { places = mid.places; kept = mid.kept; state = after; listed = l })) (sym c.list_with-self.ensures)
-    (given_at front old at c.requires.going c.is_in_place.ensures.sorted c.args.at c.args.train c.args.place c.args.note c.args.list.now c.args.held (c.requires.held front at)
+    (given_at front old at c.requires.going c.is_in_place.ensures.sorted c.args.at c.args.train c.args.place c.args.note c.args.list.now c.args.held held
     (sym c.is_in_place.ensures.exact ∙ c.if-not-is_in_place.false) (sym c.is_forbidden.ensures ∙ c.if-is_forbidden.false) (sym c.is_occupied.ensures ∙ c.if-is_occupied.false)
     (sym (c.keep_given.ensures.exact front at) ∙ c.if-not-keep_given.false) mid.places mid.kept after has room given.0 given.1 admits))

@@ -47,3 +47,6 @@ returns-in-Nothing-clause-taken c = λ none front at.
     let old : Ledger = c.args.self.now in
     let nothing = c.in-Nothing.ensures.nothing refl in
     c.take_next-in-Nothing.ensures.taken none front (nothing.1.3 front (listed_as front old which.Nothing at))
+
+pub returns-in-Hold-clause-input : goal.returns-in-Hold-clause-input
+returns-in-Hold-clause-input c = λ _. (c.in-Hold.ensures.hold c.in-Hold.held refl).1

@@ -1,0 +1,12 @@
+use Rattle.std.proofs.Common.{◌≡◌, drop}
+use Rattle.rail_history.specs.LineReads.{lines_of}
+use Rattle.rail_judging.specs.Verdicts.{verdict}
+use Rattle.rail_ledger.specs.Inputs.{input_in}
+use Rattle.rail_check.proofs.SoFar.{IsChecked}
+use Rattle.rail_check.proofs.checking.check.Given as goal
+
+abbrev pub invariant-loop-entry : goal.invariant-loop-entry
+invariant-loop-entry l = record {
+  checked : IsChecked l.fn.input (verdict (input_in l.fn.input) (lines_of l.fn.history)) l.entry-index (drop l.entry-index l.fn.history.entries.items) l.lists l.held l.ledger;
+  counted : l.line ≡ l.entry-index;
+}

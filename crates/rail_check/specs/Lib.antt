@@ -1,0 +1,2 @@
+-- The verdict that is answered.
+pub mod Answers

@@ -1,0 +1,106 @@
+//! A history is checked line by line.
+
+ghost use Rattle.std.specs.Prelude.{◌≡◌, ◌-◌, ◌<◌, ◌^◌, [], IfOk, cond, drop, get_or, length, true};
+ghost use Rattle.rail_check.specs.Answers.{judged_in};
+ghost use Rattle.rail_history.specs.HistoryLines.{does_list};
+ghost use Rattle.rail_history.specs.LineReads.{IsPaired, lines_of};
+ghost use Rattle.rail_judging.specs.Verdicts.{verdict};
+ghost use Rattle.rail_ledger.specs.Inputs.{input_in};
+ghost use Rattle.rail_rules.specs.Accepted.{is_accepted_input};
+ghost use Rattle.rail_rules.specs.Fronts.{is_hold};
+
+use rail_base::{Note, OutOfMemory, Seq, TrainNo, What};
+use rail_history::History;
+use rail_ledger::{Ledger, RunInput};
+use std::alloc::Global;
+
+/// What is answered to a history.
+#[derive(Clone, Copy, Debug, PartialEq, Eq)]
+pub enum Verdict {
+    /// It is lawful to its end.
+    Yes,
+    /// The first line that may not follow the lines before it, counted from 1, and the law that it breaks, from 1 to
+    /// 7. Where the end line is missing the line is one past the last.
+    No { line: u32, law: u8 },
+}
+
+/// Whether the history is lawful to its end: a history of the plant with its calls, under the commands, and with
+/// the names of the deck, of which one is in force first. The input is handed over, since the ledger that is
+/// made here keeps it. The history may name any trains, sections, moves and commands, also such as the plant
+/// does not have.
+///
+/// The law of a `No` is the least of those that the line breaks, except that law 6 goes before laws 1 and 7:
+///
+/// 1. an event line or the end line is not the due one, or a line follows the end line;
+/// 2. a train is admitted that is not waiting at this instant, or another move of it, or after a hold line of the
+///    round;
+/// 3. a train is admitted that is stopped, or over a closed section;
+/// 4. a train is admitted over a section that is blocked at the instant;
+/// 5. a train is admitted after which the kept list does not bring every train inside to its exit;
+/// 6. a hold line is not the due one, or a line other than an admission stands where a train could be admitted
+///    or a hold line is due;
+/// 7. the end line is missing.
+///
+/// All memory is taken before the first line is looked at. `OutOfMemory` comes where it is not found.
+pub fn check(alloc: Global, input: RunInput, history: &History) -> Result<Verdict, OutOfMemory>
+    requires accepted { is_accepted_input (input_in input) ≡ true }
+    requires paired { IsPaired history.now }
+    requires short { length history.now.entries.items < 2 ^ 32 - 1 }
+    ensures verdict { IfOk result (λ answer. judged_in answer ≡ verdict (input_in input) (lines_of history.now)) }
+{
+    let mut ledger = Ledger::begin(alloc, input)?;
+    let mut lists = history.lists.as_slice();
+    let mut held = false;
+    let mut line = 0;
+    for entry in &history.entries {
+        line += 1;
+        let (trains, others) = cut_list(&entry.what, lists);
+        if let Some(law) = ledger.take(*entry, trains, held) {
+            return Ok(Verdict::No { line, law });
+        }
+        lists = others;
+        held = is_hold(&entry.what);
+    }
+    match ledger.judge_end() {
+        Some(law) => Ok(Verdict::No {
+            line: line + 1,
+            law,
+        }),
+        None => Ok(Verdict::Yes),
+    }
+}
+
+/// The trains beside an entry that says this, which are the first of these lists where it has some, and the lists
+/// behind them.
+fn cut_list<'a>(what: &What, lists: &'a [Seq<TrainNo>]) -> (&'a [TrainNo], &'a [Seq<TrainNo>])
+    ensures list { result.0.now ≡ cond (does_list what.now) (get_or lists.now 0 []) [] }
+    ensures others { result.1.now ≡ cond (does_list what.now) (drop 1 lists.now) lists.now }
+{
+    if !does_list(what) {
+        return (&[], lists);
+    }
+    match lists.split_first() {
+        Some((first, others)) => (first.as_slice(), others),
+        None => (&[], &[]),
+    }
+}
+
+/// Whether an entry that says this has trains beside it: a fresh list, or those that an end line names.
+fn does_list(what: &What) -> bool
+    ensures { result ≡ does_list what.now }
+{
+    matches!(
+        what,
+        What::Admit {
+            note: Note::Fresh,
+            ..
+        } | What::End
+    )
+}
+
+/// Whether this is a hold line.
+fn is_hold(what: &What) -> bool
+    ensures { result ≡ is_hold what.now }
+{
+    matches!(what, What::Hold { .. })
+}

@@ -1,0 +1,18 @@
+//! What holds of histories that are checked.
+
+ghost use Rattle.std.specs.Prelude.{◌≡◌, IsTrue, List, reverse};
+ghost use Rattle.rail_history.specs.HistoryLines.{AreHistoryLines, IsHistory};
+ghost use Rattle.rail_judging.specs.Verdicts.{verdict};
+ghost use Rattle.rail_judging.specs.Verdicts.Verdict.{yes};
+ghost use Rattle.rail_rules.specs.Fronts.{Front};
+ghost use Rattle.rail_rules.specs.Orders.{Input};
+ghost use Rattle.rail_rules.specs.RunHistories.{Seat, is_run_history};
+ghost use Rattle.rail_rules.specs.Texts.{text};
+
+/// The text of a run history is a history file, and the verdict on its lines is yes, whatever the policies chose, as long
+/// as its lines are within the limits of a history file.
+pub fn a_printed_run_is_answered_yes()
+    ensures { (input : Input) (seats : List Seat) (front : Front) → IsTrue (is_run_history input seats front)
+        → AreHistoryLines input.plant (reverse front)
+        → IsHistory input.plant (text input.plant front) (reverse front) × (verdict input (reverse front) ≡ yes) }
+{}

@@ -1,0 +1,13 @@
+-- Lemmas on waits.
+mod Holds
+mod Within
+mod Stepping
+-- Lemmas on visits.
+mod VisitSets
+-- Lemmas on what is kept.
+mod Noted
+-- Lemmas on lines.
+mod Words
+mod Writes
+-- Lemmas on lawful fronts.
+mod Stories

@@ -1,0 +1,9 @@
+-- What a report of a history says, what is kept for it, and what a line changes of that.
+pub mod Waits
+pub mod Visits
+pub mod Accounts
+pub mod Reports
+pub mod Noting
+pub mod VisitRows
+pub mod Written
+pub mod Printed

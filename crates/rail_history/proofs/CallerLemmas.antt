@@ -1,0 +1,4 @@
+-- Lemmas for the crates above: what may be cited of this crate beside its definitions and public clauses. The other proof files are private to it.
+
+-- OneHistory: the bytes of a history stand for its lines alone; of other bytes one line is the first that is none.
+pub use Rattle.rail_history.proofs.OneHistory.{no_history, one_history, one_wrong}

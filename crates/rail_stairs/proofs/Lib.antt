@@ -1,0 +1,17 @@
+-- The lemmas of this crate; those for the crates above stand in CallerLemmas.
+pub mod CallerLemmas
+-- What is noted, and what it says of the times.
+mod Noting
+mod Ready
+mod Rooms
+mod Ending
+mod Conflicts
+mod Carried
+-- Lists that are gathered, tables that count them, and texts that are written part by part.
+mod Gathered
+mod Counts
+mod Before
+mod Tallied
+mod Totals
+mod Lines
+mod Written

@@ -1,0 +1,13 @@
+-- What the contracts of stairways name: from the admissions and the end line alone.
+pub mod Stairways
+pub mod StairsTexts
+pub mod Ended
+-- What is noted of a history.
+pub mod Noted
+-- What the program keeps on the way: the times of a train, and the table of the sections.
+pub mod Journeys
+pub mod OfTrains
+pub mod Tallies
+pub mod Writes
+-- Worked stairways.
+pub mod Rows

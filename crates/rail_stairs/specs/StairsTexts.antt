@@ -1,0 +1,54 @@
+-- The text of a stairway.
+use Rattle.std.specs.Prelude.{ℕ, List, [], ◌∷◌, ◌++◌, length, flat_map, codes, decimal, unwrap_or, Option, Some, None}
+use Rattle.rail_base.specs.Clock.{time_text}
+use Rattle.rail_base.specs.declared.intervals.Interval.{Interval}
+use Rattle.rail_base.specs.declared.intervals.Parts.{Parts}
+use Rattle.rail_rules.specs.Numbers.{gather}
+use Rattle.rail_rules.specs.Plant.{Plant}
+use Rattle.rail_rules.specs.Fronts.{Front}
+use Rattle.rail_rules.specs.Texts.{train_word, section_word, spaced}
+use Rattle.rail_stairs.specs.Stairways.{ended_at, occupation, stairway, visits}
+
+-- a number of tenths of a second, or a dash where it is undecided
+abbrev pub number_word : Option ℕ → List ℕ
+number_word None = codes "-"
+number_word (Some n) = decimal n
+
+-- a time, or a dash where there is none
+abbrev pub time_word : Option ℕ → List ℕ
+time_word None = codes "-"
+time_word (Some at) = time_text at
+
+-- the nine parts, in their order
+abbrev pub part_words : Parts → List (List ℕ)
+part_words parts = number_word parts.setting ∷ number_word parts.watching ∷ number_word parts.approach
+    ∷ number_word parts.waiting ∷ number_word parts.earlier ∷ number_word parts.running
+    ∷ number_word parts.standing ∷ number_word parts.clearing ∷ number_word parts.release ∷ []
+
+-- the words of an interval: train, move, section, begin, end and parts
+abbrev pub stair_words : Plant → Interval → List (List ℕ)
+stair_words plant interval = codes "stair" ∷ train_word plant interval.train ∷ decimal interval.place
+    ∷ section_word plant interval.section ∷ time_text interval.begin ∷ time_word interval.«end» ∷ part_words interval.parts
+
+-- the line of an interval
+abbrev pub stair_line : Plant → Interval → List ℕ
+stair_line plant interval = spaced (stair_words plant interval)
+
+-- the words of a section: how many intervals it has, and how long it is occupied
+abbrev pub section_words : Plant → ℕ → List Interval → ℕ → List (List ℕ)
+section_words plant ended intervals x = codes "section" ∷ section_word plant x ∷ decimal (visits intervals x)
+    ∷ decimal (occupation ended intervals x) ∷ []
+
+-- the line of a section
+abbrev pub section_line : Plant → ℕ → List Interval → ℕ → List ℕ
+section_line plant ended intervals x = spaced (section_words plant ended intervals x)
+
+-- the lines of all sections, by number
+abbrev pub section_lines : Plant → ℕ → List Interval → List ℕ
+section_lines plant ended intervals = gather (section_line plant ended intervals) (length plant.tables.sections)
+
+-- the text of a stairway: the lines of its intervals by train, move and step, and the lines of the sections;
+-- open intervals are ended at the time of the end line
+abbrev pub stairs_text : Plant → Front → List ℕ
+stairs_text plant front = flat_map (stair_line plant) (stairway plant front)
+    ++ section_lines plant (unwrap_or (ended_at front) 0) (stairway plant front)

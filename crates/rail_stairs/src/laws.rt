@@ -1,0 +1,43 @@
+//! Laws for those who note the lines of a run, and for those who compare its intervals.
+
+ghost use Rattle.std.specs.Prelude.{◌≡◌, ◌⊎◌, ◌∷◌, ℕ, IsTrue, map, unwrap_or};
+ghost use Rattle.rail_capacity.specs.BlockingTimes.{are_conflict_free, block_of};
+ghost use Rattle.rail_rules.specs.Accepted.{is_accepted_input};
+ghost use Rattle.rail_rules.specs.Fronts.{Front, Line};
+ghost use Rattle.rail_rules.specs.Lawful.{is_complete, is_lawful};
+ghost use Rattle.rail_rules.specs.Orders.{Input};
+ghost use Rattle.rail_rules.specs.Overlaps.{IsStep};
+ghost use Rattle.rail_rules.specs.Plant.{step_section};
+ghost use Rattle.rail_stairs.specs.Ended.{AreDisjoint, IsPositive, interval_in};
+ghost use Rattle.rail_stairs.specs.Noted.{AreNoted, has_room};
+ghost use Rattle.rail_stairs.specs.Stairways.{ended_at, ended_by, stairway};
+ghost use Rattle.rail_stairs.specs.declared.stairs.Stairs.{Stairs};
+
+/// Where the lines so far were noted, there is room to note each line that lawfully follows them.
+pub fn a_lawful_line_finds_room()
+    ensures { (input : Input) → IsTrue (is_accepted_input input) → (line : Line) (front : Front) (stairs : Stairs)
+        → IsTrue (is_lawful input (line ∷ front)) → AreNoted input.plant front stairs → IsTrue (has_room stairs line.entry.what) }
+{}
+
+/// At the end of a lawful history of an input that may be run each blocking interval, an open one ended at the end
+/// line, is not empty, and its end is below 2^50 tenths of a second.
+pub fn ended_intervals_are_positive()
+    ensures { (input : Input) → IsTrue (is_accepted_input input) → (front : Front) → IsTrue (is_complete input front)
+        → (t m j : ℕ) → IsStep input.plant front t m j → IsPositive front (interval_in input.plant front t m j) }
+{}
+
+/// In a lawful history two blocking intervals of one section are the same, or one ends before the other begins, where
+/// open ones are ended at the end line.
+pub fn ended_intervals_never_overlap()
+    ensures { (input : Input) → IsTrue (is_accepted_input input) → (front : Front) → IsTrue (is_lawful input front)
+        → (t m j u n i : ℕ) → IsStep input.plant front t m j → IsStep input.plant front u n i
+        → step_section input.plant t m j ≡ step_section input.plant u n i
+        → ((t ≡ u) × (m ≡ n) × (j ≡ i)) ⊎ AreDisjoint front (interval_in input.plant front t m j) (interval_in input.plant front u n i) }
+{}
+
+/// The intervals of a lawful history, open ones ended at the end line, are without conflict, so that they may be
+/// compressed.
+pub fn ended_intervals_are_without_conflict()
+    ensures { (input : Input) → IsTrue (is_accepted_input input) → (front : Front) → IsTrue (is_complete input front)
+        → IsTrue (are_conflict_free (map block_of (map (ended_by (unwrap_or (ended_at front) 0)) (stairway input.plant front)))) }
+{}

@@ -1,0 +1,34 @@
+//! Blocking time stairways: the blocking intervals of a run, as a table and as a text.
+//!
+//! This layer stands on the blocking intervals of `rail_block`, on the laws of lawful histories, on the lines of
+//! `rail_history`, and for one of its laws on what `rail_capacity` calls without conflict. Everything follows
+//! from the admissions and the time of the end line, so `Stairs` keeps these alone, as the lines of a history
+//! come; the intervals are computed when they are asked for, in one pass over each train.
+//! `specs/Stairways.antt` and `specs/StairsTexts.antt` say what a stairway is and how it is written, from the
+//! lines of a history and no code.
+//!
+//! Bodies may be changed as long as the contracts hold. What may not change is that only `Stairs::new` and
+//! `Stairs::intervals` take memory, and that a pass over a train computes the times of each of its moves once.
+#![tactic(auto)]
+
+mod admissions;
+mod counting;
+mod finding;
+mod intervals;
+mod journey;
+mod laws;
+mod rows;
+mod stairs;
+mod steps;
+mod tallies;
+mod words;
+mod writing;
+
+pub use admissions::Admissions;
+pub use laws::{
+    a_lawful_line_finds_room, ended_intervals_are_positive, ended_intervals_are_without_conflict,
+    ended_intervals_never_overlap,
+};
+pub use rows::worked_stairways;
+pub use stairs::Stairs;
+pub use writing::write_stairs;

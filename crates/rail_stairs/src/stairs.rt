@@ -1,0 +1,143 @@
+//! What is noted of a history.
+
+ghost use Rattle.std.specs.Prelude.{◌≡◌, ℕ, ◌<◌, ◌≤◌, ◌^◌, [], ◌∷◌, ◌++◌, get_or, set, length, map, replicate, IsSome, IsTrue, IfOk, Some};
+ghost use Rattle.rail_base.specs.declared.limits.TheConstants.{ITINERARY_ROUTES};
+ghost use Rattle.rail_base.specs.declared.plant.MoveRow.{MoveRow};
+ghost use Rattle.rail_rules.specs.Fronts.{Front, Line};
+ghost use Rattle.rail_rules.specs.Numbers.{listed};
+ghost use Rattle.rail_rules.specs.Plant.{Plant, train, trains};
+ghost use Rattle.rail_stairs.specs.Noted.{AreNoted, has_room, noted_of, noted_steps, step_counts};
+
+use crate::admissions::Admissions;
+use rail_base::{Entry, OutOfMemory, Time, TrainNo, What};
+use rail_plan::Plant;
+use std::alloc::{AllocError, Global};
+
+/// What is noted of a history: the admissions of each train, and when the history ended.
+#[derive(Debug)]
+pub struct Stairs {
+    /// By train number.
+    admissions: Vec<Admissions>,
+    /// By train number, how many steps each of its moves has.
+    steps: Vec<Vec<usize>>,
+    /// The time of the end line.
+    ended: Option<Time>,
+}
+
+impl Drop for Stairs {
+    fn drop(self) {
+        let Stairs {
+            admissions: _admissions,
+            steps: _steps,
+            ended: _ended,
+        } = self;
+    }
+}
+
+impl Stairs {
+    /// Nothing noted yet, with room for all moves of the plant's trains.
+    pub fn new(alloc: Global, plant: &Plant) -> Result<Stairs, OutOfMemory>
+        ensures { IfOk result (λ stairs. AreNoted plant.now [] stairs) }
+    {
+        let steps = steps_of(alloc, plant)?;
+        let admissions = none_of(alloc, plant.moves().trains())?;
+        Ok(Stairs {
+            admissions,
+            steps,
+            ended: None,
+        })
+    }
+
+    /// The admissions noted of the train.
+    pub(crate) fn admissions(&self, train: TrainNo) -> &[Time]
+        requires { train < length self.now.admissions.items }
+        ensures times { result.now ≡ noted_of self.now train }
+        ensures few { length result.now ≤ ITINERARY_ROUTES }
+    {
+        self.admissions[usize::from(train.0)].as_slice()
+    }
+
+    /// How many steps each move of the train has.
+    pub(crate) fn steps(&self, train: TrainNo) -> &[usize]
+        requires { train < length self.now.steps.items }
+        ensures steps { (m : ℕ) → get_or result.now m 0 ≡ noted_steps self.now train m }
+        ensures length { length result.now ≡ length (get_or (map (λ row. row.items) self.now.steps.items) train []) }
+    {
+        &self.steps[usize::from(train.0)]
+    }
+
+    /// How many trains there are.
+    pub(crate) fn trains(&self) -> u16
+        requires { length self.now.admissions.items < 2 ^ 16 }
+        ensures { result ≡ length self.now.admissions.items }
+    {
+        self.admissions.len() as u16
+    }
+
+    /// The time of the end line, which was noted.
+    pub(crate) fn ended(&self) -> Time
+        requires { IsSome self.now.ended }
+        ensures { self.now.ended ≡ Some result }
+    {
+        self.ended.unwrap()
+    }
+
+    /// Notes the next line of a history. Lines that neither admit a move nor end the history change nothing. It
+    /// takes no memory.
+    pub fn note(&mut self, entry: Entry)
+        requires room { IsTrue (has_room self.old entry.what) }
+        ensures noted { (plant : Plant) (front : Front) (line : Line) → line.entry ≡ entry
+            → AreNoted plant front self.old → AreNoted plant (line ∷ front) self.new }
+    {
+        let Entry { at, what } = entry;
+        match what {
+            What::Admit { train, .. } => add_admission(&mut self.admissions, train, at),
+            What::End => self.ended = Some(at),
+            _ => {}
+        }
+    }
+}
+
+/// Adds an admission of the train.
+fn add_admission(rows: &mut Vec<Admissions>, train: TrainNo, at: Time)
+    requires train { train < length rows.old.items }
+    requires room { length (get_or rows.old.items train []) < ITINERARY_ROUTES }
+    ensures { rows.new.items ≡ set rows.old.items train (get_or rows.old.items train [] ++ at ∷ []) }
+{
+    rows[usize::from(train.0)].push(at);
+}
+
+/// No admission yet of so many trains.
+fn none_of(alloc: Global, trains: u16) -> Result<Vec<Admissions>, AllocError>
+    ensures { IfOk result (λ admissions. admissions.items ≡ listed (λ _. []) trains) }
+{
+    let mut admissions = Vec::new(alloc);
+    for _ in 0..trains {
+        admissions.push(Admissions::none())?;
+    }
+    Ok(admissions)
+}
+
+/// How many steps each move of each train has.
+fn steps_of(alloc: Global, plant: &Plant) -> Result<Vec<Vec<usize>>, AllocError>
+    ensures { IfOk result (λ steps. map (λ row. row.items) steps.items ≡ step_counts plant.now) }
+{
+    let mut steps = Vec::new(alloc);
+    for number in 0..plant.moves().trains() {
+        steps.push(train_steps(alloc, plant, TrainNo(number))?)?;
+    }
+    Ok(steps)
+}
+
+/// How many steps each move of the train has.
+fn train_steps(alloc: Global, plant: &Plant, number: TrainNo) -> Result<Vec<usize>, AllocError>
+    requires { number < trains plant.now }
+    ensures { IfOk result (λ steps. steps.items
+        ≡ map (λ (move : MoveRow). length move.sections) (train plant.now number).moves) }
+{
+    let mut steps = Vec::new(alloc);
+    for row in plant.train(number).moves.as_slice() {
+        steps.push(row.sections.as_slice().len())?;
+    }
+    Ok(steps)
+}

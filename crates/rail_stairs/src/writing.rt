@@ -1,0 +1,151 @@
+//! The text of a stairway.
+
+ghost use Rattle.std.specs.Prelude.{◌≡◌, ℕ, ◌+◌, ◌*◌, ◌<◌, ◌≤◌, ◌^◌, [], ◌++◌, List, length, flat_map, IsSome, OnOk};
+ghost use Rattle.rail_base.specs.declared.intervals.Interval.{Interval};
+ghost use Rattle.rail_base.specs.declared.limits.TheConstants.{SECTIONS};
+ghost use Rattle.rail_rules.specs.Fronts.{Front};
+ghost use Rattle.rail_rules.specs.Intervals.{interval_of};
+ghost use Rattle.rail_rules.specs.Numbers.{gather};
+ghost use Rattle.rail_rules.specs.Plant.{steps, trains};
+ghost use Rattle.rail_stairs.specs.Noted.{AreNoted, IsNoted, noted_of};
+ghost use Rattle.rail_stairs.specs.Journeys.{AreAllAdmissible, before_move, before_step, before_train};
+ghost use Rattle.rail_stairs.specs.OfTrains.{admissions_in, at_train, of_train};
+ghost use Rattle.rail_stairs.specs.Stairways.{move_intervals, train_intervals};
+ghost use Rattle.rail_stairs.specs.StairsTexts.{section_line, section_lines, stair_line, stairs_text};
+ghost use Rattle.rail_stairs.specs.Tallies.{IsTallied};
+ghost use Rattle.rail_stairs.specs.Writes.{WritesText};
+
+use crate::journey::Journey;
+use crate::stairs::Stairs;
+use crate::tallies::Tallies;
+use crate::words::{put_end, put_number, put_parts, put_section, put_sum, put_time, put_train};
+use rail_base::{Interval, SectionNo, Time, TrainNo};
+use rail_history::Line;
+use rail_io::{Failed, Sink, write_whole};
+use rail_plan::Plant;
+
+/// Writes the stairway of the history that was noted to its end: a line for each blocking interval, by train,
+/// move and step, and a line for each section. It takes no memory.
+pub fn write_stairs<O: Sink>(plant: &Plant, stairs: &Stairs, out: &mut O) -> Result<(), Failed>
+    requires noted { IsNoted plant.now stairs.now }
+    requires ended { IsSome stairs.now.ended }
+    ensures { (front : Front) → AreNoted plant.now front stairs.now
+        → WritesText O.Sink out.old out.new (stairs_text plant.now front) result }
+{
+    let ended = stairs.ended();
+    let mut tallies = Tallies::new();
+    write_intervals(plant, stairs, ended, &mut tallies, out)?;
+    write_sections(plant, &tallies, out)
+}
+
+/// Writes a line for each interval that was noted, and counts them.
+fn write_intervals<O: Sink>(
+    plant: &Plant,
+    stairs: &Stairs,
+    ended: Time,
+    tallies: &mut Tallies,
+    out: &mut O,
+) -> Result<(), Failed>
+    requires noted { length stairs.now.admissions.items ≡ trains plant.now }
+    requires admissible { AreAllAdmissible plant.now stairs.now }
+    requires empty { IsTallied ended [] tallies.old }
+    ensures text { WritesText O.Sink out.old out.new
+        (flat_map (stair_line plant.now) (before_train plant.now stairs.now (trains plant.now))) result }
+    ensures counted { OnOk result (IsTallied ended (before_train plant.now stairs.now (trains plant.now)) tallies.new) }
+{
+    for number in 0..plant.moves().trains() {
+        let journey = Journey::new(plant, stairs, TrainNo(number));
+        write_journey(&journey, ended, tallies, out)?;
+    }
+    Ok(())
+}
+
+/// Writes a line for each interval of the train, and counts them.
+fn write_journey<O: Sink>(
+    journey: &Journey,
+    ended: Time,
+    tallies: &mut Tallies,
+    out: &mut O,
+) -> Result<(), Failed>
+    requires before { IsTallied ended (at_train before_train journey.now) tallies.old }
+    ensures text { WritesText O.Sink out.old out.new (flat_map (stair_line journey.now.plant.now) (of_train train_intervals journey.now)) result }
+    ensures counted { OnOk result (IsTallied ended (at_train before_move journey.now (length (admissions_in journey.now))) tallies.new) }
+{
+    for index in 0..journey.moves() {
+        write_move(journey, index, ended, tallies, out)?;
+    }
+    Ok(())
+}
+
+/// Writes a line for each interval of the move, which counts from 0, and counts them.
+fn write_move<O: Sink>(
+    journey: &Journey,
+    index: u16,
+    ended: Time,
+    tallies: &mut Tallies,
+    out: &mut O,
+) -> Result<(), Failed>
+    requires index { index < length (admissions_in journey.now) }
+    requires before { IsTallied ended (at_train before_move journey.now index) tallies.old }
+    ensures text { WritesText O.Sink out.old out.new
+        (flat_map (stair_line journey.now.plant.now) (of_train move_intervals journey.now index)) result }
+    ensures counted { OnOk result (IsTallied ended
+        (at_train before_step journey.now index (steps journey.now.plant.now journey.now.train index)) tallies.new) }
+{
+    for step in 0..journey.steps(index) {
+        let interval = journey.interval(index, step);
+        tallies.add(&interval, ended);
+        write_interval(journey.plant, &interval, out)?;
+    }
+    Ok(())
+}
+
+/// Writes the line of the interval.
+fn write_interval<O: Sink>(plant: &Plant, interval: &Interval, out: &mut O) -> Result<(), Failed>
+    requires train { interval.now.train < trains plant.now }
+    requires section { interval.now.section < length plant.now.tables.sections }
+    ensures { WritesText O.Sink out.old out.new (stair_line plant.now interval.now) result }
+{
+    let mut line = Line::new();
+    line.put(b"stair");
+    put_train(&mut line, plant, interval.train);
+    put_number(&mut line, u64::from(interval.place));
+    put_section(&mut line, plant, interval.section);
+    put_time(&mut line, interval.begin);
+    put_end(&mut line, interval.end);
+    put_parts(&mut line, &interval.parts);
+    line.put(b"\n");
+    write_whole(out, line.as_slice())
+}
+
+/// Writes the line of each section, of which these intervals were counted.
+fn write_sections<O: Sink>(plant: &Plant, tallies: &Tallies, out: &mut O) -> Result<(), Failed>
+    ensures { (ended : ℕ) (seen : List Interval) → IsTallied ended seen tallies.now
+        → WritesText O.Sink out.old out.new (section_lines plant.now ended seen) result }
+{
+    for number in 0..plant.names().sections.len() {
+        write_section(plant, SectionNo(number as u16), tallies, out)?;
+    }
+    Ok(())
+}
+
+/// Writes the line of the section.
+fn write_section<O: Sink>(
+    plant: &Plant,
+    section: SectionNo,
+    tallies: &Tallies,
+    out: &mut O,
+) -> Result<(), Failed>
+    requires known { section < length plant.now.tables.sections }
+    requires few { section < SECTIONS }
+    ensures { (ended : ℕ) (seen : List Interval) → IsTallied ended seen tallies.now
+        → WritesText O.Sink out.old out.new (section_line plant.now ended seen section) result }
+{
+    let mut line = Line::new();
+    line.put(b"section");
+    put_section(&mut line, plant, section);
+    put_number(&mut line, tallies.visits(section));
+    put_sum(&mut line, tallies.occupied(section));
+    line.put(b"\n");
+    write_whole(out, line.as_slice())
+}
