@@ -54,7 +54,8 @@ class Case:
 
     def read_calls(self, text):
         calls = [[None] * len(t["routes"]) for t in self.trains]
-        for record in list(csv.reader(io.StringIO(text)))[1:]:
+        # A line without a field is no record.
+        for record in [it for it in csv.reader(io.StringIO(text)) if it][1:]:
             train, place, arrival, departure, dwell = record
             t, p = self.train_numbers[train], int(place)
             calls[t][p - 1] = {
