@@ -3,7 +3,7 @@ use Rattle.std.specs.Prelude.{ℕ, Bool, ◌&&◌, nat_le}
 
 -- what is limited: numbers of things, sizes of files and texts, lengths and speeds, times
 pub data Limit : Type 0 where
-  Sections Posts Turns Routes RouteSections Kinds Trains ItineraryRoutes Depth Policies Commands Edits : Limit
+  Sections Posts Turns Routes RouteSections Kinds Trains ItineraryRoutes Depth Policies Commands Edits FreshTrains FreshLines : Limit
   FileBytes HistoryBytes NameBytes HourDigits : Limit
   SectionLength TrainLength Speed : Limit
   InputTime SettingTime WatchingTime ApproachTime TurnTime ReleaseTime StartSupplement StopSupplement : Limit
@@ -22,6 +22,8 @@ most Depth = 2  -- free legs that the analysis may make
 most Policies = 16  -- of a deck
 most Commands = 1_024  -- of a run
 most Edits = 4_096  -- that an editor keeps
+most FreshTrains = 8_192  -- trains of a fresh list in a history file: moves of a plant
+most FreshLines = 8_192  -- fresh lists of a history file: moves of a plant
 most FileBytes = 1_048_576  -- of each file but a history
 most HistoryBytes = 16_777_216  -- of a history that is read
 most NameBytes = 16  -- of a name

@@ -1,5 +1,6 @@
 -- Refusals.
-use Rattle.std.specs.Prelude.{◌≡◌, ℕ, Bool, true, false, Option, Some}
+use Rattle.std.specs.Prelude.{ℕ, Bool, true, false, Option, Some, None}
+use Rattle.rail_base.specs.FirstRefusals.{IsFirstRefusal}
 use Rattle.rail_base.specs.declared.refusals.Fault.{Fault}
 use Rattle.rail_base.specs.declared.refusals.Fault.TheVariants.{Refused, OutOfMemory}
 use Rattle.rail_base.specs.declared.refusals.Part.{Part}
@@ -50,10 +51,14 @@ number_of RerouteForm = 37
 number_of RerouteName = 38
 number_of NotYet = 39
 
--- a fault answers the first refusal, if it is that refusal; want of memory may stand in place of any answer
+-- the refusal in a fault
+abbrev pub refusal_in : Fault → Option Refusal
+refusal_in (Refused refusal) = Some refusal
+refusal_in OutOfMemory = None
+
+-- a fault answers the first refusal
 abbrev pub AnswersFirst : Option Refusal → Fault → Type 0
-AnswersFirst first (Refused refusal) = first ≡ Some refusal
-AnswersFirst first OutOfMemory = Unit {0}
+AnswersFirst first fault = IsFirstRefusal first (refusal_in fault)
 
 -- the part is a file, which is refused for its size
 abbrev pub is_file : Part → Bool

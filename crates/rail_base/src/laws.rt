@@ -2,7 +2,7 @@
 
 ghost use Rattle.std.specs.Prelude.{◌≡◌, ℕ, ◌<◌, ◌+◌, ◌*◌, ◌^◌, List};
 ghost use Rattle.rail_base.specs.declared.limits.TheConstants as limit;
-ghost use Rattle.rail_base.specs.Limits.{most, Sections, Posts, Turns, Routes, RouteSections, Kinds, Trains, ItineraryRoutes, Depth, Policies, Commands, Edits, FileBytes, HistoryBytes, NameBytes, HourDigits, SectionLength, TrainLength, Speed, InputTime, SettingTime, WatchingTime, ApproachTime, TurnTime, ReleaseTime, StartSupplement, StopSupplement};
+ghost use Rattle.rail_base.specs.Limits.{most, Sections, Posts, Turns, Routes, RouteSections, Kinds, Trains, ItineraryRoutes, Depth, Policies, Commands, Edits, FreshTrains, FreshLines, FileBytes, HistoryBytes, NameBytes, HourDigits, SectionLength, TrainLength, Speed, InputTime, SettingTime, WatchingTime, ApproachTime, TurnTime, ReleaseTime, StartSupplement, StopSupplement};
 ghost use Rattle.rail_base.specs.Clock.{IsLenientTime, time_text};
 
 /// A text in an input stands for one time at most. Whoever reads `00:02:00` or `00:02:00.0` in a
@@ -54,6 +54,7 @@ pub fn the_limits_are_those_of_the_formats()
     ensures stop { limit.STOP ≡ most StopSupplement }
     ensures move_lines { limit.MOVE_LINES ≡ 2 * most RouteSections + 3 }
     ensures train_lines { limit.TRAIN_LINES ≡ most ItineraryRoutes * limit.MOVE_LINES }
-    ensures list_trains { limit.LIST_TRAINS ≡ most Trains * most ItineraryRoutes }
-    ensures fresh_lines { limit.FRESH_LINES ≡ most Trains * most ItineraryRoutes }
+    ensures list_trains { limit.LIST_TRAINS ≡ most FreshTrains }
+    ensures fresh_lines { limit.FRESH_LINES ≡ most FreshLines }
+    ensures moves { (most FreshTrains ≡ most Trains * most ItineraryRoutes) × (most FreshLines ≡ most FreshTrains) }
 {}

@@ -6,6 +6,7 @@ use Rattle.rail_base.specs.NameForms.{same_name}
 use Rattle.rail_base.specs.declared.plant.TrainKind.{TrainKind}
 use Rattle.rail_base.specs.declared.refusals.Fault.{Fault}
 use Rattle.rail_base.specs.declared.refusals.Fault.TheVariants as fault
+use Rattle.rail_base.specs.Refusals.{refusal_in}
 use Rattle.rail_base.specs.declared.refusals.Refusal.{Refusal}
 use Rattle.rail_base.specs.declared.refusals.Reason.{Reason}
 use Rattle.rail_base.specs.declared.refusals.Reason.TheVariants as reason
@@ -79,11 +80,6 @@ abbrev pub fault_for : PlanFault → Fault
 fault_for (TooLong t place) = fault.Refused (of_train reason.TooLong (suc t) place)
 fault_for (SelfBlocked t place section) = fault.Refused (of_train reason.SelfBlocked (suc t) place)
 fault_for OutOfMemory = fault.OutOfMemory
-
--- the refusal in an answer
-abbrev pub refusal_in : Fault → Option Refusal
-refusal_in (fault.Refused refusal) = Some refusal
-refusal_in fault.OutOfMemory = None
 
 -- why a scene is refused: the first test of a train and its itinerary that fails, train by train, and where none
 -- does the first fault of the plant, again train by train

@@ -1,4 +1,6 @@
 -- Lemmas for the crates above: what may be cited of this crate beside its definitions and public clauses. The other proof files are private to it.
 
+-- Lawful: the lines of a lawful front are lines of a history file.
+pub use Rattle.rail_history.proofs.Lawful.{lawful_lines}
 -- OneHistory: the bytes of a history stand for its lines alone; of other bytes one line is the first that is none.
 pub use Rattle.rail_history.proofs.OneHistory.{no_history, one_history, one_wrong}

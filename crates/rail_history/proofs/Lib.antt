@@ -14,6 +14,8 @@ mod LineRead
 mod Histories
 -- Lemmas on lines and files.
 mod FileLines
+-- Lawful histories.
+mod Lawful
 -- The bytes of one history.
 mod OneHistory
 -- The lemmas of this crate; those for the crates above stand in CallerLemmas.

@@ -6,7 +6,7 @@ use Rattle.rail_base.specs.declared.history.What.{What}
 use Rattle.rail_base.specs.declared.history.What.TheVariants.{Admit, End}
 use Rattle.rail_base.specs.declared.history.Note.{Note}
 use Rattle.rail_base.specs.declared.history.Note.TheVariants.{Fresh}
-use Rattle.rail_base.specs.declared.limits.TheConstants.{FRESH_LINES, LIST_TRAINS}
+use Rattle.rail_base.specs.Limits.{most, FreshLines, FreshTrains}
 use Rattle.rail_base.specs.declared.names.Names.{Names}
 use Rattle.rail_base.specs.declared.refusals.Fault.{Fault}
 use Rattle.rail_base.specs.declared.refusals.Fault.TheVariants.{Refused, OutOfMemory}
@@ -47,7 +47,7 @@ does_list _ = false
 
 -- a fresh list has one train or more, and no more trains than a plant has moves
 abbrev pub is_fresh_list : List ℕ → Bool
-is_fresh_list list = nat_lt 0 (length list) && nat_le (length list) LIST_TRAINS
+is_fresh_list list = nat_lt 0 (length list) && nat_le (length list) (most FreshTrains)
 
 -- the list is within the limits, if it is a fresh one
 abbrev pub is_list_within : What → List ℕ → Bool
@@ -65,7 +65,7 @@ is_history_line plant line = does_fit_counter line.entry.at && is_history_what p
 -- lines of the file, of which no more have a fresh list than a plant has moves
 pub record AreHistoryLines (plant : Plant) (lines : List Line) : Type 0 where
   pub each : list_all (is_history_line plant) lines ≡ true
-  pub few_fresh : count_by (λ (line : Line). is_fresh line.entry.what) lines ≤ FRESH_LINES
+  pub few_fresh : count_by (λ (line : Line). is_fresh line.entry.what) lines ≤ most FreshLines
 
 -- the text of lines, of which the oldest is the first
 abbrev pub lines_text : Plant → List Line → List ℕ

@@ -3,7 +3,7 @@ use Rattle.std.specs.Prelude.{◌≡◌, ℕ, ◌+◌, ◌<◌, ◌≤◌, true,
 use Rattle.rail_base.specs.declared.history.Entry.{Entry}
 use Rattle.rail_base.specs.declared.history.Note.{Note}
 use Rattle.rail_base.specs.declared.history.What.{What}
-use Rattle.rail_base.specs.declared.limits.TheConstants.{FRESH_LINES}
+use Rattle.rail_base.specs.Limits.{most, FreshLines}
 use Rattle.rail_base.specs.declared.names.Names.{Names}
 use Rattle.rail_base.specs.declared.refusals.Fault.{Fault}
 use Rattle.rail_base.specs.declared.refusals.Fault.TheVariants.{Refused, OutOfMemory}
@@ -53,10 +53,10 @@ pub record TakesLine (names : Names) (old new : History) (bytes : List ℕ) (fre
   pub added : IsPaired old → lines_of new ≡ lines_of old ++ line ∷ []
   pub paired : IsPaired old → IsPaired new
   pub counted : more ≡ cond (is_fresh line.entry.what) 1 0
-  pub within : fresh + more ≤ FRESH_LINES
+  pub within : fresh + more ≤ most FreshLines
 
 -- behind so many fresh lists the bytes are no line, or one fresh list too many
 abbrev pub IsWrongLine : Names → ℕ → ℕ → List ℕ → Fault → Type 0
 IsWrongLine names fresh number bytes (Refused refusal) = (refusal ≡ refusal_at number)
-    × ((plant : Plant) → HasNames plant names → IsNamed plant → (line : Line) → IsSpelled plant line bytes → FRESH_LINES < fresh + cond (is_fresh line.entry.what) 1 0)
+    × ((plant : Plant) → HasNames plant names → IsNamed plant → (line : Line) → IsSpelled plant line bytes → most FreshLines < fresh + cond (is_fresh line.entry.what) 1 0)
 IsWrongLine names fresh number bytes OutOfMemory = Unit {0}

@@ -1,8 +1,11 @@
 //! What holds of history files.
 
-ghost use Rattle.std.specs.Prelude.{◌≡◌, ℕ, List};
-ghost use Rattle.rail_history.specs.HistoryLines.{IsFirstWrong, IsHistory};
-ghost use Rattle.rail_rules.specs.Fronts.{Line};
+ghost use Rattle.std.specs.Prelude.{◌≡◌, ℕ, IsTrue, List, reverse};
+ghost use Rattle.rail_history.specs.HistoryLines.{AreHistoryLines, IsFirstWrong, IsHistory};
+ghost use Rattle.rail_rules.specs.Accepted.{is_accepted_input};
+ghost use Rattle.rail_rules.specs.Fronts.{Front, Line};
+ghost use Rattle.rail_rules.specs.Lawful.{is_lawful};
+ghost use Rattle.rail_rules.specs.Orders.{Input};
 ghost use Rattle.rail_rules.specs.Plant.{Plant};
 ghost use Rattle.rail_rules.specs.Writable.{IsNamed};
 
@@ -16,4 +19,12 @@ pub fn a_history_file_has_one_history()
 pub fn a_file_with_a_wrong_line_is_no_history()
     ensures { (plant : Plant) → IsNamed plant → (bytes : List ℕ) (number : ℕ) (lines : List Line)
         → IsFirstWrong plant bytes number → IsHistory plant bytes lines → ⊥ }
+{}
+
+/// The lines of every lawful history of an input that may be run are lines of a history file: their names are those of
+/// the plant, their numbers and lists are within the limits, and no more of them have a fresh list than such a file may
+/// have. Only the size of the file is another matter.
+pub fn a_lawful_history_may_stand_in_a_file()
+    ensures { (input : Input) → IsTrue (is_accepted_input input) → (front : Front) → IsTrue (is_lawful input front)
+        → AreHistoryLines input.plant (reverse front) }
 {}

@@ -25,7 +25,10 @@ mod writing;
 mod written;
 
 pub use files::{History, read_history};
-pub use laws::{a_file_with_a_wrong_line_is_no_history, a_history_file_has_one_history};
+pub use laws::{
+    a_file_with_a_wrong_line_is_no_history, a_history_file_has_one_history,
+    a_lawful_history_may_stand_in_a_file,
+};
 pub use line::{Line, ROOM};
 pub use read_what::likely_what;
 pub use read_words::{Reason, Verb};

@@ -3,7 +3,7 @@ use Rattle.std.proofs.Common.{◌≡◌, ℕ, ◌+◌, suc, false, List, [], ◌
 use Rattle.std.specs.Option.{option_or}
 use Rattle.std.proofs.lemmas.Option.{none-some, same_Some}
 use Rattle.rail_base.specs.FirstRefusals.{Test, first_failing}
-use Rattle.rail_base.specs.Refusals.{AnswersFirst, is_file}
+use Rattle.rail_base.specs.Refusals.{AnswersFirst, is_file, refusal_in}
 use Rattle.rail_base.specs.declared.plant.Call.{Call}
 use Rattle.rail_base.specs.declared.plant.Tables.{Tables}
 use Rattle.rail_base.specs.declared.refusals.Fault.{Fault}
@@ -21,7 +21,7 @@ use Rattle.rail_scene.specs.declared.scene.SceneTrain.{SceneTrain}
 use Rattle.rail_scene.specs.Order.{scene_refusal}
 use Rattle.rail_scene.proofs.CallerLemmas.{scene_of_bytes}
 use Rattle.rail_compile.specs.Itineraries.{routes_of, tables_of}
-use Rattle.rail_compile.specs.Refusals.{compile_refusal, fault_for, place_tests, refusal_in, train_tests, trains_tests}
+use Rattle.rail_compile.specs.Refusals.{compile_refusal, fault_for, place_tests, train_tests, trains_tests}
 use Rattle.rail_command.specs.Commands.{commands_refusal, lines_tests, line_tests, time_on}
 use Rattle.rail_command.specs.Lines.{Line, lines_of}
 use Rattle.rail_timetable.specs.Records.{records_in}

@@ -26,6 +26,10 @@ pub use Rattle.rail_laws_events.proofs.Balance.{account}
 pub use Rattle.rail_laws_events.proofs.Changing.{other_change, tally-gather, train_event_change}
 -- an admission exchanges the arrival before it and adds the lines of its move
 pub use Rattle.rail_laws_events.proofs.Changing.{admission_change}
+-- Lines: the kinds of lines.
+
+-- the admissions of all trains together
+pub use Rattle.rail_laws_events.proofs.Lines.{admissions_counted}
 -- Sums: sums over numbers below a bound, and the length of gathered lists.
 pub use Rattle.rail_laws_events.proofs.Sums.{sum-constant, sum-plus}
 -- sums that differ by one at one number

@@ -19,3 +19,5 @@ pub use Rattle.rail_laws_text.proofs.Wording.{name_free, of_what}
 pub use Rattle.rail_laws_text.proofs.Injective.{text_same}
 -- Naming: the names of an accepted plant are names, and distinct.
 pub use Rattle.rail_laws_text.proofs.Naming.{accepted_named}
+-- Limiting: the numbers of the lines of a lawful front are within the limits, and there are no more admissions than moves.
+pub use Rattle.rail_laws_text.proofs.Limiting.{few_admitted, line_limited}

@@ -4,6 +4,7 @@ mod Known
 mod Causing
 mod Listing
 mod Writing
+mod Limiting
 -- Lemmas on texts, which the laws above cite.
 mod Marks
 mod Wording

@@ -25,16 +25,21 @@ all_known plant (t ∷ list) all =
     (all_known plant list (All-tail (λ u. u < trains plant) t list all))
 
 -- all trains together have few moves
-few_moves : (plant : Plant) → is_accepted plant ≡ true → sum_below (moves plant) (trains plant) ≤ LIST_TRAINS
+pub few_moves : (plant : Plant) → is_accepted plant ≡ true → sum_below (moves plant) (trains plant) ≤ LIST_TRAINS
 few_moves plant ok =
     let accepted = accepted_parts plant ok in
     omega (arith, sum-limited (moves plant) ITINERARY_ROUTES (trains plant) (λ t lt. (row_in_range plant accepted.trains_in_range t lt).few_moves), accepted.few_trains)
 
+-- a list that completes is no longer than all moves together
+pub list_short : (plant : Plant) → is_accepted plant ≡ true → (s list : List ℕ) → length s ≡ trains plant → completes (moves_of plant) s list ≡ true → length list ≤ LIST_TRAINS
+list_short plant ok s list long done =
+    let fits : length list ≤ sum_below (moves plant) (length s) = completing_fits (moves_of plant) s list done in
+    omega (arith, fits, ap (sum_below (moves plant)) long, few_moves plant ok)
+
 -- the trains of a list that completes
 pub list_known : (plant : Plant) → is_accepted plant ≡ true → (s list : List ℕ) → length s ≡ trains plant → completes (moves_of plant) s list ≡ true → (list_all (is_known_train plant) list && does_fit_counter (length list)) ≡ true
 list_known plant ok s list long done =
-    let fits : length list ≤ sum_below (moves plant) (length s) = completing_fits (moves_of plant) s list done in
-    let few : length list ≤ LIST_TRAINS = omega (arith, fits, ap (sum_below (moves plant)) long, few_moves plant ok) in
+    let few : length list ≤ LIST_TRAINS = list_short plant ok s list long done in
     and_from (list_all (is_known_train plant) list) (does_fit_counter (length list))
     (all_known plant list (completing_listed (moves_of plant) s list (trains plant) long done))
     (fits_counter (length list) (omega (arith, few)))

@@ -33,7 +33,7 @@ use Rattle.rail_laws_text.proofs.Causing.{names_known, cause_known, one_cause}
 use Rattle.rail_laws_text.proofs.Listing.{list_known, remaining_known}
 
 -- a train that is ready has a move left
-ready_moves : (input : Input) (front : Front) (t : ℕ) → is_ready input front t ≡ true → place front t < moves input.plant t
+pub ready_moves : (input : Input) (front : Front) (t : ℕ) → is_ready input front t ≡ true → place front t < moves input.plant t
 ready_moves input front t h =
     let two = and_parts (ltb (place front t) (moves input.plant t) && not (is_cancelled t (told input.commands front))) _ h in
     let one = and_parts (ltb (place front t) (moves input.plant t)) _ two.0 in
@@ -83,7 +83,7 @@ note_known input ok front line t m Fresh h =
     let long : length s ≡ trains input.plant = length-set (places input.plant front) t (suc (place_of (places input.plant front) t)) ∙ length-listed (λ u. length (admissions front u)) (trains input.plant) in
     list_known input.plant ok s line.trains long (subst (λ (list : List ℕ). completes (moves_of input.plant) s list ≡ true) brought h.completing)
 
-below_listed : (xs : List Command) (i : ℕ) (x : Command) → slice_get xs i ≡ Some x → i < length xs
+pub below_listed : (xs : List Command) (i : ℕ) (x : Command) → slice_get xs i ≡ Some x → i < length xs
 below_listed [] i x h = absurd (nothing h)
   where
     nothing : slice_get [] i ≡ Some x → ⊥
@@ -92,7 +92,7 @@ below_listed (y ∷ xs) zero x h = omega arith
 below_listed (y ∷ xs) (suc i) x h = omega (arith, below_listed xs i x h)
 
 -- how many commands an accepted input has
-few_commands : (input : Input) → is_accepted_input input ≡ true → length input.commands ≤ COMMANDS
+pub few_commands : (input : Input) → is_accepted_input input ≡ true → length input.commands ≤ COMMANDS
 few_commands input h =
     let a1 : Bool = is_accepted input.plant in
     let a2 : Bool = leb (length input.commands) COMMANDS in

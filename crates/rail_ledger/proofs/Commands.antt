@@ -1,5 +1,5 @@
 -- A command's line.
-use Rattle.std.proofs.Common.{◌≡◌, ℕ, suc, ◌+◌, ◌-◌, ◌<◌, Bool, true, false, List, [], ◌∷◌, ◌++◌, length, Option, Some, None, refl, sym, ap, ◌∙◌, subst, ◌⊎◌, inl, inr, ⊎_elim, arith}
+use Rattle.std.proofs.Common.{◌≡◌, ℕ, suc, ◌+◌, ◌-◌, ◌<◌, Bool, true, false, cond, List, [], ◌∷◌, ◌++◌, length, Option, Some, None, refl, sym, ap, ◌∙◌, subst, ◌⊎◌, inl, inr, ⊎_elim, arith}
 use Rattle.std.specs.Prelude.{slice_get}
 use Rattle.std.specs.List.{list_any}
 use Rattle.std.proofs.lemmas.Bool.{cases_lt, cond-true, cond-false, false≢true}
@@ -10,7 +10,8 @@ use Rattle.rail_base.specs.declared.history.What.TheVariants.{Told, Untold}
 use Rattle.rail_base.specs.declared.orders.Command.{Command}
 use Rattle.rail_base.specs.declared.orders.Order.{Order}
 use Rattle.rail_rules.specs.Events.{command_line}
-use Rattle.rail_rules.specs.Fronts.{Front, Line, has_ended, is_admission, is_hold}
+use Rattle.rail_rules.specs.Fronts.{Front, Line, at_time, has_ended, is_admission, is_hold}
+use Rattle.rail_rules.specs.Lawful.{is_lawful}
 use Rattle.rail_rules.specs.Orders.{orders_at, orders_of, takes_effect, told}
 use Rattle.rail_rules.specs.Plant.{moves, trains}
 use Rattle.rail_queue.specs.declared.event.Event.{Event}
@@ -21,7 +22,7 @@ use Rattle.rail_orders.specs.Told.{AreOrders, told_after}
 use Rattle.rail_orders.proofs.CallerLemmas.{order_told}
 use Rattle.rail_state.specs.TrainStates.{no_state, state_of}
 use Rattle.rail_state.specs.Representation.{HasTold, IsCommandOf, Represents, bare_at}
-use Rattle.rail_state.proofs.CallerLemmas.{all_stay, commanded, listed_command}
+use Rattle.rail_state.proofs.CallerLemmas.{all_stay, command_lawful, commanded, listed_command}
 use Rattle.rail_state.specs.declared.run_state.RunState.{RunState}
 use Rattle.rail_state.specs.declared.train.TrainState.{TrainState}
 use Rattle.rail_base.specs.declared.history.Entry.{Entry}
@@ -84,6 +85,27 @@ module _ (front : Front) (ledger : Ledger) (at : IsAt front ledger) (going : led
       subst (λ (w : What). Represents (dispatch_in ledger.input) ledger.input.plant (bare_at event.at w ∷ front) after) is
       (commanded (dispatch_in ledger.input) ledger.input.plant front ledger.state at.rep still event queue.events first after it.index it.command it.listed classed it.numbered least goes
       (subst (λ (w : What). HasTold ledger.input.plant (orders_of ledger.input.commands.items w) event ledger.state after) (sym is) has))
+
+  -- what the command says, by whether its order takes effect, may follow
+  pub command_next : (said : What) → said ≡ cond (is_effective ledger it.command.what) (Told event.number) (Untold event.number)
+      → IsOther (at_time event.at said) × (is_lawful (input_in ledger.input) (bare_at event.at said ∷ front) ≡ true)
+  command_next said is =
+      let effect : Bool = takes_effect (input_in ledger.input) front (told ledger.input.commands.items front) it.command.what in
+      let line_is : said ≡ (command_line (input_in ledger.input) front it.command it.index).what = is
+      ∙ ap (λ b. cond b (Told event.number) (Untold event.number)) decided
+      ∙ ap (λ n. cond effect (Told n) (Untold n)) it.numbered in (
+        (ap is_admission line_is ∙ idle_of effect, ap is_hold line_is ∙ no_hold_of effect),
+        subst (λ (w : What). is_lawful (input_in ledger.input) (bare_at event.at w ∷ front) ≡ true) (sym line_is)
+            (command_lawful (dispatch_in ledger.input) ledger.input.plant front ledger.state at.rep still event queue.events first it.index it.command it.listed classed it.numbered least goes),
+      )
+    where
+      idle_of : (b : Bool) → is_admission (cond b (Told (suc it.index)) (Untold (suc it.index))) ≡ false
+      idle_of true = refl
+      idle_of false = refl
+
+      no_hold_of : (b : Bool) → is_hold (cond b (Told (suc it.index)) (Untold (suc it.index))) ≡ false
+      no_hold_of true = refl
+      no_hold_of false = refl
 
   -- its order does not take effect
   pub passed_at : (new : Ledger) (said : What) → HasPassed (without_first ledger queue) new event.at event.number said → is_effective (without_first ledger queue) it.command.what ≡ false

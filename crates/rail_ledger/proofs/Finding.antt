@@ -102,6 +102,32 @@ fewer_untried states t lt is =
     (omega (arith, cond-false {A = ℕ} (is_untried (state_of after_it t)) 1 0 tried, cond-true {A = ℕ} (is_untried (state_of states t)) 1 0 is))
     (λ u lu other. ap {B = ℕ} (λ (r : TrainState). cond (is_untried r) 1 0) (get_or-set_other states t u (record (state_of states t) { known = Some NoList }) _ other)))
 
+-- where the places and the kept list are as before, the ledger stands as before
+pub kept_at : (table : List MoveLists) (front : Front) (ledger : Ledger) (places_now : State) (kept_now : Kept) (analyst_now : Work) → moves_in table ≡ moves_of ledger.input.plant → IsAt front ledger
+    → IsMadeFor table places_now → places_now.positions ≡ ledger.places.positions → kept_now.trains ≡ ledger.kept.trains → kept_now.room ≡ ledger.kept.room
+    → IsAt front (record ledger { places = places_now; kept = kept_now; analyst = analyst_now })
+kept_at table front ledger places_now kept_now analyst_now same at made positions list room = record {
+  accepted = at.accepted;
+  ordered = at.ordered;
+  rep = at.rep;
+  placed = record {
+    positions = positions ∙ at.placed.positions;
+    room = made.room;
+    counted = made.counted;
+    told = subst (λ (plan : Moves). (x u : ℕ) → (get_or places_now.owners x None ≡ Some u) ↔ (holds plan places_now.positions u x ≡ true)) same made.told;
+  };
+  keeps = record { is_list = list ∙ at.keeps.is_list; room = subst (λ n. sum_below (moves ledger.input.plant) (trains ledger.input.plant) ≤ n) (sym room) at.keeps.room };
+  queue_room = at.queue_room;
+  list_room = at.list_room;
+  list_empty = at.list_empty;
+}
+
+-- whether a list is known, by what is kept and by the front
+pub known_same : (table : List MoveLists) (front : Front) (ledger : Ledger) (depth t : ℕ) → moves_in table ≡ moves_of ledger.input.plant → IsAt front ledger → depth ≡ ledger.input.plant.tables.depth
+    → is_known (moves_in table) depth ledger.places.positions ledger.kept.trains t
+    ≡ is_known (moves_of ledger.input.plant) ledger.input.plant.tables.depth (places ledger.input.plant front) (kept ledger.input.plant front) t
+known_same table front ledger depth t same at is = λ i. is_known (same i) (is i) (at.placed.positions i) (at.keeps.is_list i) t
+
 -- with no list the ledger stays where it is
 pub no_list_at : (table : List MoveLists) (front : Front) (ledger : Ledger) (places_now : State) (kept_now : Kept) (analyst_now : Work) (t : ℕ) → moves_in table ≡ moves_of ledger.input.plant → IsAt front ledger → IsNext (dispatch_in ledger.input) ledger.input.plant front ledger.state.holders ledger.state.trains t
     → IsMadeFor table places_now → places_now.positions ≡ ledger.places.positions → kept_now ≡ ledger.kept → is_known (moves_in table) ledger.input.plant.tables.depth ledger.places.positions ledger.kept.trains t ≡ false

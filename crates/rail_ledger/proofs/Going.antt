@@ -4,10 +4,12 @@ use Rattle.std.specs.List.{filter, list_any}
 use Rattle.std.specs.Option.{option_map_or}
 use Rattle.std.specs.Global.{Vec}
 use Rattle.std.proofs.lemmas.Bool.{false≢true}
-use Rattle.rail_base.specs.declared.history.What.TheVariants.{End}
+use Rattle.rail_base.specs.declared.history.What.{What}
+use Rattle.rail_base.specs.declared.history.What.TheVariants.{Free, Arrive, Enter, Out, Ready, Told, Untold, Admit, Hold, End}
 use Rattle.rail_rules.specs.Numbers.{listed}
 use Rattle.rail_rules.specs.Plant.{Plant, trains}
-use Rattle.rail_rules.specs.Fronts.{Front, Line, at_time, has_ended, is_admission, kept}
+use Rattle.rail_rules.specs.Fronts.{Front, Line, at_time, has_ended, is_admission, is_hold, kept}
+use Rattle.rail_rules.specs.Lawful.{is_lawful}
 use Rattle.rail_laws_front.proofs.CallerLemmas.{kept_idle, places_idle, told_kept}
 use Rattle.rail_place.specs.Made.{State}
 use Rattle.rail_list.specs.KeptLists.{Kept}
@@ -18,14 +20,14 @@ use Rattle.rail_queue.specs.Queue.{Queue}
 use Rattle.rail_state.specs.TrainStates.{state_after, state_of}
 use Rattle.rail_state.specs.Representation.{IsReadyFor, Represents, StaysSettled, bare_at, holders_after, left_of, what_of}
 use Rattle.rail_rules.specs.Orders.{is_cancelled, told}
-use Rattle.rail_state.proofs.CallerLemmas.{ended, happened, kind, event_idle, ready_for, same_pass}
+use Rattle.rail_state.proofs.CallerLemmas.{end_lawful, ended, event_idle, event_lawful, happened, kind, ready_for, same_pass}
 use Rattle.rail_ledger.specs.declared.ledger.Ledger.{Ledger}
 use Rattle.rail_ledger.specs.declared.ledger.Listed.TheVariants as listed
 use Rattle.rail_base.specs.declared.orders.Order.{Order}
 use Rattle.rail_laws_events.specs.Accounts.{is_train_event}
 use Rattle.rail_orders.specs.Told.{AreOrders}
-use Rattle.rail_ledger.specs.Inputs.{dispatch_in}
-use Rattle.rail_ledger.specs.Ledgers.{ArePlaces, IsAt, IsKept, MayGoOn}
+use Rattle.rail_ledger.specs.Inputs.{dispatch_in, input_in}
+use Rattle.rail_ledger.specs.Ledgers.{ArePlaces, IsAt, IsKept, IsNextLine, IsOther, MayGoOn}
 use Rattle.rail_state.specs.declared.run_state.RunState.{RunState}
 
 pub some_inside : {a b : ℕ} → Some a ≡ Some b → a ≡ b
@@ -74,6 +76,26 @@ module _ (front : Front) (ledger : Ledger) (at : IsAt front ledger) (going : led
   pub idle_now : is_admission (what_of ledger.input.plant ledger.state.trains event) ≡ false
   idle_now = event_idle (what_of ledger.input.plant ledger.state.trains event) kind_now
 
+  no_hold_now : is_hold (what_of ledger.input.plant ledger.state.trains event) ≡ false
+  no_hold_now = of (what_of ledger.input.plant ledger.state.trains event) kind_now
+    where
+      of : (w : What) → is_train_event w ≡ true → is_hold w ≡ false
+      of (Free x t) h = refl
+      of (Arrive t m) h = refl
+      of (Enter t m x) h = refl
+      of (Out t) h = refl
+      of (Ready t m) h = refl
+      of (Told k) h = refl
+      of (Untold k) h = refl
+      of (Admit t m note) h = refl
+      of (Hold t m why) h = absurd (false≢true h)
+      of End h = refl
+
+  -- its line may follow
+  pub event_next : IsOther (at_time event.at (what_of ledger.input.plant ledger.state.trains event))
+      × (is_lawful (input_in ledger.input) (bare_at event.at (what_of ledger.input.plant ledger.state.trains event) ∷ front) ≡ true)
+  event_next = ((idle_now, no_hold_now), event_lawful (dispatch_in ledger.input) ledger.input.plant front ledger.state at.rep still event rest first least goes of_train)
+
   pub happened_at : (after : RunState)
       → after.queue.events ≡ rest → after.queue.spare ≡ ledger.state.queue.spare + 1
       → after.holders ≡ holders_after (what_of ledger.input.plant ledger.state.trains event) ledger.state.holders
@@ -104,17 +126,35 @@ module _ (front : Front) (ledger : Ledger) (at : IsAt front ledger) (going : led
         list_empty = λ open_still. at.list_empty still;
       }
 
+-- the trains that are neither out nor cancelled, by what is kept
+abbrev pub left_in : Ledger → List ℕ
+left_in ledger = filter (λ t. not ((state_of ledger.state.trains t).is_out || get_or ledger.orders.cancelled t false)) (listed (λ t. t) (length ledger.state.trains))
+
+left_is : (front : Front) (ledger : Ledger) → IsAt front ledger → left_in ledger ≡ left_of (dispatch_in ledger.input) ledger.input.plant front ledger.state.trains
+left_is front ledger at =
+    ap (λ n. filter (λ t. not ((state_of ledger.state.trains t).is_out || get_or ledger.orders.cancelled t false)) (listed (λ t. t) n)) at.rep.times.many
+    ∙ same_pass (λ t. not ((state_of ledger.state.trains t).is_out || get_or ledger.orders.cancelled t false))
+    (λ t. not ((state_of ledger.state.trains t).is_out || is_cancelled t (told ledger.input.commands.items front))) (trains ledger.input.plant)
+    (λ t lt. ap (λ b. not ((state_of ledger.state.trains t).is_out || b)) (at.ordered.cancelled t lt))
+
+-- with no event pending, and all that waits told why, the end line may follow, with these trains
+pub end_next : (ledger : Ledger) → ledger.state.has_ended ≡ false → ledger.state.is_settled ≡ true → ledger.state.queue.events ≡ []
+    → (list : List ℕ) → list ≡ left_in ledger → IsNextLine ledger (record { entry = at_time ledger.state.instant End; trains = list })
+end_next ledger going settled empty list is = record {
+  kind = (refl, refl);
+  lawful = λ front at.
+      subst (λ (named : List ℕ). is_lawful (input_in ledger.input) (record { entry = at_time ledger.state.instant End; trains = named } ∷ front) ≡ true)
+      (sym (is ∙ left_is front ledger at))
+      (end_lawful (dispatch_in ledger.input) ledger.input.plant front ledger.state at.rep (sym at.rep.ended ∙ going) settled empty);
+}
+
 -- the end line names the trains that are left
 pub ended_at : (front : Front) (ledger : Ledger) → IsAt front ledger → ledger.state.has_ended ≡ false → ledger.state.is_settled ≡ true → ledger.state.queue.events ≡ []
-    → (remaining : Vec ℕ) → remaining.items ≡ filter (λ t. not ((state_of ledger.state.trains t).is_out || get_or ledger.orders.cancelled t false)) (listed (λ t. t) (length ledger.state.trains))
+    → (remaining : Vec ℕ) → remaining.items ≡ left_in ledger
     → IsAt (record { entry = at_time ledger.state.instant End; trains = remaining.items } ∷ front) (record ledger { remaining = remaining; listed = listed.Remaining; state = record ledger.state { has_ended = true } })
 ended_at front ledger at going settled empty remaining is =
     let still : has_ended front ≡ false = sym at.rep.ended ∙ going in
-    let left : remaining.items ≡ left_of (dispatch_in ledger.input) ledger.input.plant front ledger.state.trains = is
-    ∙ ap (λ n. filter (λ t. not ((state_of ledger.state.trains t).is_out || get_or ledger.orders.cancelled t false)) (listed (λ t. t) n)) at.rep.times.many
-    ∙ same_pass (λ t. not ((state_of ledger.state.trains t).is_out || get_or ledger.orders.cancelled t false))
-    (λ t. not ((state_of ledger.state.trains t).is_out || is_cancelled t (told ledger.input.commands.items front))) (trains ledger.input.plant)
-    (λ t lt. ap (λ b. not ((state_of ledger.state.trains t).is_out || b)) (at.ordered.cancelled t lt)) in
+    let left : remaining.items ≡ left_of (dispatch_in ledger.input) ledger.input.plant front ledger.state.trains = is ∙ left_is front ledger at in
     let after : RunState = record ledger.state { has_ended = true } in
     let line : Line = record { entry = at_time ledger.state.instant End; trains = remaining.items } in
     record {

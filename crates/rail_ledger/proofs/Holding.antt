@@ -5,13 +5,14 @@ use Rattle.rail_base.specs.declared.history.Cause.{Cause}
 use Rattle.rail_base.specs.declared.history.What.TheVariants.{Hold}
 use Rattle.rail_rules.specs.Plant.{trains}
 use Rattle.rail_rules.specs.Fronts.{Front, Line, has_ended}
+use Rattle.rail_rules.specs.Lawful.{is_lawful}
 use Rattle.rail_rules.specs.Causes.{is_deciding, place}
 use Rattle.rail_state.specs.TrainStates.{lacks_hold_line, state_of}
 use Rattle.rail_state.specs.Representation.{AreAllKnown, IsHoldLine, bare_at}
-use Rattle.rail_state.proofs.CallerLemmas.{all_told, held, settled_stands}
+use Rattle.rail_state.proofs.CallerLemmas.{all_told, held, hold_lawful, settled_stands}
 use Rattle.rail_ledger.specs.declared.ledger.Ledger.{Ledger}
 use Rattle.rail_ledger.specs.Inputs.{dispatch_in, input_in}
-use Rattle.rail_ledger.specs.Ledgers.{IsAt}
+use Rattle.rail_ledger.specs.Ledgers.{IsAt, IsHoldDue}
 use Rattle.rail_ledger.proofs.Going.{kept_stays, places_stay}
 use Rattle.rail_state.specs.declared.run_state.RunState.{RunState}
 
@@ -51,6 +52,15 @@ held_at front ledger at going deciding known t in_list lacks first why is after 
       list_room = λ open_still. at.list_room still;
       list_empty = λ open_still. at.list_empty still;
     })
+
+-- its line may follow
+pub hold_next : (front : Front) (ledger : Ledger) → IsAt front ledger → (t : ℕ) → IsHoldDue ledger t → (why : Cause) → (state_of ledger.state.trains t).known ≡ Some why
+    → is_lawful (input_in ledger.input) (bare_at ledger.state.instant (Hold t ((state_of ledger.state.trains t).place + 1) why) ∷ front) ≡ true
+hold_next front ledger at t due why is =
+    let lt : t < trains ledger.input.plant = omega (arith, due.train, at.rep.times.many) in
+    let number : (state_of ledger.state.trains t).place + 1 ≡ suc (place front t) = omega (arith, at.rep.times.places t lt) in
+    subst (λ m. is_lawful (input_in ledger.input) (bare_at ledger.state.instant (Hold t m why) ∷ front) ≡ true) (sym number)
+    (hold_lawful (dispatch_in ledger.input) ledger.input.plant front ledger.state at.rep (sym at.rep.ended ∙ due.going) (due.deciding front at) due.known t lt why is due.lacks due.first)
 
 -- a cause that is known
 pub known_why : (o : Option Cause) → is_some o ≡ true → (why : Cause) × (o ≡ Some why)

@@ -13,15 +13,15 @@ use Rattle.rail_rules.specs.Places.{after, holds}
 use Rattle.rail_rules.specs.Plant.{Plant, bound, claimed, moves, moves_of, trains}
 use Rattle.rail_rules.specs.Causes.{could_go, is_deciding}
 use Rattle.rail_rules.specs.Fronts.{Front, Line, has_ended, has_held, is_admission, is_hold, kept, places}
-use Rattle.rail_rules.specs.Lawful.{may_follow}
+use Rattle.rail_rules.specs.Lawful.{is_lawful, may_follow}
 use Rattle.rail_judging.specs.Verdicts.{broken_law, missing_law}
 use Rattle.rail_rules.specs.RunHistories.{Seat, is_chosen, is_run}
 use Rattle.rail_place.specs.Made.{State}
 use Rattle.rail_list.specs.KeptLists.{Kept}
 use Rattle.rail_queue.specs.Order.{first_time_of}
 use Rattle.rail_state.specs.declared.train.TrainState.{TrainState}
-use Rattle.rail_state.specs.TrainStates.{bar_by, is_untried, state_of, state_told}
-use Rattle.rail_state.specs.Representation.{IsAdmissible, IsNext, Represents, admit_line, is_due_now, list_for}
+use Rattle.rail_state.specs.TrainStates.{bar_by, is_untried, lacks_hold_line, state_of, state_told}
+use Rattle.rail_state.specs.Representation.{AreAllKnown, IsAdmissible, IsNext, Represents, admit_line, is_due_now, list_for}
 use Rattle.rail_ledger.specs.declared.ledger.Ledger.{Ledger}
 use Rattle.rail_ledger.specs.declared.ledger.Listed.{Listed}
 use Rattle.rail_ledger.specs.declared.ledger.Listed.TheVariants as listed
@@ -151,6 +151,17 @@ IsDeciding ledger = (front : Front) → IsAt front ledger → is_deciding (input
 abbrev pub IsNextTrain : Ledger → ℕ → Type 0
 IsNextTrain ledger t = (front : Front) → IsAt front ledger → IsNext (dispatch_in ledger.input) ledger.input.plant front ledger.state.holders ledger.state.trains t
 
+-- the hold line of the train is due: nothing is pending at the instant, each train that waits has a known cause, and it is
+-- the first that was not told of its cause
+pub record IsHoldDue (ledger : Ledger) (t : ℕ) : Type 0 where
+  pub going : ledger.state.has_ended ≡ false
+  pub unsettled : ledger.state.is_settled ≡ false
+  pub deciding : IsDeciding ledger
+  pub known : AreAllKnown ledger.input.plant ledger.state.trains
+  pub train : t < length ledger.state.trains
+  pub lacks : lacks_hold_line (state_of ledger.state.trains t) ≡ true
+  pub first : (u : ℕ) → u < t → lacks_hold_line (state_of ledger.state.trains u) ≡ false
+
 -- nothing bars the next move of the train, by what is kept
 abbrev pub IsUnbarred : Ledger → ℕ → Type 0
 IsUnbarred ledger t =
@@ -174,6 +185,11 @@ pub record IsAdmissionOf (t place : ℕ) (entry : Entry) : Type 0 where
 -- an entry that is neither an admission nor a hold line
 abbrev pub IsOther : Entry → Type 0
 IsOther entry = (is_admission entry.what ≡ false) × (is_hold entry.what ≡ false)
+
+-- the line may follow each front for which the ledger stands, and is neither an admission nor a hold line
+pub record IsNextLine (ledger : Ledger) (line : Line) : Type 0 where
+  pub kind : IsOther line.entry
+  pub lawful : (front : Front) → IsAt front ledger → is_lawful (input_in ledger.input) (line ∷ front) ≡ true
 
 -- all that waits was told why, no list belongs to the last line, and the ledger stands as before
 abbrev pub IsSettled : Ledger → Ledger → Type 0

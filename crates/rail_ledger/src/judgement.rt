@@ -1,12 +1,11 @@
 //! A line is judged by what is kept.
 
-ghost use Rattle.std.specs.Prelude.{◌≡◌, ◌≢◌, ◌↔◌, ◌<◌, ◌∷◌, [], cond, is_some, Some, true, false, IsTrue, IsNone, IfSome};
-ghost use Rattle.rail_ledger.specs.Ledgers.{CouldGo, GivesEntry, HasGiven, IsAdmissibleNow, IsAt, IsEnded, IsRefused, IsRefusedWith, IsSettled, IsSomewhere, IsSomewhereWith, IsUnended, MayGoOn, TakesLine, TakesLineWith, admission, is_forbidden_by, is_in_place, is_next_move, line_in, line_taken, line_with, list_in, list_with};
-ghost use Rattle.rail_ledger.specs.declared.judgement.Left.TheVariants.{Admission, Hold as HoldLine, Nothing};
+ghost use Rattle.std.specs.Prelude.{◌≡◌, ◌≢◌, ◌↔◌, ℕ, ◌<◌, ◌∷◌, [], cond, is_some, Some, true, false, IsTrue, IsNone, IsSome, IfSome};
+ghost use Rattle.rail_ledger.specs.Ledgers.{CouldGo, HasGiven, IsAdmissibleNow, IsAt, IsEnded, IsHoldDue, IsNextLine, IsRefused, IsRefusedWith, IsSettled, IsSomewhere, IsSomewhereWith, IsUnended, MayGoOn, StandsAsBefore, TakesLine, TakesLineWith, admission, is_forbidden_by, is_in_place, is_next_move, line_taken, line_with, list_with};
+ghost use Rattle.rail_ledger.specs.declared.judgement.Left.TheVariants.{Admission, Hold as HoldOf, Nothing};
 ghost use Rattle.rail_ledger.specs.declared.ledger.Listed.TheVariants as which;
 ghost use Rattle.rail_queue.specs.Order.{first_time_of, is_sorted};
-ghost use Rattle.rail_rules.specs.Fronts.{Front, is_admission, is_hold, kept, places};
-ghost use Rattle.rail_base.specs.declared.history.Entry.{Entry};
+ghost use Rattle.rail_rules.specs.Fronts.{Front, Line, is_admission, is_hold, kept, places};
 ghost use Rattle.rail_laws_run.specs.HolderTables.{held_cause};
 ghost use Rattle.rail_list.specs.GivenLists.{may_be_given};
 ghost use Rattle.rail_state.specs.TrainStates.{state_of};
@@ -22,48 +21,23 @@ use rail_state::held_cause;
 pub enum Left {
     /// Some train could be admitted.
     Admission,
-    /// This hold line is due.
-    Hold(Entry),
+    /// The hold line of this train is due.
+    Hold(TrainNo),
     /// Nothing.
     Nothing,
 }
 
 impl Ledger {
-    /// What is left to decide at this instant, at which nothing is pending. A hold line that is due is
-    /// given.
-    fn left_to_decide(&mut self) -> Left
-        requires running { IsSomewhere self.old }
-        requires going { self.old.state.has_ended ≡ false }
-        requires unsettled { self.old.state.is_settled ≡ false }
-        requires none_due { first_time_of self.old.state.queue.events ≢ Some self.old.state.instant }
-        requires sorted { IsTrue (is_sorted self.old.state.queue.events) }
-        requires unlisted { self.old.listed ≡ which.Nothing }
-        ensures admission { result ≡ Admission → CouldGo self.old }
-        ensures hold { (entry : Entry) → result ≡ HoldLine entry
-            → (is_hold entry.what ≡ true) × (self.new.input ≡ self.old.input) × GivesEntry self.old self.new entry
-            × (list_in self.new ≡ []) }
-        ensures nothing { result ≡ Nothing → (self.new.input ≡ self.old.input) × IsSettled self.old self.new }
-    {
-        while let Some(train) = self.look() {
-            match self.find_list(train) {
-                Some(_) => return Left::Admission,
-                None => {}
-            }
-        }
-        match self.hold() {
-            Some(entry) => Left::Hold(entry),
-            None => Left::Nothing,
-        }
-    }
-
     /// Takes a line, with the list of a fresh admission or the trains that an end line names, and without trains else:
-    /// `None` where it may follow, and then what is kept stands for the lines with it; else the law that it breaks.
-    /// `held` tells whether the last line was a hold line. The line may name any train, section and command.
+    /// `None` where it may follow, and then what is kept stands for the lines with it; else the law that it breaks,
+    /// and then what is kept stands for the lines so far. `held` tells whether the last line was a hold line. The
+    /// line may name any train, section and command.
     pub fn take(&mut self, entry: Entry, trains: &[TrainNo], held: bool) -> Option<u8>
         requires running { IsSomewhereWith held self.old }
+        ensures input { self.new.input ≡ self.old.input }
         ensures taken { IsNone result → TakesLineWith held self.old self.new (line_taken entry trains.now) }
         ensures refused { IfSome result (IsRefusedWith held self.old (line_taken entry trains.now)) }
-        ensures input { IsNone result → self.new.input ≡ self.old.input }
+        ensures stays { IsSome result → StandsAsBefore self.old self.new }
     {
         if self.state.has_ended {
             return Some(1);
@@ -78,9 +52,11 @@ impl Ledger {
     }
 
     /// Judges that no line follows: `None` after the end line; else the law that is broken, 6 where something is
-    /// left to decide at this instant, and 7 where nothing is.
+    /// left to decide at this instant, and 7 where nothing is. What is kept stands for the lines so far.
     pub fn judge_end(&mut self) -> Option<u8>
         requires running { IsSomewhere self.old }
+        ensures input { self.new.input ≡ self.old.input }
+        ensures stays { StandsAsBefore self.old self.new }
         ensures ended { IsNone result → IsEnded self.old }
         ensures missing { IfSome result (IsUnended self.old) }
     {
@@ -98,14 +74,44 @@ impl Ledger {
         }
     }
 
+    /// What is left to decide at this instant, at which nothing is pending. No line is given.
+    fn left_to_decide(&mut self) -> Left
+        requires running { IsSomewhere self.old }
+        requires going { self.old.state.has_ended ≡ false }
+        requires unsettled { self.old.state.is_settled ≡ false }
+        requires none_due { first_time_of self.old.state.queue.events ≢ Some self.old.state.instant }
+        requires sorted { IsTrue (is_sorted self.old.state.queue.events) }
+        requires unlisted { self.old.listed ≡ which.Nothing }
+        ensures input { self.new.input ≡ self.old.input }
+        ensures listed { self.new.listed ≡ which.Nothing }
+        ensures stays { StandsAsBefore self.old self.new }
+        ensures admission { result ≡ Admission → CouldGo self.old }
+        ensures hold { (train : ℕ) → result ≡ HoldOf train → IsHoldDue self.new train }
+        ensures nothing { result ≡ Nothing → IsSettled self.old self.new }
+    {
+        while let Some(train) = self.look() {
+            if self.knows_list(train) {
+                return Left::Admission;
+            }
+        }
+        match self.state.trains.first_lacking() {
+            Some(train) => Left::Hold(train),
+            None => {
+                self.state.is_settled = true;
+                Left::Nothing
+            }
+        }
+    }
+
     /// Takes a line that is no admission: `None` where it may follow, and then what is kept stands for the
-    /// lines with it; else the law that it breaks.
+    /// lines with it; else the law that it breaks, and then what is kept stands for the lines so far.
     fn take_other(&mut self, entry: Entry, trains: &[TrainNo]) -> Option<u8>
         requires running { IsSomewhere self.old }
         requires other { is_admission entry.what ≡ false }
+        ensures input { self.new.input ≡ self.old.input }
         ensures taken { IsNone result → TakesLine self.old self.new (line_with entry trains.now) }
         ensures refused { IfSome result (IsRefused self.old (line_with entry trains.now)) }
-        ensures input { IsNone result → self.new.input ≡ self.old.input }
+        ensures stays { IsSome result → StandsAsBefore self.old self.new }
     {
         if self.state.has_ended {
             return Some(1);
@@ -116,9 +122,31 @@ impl Ledger {
         }
         match self.left_to_decide() {
             Left::Admission => Some(6),
-            Left::Hold(held) => self.compare(entry, trains, held, 6),
+            Left::Hold(train) => self.take_hold(entry, trains, train),
             Left::Nothing => self.take_next(entry, trains),
         }
+    }
+
+    /// Takes a line that is no admission where the hold line of this train is due.
+    fn take_hold(&mut self, entry: Entry, trains: &[TrainNo], train: TrainNo) -> Option<u8>
+        requires running { IsSomewhere self.old }
+        requires due { IsHoldDue self.old train }
+        requires unlisted { self.old.listed ≡ which.Nothing }
+        requires other { is_admission entry.what ≡ false }
+        ensures input { self.new.input ≡ self.old.input }
+        ensures taken { IsNone result → TakesLine self.old self.new (line_with entry trains.now) }
+        ensures refused { IfSome result (IsRefused self.old (line_with entry trains.now)) }
+        ensures stays { IsSome result → StandsAsBefore self.old self.new }
+    {
+        let due = Entry {
+            at: self.state.instant,
+            what: self.state.hold_line(train),
+        };
+        if !is_line(&entry, trains, &due, &[]) {
+            return Some(6);
+        }
+        self.hold_train(train);
+        None
     }
 
     /// Takes a line that is no admission where nothing is left to decide at this instant.
@@ -128,28 +156,63 @@ impl Ledger {
         requires may { MayGoOn self.old }
         requires unlisted { self.old.listed ≡ which.Nothing }
         requires other { is_admission entry.what ≡ false }
+        ensures input { self.new.input ≡ self.old.input }
         ensures taken { IsNone result → TakesLine self.old self.new (line_with entry trains.now) }
         ensures refused { IfSome result (IsRefused self.old (line_with entry trains.now)) }
-        ensures input { IsNone result → self.new.input ≡ self.old.input }
+        ensures stays { IsSome result → StandsAsBefore self.old self.new }
     {
-        let given = self.go_on();
-        self.compare(entry, trains, given, law_of_other(&entry))
+        if !self.is_next(&entry, trains) {
+            return Some(law_of_other(&entry));
+        }
+        self.go_on();
+        None
     }
 
-    /// `None` where the line that was given is this one; else the law.
-    fn compare(&self, entry: Entry, trains: &[TrainNo], given: Entry, law: u8) -> Option<u8>
-        ensures same { IsNone result → line_in self.now given ≡ line_with entry trains.now }
-        ensures other { IfSome result (λ broken. (broken ≡ law) × (line_in self.now given ≡ line_with entry trains.now → ⊥)) }
+    /// Whether the line is that of the next event, or the end line where none is pending. No line is given.
+    fn is_next(&mut self, entry: &Entry, trains: &[TrainNo]) -> bool
+        requires running { IsSomewhere self.old }
+        requires going { self.old.state.has_ended ≡ false }
+        requires may { MayGoOn self.old }
+        ensures kept { self.new ≡ record self.old { remaining = self.new.remaining } }
+        ensures stays { StandsAsBefore self.old self.new }
+        ensures exact { (line : Line) × IsNextLine self.old line × (IsTrue result ↔ (line ≡ line_with entry.now trains.now)) }
     {
-        if are_same(&entry, &given) && are_same_lists(self.last_list(), trains) {
-            None
-        } else {
-            Some(law)
+        match self.state.queue.first() {
+            Some(event) => {
+                let due = Entry {
+                    at: event.at,
+                    what: self.says(&event),
+                };
+                is_line(entry, trains, &due, &[])
+            }
+            None => self.is_end(entry, trains),
         }
     }
 
+    /// Whether the line is the end line, where none is pending and all that waits was told why. No line is given.
+    fn is_end(&mut self, entry: &Entry, trains: &[TrainNo]) -> bool
+        requires running { IsSomewhere self.old }
+        requires going { self.old.state.has_ended ≡ false }
+        requires settled { self.old.state.is_settled ≡ true }
+        requires empty { self.old.state.queue.events ≡ [] }
+        ensures kept { self.new ≡ record self.old { remaining = self.new.remaining } }
+        ensures stays { StandsAsBefore self.old self.new }
+        ensures exact { (line : Line) × IsNextLine self.old line × (IsTrue result ↔ (line ≡ line_with entry.now trains.now)) }
+    {
+        let due = Entry {
+            at: self.state.instant,
+            what: What::End,
+        };
+        self.state
+            .trains
+            .list_remaining(&self.orders, &mut self.remaining);
+        let is_end = is_line(entry, trains, &due, &self.remaining);
+        self.remaining.clear();
+        is_end
+    }
+
     /// Takes an admission: `None` where it may follow, and then what is kept stands for the lines with it;
-    /// else the law that it breaks. `held` tells whether the last line was a hold line.
+    /// else the law that it breaks, and then what is kept stands for the lines so far. `held` tells whether the last line was a hold line.
     fn take_admission(
         &mut self,
         at: Time,
@@ -161,9 +224,10 @@ impl Ledger {
     ) -> Option<u8>
         requires running { IsSomewhereWith held self.old }
         requires going { self.old.state.has_ended ≡ false }
+        ensures input { self.new.input ≡ self.old.input }
         ensures taken { IsNone result → TakesLineWith held self.old self.new (admission at train place note list.now) }
         ensures refused { IfSome result (IsRefusedWith held self.old (admission at train place note list.now)) }
-        ensures input { IsNone result → self.new.input ≡ self.old.input }
+        ensures stays { IsSome result → StandsAsBefore self.old self.new }
     {
         if !self.is_in_place(at, train, place, held) {
             return Some(2);
@@ -242,11 +306,19 @@ impl Ledger {
         ensures exact { (front : Front) → IsAt front self.old → result
             ≡ may_be_given (moves_of self.old.input.plant) (places self.old.input.plant front) (kept self.old.input.plant front) train note list.now }
         ensures given { IsTrue result → (front : Front) → IsAt front self.old → HasGiven front self.old self.new train note list.now }
+        ensures stays { result ≡ false → StandsAsBefore self.old self.new }
     {
         let moves = self.input.plant.moves();
         moves.trains();
         admit_given(moves, &mut self.places, &mut self.kept, train, note, list)
     }
+}
+
+/// Whether the line is this one: the due entry with the list that belongs to it.
+fn is_line(entry: &Entry, trains: &[TrainNo], due: &Entry, list: &[TrainNo]) -> bool
+    ensures { IsTrue result ↔ (line_with due.now list.now ≡ line_with entry.now trains.now) }
+{
+    are_same(entry, due) && are_same_lists(list, trains)
 }
 
 /// Whether the two entries are one.

@@ -1,26 +1,29 @@
 //! What is kept of a run, and how it goes on line by line.
 
-ghost use Rattle.std.specs.Prelude.{◌≡◌, ◌≢◌, ◌⊎◌, ◌↔◌, ℕ, suc, ◌-◌, ◌<◌, ◌≤◌, [], ◌∷◌, slice_get, List, Some, None, true, false, length, replicate, vec_capacity, IsTrue, IsNone, IfOk, IfSome};
+ghost use Rattle.std.specs.Prelude.{◌≡◌, ◌≢◌, ◌⊎◌, ◌↔◌, ℕ, suc, ◌-◌, ◌<◌, ◌≤◌, [], ◌∷◌, cond, drop, slice_get, List, Some, None, true, false, length, replicate, vec_capacity, IsTrue, IsNone, IfOk, IfSome};
+ghost use Rattle.std.specs.List.{list_any};
+ghost use Rattle.rail_base.specs.declared.history.What.TheVariants.{Told, Untold};
 ghost use Rattle.rail_base.specs.declared.orders.Command.{Command};
 ghost use Rattle.rail_queue.specs.declared.event.Class.TheVariants as class;
 ghost use Rattle.rail_rules.specs.Accepted.{is_accepted_input};
 ghost use Rattle.rail_rules.specs.Plant.{moves, trains};
 ghost use Rattle.rail_ledger.specs.Inputs.{input_in};
-ghost use Rattle.rail_ledger.specs.Ledgers.{AreAlike, AreUnbarred, ContinuesRun, GivesEntry, HasHeeded, HasList, HasPassed, HasTried, IsAdmissionOf, IsAt, IsDeciding, IsNextTrain, IsOther, IsSettled, IsSomewhere, MayGoOn, StandsAsBefore, is_effective, list_in, list_with, untried};
+ghost use Rattle.rail_ledger.specs.Ledgers.{AreAlike, AreUnbarred, ContinuesRun, GivesEntry, HasHeeded, HasList, HasPassed, HasTried, IsAdmissionOf, IsAt, IsDeciding, IsNextLine, IsNextTrain, IsOther, IsSettled, IsSomewhere, MayGoOn, StandsAsBefore, is_effective, list_in, list_with, untried};
 ghost use Rattle.rail_ledger.specs.declared.ledger.Listed.TheVariants as which;
 ghost use Rattle.rail_base.specs.declared.limits.TheConstants.{TRAINS};
 ghost use Rattle.rail_list.specs.KeptLists.{HasRoomFor};
 ghost use Rattle.rail_place.specs.Made.{IsMadeFor};
-ghost use Rattle.rail_queue.specs.Order.{first_time_of, is_sorted};
+ghost use Rattle.rail_queue.specs.Order.{first_time_of, goes_before, is_sorted};
+ghost use Rattle.rail_rules.specs.Causes.{could_go};
 ghost use Rattle.rail_rules.specs.Fronts.{Front, is_hold};
-ghost use Rattle.rail_state.specs.Representation.{AreAllKnown};
+ghost use Rattle.rail_state.specs.Representation.{AreAllKnown, bare_at};
 ghost use Rattle.rail_state.specs.TrainStates.{IsReadyFirst, lacks_hold_line, state_of};
 
 use crate::input::RunInput;
 use rail_base::limits::TRAINS;
 use rail_base::{Entry, Note, Order, OutOfMemory, Time, TrainNo, What};
 use rail_consequence::Analyst;
-use rail_list::{KeptList, admit_by_list};
+use rail_list::{KeptList, admit_by_list, is_list_known};
 use rail_orders::ToldOrders;
 use rail_place::{Moves, Places};
 use rail_queue::{Class, Event};
@@ -157,7 +160,7 @@ impl Ledger {
 
     /// A list that brings every train inside to its exit after the train's next move, which the places then
     /// have made. With none, that is the cause of the train.
-    pub(crate) fn find_list(&mut self, train: TrainNo) -> Option<Note>
+    fn find_list(&mut self, train: TrainNo) -> Option<Note>
         requires running { IsSomewhere self.old }
         requires deciding { IsDeciding self.old }
         requires next { IsNextTrain self.old train }
@@ -183,6 +186,35 @@ impl Ledger {
                 None
             }
         }
+    }
+
+    /// Whether a list is known that brings every train inside to its exit after the train's next move, which is not
+    /// made. With none, that is the cause of the train.
+    pub(crate) fn knows_list(&mut self, train: TrainNo) -> bool
+        requires running { IsSomewhere self.old }
+        requires deciding { IsDeciding self.old }
+        requires next { IsNextTrain self.old train }
+        ensures alike { AreAlike self.old self.new }
+        ensures at { StandsAsBefore self.old self.new }
+        ensures known { IsTrue result → (front : Front) → IsAt front self.old
+            → could_go (input_in self.old.input) front train ≡ true }
+        ensures fewer { result ≡ false → untried self.new.state.trains < untried self.old.state.trains }
+    {
+        let moves = self.input.plant.moves();
+        let depth = self.input.plant.depth();
+        moves.trains();
+        if is_list_known(
+            moves,
+            &mut self.places,
+            &self.kept,
+            &mut self.analyst,
+            depth,
+            train,
+        ) {
+            return true;
+        }
+        self.state.trains.note_no_list(train);
+        false
     }
 
     /// The admission of the train's next move, where a list is known that brings every train inside to its
@@ -233,7 +265,7 @@ impl Ledger {
     }
 
     /// The hold line of this train, the first that was not told why it waits.
-    fn hold_train(&mut self, train: TrainNo) -> Entry
+    pub(crate) fn hold_train(&mut self, train: TrainNo) -> Entry
         requires running { IsSomewhere self.old }
         requires going { self.old.state.has_ended ≡ false }
         requires deciding { IsDeciding self.old }
@@ -297,6 +329,36 @@ impl Ledger {
         self.orders.tell(&order);
         self.state.tell(&self.input.plant, at, &order);
         What::Told { command: number }
+    }
+
+    /// What the line of the event says, which is the first that is pending.
+    pub(crate) fn says(&self, event: &Event) -> What
+        requires running { IsSomewhere self.now }
+        requires going { self.now.state.has_ended ≡ false }
+        requires may { MayGoOn self.now }
+        requires first { self.now.state.queue.events ≡ event.now ∷ drop 1 self.now.state.queue.events }
+        requires least { list_any (λ other. goes_before other event.now) self.now.state.queue.events ≡ false }
+        ensures next { IsNextLine self.now (bare_at event.now.at result) }
+    {
+        if is_command(event) {
+            return self.says_of(event.number);
+        }
+        self.state.says(&self.input.plant, event)
+    }
+
+    /// What the line of the command of this number says, which counts from 1.
+    fn says_of(&self, number: u16) -> What
+        requires first { 1 ≤ number }
+        requires listed { number ≤ length self.now.input.commands.items }
+        ensures { (command : Command) → slice_get self.now.input.commands.items (number - 1) ≡ Some command
+            → result ≡ cond (is_effective self.now command.what) (Told number) (Untold number) }
+    {
+        let order = self.input.commands[usize::from(number) - 1].what;
+        if self.is_effective(&order) {
+            What::Told { command: number }
+        } else {
+            What::Untold { command: number }
+        }
     }
 
     /// Whether the order takes effect now.

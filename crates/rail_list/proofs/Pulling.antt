@@ -74,6 +74,14 @@ front_is (u ∷ rest) t =
     ∙ sym (cond-false (eqb u t) [] (u ∷ before_first t rest) (ne_eqb u t other)))
     (cases_eq u t)
 
+-- the count of entries that was read, by the list as callers see it
+pub counted : (list own read : List ℕ) (t k : ℕ) → own ≡ list → read ≡ own → k ≡ length (before_first t read) → k ≡ length (before_first t list)
+counted list own read t k same is k_is = k_is ∙ ap (λ xs. length (before_first t xs)) (is ∙ same)
+
+-- the front of the list that was read
+pub front : (list own read : List ℕ) (t k : ℕ) → own ≡ list → read ≡ own → k ≡ length (before_first t list) → take k read ≡ before_first t list
+front list own read t k same is k_is = ap (λ n. take n read) k_is ∙ ap (take (length (before_first t list))) (is ∙ same) ∙ front_is list t
+
 pub removed_is : (list : List ℕ) (t : ℕ) → remove list (length (before_first t list)) ≡ without_first t list
 removed_is [] t = refl
 removed_is (u ∷ rest) t =

@@ -1,5 +1,5 @@
 -- Places after a trial move was taken back, and what playing costs.
-use Rattle.std.proofs.Common.{◌≡◌, ℕ, ◌+◌, ◌≤◌, ◌↔◌, ◌&&◌, List, [], ◌∷◌, Option, Some, None, length, get_or, refl, sym, ap, ◌∙◌, ⊎_elim, arith}
+use Rattle.std.proofs.Common.{◌≡◌, ℕ, ◌+◌, ◌<◌, ◌≤◌, ◌↔◌, ◌&&◌, List, [], ◌∷◌, Option, Some, None, length, get_or, refl, sym, ap, ◌∙◌, ⊎_elim, arith}
 use Rattle.std.proofs.lemmas.Bool.{cases_Bool, cond-true, cond-false}
 use Rattle.std.proofs.lemmas.List.{same_lists, get_or_default}
 use Rattle.rail_rules.specs.Moves.{Moves}
@@ -7,6 +7,11 @@ use Rattle.rail_rules.specs.Places.{holds, is_inside, is_legal, after}
 use Rattle.rail_place.specs.Tables.{moves_in, MoveLists}
 use Rattle.rail_place.specs.Made.{State, IsMadeFor}
 use Rattle.rail_place.specs.Bars.{moves_made}
+use Rattle.rail_place.proofs.CallerLemmas.{made_long, IsWayBack, way_back}
+
+-- the train's move can be taken back
+pub way : (table : List MoveLists) (s : State) (r : List ℕ) (t : ℕ) → IsMadeFor table s → t < length table → r ≡ after s.positions t → IsWayBack (moves_in table) s.positions r t
+way table s r t made lt moved = way_back (moves_in table) s.positions r t made.valid (omega (arith, lt, made_long table s made)) (sym moved)
 
 same_option : (a b : Option ℕ) → ((u : ℕ) → (a ≡ Some u) ↔ (b ≡ Some u)) → a ≡ b
 same_option (Some u) b h = sym ((h u).0 refl)

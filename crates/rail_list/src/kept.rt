@@ -7,6 +7,7 @@ ghost use Rattle.rail_place.specs.Made.{IsMadeFor};
 ghost use Rattle.rail_place.specs.Plays.{plays};
 ghost use Rattle.rail_place.specs.Tables.{moves_in};
 ghost use Rattle.rail_list.specs.KeptLists.{HasRoomFor, before_first, with_moves_left};
+ghost use Rattle.rail_list.specs.Repairs.{is_repairable_for};
 
 use rail_base::{OutOfMemory, TrainNo};
 use rail_place::{Moves, Places};
@@ -102,6 +103,25 @@ impl KeptList {
             add_times(&mut self.trains, train, moves.places(train) - 1);
         }
         completes
+    }
+
+    /// Whether the list repaired for the train's next move completes from the places after it: without the first
+    /// entry of a train that is inside, with the moves that are left to an entering train at its end. List and
+    /// places are as before.
+    pub fn is_repairable(&self, moves: &Moves, places: &mut Places, train: TrainNo) -> bool
+        requires made { IsMadeFor moves.now places.old }
+        requires completes { IsTrue (completes (moves_in moves.now) places.old.positions self.now.trains) }
+        requires train { train < length moves.now }
+        requires legal { IsTrue (is_legal (moves_in moves.now) places.old.positions train) }
+        ensures exact { result ≡ is_repairable_for (moves_in moves.now) places.old.positions self.now.trains train }
+        ensures made { IsMadeFor moves.now places.new }
+        ensures positions { places.new.positions ≡ places.old.positions }
+    {
+        if places.position(train) == 0 {
+            return plays_after(places, moves, train, &self.trains);
+        }
+        let first = entries_before(&self.trains, train);
+        plays_after(places, moves, train, &self.trains[..first])
     }
 
     /// The list is then this one.

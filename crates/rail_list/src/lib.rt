@@ -24,4 +24,4 @@ pub use given::admit_given;
 pub use kept::KeptList;
 pub use laws::a_completing_list_fits;
 pub use notes::the_list_of_a_note_completes;
-pub use repair::admit_by_list;
+pub use repair::{admit_by_list, is_list_known};

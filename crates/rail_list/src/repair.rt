@@ -107,3 +107,48 @@ fn admit_afresh(
         }
     }
 }
+
+/// Whether a list is known that brings every train inside to its exit after the train's next move: the repaired one,
+/// or one that the analysis finds with at most `depth` free legs. List and places are as before.
+pub fn is_list_known(
+    moves: &Moves,
+    places: &mut Places,
+    kept: &KeptList,
+    analyst: &mut Analyst,
+    depth: u8,
+    train: TrainNo,
+) -> bool
+    requires made { IsMadeFor moves.now places.old }
+    requires completes { IsTrue (completes (moves_in moves.now) places.old.positions kept.now.trains) }
+    requires train { train < length moves.now }
+    requires legal { IsTrue (is_legal (moves_in moves.now) places.old.positions train) }
+    ensures made { IsMadeFor moves.now places.new }
+    ensures positions { places.new.positions ≡ places.old.positions }
+    ensures exact { result ≡ is_known (moves_in moves.now) depth places.old.positions kept.now.trains train }
+{
+    if kept.is_repairable(moves, places, train) {
+        return true;
+    }
+    is_found(moves, places, analyst, depth, train)
+}
+
+/// Whether the analysis finds a list after the train's next move. The places are as before.
+fn is_found(
+    moves: &Moves,
+    places: &mut Places,
+    analyst: &mut Analyst,
+    depth: u8,
+    train: TrainNo,
+) -> bool
+    requires made { IsMadeFor moves.now places.old }
+    requires train { train < length moves.now }
+    requires legal { IsTrue (is_legal (moves_in moves.now) places.old.positions train) }
+    ensures made { IsMadeFor moves.now places.new }
+    ensures positions { places.new.positions ≡ places.old.positions }
+    ensures exact { result ≡ finds (moves_in moves.now) depth (after places.old.positions train) }
+{
+    places.advance(moves, train);
+    let found = analyst.find(moves, places, depth).is_some();
+    places.retreat(moves, train);
+    found
+}

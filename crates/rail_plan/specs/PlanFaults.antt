@@ -1,6 +1,7 @@
 -- Which tables are planned, and their faults.
-use Rattle.std.specs.Prelude.{◌≡◌, ℕ, zero, suc, ◌-◌, ◌≤◌, Bool, not, cond, nat_le, List, [], length, map, sum_by, Option, Some, None, IsTrue}
+use Rattle.std.specs.Prelude.{ℕ, zero, suc, ◌-◌, ◌≤◌, Bool, not, cond, nat_le, List, [], length, map, sum_by, Option, Some, None, IsTrue}
 use Rattle.std.specs.List.{find, list_all}
+use Rattle.rail_base.specs.FirstRefusals.{IsFirstRefusal}
 use Rattle.rail_base.specs.Limits.{most, Sections, Trains, ReleaseTime, Depth}
 use Rattle.rail_base.specs.declared.plant.Tables.{Tables}
 use Rattle.rail_base.specs.declared.plant.SectionRow.{SectionRow}
@@ -66,7 +67,11 @@ fault_of_train plant t = first_answer (fault_at plant t) (moves plant t - 1)
 abbrev pub fault_of : Tables → Option PlanFault
 fault_of tables = first_answer (fault_of_train (bare tables)) (length tables.trains)
 
--- a fault answers the first one, if it is that one; want of memory may stand in place of any answer
+-- the refusal that a fault is
+abbrev pub refusal_in : PlanFault → Option PlanFault
+refusal_in OutOfMemory = None
+refusal_in fault = Some fault
+
+-- a fault answers the first refusal
 abbrev pub IsAnswer : Option PlanFault → PlanFault → Type 0
-IsAnswer first OutOfMemory = Unit {0}
-IsAnswer first fault = first ≡ Some fault
+IsAnswer first fault = IsFirstRefusal first (refusal_in fault)

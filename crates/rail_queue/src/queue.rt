@@ -1,4 +1,4 @@
-ghost use Rattle.std.specs.Prelude.{◌≡◌, ℕ, ◌+◌, ◌≤◌, Bool, false, List, [], ◌∷◌, IfOk, IsTrue, IsNone, IfSome, ◌↔◌, MatchOption, count_by, length, not, ◌&&◌, vec_capacity};
+ghost use Rattle.std.specs.Prelude.{◌≡◌, ℕ, ◌+◌, ◌≤◌, Bool, false, List, [], ◌∷◌, IfOk, IsTrue, IsNone, IfSome, ◌↔◌, MatchOption, count_by, drop, length, not, ◌&&◌, vec_capacity};
 ghost use Rattle.std.specs.List.{filter, list_any};
 ghost use Rattle.rail_queue.specs.declared.event.Event.{Event};
 ghost use Rattle.rail_queue.specs.Order.{goes_before, inserted, is_of, is_sorted, first_time_of};
@@ -62,6 +62,16 @@ impl EventQueue {
             .pending
             .partition_point(|later| event.goes_before(later));
         self.pending.insert(place, event).unwrap();
+    }
+
+    /// The next event, if there is one.
+    pub fn first(&self) -> Option<Event>
+        ensures none { IsNone result ↔ (self.now.events ≡ []) }
+        ensures next { IfSome result (λ event. self.now.events ≡ event ∷ drop 1 self.now.events) }
+        ensures least { IfSome result (λ event. list_any (λ other. goes_before other event) self.now.events ≡ false) }
+    {
+        let (event, _) = self.pending.split_last()?;
+        Some(*event)
     }
 
     /// Takes out the next event, if there is one.

@@ -18,7 +18,7 @@ use Rattle.rail_rules.specs.RunHistories.{Seat, force_of, is_chosen, is_run, key
 use Rattle.rail_rules.proofs.CallerLemmas.{all_below_from}
 use Rattle.rail_laws_front.specs.Views.{Admits}
 use Rattle.rail_laws_front.proofs.CallerLemmas.{place_in}
-use Rattle.rail_list.specs.Repairs.{IsNoted, is_repairable_for}
+use Rattle.rail_list.specs.Repairs.{IsNoted, is_known, is_repairable_for}
 use Rattle.rail_laws_run.proofs.CallerLemmas.{admits_follows, run_continued}
 use Rattle.rail_state.specs.TrainStates.{is_untried, state_of}
 use Rattle.rail_state.specs.Representation.{IsAdmissible, IsNext, MayKeep, Represents, admit_line}
@@ -147,8 +147,18 @@ module _ (dispatch : Dispatch) (plant : Plant) (front : Front) (state : RunState
       ∙ ap (λ c. or_else c (list_cause (input_of dispatch plant) front t)) next.free
       ∙ cond-true (is_repairable (input_of dispatch plant) front t || finds (moves_of plant) plant.tables.depth (places_after (input_of dispatch plant) front t)) None (Some NoList) (noted_known dispatch plant front t note list next.known_train noted)
 
-  pub goes : could_go (input_of dispatch plant) front t ≡ true
-  goes = and_from (is_ready (input_of dispatch plant) front t) (not (is_some (cause (input_of dispatch plant) front t))) (ready_it dispatch plant front state rep going deciding t admissible note list may_keep) (ap (λ c. not (is_some c)) no_cause)
+-- a train that is next could go where a list is known
+pub goes_known : (dispatch : Dispatch) (plant : Plant) (front : Front) (state : RunState) → Represents dispatch plant front state → is_deciding (input_of dispatch plant) front ≡ true
+    → (t : ℕ) → IsNext dispatch plant front state.holders state.trains t → is_known (moves_of plant) plant.tables.depth (places plant front) (kept plant front) t ≡ true
+    → could_go (input_of dispatch plant) front t ≡ true
+goes_known dispatch plant front state rep deciding t next known =
+    let waits = (and_parts (state_of state.trains t).waits (not (is_some (state_of state.trains t).known)) next.untried).0 in
+    let found : Bool = finds (moves_of plant) plant.tables.depth (places_after (input_of dispatch plant) front t) in
+    let no_cause : cause (input_of dispatch plant) front t ≡ None =
+    cause_seen dispatch plant front state rep deciding t
+    ∙ ap (λ c. or_else c (list_cause (input_of dispatch plant) front t)) next.free
+    ∙ cond-true (is_repairable (input_of dispatch plant) front t || found) None (Some NoList) (ap (λ b. b || found) (repairable_same dispatch plant front t next.known_train) ∙ known) in
+    and_from (is_ready (input_of dispatch plant) front t) (not (is_some (cause (input_of dispatch plant) front t))) (sym (rep.waiting.ready t next.known_train) ∙ waits) (ap (λ c. not (is_some c)) no_cause)
 
 -- an admission that obeys the policy in force continues the run
 module _ (dispatch : Dispatch) (plant : Plant) (front : Front) (state : RunState) (rep : Represents dispatch plant front state) (seats : List Seat)

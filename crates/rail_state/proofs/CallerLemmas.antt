@@ -23,20 +23,26 @@ pub use Rattle.rail_state.proofs.Settling.{unsettled_stands}
 pub use Rattle.rail_state.proofs.Happening.{event_idle}
 -- Happened: the first pending event happens: the run then stands for the front with its line.
 pub use Rattle.rail_state.proofs.Happened.{kind}
+-- its line may follow
+pub use Rattle.rail_state.proofs.Happened.{event_lawful}
 -- Where the first pending event has the instant, or all that waits was told why, it may happen: its line may follow, and the state then represents the front with that line.
 pub use Rattle.rail_state.proofs.Happened.{happened}
 -- Holding: a hold line: what it changes.
 
 -- Where each waiting train has a known cause, the first that was not told of it has its hold line next.
 pub use Rattle.rail_state.proofs.Holding.{held}
+-- its line may follow
+pub use Rattle.rail_state.proofs.Holding.{hold_lawful}
 -- a train without a hold line has a known cause
 pub use Rattle.rail_state.proofs.Holding.{cause_known}
 -- Ending: the end line: what it says, and that nothing changes.
 
 -- With no event pending, and all that waits told why, the end line comes next, with the trains that are not out.
 pub use Rattle.rail_state.proofs.Ending.{ended}
+-- its line may follow
+pub use Rattle.rail_state.proofs.Ending.{end_lawful}
 -- Admitting: an admission: that its line may follow.
-pub use Rattle.rail_state.proofs.Admitting.{goes, kept_is, lawful_line, ready_it}
+pub use Rattle.rail_state.proofs.Admitting.{goes_known, kept_is, lawful_line, ready_it}
 -- A train that is next, with a list that a run takes, may be admitted.
 pub use Rattle.rail_state.proofs.Admitting.{admissible}
 -- The train that the policy in force chooses among those whose cause is not known obeys it.
@@ -79,6 +85,8 @@ pub use Rattle.rail_state.proofs.Deciding.{deciding}
 
 -- Where the first pending event is that of a command, its line may follow, and the state then represents the front with that line.
 pub use Rattle.rail_state.proofs.Commanding.{commanded}
+-- its line may follow
+pub use Rattle.rail_state.proofs.Commanding.{command_lawful}
 -- A pending event of a command is that of one of the commands.
 pub use Rattle.rail_state.proofs.Commanding.{listed_command}
 -- Judging: an admission is judged by what is kept.

@@ -10,6 +10,7 @@ use Rattle.rail_base.specs.declared.history.What.TheVariants.{Told, Untold}
 use Rattle.rail_rules.specs.Fronts.{Front, admissions, has_ended, instant}
 use Rattle.rail_laws_front.specs.EventLines.{IsEvent}
 use Rattle.rail_laws_front.specs.EventLines.IsEvent.{entering, arriving, freeing, leaving, readying}
+use Rattle.rail_rules.specs.Lawful.{is_lawful}
 use Rattle.rail_rules.specs.Orders.{is_cancelled, orders_of, takes_effect, told, Dispatch, input_of}
 use Rattle.rail_rules.specs.Events.{command_line, due_lines, is_written}
 use Rattle.rail_laws_front.proofs.CallerLemmas.{IsCommandDue, IsEventDue, due_found, timely}
@@ -23,7 +24,7 @@ use Rattle.rail_state.proofs.EventCodes.{one_event, same_event}
 use Rattle.rail_state.proofs.LineCodes.{event_time}
 use Rattle.rail_state.proofs.Next.{held_later, quiet_earlier, some_due}
 use Rattle.rail_state.proofs.Settling.{settled_front}
-use Rattle.rail_state.proofs.Telling.{told_after}
+use Rattle.rail_state.proofs.Telling.{lawful_now, told_after}
 use Rattle.rail_state.specs.declared.run_state.RunState.{RunState}
 
 -- an event that is counted isn't in the past
@@ -57,6 +58,19 @@ commanded dispatch plant front state rep going event rest first after k command 
     (λ settled later. settled_front dispatch plant front state rep going settled (quiet_earlier dispatch plant front state rep event rest first least goes (instant front) later))
     (not_past dispatch plant front state rep event (some_due dispatch plant front state rep event rest first least))
     has
+
+-- its line may follow
+pub command_lawful : (dispatch : Dispatch) (plant : Plant) (front : Front) (state : RunState) → Represents dispatch plant front state → has_ended front ≡ false
+    → (event : Event) (rest : List Event) → state.queue.events ≡ event ∷ rest → (k : ℕ) (command : Command) → slice_get dispatch.commands k ≡ Some command
+    → event.class ≡ class.Command → event.number ≡ suc k → list_any (λ other. goes_before other event) state.queue.events ≡ false → (state.is_settled ≡ true) ⊎ (event.at ≡ state.instant)
+    → is_lawful (input_of dispatch plant) (bare_at event.at (command_line (input_of dispatch plant) front command k).what ∷ front) ≡ true
+command_lawful dispatch plant front state rep going event rest first k command listed classed numbered least goes =
+    lawful_now dispatch plant front state rep going event state k command listed classed numbered least
+    (λ t at lt held. held_later dispatch plant front state rep event rest first least goes t at lt held)
+    goes
+    (λ settled later. settled_front dispatch plant front state rep going settled (quiet_earlier dispatch plant front state rep event rest first least goes (instant front) later))
+    (not_past dispatch plant front state rep event (some_due dispatch plant front state rep event rest first least))
+    rest first
 
 pub listed_command : (dispatch : Dispatch) (plant : Plant) (front : Front) (state : RunState) → Represents dispatch plant front state → (event : Event) (rest : List Event) → state.queue.events ≡ event ∷ rest → list_any (λ other. goes_before other event) state.queue.events ≡ false
     → event.class ≡ class.Command → IsCommandOf dispatch event

@@ -109,13 +109,13 @@ module _ (dispatch : Dispatch) (plant : Plant) (front : Front) (state : RunState
   pub follows : may_follow (input_of dispatch plant) front line ≡ true
   follows = follows_end (input_of dispatch plant) front line going ends
 
-  pub lawful_line : is_lawful (input_of dispatch plant) (line ∷ front) ≡ true
-  lawful_line = and_from (is_lawful (input_of dispatch plant) front) (may_follow (input_of dispatch plant) front line) lawful_now follows
+  pub end_lawful : is_lawful (input_of dispatch plant) (line ∷ front) ≡ true
+  end_lawful = and_from (is_lawful (input_of dispatch plant) front) (may_follow (input_of dispatch plant) front line) lawful_now follows
 
   pub ended : (after : RunState) → IsEndLine state after → Represents dispatch plant (line ∷ front) after
   ended after has = record {
     accepted = rep.accepted;
-    lawful = lawful_line;
+    lawful = end_lawful;
     time = has.time;
     ended = has.ended;
     begun = λ none. absurd (omega (arith, ap length none));
@@ -125,7 +125,7 @@ module _ (dispatch : Dispatch) (plant : Plant) (front : Front) (state : RunState
           omega (
             arith,
             rep.pending.counted q,
-            other_left (input_of dispatch plant) fine line front lawful_line refl refl refl (λ e. q (event_of e)) (λ at k. refl),
+            other_left (input_of dispatch plant) fine line front end_lawful refl refl refl (λ e. q (event_of e)) (λ at k. refl),
             ap (count_by q) has.events,
             ap (λ states. count_by q (Rattle.rail_state.specs.Representation.deferred_events plant states)) has.trains,
           );
@@ -136,14 +136,14 @@ module _ (dispatch : Dispatch) (plant : Plant) (front : Front) (state : RunState
       place_counts = λ u lt. subst (λ states. 0 < (state_of states u).head.place) (sym has.trains) (rep.heads.place_counts u lt);
       step_counts = λ u lt. subst (λ states. 0 < (state_of states u).head.step) (sym has.trains) (rep.heads.step_counts u lt);
       heads = λ u lt. subst (λ states. IsHead plant (line ∷ front) u ((state_of states u).head.place - 1) ((state_of states u).head.step - 1)) (sym has.trains)
-          (head_kept (input_of dispatch plant) fine line front lawful_line u ((state_of state.trains u).head.place - 1) ((state_of state.trains u).head.step - 1) refl (rep.heads.heads u lt));
+          (head_kept (input_of dispatch plant) fine line front end_lawful u ((state_of state.trains u).head.place - 1) ((state_of state.trains u).head.step - 1) refl (rep.heads.heads u lt));
     };
     waiting = record {
-      ready = λ u lt. ap (λ states. (state_of states u).waits) has.trains ∙ rep.waiting.ready u lt ∙ sym (ready_kept (input_of dispatch plant) line front lawful_line refl refl u (λ m same. false≢true (ap is_ready_line same)));
+      ready = λ u lt. ap (λ states. (state_of states u).waits) has.trains ∙ rep.waiting.ready u lt ∙ sym (ready_kept (input_of dispatch plant) line front end_lawful refl refl u (λ m same. false≢true (ap is_ready_line same)));
       told = λ u lt. ap (λ states. (state_of states u).last_hold) has.trains ∙ rep.waiting.told u lt ∙ sym (hold_kept line front u (suc (place front u)) refl);
       out = λ u lt. ap (λ states. (state_of states u).is_out) has.trains ∙ rep.waiting.out u lt ∙ sym (out_kept line front u refl);
     };
-    holders = subst (AreHolders plant (line ∷ front)) (sym has.holders) (holders_kept (input_of dispatch plant) rep.accepted line front lawful_line refl (λ x u same. false≢true (ap is_free_line same)) state.holders rep.holders);
+    holders = subst (AreHolders plant (line ∷ front)) (sym has.holders) (holders_kept (input_of dispatch plant) rep.accepted line front end_lawful refl (λ x u same. false≢true (ap is_free_line same)) state.holders rep.holders);
     known = record {
       cause = λ u c lt k.
           ap (λ h. seen_cause (input_of dispatch plant) (line ∷ front) h u) has.holders

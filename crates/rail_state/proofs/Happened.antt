@@ -189,8 +189,8 @@ module _ (dispatch : Dispatch) (plant : Plant) (front : Front) (state : RunState
   pub follows : may_follow (input_of dispatch plant) front (bare_at event.at (what_of plant state.trains event)) ≡ true
   follows = follows_event (input_of dispatch plant) front (bare_at event.at (what_of plant state.trains event)) going happens
 
-  pub lawful_line : is_lawful (input_of dispatch plant) (bare_at event.at (what_of plant state.trains event) ∷ front) ≡ true
-  lawful_line = and_from (is_lawful (input_of dispatch plant) front) (may_follow (input_of dispatch plant) front (bare_at event.at (what_of plant state.trains event))) lawful_now follows
+  pub event_lawful : is_lawful (input_of dispatch plant) (bare_at event.at (what_of plant state.trains event) ∷ front) ≡ true
+  event_lawful = and_from (is_lawful (input_of dispatch plant) front) (may_follow (input_of dispatch plant) front (bare_at event.at (what_of plant state.trains event))) lawful_now follows
 
   -- the head that enters is at the right section
   pub entering_line : (t : ℕ) → (one : EntersOne t (what_of plant state.trains event)) → t < trains plant
@@ -230,24 +230,24 @@ module _ (dispatch : Dispatch) (plant : Plant) (front : Front) (state : RunState
       let tail : after.queue.events ≡ rest = tail_of (sym has.events ∙ first) in
       record {
         accepted = rep.accepted;
-        lawful = lawful_line;
+        lawful = event_lawful;
         time = has.time;
         ended = has.going ∙ rep.ended ∙ going ∙ sym (event_ends_nothing w kind);
         begun = λ none. absurd (omega (arith, ap length none));
-        times = times_kept plant line front state.trains after.trains idle has.many (same_place dispatch plant front state rep event.at w lawful_line kind after.trains has.trains) (same_times dispatch plant front state rep event.at w lawful_line kind after.trains has.trains) rep.times;
-        pending = pending_after dispatch plant fine line front lawful_line kind event state.queue.events after.queue.events state.trains after.trains
+        times = times_kept plant line front state.trains after.trains idle has.many (same_place dispatch plant front state rep event.at w event_lawful kind after.trains has.trains) (same_times dispatch plant front state rep event.at w event_lawful kind after.trains has.trains) rep.times;
+        pending = pending_after dispatch plant fine line front event_lawful kind event state.queue.events after.queue.events state.trains after.trains
             (ap event_of line_is ∙ sym same)
             (λ q. ap (λ list. count_by q list) has.events ∙ count-cons q event after.queue.events ∙ sym (ap (λ n. n + count_by q after.queue.events) (count-cons q event [] ∙ omega arith)))
-            (same_place dispatch plant front state rep event.at w lawful_line kind after.trains has.trains)
-            (same_arrival dispatch plant front state rep event.at w lawful_line kind after.trains has.trains)
-            (still_held dispatch plant front state rep event.at w lawful_line kind after.trains has.trains goes)
-            (still_bound dispatch plant front state rep event.at w lawful_line kind after.trains has.trains)
+            (same_place dispatch plant front state rep event.at w event_lawful kind after.trains has.trains)
+            (same_arrival dispatch plant front state rep event.at w event_lawful kind after.trains has.trains)
+            (still_held dispatch plant front state rep event.at w event_lawful kind after.trains has.trains goes)
+            (still_bound dispatch plant front state rep event.at w event_lawful kind after.trains has.trains)
             rep.pending;
-        heads = heads_after dispatch plant front state rep event.at w lawful_line kind after.trains has.trains entering_line;
-        waiting = waiting_after dispatch plant front state rep event.at w lawful_line kind after.trains has.trains;
-        holders = subst (AreHolders plant (line ∷ front)) (sym has.holders) (holders_hold dispatch plant front state rep event.at w lawful_line kind after.trains has.trains);
-        known = subst (λ h. AreKnown dispatch plant (line ∷ front) h after.trains) (sym has.holders) (known_after dispatch plant front state rep event.at w lawful_line kind after.trains has.trains);
-        settled = λ settled. let before = has.settled settled in told_after dispatch plant front state rep event.at w lawful_line kind after.trains has.trains (rep.settled before.0) before.1;
+        heads = heads_after dispatch plant front state rep event.at w event_lawful kind after.trains has.trains entering_line;
+        waiting = waiting_after dispatch plant front state rep event.at w event_lawful kind after.trains has.trains;
+        holders = subst (AreHolders plant (line ∷ front)) (sym has.holders) (holders_hold dispatch plant front state rep event.at w event_lawful kind after.trains has.trains);
+        known = subst (λ h. AreKnown dispatch plant (line ∷ front) h after.trains) (sym has.holders) (known_after dispatch plant front state rep event.at w event_lawful kind after.trains has.trains);
+        settled = λ settled. let before = has.settled settled in told_after dispatch plant front state rep event.at w event_lawful kind after.trains has.trains (rep.settled before.0) before.1;
       }
     where
       tail_of : {e : Event} {xs ys : List Event} → e ∷ xs ≡ event ∷ ys → xs ≡ ys

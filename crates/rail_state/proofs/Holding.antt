@@ -83,15 +83,15 @@ module _ (dispatch : Dispatch) (plant : Plant) (front : Front) (state : RunState
   pub follows : may_follow (input_of dispatch plant) front line ≡ true
   follows = follows_hold (input_of dispatch plant) front line t (suc (place front t)) why going holds
 
-  pub lawful_line : is_lawful (input_of dispatch plant) (line ∷ front) ≡ true
-  lawful_line = and_from (is_lawful (input_of dispatch plant) front) (may_follow (input_of dispatch plant) front line) lawful_now follows
+  pub hold_lawful : is_lawful (input_of dispatch plant) (line ∷ front) ≡ true
+  hold_lawful = and_from (is_lawful (input_of dispatch plant) front) (may_follow (input_of dispatch plant) front line) lawful_now follows
 
   -- the run stands for the front with the line
   pub held : (after : RunState) → IsHoldLine t state after → Represents dispatch plant (line ∷ front) after
   held after has =
       record {
         accepted = rep.accepted;
-        lawful = lawful_line;
+        lawful = hold_lawful;
         time = has.time;
         ended = has.going ∙ rep.ended ∙ going;
         begun = λ none. absurd (omega (arith, ap length none));
@@ -103,7 +103,7 @@ module _ (dispatch : Dispatch) (plant : Plant) (front : Front) (state : RunState
                 arith,
                 has.events q,
                 rep.pending.counted q,
-                other_left (input_of dispatch plant) fine line front lawful_line refl refl refl (λ e. q (event_of e)) (λ at k. refl),
+                other_left (input_of dispatch plant) fine line front hold_lawful refl refl refl (λ e. q (event_of e)) (λ at k. refl),
                 count-exchanged q (λ u. deferred_event u (state_of state.trains u).place (state_of state.trains u).deferred) (λ u. deferred_event u (state_of after.trains u).place (state_of after.trains u).deferred) (trains plant) t known
                     (λ u lt other. ap (λ (r : TrainState). deferred_event u r.place r.deferred) (sym (other_state u other))),
                 ap (λ (r : TrainState). count_by q (deferred_event t r.place r.deferred)) this_state,
@@ -138,10 +138,10 @@ module _ (dispatch : Dispatch) (plant : Plant) (front : Front) (state : RunState
           place_counts = λ u lt. subst (λ h. 0 < h.place) (sym (same_part (λ r. r.head) (λ r. refl) u lt)) (rep.heads.place_counts u lt);
           step_counts = λ u lt. subst (λ h. 0 < h.step) (sym (same_part (λ r. r.head) (λ r. refl) u lt)) (rep.heads.step_counts u lt);
           heads = λ u lt. subst (λ h. IsHead plant (line ∷ front) u (h.place - 1) (h.step - 1)) (sym (same_part (λ r. r.head) (λ r. refl) u lt))
-              (head_kept (input_of dispatch plant) fine line front lawful_line u ((state_of state.trains u).head.place - 1) ((state_of state.trains u).head.step - 1) refl (rep.heads.heads u lt));
+              (head_kept (input_of dispatch plant) fine line front hold_lawful u ((state_of state.trains u).head.place - 1) ((state_of state.trains u).head.step - 1) refl (rep.heads.heads u lt));
         };
         waiting = record {
-          ready = λ u lt. same_part (λ r. r.waits) (λ r. refl) u lt ∙ rep.waiting.ready u lt ∙ sym (ready_kept (input_of dispatch plant) line front lawful_line refl refl u (λ m same. false≢true (ap is_ready_line same)));
+          ready = λ u lt. same_part (λ r. r.waits) (λ r. refl) u lt ∙ rep.waiting.ready u lt ∙ sym (ready_kept (input_of dispatch plant) line front hold_lawful refl refl u (λ m same. false≢true (ap is_ready_line same)));
           told = λ u lt.
               ⊎_elim
               (λ here. let e : t ≡ u = sym (eqb-true u t here) in subst (λ v. (state_of after.trains v).last_hold ≡ last_hold (line ∷ front) v (suc (place front v))) e
@@ -152,7 +152,7 @@ module _ (dispatch : Dispatch) (plant : Plant) (front : Front) (state : RunState
               (cases_Bool (eqb u t));
           out = λ u lt. same_part (λ r. r.is_out) (λ r. refl) u lt ∙ rep.waiting.out u lt ∙ sym (out_kept line front u refl);
         };
-        holders = subst (AreHolders plant (line ∷ front)) (sym has.holders) (holders_kept (input_of dispatch plant) rep.accepted line front lawful_line refl (λ x u same. false≢true (ap is_free_line same)) state.holders rep.holders);
+        holders = subst (AreHolders plant (line ∷ front)) (sym has.holders) (holders_kept (input_of dispatch plant) rep.accepted line front hold_lawful refl (λ x u same. false≢true (ap is_free_line same)) state.holders rep.holders);
         known = record {
           cause = λ u c lt k.
               ap (λ h. seen_cause (input_of dispatch plant) (line ∷ front) h u) has.holders

@@ -20,7 +20,7 @@ use Rattle.rail_state.specs.Events.{event_of}
 use Rattle.rail_state.specs.TrainStates.{state_of}
 use Rattle.rail_state.specs.Representation.{IsReadyFor, Represents, bare_at, what_of}
 use Rattle.rail_state.proofs.Below.{well_formed_plant, holder_frees}
-use Rattle.rail_state.proofs.Happened.{entering_line, it, kind, lawful_line}
+use Rattle.rail_state.proofs.Happened.{entering_line, it, kind, event_lawful}
 use Rattle.rail_state.proofs.Lines.{EntersOne}
 use Rattle.rail_rules.specs.Orders.{Dispatch, input_of}
 use Rattle.rail_state.specs.declared.run_state.RunState.{RunState}
@@ -81,4 +81,4 @@ module _ (dispatch : Dispatch) (plant : Plant) (front : Front) (state : RunState
       few = few_admissions (input_of dispatch plant) (well_formed_plant plant rep.accepted) front rep.lawful event.train known
 
       holder_is : event.class ≡ class.Free → get_or state.holders event.number None ≡ Some event.train
-      holder_is is = (holder_frees (input_of dispatch plant) rep.accepted (bare_at event.at (what_of plant state.trains event)) front (lawful_line dispatch plant front state rep going event rest first least goes of_train) event.number event.train (frees_one is) state.holders rep.holders).0
+      holder_is is = (holder_frees (input_of dispatch plant) rep.accepted (bare_at event.at (what_of plant state.trains event)) front (event_lawful dispatch plant front state rep going event rest first least goes of_train) event.number event.train (frees_one is) state.holders rep.holders).0

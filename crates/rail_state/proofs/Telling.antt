@@ -190,7 +190,7 @@ module _ (dispatch : Dispatch) (plant : Plant) (front : Front) (state : RunState
     follows : may_follow (input_of dispatch plant) front line ≡ true
     follows = happens_follows (input_of dispatch plant) front line going happens
 
-    lawful_now : is_lawful (input_of dispatch plant) (line ∷ front) ≡ true
+    pub lawful_now : is_lawful (input_of dispatch plant) (line ∷ front) ≡ true
     lawful_now = and_from (is_lawful (input_of dispatch plant) front) (may_follow (input_of dispatch plant) front line) rep.lawful follows
 
   module _ (has : HasTold plant (orders_of dispatch.commands (command_line (input_of dispatch plant) front command k).what) event state after) where

@@ -87,6 +87,45 @@ impl RunState {
         })
     }
 
+    /// What the line of the event says.
+    pub fn says(&self, plant: &Plant, event: &Event) -> What
+        requires ready { IsReadyFor plant.now self.now event.now }
+        requires many { length self.now.trains ≡ trains plant.now }
+        ensures { result ≡ what_of plant.now self.now.trains event.now }
+    {
+        let train = event.train;
+        let place = event.place;
+        match event.class {
+            Class::Free => What::Free {
+                section: SectionNo(event.number),
+                train,
+            },
+            Class::Arrive => What::Arrive { train, place },
+            Class::Enter => What::Enter {
+                train,
+                place,
+                section: self.trains.next_section(plant, train),
+            },
+            Class::Out => What::Out { train },
+            Class::Ready => What::Ready { train, place },
+            Class::Command => What::Told {
+                command: event.number,
+            },
+        }
+    }
+
+    /// What the hold line of the train's next move says, with its known cause.
+    pub fn hold_line(&self, train: TrainNo) -> What
+        requires train { train < length self.now.trains }
+        requires lacks { lacks_hold_line (state_of self.now.trains train) ≡ true }
+        requires place { (state_of self.now.trains train).place < 65535 }
+        ensures { (why : Cause) → (state_of self.now.trains train).known ≡ Some why
+            → result ≡ Hold train ((state_of self.now.trains train).place + 1) why }
+    {
+        let train_state = self.trains.get(train);
+        held(train, train_state.place + 1, train_state.known)
+    }
+
     /// The event happens: the instant is its time, the section that it frees has no holder, and what is kept
     /// of the trains is as its line leaves it. What the line says.
     pub fn happen(&mut self, plant: &Plant, event: Event) -> What

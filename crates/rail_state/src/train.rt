@@ -3,7 +3,7 @@
 ghost use Rattle.std.specs.Prelude.{◌≡◌, ◌-◌, ◌<◌, ◌≤◌, ◌||◌, not, [], ◌∷◌, ◌++◌, get_or, length, true, false, None, vec_len, vec_capacity};
 ghost use Rattle.std.specs.List.{All};
 ghost use Rattle.rail_base.specs.declared.limits.TheConstants.{ITINERARY_ROUTES};
-ghost use Rattle.rail_rules.specs.Plant.{moves, needed, steps, trains};
+ghost use Rattle.rail_rules.specs.Plant.{moves, needed, step_section, steps, trains};
 ghost use Rattle.rail_laws_run.specs.HolderTables.{held_cause};
 ghost use Rattle.rail_state.specs.TrainStates.{is_touched, state_told};
 ghost use Rattle.rail_state.specs.TrainStates.{admitted, bar_by, head_behind, is_blocked_at, lacks_hold_line, is_untried, looked_at, outside, after_hold_line, without_known};
@@ -215,6 +215,18 @@ pub(crate) fn head_behind(plant: &Plant, train: TrainNo, head: Head) -> Head
             step: 1,
         }
     }
+}
+
+/// The section of the step at which the head is.
+pub(crate) fn section_at(plant: &Plant, train: TrainNo, head: Head) -> SectionNo
+    requires known { train < trains plant.now }
+    requires first { 1 ≤ head.place }
+    requires last { head.place ≤ moves plant.now train }
+    requires first_step { 1 ≤ head.step }
+    requires last_step { head.step ≤ steps plant.now train (head.place - 1) }
+    ensures { result ≡ step_section plant.now train (head.place - 1) (head.step - 1) }
+{
+    plant.move_row(train, head.place).sections.as_slice()[usize::from(head.step) - 1]
 }
 
 /// What bars a move of the train over these sections: that the train is stopped, else the first closed section,

@@ -9,7 +9,7 @@ ghost use Rattle.rail_rules.specs.Numbers.{listed};
 ghost use Rattle.rail_state.specs.TrainStates.{state_told};
 ghost use Rattle.rail_state.specs.TrainStates.{IsAnyWaiting, IsReadyFirst, bar_by, is_blocked_at, lacks_hold_line, is_untried, looked_at, outside, state_admitted, state_after, state_of, after_hold_line};
 
-use crate::train::{TrainState, head_behind, push_outside};
+use crate::train::{TrainState, head_behind, push_outside, section_at};
 use crate::watched::{
     first_lacking, forget_causes, heed_each, is_any_waiting, keep_waiting, look_again_at_each,
     look_at_each, watch,
@@ -100,6 +100,21 @@ impl TrainStates {
         }
     }
 
+    /// The section that the train's head enters next.
+    pub fn next_section(&self, plant: &Plant, train: TrainNo) -> SectionNo
+        requires train { train < length self.now }
+        requires known { train < trains plant.now }
+        requires first { 1 ≤ (state_of self.now train).head.place }
+        requires last { (state_of self.now train).head.place ≤ moves plant.now train }
+        requires first_step { 1 ≤ (state_of self.now train).head.step }
+        requires last_step { (state_of self.now train).head.step ≤ steps plant.now train ((state_of self.now train).head.place - 1) }
+        ensures { result ≡ step_section plant.now train ((state_of self.now train).head.place - 1)
+            ((state_of self.now train).head.step - 1) }
+    {
+        let head = self.get(train).head;
+        section_at(plant, train, head)
+    }
+
     /// The section that the train's head enters next, after which the next one is that behind it.
     pub fn enter(&mut self, plant: &Plant, train: TrainNo) -> SectionNo
         requires train { train < length self.old }
@@ -116,7 +131,7 @@ impl TrainStates {
         let train_state = &mut self.rows[usize::from(train.0)];
         let head = train_state.head;
         train_state.head = head_behind(plant, train, head);
-        plant.move_row(train, head.place).sections.as_slice()[usize::from(head.step) - 1]
+        section_at(plant, train, head)
     }
 
     /// The train's out line was given.
@@ -229,8 +244,9 @@ impl TrainStates {
     pub fn list_remaining(&self, orders: &ToldOrders, into: &mut Vec<TrainNo>)
         requires empty { into.old.items ≡ [] }
         requires room { length self.now ≤ vec_capacity into.old }
-        ensures { into.new.items ≡ filter (λ t. not ((state_of self.now t).is_out || get_or orders.now.cancelled t false))
+        ensures trains { into.new.items ≡ filter (λ t. not ((state_of self.now t).is_out || get_or orders.now.cancelled t false))
             (listed (λ t. t) (length self.now)) }
+        ensures room { vec_capacity into.new ≡ vec_capacity into.old }
     {
         for (number, train_state) in self.rows.iter().enumerate() {
             let train = TrainNo(number as u16);

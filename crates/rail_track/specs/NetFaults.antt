@@ -1,6 +1,6 @@
 -- Refusals of the items of a network.
-use Rattle.std.specs.Prelude.{◌≡◌, ℕ, Bool, Option, Some}
-use Rattle.rail_base.specs.FirstRefusals.{Test}
+use Rattle.std.specs.Prelude.{ℕ, Bool, Option, Some, None}
+use Rattle.rail_base.specs.FirstRefusals.{IsFirstRefusal, Test}
 use Rattle.rail_base.specs.declared.refusals.Reason.{Reason}
 use Rattle.rail_track.specs.declared.section.NetFault.{NetFault}
 use Rattle.rail_track.specs.declared.section.NetFault.TheVariants.{Refused, OutOfMemory}
@@ -9,7 +9,11 @@ use Rattle.rail_track.specs.declared.section.NetFault.TheVariants.{Refused, OutO
 abbrev pub refused_where : Reason → ℕ → Bool → Test NetFault
 refused_where reason step fails = record { answer = Refused reason step; fails = fails }
 
--- a fault answers the first refusal, if it is that refusal; want of memory may stand in place of any answer
+-- the refusal that a fault is
+abbrev pub refusal_in : NetFault → Option NetFault
+refusal_in (Refused reason step) = Some (Refused reason step)
+refusal_in OutOfMemory = None
+
+-- a fault answers the first refusal
 abbrev pub Answers : Option NetFault → NetFault → Type 0
-Answers first (Refused reason step) = first ≡ Some (Refused reason step)
-Answers first OutOfMemory = Unit {0}
+Answers first fault = IsFirstRefusal first (refusal_in fault)

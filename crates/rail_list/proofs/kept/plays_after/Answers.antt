@@ -4,12 +4,8 @@ use Rattle.rail_rules.specs.Places.{after}
 use Rattle.rail_place.specs.Tables.{moves_in, MoveLists}
 use Rattle.rail_place.specs.Made.{State, IsMadeFor}
 use Rattle.rail_place.proofs.CallerLemmas.{made_long, IsWayBack, way_back}
-use Rattle.rail_list.proofs.Trying.{owners_same, made_fewer}
+use Rattle.rail_list.proofs.Trying.{owners_same, made_fewer, way}
 use Rattle.rail_list.proofs.kept.plays_after.Goals as goal
-
--- the train's move can be taken back
-way : (table : List MoveLists) (s : State) (r : List ℕ) (t : ℕ) → IsMadeFor table s → t < length table → r ≡ after s.positions t → IsWayBack (moves_in table) s.positions r t
-way table s r t made lt moved = way_back (moves_in table) s.positions r t made.valid (omega (arith, lt, made_long table s made)) (sym moved)
 
 pub retreat-requires-clause-free : goal.retreat-requires-clause-free
 retreat-requires-clause-free c =

@@ -1,5 +1,9 @@
-use Rattle.std.proofs.Common.{◌≡◌, ◌∷◌, false, true, refl, sym, ap, ◌∙◌, subst}
+use Rattle.std.proofs.Common.{◌≡◌, ◌+◌, ◌∷◌, false, true, refl, sym, ap, ◌∙◌, subst}
 use Rattle.std.proofs.lemmas.Bool.{cond-false, cond-true}
+use Rattle.rail_base.specs.declared.history.What.TheVariants.{Hold}
+use Rattle.rail_state.specs.Representation.{bare_at}
+use Rattle.rail_state.specs.TrainStates.{state_of}
+use Rattle.rail_state.proofs.CallerLemmas.{cause_known}
 use Rattle.rail_rules.specs.Fronts.{Front, Line}
 use Rattle.rail_rules.specs.Lawful.{is_lawful}
 use Rattle.rail_judging.specs.Verdicts.{is_undecided}
@@ -8,7 +12,7 @@ use Rattle.rail_ledger.specs.declared.input.RunInput.{RunInput}
 use Rattle.rail_ledger.specs.declared.ledger.Ledger.{Ledger}
 use Rattle.rail_ledger.specs.declared.ledger.Listed.TheVariants as which
 use Rattle.rail_ledger.specs.Inputs.{input_in}
-use Rattle.rail_ledger.specs.Ledgers.{line_in}
+use Rattle.rail_ledger.proofs.Holding.{hold_next, known_why}
 use Rattle.rail_ledger.proofs.Judged.{listed_as}
 use Rattle.rail_ledger.proofs.Missing.{decided_going, decided_settled}
 use Rattle.rail_ledger.proofs.ledger.Ledger.judge_end.Goals as goal
@@ -36,12 +40,15 @@ returns-in-Admission-clause-missing c = λ front at.
 pub returns-in-Hold-clause-missing : goal.returns-in-Hold-clause-missing
 returns-in-Hold-clause-missing c = λ front at.
     let old : Ledger = c.args.self.now in
-    let given : Line = line_in c.left_to_decide.new.self c.in-Hold.field-0 in
-    let held = c.in-Hold.ensures.hold c.in-Hold.field-0 refl in
-    let after : is_lawful (input_in old.input) (given ∷ front) ≡ true = subst (λ (input : RunInput). is_lawful (input_in input) (given ∷ front) ≡ true) held.1 (held.2 front (listed_as front old which.Nothing at)).rep.lawful in (
+    let new : Ledger = c.left_to_decide.new.self in
+    let due = c.in-Hold.ensures.hold c.in-Hold.field-0 refl in
+    let known = known_why (state_of new.state.trains c.in-Hold.field-0).known (cause_known (state_of new.state.trains c.in-Hold.field-0) due.lacks) in
+    let given : Line = bare_at new.state.instant (Hold c.in-Hold.field-0 ((state_of new.state.trains c.in-Hold.field-0).place + 1) known.0) in
+    let after : is_lawful (input_in old.input) (given ∷ front) ≡ true = subst (λ (input : RunInput). is_lawful (input_in input) (given ∷ front) ≡ true) c.in-Hold.ensures.input
+    (hold_next front new (c.in-Hold.ensures.stays front (listed_as front old which.Nothing at)) c.in-Hold.field-0 due known.0 known.1) in (
       sym at.rep.ended ∙ c.if-self.false,
       sym (cond-true (is_undecided (input_in old.input) front) 6 7
-          (undecided_before_hold (input_in old.input) at.rep.accepted front at.rep.lawful given after held.0)),
+          (undecided_before_hold (input_in old.input) at.rep.accepted front at.rep.lawful given after refl)),
     )
 
 pub returns-in-Nothing-clause-missing : goal.returns-in-Nothing-clause-missing
@@ -49,7 +56,16 @@ returns-in-Nothing-clause-missing c = λ front at.
     let old : Ledger = c.args.self.now in
     let new : Ledger = c.left_to_decide.new.self in
     let nothing = c.in-Nothing.ensures.nothing refl in
-    let decided = decided_settled front new (nothing.1.3 front (listed_as front old which.Nothing at)) nothing.1.0 nothing.1.1 in (
+    let decided = decided_settled front new (nothing.3 front (listed_as front old which.Nothing at)) nothing.0 nothing.1 in (
       sym at.rep.ended ∙ c.if-self.false,
-      sym (cond-false (is_undecided (input_in old.input) front) 6 7 (ap (λ (input : RunInput). is_undecided (input_in input) front) (sym nothing.0) ∙ decided)),
+      sym (cond-false (is_undecided (input_in old.input) front) 6 7 (ap (λ (input : RunInput). is_undecided (input_in input) front) (sym c.in-Nothing.ensures.input) ∙ decided)),
     )
+
+pub returns-in-Admission-clause-stays : goal.returns-in-Admission-clause-stays
+returns-in-Admission-clause-stays c = λ front at. c.in-Admission.ensures.stays front (listed_as front c.args.self.now which.Nothing at)
+
+pub returns-in-Hold-clause-stays : goal.returns-in-Hold-clause-stays
+returns-in-Hold-clause-stays c = λ front at. c.in-Hold.ensures.stays front (listed_as front c.args.self.now which.Nothing at)
+
+pub returns-in-Nothing-clause-stays : goal.returns-in-Nothing-clause-stays
+returns-in-Nothing-clause-stays c = λ front at. c.in-Nothing.ensures.stays front (listed_as front c.args.self.now which.Nothing at)

@@ -1,96 +1,97 @@
-use Rattle.std.proofs.Common.{◌≡◌, ◌∷◌, Some, refl, sym, ap, ◌∙◌, subst, true}
-use Rattle.rail_base.specs.declared.history.Entry.{Entry}
+use Rattle.std.proofs.Common.{◌≡◌, ◌<◌, ◌∷◌, ℕ, Some, false, refl, sym, ap, ◌∙◌, subst, true}
 use Rattle.rail_queue.specs.Queue.{Queue}
 use Rattle.rail_queue.specs.Order.{first_time_of, is_sorted}
 use Rattle.rail_rules.specs.Causes.{could_go, is_deciding}
-use Rattle.rail_rules.specs.Fronts.{is_hold}
-use Rattle.rail_state.proofs.CallerLemmas.{goes}
+use Rattle.rail_rules.specs.Fronts.{Front}
+use Rattle.rail_state.specs.TrainStates.{lacks_hold_line, state_of}
 use Rattle.rail_ledger.specs.declared.judgement.Left.{Left}
 use Rattle.rail_ledger.specs.declared.judgement.Left.TheVariants.{Hold}
-use Rattle.rail_ledger.specs.declared.ledger.Ledger.{Ledger}
-use Rattle.rail_ledger.specs.Ledgers.{HasList, IsAt, line_in, listed_in}
-use Rattle.rail_ledger.proofs.Deciding.{deciding_at}
-use Rattle.rail_ledger.proofs.ledger.Ledger.left_to_decide.Goals as goal
 use Rattle.rail_ledger.specs.declared.input.RunInput.{RunInput}
-use Rattle.rail_ledger.specs.Inputs.{dispatch_in, input_in}
+use Rattle.rail_ledger.specs.declared.ledger.Ledger.{Ledger}
+use Rattle.rail_ledger.specs.Inputs.{input_in}
+use Rattle.rail_ledger.specs.Ledgers.{AreAlike, IsAt, IsHoldDue}
+use Rattle.rail_ledger.proofs.Deciding.{deciding_at}
+use Rattle.rail_ledger.proofs.Holding.{settled_at}
+use Rattle.rail_ledger.proofs.ledger.Ledger.left_to_decide.Goals as goal
 
-abbrev entry_in : Entry → Left → Entry
-entry_in other (Hold entry) = entry
-entry_in other _ = other
+-- the train of a hold line that is due, or else another one
+abbrev train_in : ℕ → Left → ℕ
+train_in other (Hold train) = train
+train_in other _ = other
 
-pub find_list-requires-clause-running : goal.find_list-requires-clause-running
-find_list-requires-clause-running c = record { front = c.loop-train.invariant.running.front; at = c.in-Some.ensures.at c.loop-train.invariant.running.front c.loop-train.invariant.running.at }
+-- what is alike to a ledger at whose instant nothing is pending is so too
+still_deciding : (before now : Ledger) → AreAlike before now → before.state.has_ended ≡ false → before.state.is_settled ≡ false
+    → (first_time_of before.state.queue.events ≡ Some before.state.instant → ⊥) → is_sorted before.state.queue.events ≡ true
+    → (front : Front) → IsAt front now → is_deciding (input_in now.input) front ≡ true
+still_deciding before now alike going unsettled none_due sorted front at =
+    deciding_at front now at (alike.has_ended ∙ going) (alike.is_settled ∙ unsettled)
+    (λ due. none_due (ap (λ (q : Queue). first_time_of q.events) (sym alike.queue) ∙ due ∙ ap Some alike.instant))
+    (ap (λ (q : Queue). is_sorted q.events) alike.queue ∙ sorted)
 
-pub find_list-requires-clause-deciding : goal.find_list-requires-clause-deciding
-find_list-requires-clause-deciding c = λ front at.
+pub knows_list-requires-clause-running : goal.knows_list-requires-clause-running
+knows_list-requires-clause-running c = record { front = c.loop-train.invariant.running.front; at = c.in-Some.ensures.at c.loop-train.invariant.running.front c.loop-train.invariant.running.at }
+
+pub knows_list-requires-clause-deciding : goal.knows_list-requires-clause-deciding
+knows_list-requires-clause-deciding c =
+    let inv = c.loop-train.invariant in
+    still_deciding c.loop-train.self c.look.new.self c.in-Some.ensures.alike inv.going inv.unsettled inv.none_due inv.sorted
+
+pub returns-then-knows_list-clause-stays : goal.returns-then-knows_list-clause-stays
+returns-then-knows_list-clause-stays c = λ front at. c.knows_list.ensures.at front (c.in-Some.ensures.at front (c.loop-train.invariant.at front at))
+
+pub returns-then-knows_list-clause-admission : goal.returns-then-knows_list-clause-admission
+returns-then-knows_list-clause-admission c = λ _ front at.
+    let inv = c.loop-train.invariant in
     let alike = c.in-Some.ensures.alike in
-    let inv = c.loop-train.invariant in
-    deciding_at front c.look.new.self at (alike.has_ended ∙ inv.going) (alike.is_settled ∙ inv.unsettled)
-    (λ due. inv.none_due (ap (λ (q : Queue). first_time_of q.events) (sym alike.queue) ∙ due ∙ ap Some alike.instant))
-    (ap (λ (q : Queue). is_sorted q.events) alike.queue ∙ inv.sorted)
-
-pub hold-requires-clause-running : goal.hold-requires-clause-running
-hold-requires-clause-running c = record { front = c.loop-train.invariant.running.front; at = c.in_default.ensures.at c.loop-train.invariant.running.front c.loop-train.invariant.running.at }
-
-pub hold-requires-clause-deciding : goal.hold-requires-clause-deciding
-hold-requires-clause-deciding c = λ front at.
-    let alike = c.in_default.ensures.alike in
-    let inv = c.loop-train.invariant in
-    deciding_at front c.look.new.self at (alike.has_ended ∙ inv.going) (alike.is_settled ∙ inv.unsettled)
-    (λ due. inv.none_due (ap (λ (q : Queue). first_time_of q.events) (sym alike.queue) ∙ due ∙ ap Some alike.instant))
-    (ap (λ (q : Queue). is_sorted q.events) alike.queue ∙ inv.sorted)
-
-pub returns-in-Some-find_list-clause-admission : goal.returns-in-Some-find_list-clause-admission
-returns-in-Some-find_list-clause-admission c = λ _ front at.
-    let inv = c.loop-train.invariant in
-    let alike = c.in-Some.ensures.alike in
-    let at_loop = inv.at front at in
-    let at_now = c.in-Some.ensures.at front at_loop in
+    let at_now = c.in-Some.ensures.at front (inv.at front at) in
     let ledger : Ledger = c.look.new.self in
     let input_is = alike.input ∙ inv.input in
-    let deciding : is_deciding (input_in ledger.input) front ≡ true =
-    deciding_at front ledger at_now (alike.has_ended ∙ inv.going) (alike.is_settled ∙ inv.unsettled)
-    (λ due. inv.none_due (ap (λ (q : Queue). first_time_of q.events) (sym alike.queue) ∙ due ∙ ap Some alike.instant))
-    (ap (λ (q : Queue). is_sorted q.events) alike.queue ∙ inv.sorted) in
-    let next = c.in-Some.ensures.next front at_now in
-    let has : HasList front ledger c.find_list.new.self c.in-Some.train c.in-Some-find_list.field-0 = c.in-Some-find_list.ensures.found.1 front at_now in
-    let could : could_go (input_in ledger.input) front c.in-Some.train ≡ true =
-    goes (dispatch_in ledger.input) ledger.input.plant front ledger.state at_now.rep (sym at_now.rep.ended ∙ alike.has_ended ∙ inv.going) deciding c.in-Some.train next c.in-Some-find_list.field-0 c.find_list.new.self.kept.trains has.noted in
+    let deciding : is_deciding (input_in ledger.input) front ≡ true = still_deciding c.loop-train.self ledger alike inv.going inv.unsettled inv.none_due inv.sorted front at_now in
+    let could : could_go (input_in ledger.input) front c.in-Some.train ≡ true = c.knows_list.ensures.known c.if-knows_list.true front at_now in
     (subst (λ (input : RunInput). is_deciding (input_in input) front ≡ true) input_is deciding, c.in-Some.train, subst (λ (input : RunInput). could_go (input_in input) front c.in-Some.train ≡ true) input_is could)
 
 pub loop-train-preserved : goal.loop-train-preserved
 loop-train-preserved c =
     let inv = c.loop-train.invariant in
     let first = c.in-Some.ensures.alike in
-    let second = c.in-None.ensures.alike in
-    let none = c.in-None.ensures.none refl in
+    let second = c.knows_list.ensures.alike in
     record {
-      running = record { front = inv.running.front; at = none.1 inv.running.front (c.in-Some.ensures.at inv.running.front inv.running.at) };
+      running = record { front = inv.running.front; at = c.knows_list.ensures.at inv.running.front (c.in-Some.ensures.at inv.running.front inv.running.at) };
       going = second.has_ended ∙ first.has_ended ∙ inv.going;
       unsettled = second.is_settled ∙ first.is_settled ∙ inv.unsettled;
       none_due = λ due. inv.none_due (ap (λ (q : Queue). first_time_of q.events) (sym first.queue ∙ sym second.queue) ∙ due ∙ ap Some (second.instant ∙ first.instant));
       sorted = ap (λ (q : Queue). is_sorted q.events) (second.queue ∙ first.queue) ∙ inv.sorted;
       unlisted = second.listed ∙ first.listed ∙ inv.unlisted;
       input = second.input ∙ first.input ∙ inv.input;
-      at = λ front at. none.1 front (c.in-Some.ensures.at front (inv.at front at));
+      at = λ front at. c.knows_list.ensures.at front (c.in-Some.ensures.at front (inv.at front at));
     }
 
-pub returns-in-Some-hold-clause-hold : goal.returns-in-Some-hold-clause-hold
-returns-in-Some-hold-clause-hold c = λ entry same.
-    let inv = c.loop-train.invariant in
-    let alike = c.in_default.ensures.alike in
-    let new : Ledger = c.hold.new.self in
-    let is : c.in-Some-hold.entry ≡ entry = ap (entry_in c.in-Some-hold.entry) same in
-    let facts = c.in-Some-hold.ensures.kind in (
-      ap (λ (e : Entry). is_hold e.what) (sym is) ∙ facts.0,
-      c.in-Some-hold.ensures.input ∙ alike.input ∙ inv.input,
-      λ front at. subst (λ e. IsAt (line_in new e ∷ front) new) is (c.in-Some-hold.ensures.line front (c.in_default.ensures.at front (inv.at front at))),
-      ap (λ l. listed_in l new.kept.trains new.remaining.items) facts.1,
-    )
+pub returns-in-Some-first_lacking-clause-stays : goal.returns-in-Some-first_lacking-clause-stays
+returns-in-Some-first_lacking-clause-stays c = λ front at. c.in_default.ensures.at front (c.loop-train.invariant.at front at)
 
-pub returns-in-None-hold-clause-nothing : goal.returns-in-None-hold-clause-nothing
-returns-in-None-hold-clause-nothing c = λ _.
+pub returns-in-Some-first_lacking-clause-hold : goal.returns-in-Some-first_lacking-clause-hold
+returns-in-Some-first_lacking-clause-hold c = λ train same.
     let inv = c.loop-train.invariant in
     let alike = c.in_default.ensures.alike in
-    let none = c.in-None-hold.ensures.none refl in
-    (c.in-None-hold.ensures.input ∙ alike.input ∙ inv.input, (none.0, none.1, none.2, λ front at. none.3 front (c.in_default.ensures.at front (inv.at front at))))
+    let ledger : Ledger = c.look.new.self in
+    let found = c.in-Some-first_lacking.ensures in
+    subst (IsHoldDue ledger) (ap (train_in c.in-Some-first_lacking.train) same)
+    (record {
+      going = alike.has_ended ∙ inv.going;
+      unsettled = alike.is_settled ∙ inv.unsettled;
+      deciding = still_deciding c.loop-train.self ledger alike inv.going inv.unsettled inv.none_due inv.sorted;
+      known = c.in_default.ensures.none refl;
+      train = found.0;
+      lacks = found.1;
+      first = found.2;
+    })
+
+pub returns-in-None-clause-stays : goal.returns-in-None-clause-stays
+returns-in-None-clause-stays c = λ front at.
+    settled_at front c.look.new.self (c.in_default.ensures.at front (c.loop-train.invariant.at front at)) (c.in_default.ensures.none refl) c.in-None.ensures
+
+pub returns-in-None-clause-nothing : goal.returns-in-None-clause-nothing
+returns-in-None-clause-nothing c = λ _.
+    let inv = c.loop-train.invariant in
+    let alike = c.in_default.ensures.alike in
+    (alike.has_ended ∙ inv.going, refl, alike.listed ∙ inv.unlisted, returns-in-None-clause-stays c)

@@ -22,4 +22,5 @@ returns-in_default c =
       refused = subst (λ (line : Line). IfSome c.take_other.result (IsRefusedWith c.args.held old line)) (sym same)
           (mapped {Q = IsRefusedWith c.args.held old (line_with c.args.entry c.args.trains.now)} c.take_other.result c.take_other.ensures.refused (λ law refused front at. refused front at.0));
       input = c.take_other.ensures.input;
+      stays = c.take_other.ensures.stays;
     }

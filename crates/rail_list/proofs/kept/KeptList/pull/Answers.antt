@@ -10,17 +10,9 @@ use Rattle.rail_place.specs.Plays.{plays}
 use Rattle.rail_place.specs.Tables.{moves_in}
 use Rattle.rail_place.proofs.CallerLemmas.{made_long}
 use Rattle.rail_list.specs.KeptLists.{Kept, before_first}
-use Rattle.rail_list.proofs.Pulling.{first_there, front_is, pulled_completes, removed_is}
+use Rattle.rail_list.proofs.Pulling.{counted, first_there, front, pulled_completes, removed_is}
 use Rattle.rail_list.proofs.Appending.{completing_listed}
 use Rattle.rail_list.proofs.kept.KeptList.pull.Goals as goal
-
--- the count of entries that was read, by the list as callers see it
-counted : (list own read : List ℕ) (t k : ℕ) → own ≡ list → read ≡ own → k ≡ length (before_first t read) → k ≡ length (before_first t list)
-counted list own read t k same is k_is = k_is ∙ ap (λ xs. length (before_first t xs)) (is ∙ same)
-
--- the front of the list that was read
-front : (list own read : List ℕ) (t k : ℕ) → own ≡ list → read ≡ own → k ≡ length (before_first t list) → take k read ≡ before_first t list
-front list own read t k same is k_is = ap (λ n. take n read) k_is ∙ ap (take (length (before_first t list))) (is ∙ same) ∙ front_is list t
 
 pub slice_bounds-plays_after-end : goal.slice_bounds-plays_after-end
 slice_bounds-plays_after-end c =

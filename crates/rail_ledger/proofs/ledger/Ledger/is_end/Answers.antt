@@ -1,0 +1,22 @@
+use Rattle.std.proofs.Common.{◌∙◌, arith}
+use Rattle.rail_ledger.proofs.Going.{end_next}
+use Rattle.rail_ledger.proofs.ledger.Ledger.is_end.Goals as goal
+
+pub returns-clause-exact : goal.returns-clause-exact
+returns-clause-exact c = (
+  _,
+  end_next c.args.self.now c.requires.going c.requires.settled c.requires.empty c.deref.result.now (c.deref.ensures.value ∙ c.list_remaining.ensures.trains),
+  c.is_line-is_end.ensures,
+)
+
+pub returns-clause-stays : goal.returns-clause-stays
+returns-clause-stays c = λ front at. record {
+  accepted = at.accepted;
+  ordered = at.ordered;
+  rep = at.rep;
+  placed = at.placed;
+  keeps = at.keeps;
+  queue_room = at.queue_room;
+  list_room = λ still. omega (arith, at.list_room still, c.list_remaining.ensures.room, c.clear.ensures.capacity);
+  list_empty = λ still. c.clear.ensures.items;
+}
