@@ -3,11 +3,13 @@ use Rattle.std.proofs.Common.{◌≡◌, List, [], ◌∷◌, ◌++◌, true, re
 use Rattle.std.specs.Prelude.{reverse}
 use Rattle.std.proofs.lemmas.Bool.{and_from, and_parts}
 use Rattle.std.proofs.lemmas.List.{append-nil, reverse-append}
-use Rattle.rail_history.specs.HistoryLines.{AreHistoryLines, IsHistory}
+use Rattle.rail_history.specs.HistoryLines.{IsHistory}
+use Rattle.rail_history.proofs.CallerLemmas.{lawful_lines}
 use Rattle.rail_judging.specs.Verdicts.{behind, verdict}
 use Rattle.rail_judging.specs.Verdicts.Verdict.{yes}
 use Rattle.rail_judging.proofs.CallerLemmas.{yes_means}
 use Rattle.rail_laws_run.proofs.CallerLemmas.{run_lawful}
+use Rattle.rail_rules.specs.Accepted.{is_accepted_input}
 use Rattle.rail_rules.specs.Fronts.{Front, Line, has_ended}
 use Rattle.rail_rules.specs.Lawful.{is_complete, is_lawful}
 use Rattle.rail_rules.specs.Orders.{Input}
@@ -24,12 +26,12 @@ twice : (lines : List Line) → reverse (reverse lines) ≡ lines
 twice [] = refl
 twice (line ∷ lines) = ap reverse (reverse-append (line ∷ []) lines) ∙ reverse-append (reverse lines) (line ∷ []) ∙ ap (λ (ls : List Line). line ∷ ls) (twice lines)
 
-pub printed : (input : Input) (seats : List Seat) (front : Front) → is_run_history input seats front ≡ true → AreHistoryLines input.plant (reverse front)
+pub printed : (input : Input) → is_accepted_input input ≡ true → (seats : List Seat) (front : Front) → is_run_history input seats front ≡ true
     → IsHistory input.plant (text input.plant front) (reverse front) × (verdict input (reverse front) ≡ yes)
-printed input seats front history are =
+printed input accepted seats front history =
     let both = and_parts (is_run input seats front) (has_ended front) history in
     let complete : is_complete input front ≡ true = and_from (is_lawful input front) (has_ended front) (run_lawful input seats front both.0) both.1 in
     let back : behind [] (reverse front) ≡ front = behind_is [] (reverse front) ∙ append-nil (reverse (reverse front)) ∙ twice front in (
-      record { are_lines = are; whole = ap (text input.plant) (sym (twice front)) },
+      record { are_lines = lawful_lines input accepted front (run_lawful input seats front both.0); whole = ap (text input.plant) (sym (twice front)) },
       (yes_means input (reverse front)).1 (ap (is_complete input) back ∙ complete),
     )

@@ -106,4 +106,4 @@ module _ (input : Input) (accepted : is_accepted_input input ≡ true) where
   lawful_lines front lawful = record {
     each = all_known front lawful;
     few_fresh = omega (arith, fresh_few front, few_admitted input accepted front lawful);
-    }
+  }

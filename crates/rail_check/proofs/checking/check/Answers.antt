@@ -31,6 +31,6 @@ loop-entry-preserved c =
     record {
       checked = subst (λ (n : ℕ). IsChecked c.args.input (verdict (input_in c.args.input) (lines_of c.args.history.now)) n (drop n items) c.cut_list.result.1.now c.is_hold-held.result c.take.new.self) (omega arith)
           (taken c.args.input (verdict (input_in c.args.input) (lines_of c.args.history.now)) k entry (drop (suc k) items) c.loop-entry.lists.now c.loop-entry.held c.loop-entry.ledger so_far
-          c.cut_list.result.0.now c.cut_list.ensures.list c.take.new.self (c.in_default.ensures.input refl) (c.in_default.ensures.taken refl) c.is_hold-held.result c.is_hold-held.ensures c.cut_list.result.1.now c.cut_list.ensures.others);
+          c.cut_list.result.0.now c.cut_list.ensures.list c.take.new.self c.in_default.ensures.input (c.in_default.ensures.taken refl) c.is_hold-held.result c.is_hold-held.ensures c.cut_list.result.1.now c.cut_list.ensures.others);
       counted = omega (arith, c.loop-entry.invariant.counted);
     }
