@@ -1,3 +1,5 @@
+-- The lemmas of this crate; those for the crates above stand in CallerLemmas.
+pub mod CallerLemmas
 mod Places
 mod Uses
 mod Removals
@@ -10,3 +12,6 @@ mod Kept
 mod SectionChanges
 mod PostChanges
 mod WayChanges
+mod SectionAcceptance
+mod PostAcceptance
+mod WayAcceptance

@@ -7,9 +7,14 @@
 //! stands at a joint, runs over a section or names a post, may be changed freely.
 #![tactic(auto)]
 
+mod acceptance;
 mod items;
 mod network;
 mod post_list;
 
+pub use acceptance::{
+    the_sections_and_posts_of_a_sound_network_are_accepted_in_their_order,
+    the_turns_and_routes_of_a_sound_network_are_accepted_in_their_order,
+};
 pub use items::{Post, Role, Route, Step, Turn};
 pub use network::Network;

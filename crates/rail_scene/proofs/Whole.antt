@@ -45,9 +45,9 @@ module _ (bytes : List ℕ) where
   abbrev values : List (Test Refusal)
   values = scene_values (root_of bytes)
 
-  pub none : first_failing first ≡ None → first_failing forms ≡ None → first_failing values ≡ None → scene_refusal bytes ≡ None
+  pub none_refused : first_failing first ≡ None → first_failing forms ≡ None → first_failing values ≡ None → scene_refusal bytes ≡ None
   unfolding scene_refusal
-  none a b c = both_passed (first ++ forms) values (both_passed first forms a b) c
+  none_refused a b c = both_passed (first ++ forms) values (both_passed first forms a b) c
 
   pub at_toml : (fault : Fault) → AnswersFirst (first_failing first) fault → AnswersFirst (scene_refusal bytes) fault
   unfolding scene_refusal
@@ -63,5 +63,5 @@ module _ (bytes : List ℕ) where
 
   pub read_result : {T : Type 0} (r : Result T Fault) → first_failing first ≡ None → first_failing forms ≡ None
       → OnOk r (first_failing values ≡ None) → IfErr r (AnswersFirst (first_failing values)) → OnOk r (scene_refusal bytes ≡ None) × IfErr r (AnswersFirst (scene_refusal bytes))
-  read_result (Ok x) a b accepted refused = (none a b accepted, tt)
+  read_result (Ok x) a b accepted refused = (none_refused a b accepted, tt)
   read_result (Err fault) a b accepted refused = (tt, at_values a b fault refused)

@@ -1,7 +1,8 @@
 //! The tables of a scene file: which keys each has, in which order, and of which form.
 //!
 //! The reader cites these constants alone. The contracts here say that they are the keys of the format, which stand in
-//! a table of the definitions, `key_row` in `specs/Keys.antt`.
+//! a table of the definitions, `key_row` in `specs/Keys.antt`. The types are public, since the definitions speak of them; what
+//! is done with them is not.
 ghost use Rattle.std.specs.Prelude.{◌≡◌};
 ghost use Rattle.rail_scene.specs.Keys.{text_of, list_key, keys_of, part_of};
 
@@ -9,7 +10,7 @@ use rail_base::{Part, limits};
 
 /// Which key it is. Two keys of different tables that are written alike and are of one form are one.
 #[derive(Clone, Copy)]
-pub(crate) enum KeyName {
+pub enum KeyName {
     Version,
     Release,
     Depth,
@@ -95,15 +96,15 @@ impl KeyName {
 /// A range of whole numbers, and the number that an absent key stands for. A required key is never
 /// absent when its number is used.
 #[derive(Clone, Copy)]
-pub(crate) struct Bounds {
-    pub(crate) low: u32,
-    pub(crate) high: u32,
-    pub(crate) default: u32,
+pub struct Bounds {
+    pub low: u32,
+    pub high: u32,
+    pub default: u32,
 }
 
 /// What the value of a key has to be.
 #[derive(Clone, Copy)]
-pub(crate) enum Form {
+pub enum Form {
     /// A string that is a name.
     Name,
     /// A string that is a name; an absent key stands for `fcfs`.
@@ -125,15 +126,15 @@ pub(crate) enum Form {
 
 /// A key of a table.
 #[derive(Clone, Copy)]
-pub(crate) struct Key {
-    pub(crate) name: KeyName,
-    pub(crate) form: Form,
-    pub(crate) required: bool,
+pub struct Key {
+    pub name: KeyName,
+    pub form: Form,
+    pub required: bool,
 }
 
 /// The lists of tables of a scene file.
 #[derive(Clone, Copy)]
-pub(crate) enum ListPart {
+pub enum ListPart {
     Section,
     Portal,
     Signal,

@@ -15,7 +15,7 @@ mod draft;
 mod entries;
 mod fields;
 mod forms;
-mod keys;
+pub mod keys;
 mod laws;
 mod places;
 mod reading;

@@ -1,4 +1,7 @@
 //! Small scene files, each with the answer that the rules give it by hand.
+ghost use Rattle.std.specs.Prelude.{◌≡◌, IfOk};
+ghost use Rattle.rail_scene.specs.SpelledScenes.{spelled_scene};
+
 mod cases;
 mod limits;
 mod pieces;
@@ -9,6 +12,7 @@ use pieces::{OTHERS, ROOT, STATION, TRACK};
 use rail_base::{Fault, Name, Time, TrainKind};
 use rail_routes::{Network, Route, Step};
 use rail_scene::{Scene, SceneTrain, read_scene};
+use rail_scene_text::write_scene;
 use rail_track::{Section, SectionKind};
 use std::alloc::{AllocError, Global};
 
@@ -125,6 +129,35 @@ fn reads_the_track(alloc: Global) -> bool {
         }
         Err(_) => false,
     }
+}
+
+#[test]
+fn writes_what_is_read_as_the_same(rt: HostRuntime) {
+    assert!(rt; reads_the_track_again(rt.alloc()));
+}
+
+/// Whether the track is read from what is written of it as its file spells it.
+fn reads_the_track_again(alloc: Global) -> bool {
+    match read_again(alloc, TRACK.as_bytes()) {
+        Ok(scene) => {
+            let is_read = is_the_track(&scene);
+            drop(scene);
+            is_read
+        }
+        Err(_) => false,
+    }
+}
+
+/// The scene of a file, as it is read from what is written of it: it is the scene that the file spells.
+fn read_again(alloc: Global, bytes: &[u8]) -> Result<Scene, Fault>
+    ensures { IfOk result (λ scene. scene ≡ spelled_scene bytes.now) }
+{
+    let scene = read_scene(alloc, bytes)?;
+    let text = match write_scene(alloc, &scene) {
+        Ok(text) => text,
+        Err(_) => return Err(Fault::OutOfMemory),
+    };
+    read_scene(alloc, text.as_slice())
 }
 
 /// Whether the scene is what its file spells, with a depth, a policy and a priority that the file leaves

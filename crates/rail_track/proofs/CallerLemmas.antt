@@ -24,3 +24,7 @@ pub use Rattle.rail_track.proofs.Soundness.{IsAccepted}
 pub use Rattle.rail_track.proofs.Soundness.{fails_at}
 -- a joint that is not full is in one section at most
 pub use Rattle.rail_track.proofs.Soundness.{one_more}
+-- Acceptance: an item of a list, and those before it.
+pub use Rattle.rail_track.proofs.SectionAcceptance.{distinct_before, count_before, none_before}
+-- the sections of a sound track are accepted in their order
+pub use Rattle.rail_track.proofs.SectionAcceptance.{accepted_after}

@@ -6,6 +6,7 @@
 //! refused: change the rules there. How a roll or a track finds a name may be changed freely.
 #![tactic(auto)]
 
+mod acceptance;
 mod accepting;
 mod passing;
 mod roll;
@@ -13,6 +14,7 @@ mod section;
 mod tally;
 mod track;
 
+pub use acceptance::the_sections_of_a_sound_track_are_accepted_in_their_order;
 pub use accepting::ClosedJoints;
 pub use roll::{Keyed, Roll};
 pub use section::{NetFault, Section, SectionKind};

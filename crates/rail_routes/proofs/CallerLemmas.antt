@@ -1,0 +1,8 @@
+-- Lemmas for the crates above: what may be cited of this crate beside its definitions and public clauses. The other proof files are private to it.
+
+-- Acceptance: the items of a sound network are accepted in their order.
+pub use Rattle.rail_routes.proofs.SectionAcceptance.{section_after}
+pub use Rattle.rail_routes.proofs.PostAcceptance.{portal_after, signal_after, board_after}
+pub use Rattle.rail_routes.proofs.WayAcceptance.{turn_after, route_after}
+-- Roles: two that are the same are one.
+pub use Rattle.rail_routes.proofs.SectionChanges.{same_from_role}

@@ -1,0 +1,139 @@
+-- The tables that are written for a scene, as TOML sees them. The keys of a table stand in the order of their bytes.
+use Rattle.std.specs.Prelude.{ℕ, pos, List, [], ◌∷◌, ◌++◌, map, codes, Option, Some, None}
+use Rattle.std.specs.List.{flat_map}
+use Rattle.std.specs.Ordering.{nat_cmp, match_ordering}
+use Rattle.std.specs.Cmp.Lexicographic.{slice_cmp}
+use Rattle.toml.specs.Data.{Data, string, integer, array, table, Members, no_members, member}
+use Rattle.toml.specs.View.{items_of}
+use Rattle.rail_base.specs.Clock.{time_text}
+use Rattle.rail_base.specs.declared.plant.TrainKind.{TrainKind}
+use Rattle.rail_track.specs.declared.section.Section.{Section}
+use Rattle.rail_track.specs.declared.section.SectionKind.{SectionKind}
+use Rattle.rail_track.specs.declared.section.SectionKind.TheVariants.{Plain, Points, Crossing, Slip}
+use Rattle.rail_routes.specs.declared.items.Post.{Post}
+use Rattle.rail_routes.specs.declared.items.Role.{Role}
+use Rattle.rail_routes.specs.declared.items.Role.TheVariants.{Portal, Signal, Board}
+use Rattle.rail_routes.specs.declared.items.Route.{Route}
+use Rattle.rail_routes.specs.declared.items.Step.{Step}
+use Rattle.rail_routes.specs.declared.items.Turn.{Turn}
+use Rattle.rail_scene.specs.declared.scene.Scene.{Scene}
+use Rattle.rail_scene.specs.declared.scene.SceneTrain.{SceneTrain}
+
+-- the members with a value at a key, which keep the order of the keys' bytes
+abbrev pub put : List ℕ → Data → Members → Members
+put key value no_members = member key value no_members
+put key value (member other held members) =
+    match_ordering (slice_cmp nat_cmp key other)
+    (member key value (member other held members))
+    (member other value members)
+    (member other held (put key value members))
+
+-- a number that is not negative
+abbrev pub number : ℕ → Data
+number n = integer (pos n)
+
+-- the array of what stands for the items
+abbrev pub array_of : {X : Type 0} → (X → Data) → List X → Data
+array_of data_of items = array (items_of (map data_of items))
+
+-- the word of a section kind
+abbrev pub kind_word : SectionKind → List ℕ
+kind_word Plain = codes "plain"
+kind_word Points = codes "points"
+kind_word Crossing = codes "crossing"
+kind_word Slip = codes "slip"
+
+-- the table of a section
+abbrev pub section_data : Section → Data
+section_data section = table (
+    member (codes "joints") (array_of string section.joints) (
+    member (codes "kind") (string (kind_word section.kind)) (
+    member (codes "length") (number section.length) (
+    member (codes "name") (string section.name) (
+    member (codes "speed") (number section.speed) no_members)))))
+
+-- the members of a board's table
+abbrev pub board_members : Post → Members
+board_members post = member (codes "joint") (string post.joint) (member (codes "name") (string post.name) no_members)
+
+-- the members of a portal's table
+abbrev pub portal_members : Post → Members
+portal_members post =
+    member (codes "approach") (number post.approach) (
+    member (codes "joint") (string post.joint) (
+    member (codes "name") (string post.name) (
+    member (codes "setting") (number post.setting) (
+    member (codes "watching") (number post.watching) no_members))))
+
+-- the members that a post of the role has beside its section ahead
+abbrev pub post_members : Role → Post → Members
+post_members Portal post = portal_members post
+post_members Signal post = portal_members post
+post_members Board post = board_members post
+
+-- the members with the section ahead, where there is one
+abbrev pub with_ahead : Option (List ℕ) → Members → Members
+with_ahead None members = members
+with_ahead (Some ahead) members = put (codes "ahead") (string ahead) members
+
+-- the table of a post
+abbrev pub post_data : Post → Data
+post_data post = table (with_ahead post.ahead (post_members post.role post))
+
+-- the table of a turn
+abbrev pub turn_data : Turn → Data
+turn_data turn = table (
+    member (codes "arriving") (string turn.arriving) (
+    member (codes "leaving") (string turn.leaving) (
+    member (codes "time") (number turn.time) no_members)))
+
+-- the joint where the steps begin
+abbrev pub first_joint : List Step → List (List ℕ)
+first_joint [] = []
+first_joint (step ∷ steps) = step.from ∷ []
+
+-- the joints and sections of the steps in turn
+abbrev pub path_of : List Step → List (List ℕ)
+path_of steps = first_joint steps ++ flat_map (λ (step : Step). step.section ∷ step.to ∷ []) steps
+
+-- the table of a route
+abbrev pub route_data : Route → Data
+route_data route = table (
+    member (codes "from") (string route.from) (
+    member (codes "name") (string route.name) (
+    member (codes "path") (array_of string (path_of route.steps)) (
+    member (codes "to") (string route.to) no_members))))
+
+-- the table of a train kind
+abbrev pub kind_data : TrainKind → Data
+kind_data kind = table (
+    member (codes "length") (number kind.length) (
+    member (codes "name") (string kind.name) (
+    member (codes "speed") (number kind.speed) (
+    member (codes "start") (number kind.start) (
+    member (codes "stop") (number kind.stop) no_members)))))
+
+-- the table of a train
+abbrev pub train_data : SceneTrain → Data
+train_data train = table (
+    member (codes "entry") (string (time_text train.entry)) (
+    member (codes "kind") (string train.kind) (
+    member (codes "name") (string train.name) (
+    member (codes "priority") (number train.priority) (
+    member (codes "routes") (array_of string train.routes) no_members)))))
+
+-- the members of the root
+abbrev pub scene_members : Scene → Members
+scene_members scene =
+    member (codes "board") (array_of post_data scene.network.boards) (
+    member (codes "depth") (number scene.depth) (
+    member (codes "kind") (array_of kind_data scene.kinds) (
+    member (codes "policy") (string scene.policy) (
+    member (codes "portal") (array_of post_data scene.network.portals) (
+    member (codes "release") (number scene.release) (
+    member (codes "route") (array_of route_data scene.network.routes) (
+    member (codes "section") (array_of section_data scene.network.sections) (
+    member (codes "signal") (array_of post_data scene.network.signals) (
+    member (codes "train") (array_of train_data scene.trains) (
+    member (codes "turn") (array_of turn_data scene.network.turns) (
+    member (codes "version") (number 1) no_members)))))))))))

@@ -1,0 +1,75 @@
+//! Writing a scene file.
+ghost use Rattle.std.specs.Prelude.{◌≡◌, None, OnOk, IfOk};
+ghost use Rattle.toml.specs.View.{table_view};
+ghost use Rattle.rail_scene.specs.Order.{scene_refusal};
+ghost use Rattle.rail_scene.specs.Scenes.{IsScene};
+ghost use Rattle.rail_scene.specs.SpelledScenes.{spelled_scene};
+ghost use Rattle.rail_scene_text.specs.Tables.{scene_members};
+ghost use Rattle.rail_scene_text.specs.Typed.{IsTyped};
+
+use crate::values::{Written, array, put};
+use rail_base::{OutOfMemory, a_text_stands_for_one_time};
+use rail_scene::Scene;
+use std::alloc::{AllocError, Global};
+use toml::{Table, Value};
+
+/// The version of the scene format that is written.
+const VERSION: u32 = 1;
+
+/// A text that is read as the scene. How it is laid out may change from one release to the next.
+///
+/// The scene may be one that was read or one that was put together, as long as it keeps the limits and ranges of a
+/// scene; a network keeps its own at any time. The text of a scene near the limits may be longer than a scene file may
+/// be.
+pub fn write_scene(alloc: Global, scene: &Scene) -> Result<Vec<u8>, OutOfMemory>
+    requires kept { IsScene scene.now }
+    ensures accepted { IfOk result (λ text. scene_refusal text.items ≡ None) }
+    ensures same { IfOk result (λ text. spelled_scene text.items ≡ scene.now) }
+{
+    a_text_stands_for_one_time();
+    // A network is sound at any time, as its sections tell.
+    let _sections = scene.network.sections();
+    let root = scene_table(alloc, scene)?;
+    match toml::table_to_string(alloc, &root) {
+        Ok(text) => Ok(text.into_bytes()),
+        // A table without dates is printed wherever there is memory.
+        Err(_) => Err(OutOfMemory),
+    }
+}
+
+/// The table of a scene.
+fn scene_table(alloc: Global, scene: &Scene) -> Result<Table, AllocError>
+    ensures table { IfOk result (λ root. table_view root ≡ scene_members scene.now) }
+    ensures typed { OnOk result (IsTyped scene.now) }
+{
+    let network = &scene.network;
+    let mut root = Table::new(alloc);
+    put(alloc, &mut root, "version", Value::from(VERSION))?;
+    put(alloc, &mut root, "release", Value::from(scene.release))?;
+    put(alloc, &mut root, "depth", Value::from(scene.depth))?;
+    put(alloc, &mut root, "policy", scene.policy.value(alloc)?)?;
+    put(
+        alloc,
+        &mut root,
+        "section",
+        array(alloc, network.sections())?,
+    )?;
+    put(alloc, &mut root, "portal", array(alloc, network.portals())?)?;
+    put(alloc, &mut root, "signal", array(alloc, network.signals())?)?;
+    put(alloc, &mut root, "board", array(alloc, network.boards())?)?;
+    put(alloc, &mut root, "turn", array(alloc, network.turns())?)?;
+    put(alloc, &mut root, "route", array(alloc, network.routes())?)?;
+    put(
+        alloc,
+        &mut root,
+        "kind",
+        array(alloc, scene.kinds.as_slice())?,
+    )?;
+    put(
+        alloc,
+        &mut root,
+        "train",
+        array(alloc, scene.trains.as_slice())?,
+    )?;
+    Ok(root)
+}
