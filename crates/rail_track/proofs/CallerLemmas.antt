@@ -24,3 +24,11 @@ pub use Rattle.rail_track.proofs.Soundness.{IsAccepted}
 pub use Rattle.rail_track.proofs.Soundness.{fails_at}
 -- a joint that is not full is in one section at most
 pub use Rattle.rail_track.proofs.Soundness.{one_more}
+-- Inserts: a list with an item put in at a place.
+pub use Rattle.rail_track.proofs.Inserts.{count_by-insert, find-insert, without-insert}
+-- an item that was taken out stood at the place where it was found
+pub use Rattle.rail_track.proofs.Inserts.{stood_at}
+-- what holds of all items holds of the one that was put in
+pub use Rattle.rail_track.proofs.Inserts.{all_inserted}
+-- what a result that is no fault says
+pub use Rattle.rail_track.proofs.Inserts.{on_ok}

@@ -5,3 +5,4 @@ mod Tallies
 mod Refusals
 mod Withouts
 mod Soundness
+mod Inserts
