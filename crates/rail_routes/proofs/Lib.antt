@@ -10,3 +10,5 @@ mod Kept
 mod SectionChanges
 mod PostChanges
 mod WayChanges
+mod Puts
+mod Restorings
