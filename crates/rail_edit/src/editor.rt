@@ -1,4 +1,4 @@
-ghost use Rattle.std.specs.Prelude.{◌≡◌, ◌↔◌, [], None, Some, IsTrue, OnOk, OnErr, IfErr, Err};
+ghost use Rattle.std.specs.Prelude.{◌≡◌, ◌↔◌, ◌⊎◌, [], None, Some, IsTrue, OnOk, OnErr, IfErr, Err};
 ghost use Rattle.rail_track.specs.NetFaults.{Answers};
 
 use crate::edit::{Edit, Kept};
@@ -126,6 +126,7 @@ impl Editor {
     pub fn undo(&mut self, _alloc: Global) -> Result<(), EditFault>
         ensures undone { OnOk result (after_undo self.old ≡ Some self.new) }
         ensures nothing { (result ≡ Err fault.NothingToUndo) ↔ (after_undo self.old ≡ None) }
+        ensures refused { IfErr result (λ why. (why ≡ fault.NothingToUndo) ⊎ (why ≡ fault.OutOfMemory)) }
         ensures unchanged { OnErr result (self.new ≡ self.old) }
     {
         if self.done.is_empty() {
@@ -157,6 +158,7 @@ impl Editor {
     pub fn redo(&mut self, _alloc: Global) -> Result<(), EditFault>
         ensures redone { OnOk result (after_redo self.old ≡ Some self.new) }
         ensures nothing { (result ≡ Err fault.NothingToRedo) ↔ (after_redo self.old ≡ None) }
+        ensures refused { IfErr result (λ why. (why ≡ fault.NothingToRedo) ⊎ (why ≡ fault.OutOfMemory)) }
         ensures unchanged { OnErr result (self.new ≡ self.old) }
     {
         if self.undone.is_empty() {
