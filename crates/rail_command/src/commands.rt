@@ -77,8 +77,8 @@ fn push(commands: &mut Vec<Command>, at: Time, what: Order) -> Result<(), AllocE
     Ok(())
 }
 
-/// Whether the line is skipped.
-fn is_skipped(line: &[u8]) -> bool
+/// Whether the line is skipped: it has no word, or its first word begins with `#`.
+pub fn is_skipped(line: &[u8]) -> bool
     ensures { result ≡ is_skipped (words line.now) }
 {
     match next_word(line) {

@@ -13,7 +13,7 @@ mod lines;
 mod orders;
 mod times;
 
-pub use commands::read_commands;
+pub use commands::{is_skipped, read_commands};
 pub use decimals::{is_decimal, value_of};
 pub use lines::{next_line, next_word, refused_at};
 pub use times::{a_word_spells_an_input_time, input_time};

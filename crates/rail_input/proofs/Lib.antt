@@ -1,4 +1,5 @@
--- The lemmas of this crate, all private to it.
+-- The lemmas of this crate; those for the crates above stand in CallerLemmas.
+pub mod CallerLemmas
 mod OfBytes
 mod Policies
 mod FileOrder

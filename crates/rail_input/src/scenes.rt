@@ -3,6 +3,7 @@
 ghost use Rattle.std.specs.Prelude.{◌≡◌, true, false, None, IfOk, IfErr, OnOk};
 ghost use Rattle.rail_base.specs.Refusals.{AnswersFirst};
 ghost use Rattle.rail_rules.specs.Accepted.{is_accepted};
+ghost use Rattle.rail_scene.specs.Scenes.{IsScene};
 ghost use Rattle.rail_scene.specs.SpelledScenes.{spelled_scene};
 ghost use Rattle.rail_input.specs.Inputs.{plant_in, plant_refusal, refuses_file};
 
@@ -25,6 +26,7 @@ pub struct Planned {
 pub fn read_plant(alloc: Global, bytes: &[u8]) -> Result<Planned, Fault>
     ensures accepted { OnOk result (plant_refusal bytes.now ≡ None) }
     ensures scene { IfOk result (λ planned. planned.scene ≡ spelled_scene bytes.now) }
+    ensures kept { IfOk result (λ planned. IsScene planned.scene) }
     ensures plant { IfOk result (λ planned. planned.plant ≡ plant_in bytes.now) }
     ensures valid { OnOk result (is_accepted (plant_in bytes.now) ≡ true) }
     ensures refused { IfErr result (AnswersFirst (plant_refusal bytes.now)) }

@@ -15,3 +15,5 @@ mod WayChanges
 mod SectionAcceptance
 mod PostAcceptance
 mod WayAcceptance
+mod Puts
+mod Restorings

@@ -1,6 +1,6 @@
 -- What is in use, and so may not be taken out.
-use Rattle.std.specs.Prelude.{ℕ, Bool, false, not, ◌||◌, List, [], ◌∷◌, map, Option}
-use Rattle.std.specs.List.{list_any}
+use Rattle.std.specs.Prelude.{ℕ, Bool, false, not, ◌||◌, List, [], ◌∷◌, map, Option, is_none}
+use Rattle.std.specs.List.{find, list_any}
 use Rattle.std.specs.Option.{option_map_or}
 use Rattle.rail_base.specs.NameForms.{same_name}
 use Rattle.rail_base.specs.declared.refusals.Reason.TheVariants.{Unknown, InUse}
@@ -12,7 +12,7 @@ use Rattle.rail_track.specs.NetFaults.{refused_where}
 use Rattle.rail_routes.specs.declared.items.Step.{Step}
 use Rattle.rail_routes.specs.declared.items.Turn.{Turn}
 use Rattle.rail_routes.specs.declared.items.Route.{Route}
-use Rattle.rail_routes.specs.Net.{Net, posts, is_post}
+use Rattle.rail_routes.specs.Net.{Net, posts, is_post, is_turn, is_route}
 
 -- the sections that the route runs over, in order
 abbrev pub sections_of : Route → List (List ℕ)
@@ -53,3 +53,12 @@ post_removal net name =
     first_failing (refused_where Unknown 0 (not (list_any (is_post name) (posts net)))
     ∷ refused_where InUse 0 (is_post_used net name)
     ∷ [])
+
+-- why a turn is not taken out
+abbrev pub turn_removal : Net → List ℕ → List ℕ → Option NetFault
+turn_removal net arriving leaving =
+    first_failing (refused_where Unknown 0 (is_none (find (is_turn arriving leaving) net.turns)) ∷ [])
+
+-- why a route is not taken out
+abbrev pub route_removal : Net → List ℕ → Option NetFault
+route_removal net name = first_failing (refused_where Unknown 0 (is_none (find (is_route name) net.routes)) ∷ [])

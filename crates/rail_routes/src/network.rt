@@ -1,4 +1,4 @@
-ghost use Rattle.std.specs.Prelude.{◌≡◌, [], ◌∷◌, ◌++◌, Some, None, position, IsTrue, IfOk, IfErr, OnOk, OnErr};
+ghost use Rattle.std.specs.Prelude.{◌≡◌, [], ◌∷◌, ◌++◌, Some, None, position, IsTrue, IsSomeAnd, IfOk, IfErr, OnOk, OnErr};
 ghost use Rattle.std.specs.List.{find, list_any};
 ghost use Rattle.std.specs.Option.{option_copied};
 
@@ -14,6 +14,7 @@ use std::marker::Model;
 
 mod accepting;
 mod leading;
+mod restoring;
 
 /// Sections, posts, turns and routes, each in the order in which they were added. Contracts see it as
 /// those lists.
@@ -65,19 +66,17 @@ impl Model for Network {
 }
 
 impl Network {
-    ghost use Rattle.rail_base.specs.declared.refusals.Reason.TheVariants.{Unknown};
-    ghost use Rattle.rail_track.specs.declared.section.NetFault.TheVariants.{Refused};
     ghost use Rattle.rail_track.specs.Joints.{is_named, section_named};
-    ghost use Rattle.rail_track.specs.Lists.{without};
+    ghost use Rattle.rail_track.specs.Lists.{without, StoodAt};
     ghost use Rattle.rail_track.specs.NetFaults.{Answers};
     ghost use Rattle.rail_routes.specs.Net.{posts, is_post, is_turn, is_route, post_named, stands_at};
     ghost use Rattle.rail_routes.specs.SectionRules.{net_section_refusal};
     ghost use Rattle.rail_routes.specs.PostRules.{post_refusal, is_formed};
     ghost use Rattle.rail_routes.specs.TurnRules.{turn_refusal};
     ghost use Rattle.rail_routes.specs.RouteRules.{route_refusal};
-    ghost use Rattle.rail_routes.specs.Uses.{section_removal, post_removal};
+    ghost use Rattle.rail_routes.specs.Uses.{section_removal, post_removal, turn_removal, route_removal};
     ghost use Rattle.rail_routes.specs.Sound.{IsSoundNetwork};
-    ghost use Rattle.rail_routes.specs.PostChanges.{with_post, without_post};
+    ghost use Rattle.rail_routes.specs.PostChanges.{with_post, without_post, post_position, PostStoodAt};
 
     /// A network without items. It takes no memory.
     pub fn new(alloc: Global) -> Network
@@ -184,6 +183,8 @@ impl Network {
     pub fn add_section(&mut self, alloc: Global, section: Section) -> Result<(), NetFault>
         ensures accepted { OnOk result (net_section_refusal self.old section ≡ None) }
         ensures added { OnOk result (self.new ≡ record self.old { sections = self.old.sections ++ section ∷ [] }) }
+        ensures found { OnOk result (section_named section.name self.new.sections ≡ Some section) }
+        ensures back { OnOk result (without (is_named section.name) self.new.sections ≡ self.old.sections) }
         ensures refused { IfErr result (Answers (net_section_refusal self.old section)) }
         ensures unchanged { OnErr result (self.new ≡ self.old) }
         ensures sound { IsSoundNetwork self.new }
@@ -211,6 +212,8 @@ impl Network {
         requires { IsTrue (is_formed post) }
         ensures accepted { OnOk result (post_refusal self.old post ≡ None) }
         ensures added { OnOk result (self.new ≡ with_post post self.old) }
+        ensures found { OnOk result (post_named post.name self.new ≡ Some post) }
+        ensures back { OnOk result (without_post post.name self.new ≡ self.old) }
         ensures refused { IfErr result (Answers (post_refusal self.old post)) }
         ensures unchanged { OnErr result (self.new ≡ self.old) }
         ensures sound { IsSoundNetwork self.new }
@@ -235,6 +238,8 @@ impl Network {
     pub fn add_turn(&mut self, _alloc: Global, turn: Turn) -> Result<(), NetFault>
         ensures accepted { OnOk result (turn_refusal self.old turn ≡ None) }
         ensures added { OnOk result (self.new ≡ record self.old { turns = self.old.turns ++ turn ∷ [] }) }
+        ensures found { OnOk result (find (is_turn turn.arriving turn.leaving) self.new.turns ≡ Some turn) }
+        ensures back { OnOk result (without (is_turn turn.arriving turn.leaving) self.new.turns ≡ self.old.turns) }
         ensures refused { IfErr result (Answers (turn_refusal self.old turn)) }
         ensures unchanged { OnErr result (self.new ≡ self.old) }
         ensures sound { IsSoundNetwork self.new }
@@ -261,6 +266,8 @@ impl Network {
     pub fn add_route(&mut self, _alloc: Global, route: Route) -> Result<(), NetFault>
         ensures accepted { OnOk result (route_refusal self.old route ≡ None) }
         ensures added { OnOk result (self.new ≡ record self.old { routes = self.old.routes ++ route ∷ [] }) }
+        ensures found { OnOk result (find (is_route route.name) self.new.routes ≡ Some route) }
+        ensures back { OnOk result (without (is_route route.name) self.new.routes ≡ self.old.routes) }
         ensures refused { IfErr result (Answers (route_refusal self.old route)) }
         ensures unchanged { OnErr result (self.new ≡ self.old) }
         ensures sound { IsSoundNetwork self.new }
@@ -288,6 +295,9 @@ impl Network {
         ensures accepted { OnOk result (section_removal self.old name ≡ None) }
         ensures removed { IfOk result (λ section. section_named name self.old.sections ≡ Some section) }
         ensures rest { OnOk result (self.new ≡ record self.old { sections = without (is_named name) self.old.sections }) }
+        ensures named { IfOk result (λ section. section.name ≡ name) }
+        ensures stood { IfOk result (λ section.
+            IsSomeAnd (position (is_named name) self.old.sections) (StoodAt section self.new.sections self.old.sections)) }
         ensures refused { IfErr result (λ fault. section_removal self.old name ≡ Some fault) }
         ensures unchanged { OnErr result (self.new ≡ self.old) }
         ensures sound { IsSoundNetwork self.new }
@@ -305,6 +315,8 @@ impl Network {
         ensures accepted { OnOk result (post_removal self.old name ≡ None) }
         ensures removed { IfOk result (λ post. post_named name self.old ≡ Some post) }
         ensures rest { OnOk result (self.new ≡ without_post name self.old) }
+        ensures named { IfOk result (λ post. post.name ≡ name) }
+        ensures stood { IfOk result (λ post. IsSomeAnd (post_position name self.old) (PostStoodAt post self.new self.old)) }
         ensures refused { IfErr result (λ fault. post_removal self.old name ≡ Some fault) }
         ensures unchanged { OnErr result (self.new ≡ self.old) }
         ensures sound { IsSoundNetwork self.new }
@@ -328,10 +340,14 @@ impl Network {
     /// Takes the turn between these posts out. The others keep their order. It takes no memory. It is
     /// refused as unknown, at step 0, exactly where no turn is between them.
     pub fn remove_turn(&mut self, arriving: Name, leaving: Name) -> Result<Turn, NetFault>
+        ensures accepted { OnOk result (turn_removal self.old arriving leaving ≡ None) }
         ensures removed { IfOk result (λ turn. find (is_turn arriving leaving) self.old.turns ≡ Some turn) }
         ensures rest { OnOk result (self.new ≡ record self.old { turns = without (is_turn arriving leaving) self.old.turns }) }
-        ensures absent { OnErr result (find (is_turn arriving leaving) self.old.turns ≡ None) }
-        ensures refused { IfErr result (λ fault. fault ≡ Refused Unknown 0) }
+        ensures arriving { IfOk result (λ turn. turn.arriving ≡ arriving) }
+        ensures leaving { IfOk result (λ turn. turn.leaving ≡ leaving) }
+        ensures stood { IfOk result (λ turn.
+            IsSomeAnd (position (is_turn arriving leaving) self.old.turns) (StoodAt turn self.new.turns self.old.turns)) }
+        ensures refused { IfErr result (λ fault. turn_removal self.old arriving leaving ≡ Some fault) }
         ensures unchanged { OnErr result (self.new ≡ self.old) }
         ensures sound { IsSoundNetwork self.new }
     {
@@ -348,10 +364,13 @@ impl Network {
     /// Takes the route of this name out. The others keep their order. It takes no memory. It is refused
     /// as unknown, at step 0, exactly where no route has the name.
     pub fn remove_route(&mut self, name: Name) -> Result<Route, NetFault>
+        ensures accepted { OnOk result (route_removal self.old name ≡ None) }
         ensures removed { IfOk result (λ route. find (is_route name) self.old.routes ≡ Some route) }
         ensures rest { OnOk result (self.new ≡ record self.old { routes = without (is_route name) self.old.routes }) }
-        ensures absent { OnErr result (find (is_route name) self.old.routes ≡ None) }
-        ensures refused { IfErr result (λ fault. fault ≡ Refused Unknown 0) }
+        ensures named { IfOk result (λ route. route.name ≡ name) }
+        ensures stood { IfOk result (λ route.
+            IsSomeAnd (position (is_route name) self.old.routes) (StoodAt route self.new.routes self.old.routes)) }
+        ensures refused { IfErr result (λ fault. route_removal self.old name ≡ Some fault) }
         ensures unchanged { OnErr result (self.new ≡ self.old) }
         ensures sound { IsSoundNetwork self.new }
     {

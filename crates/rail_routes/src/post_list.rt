@@ -1,4 +1,4 @@
-ghost use Rattle.std.specs.Prelude.{◌≡◌, ◌<◌, ◌^◌, false, List, [], ◌∷◌, ◌++◌, length, OnOk, OnErr};
+ghost use Rattle.std.specs.Prelude.{◌≡◌, ◌<◌, ◌≤◌, ◌^◌, false, List, [], ◌∷◌, ◌++◌, length, insert, position, OnOk, OnErr};
 ghost use Rattle.std.specs.List.{find, list_any};
 ghost use Rattle.std.specs.Option.{option_copied};
 ghost use Rattle.rail_track.specs.Lists.{without};
@@ -76,6 +76,13 @@ impl PostList {
         self.posts.get(&name).copied()
     }
 
+    /// The index of the post of this name, from 0.
+    pub(crate) fn index_of(&self, name: Name) -> Option<usize>
+        ensures { result ≡ position (is_post name) self.now }
+    {
+        self.posts.index_of(&name)
+    }
+
     /// Whether a post stands at the joint.
     pub(crate) fn stands_at(&self, joint: Name) -> bool
         ensures { result ≡ list_any (stands_at joint) self.now }
@@ -102,6 +109,28 @@ impl PostList {
         let joint = post.joint;
         let ahead = post.ahead;
         self.posts.push(post)?;
+        count(&mut self.at, joint);
+        if let Some(ahead) = ahead {
+            count(&mut self.guards, (joint, ahead));
+        }
+        Ok(())
+    }
+
+    /// Puts a post in at the index, from 0. It fails only for want of memory.
+    pub(crate) fn insert(&mut self, index: usize, post: Post) -> Result<(), AllocError>
+        requires within { index ≤ length self.old }
+        requires fresh { list_any (is_post post.name) self.old ≡ false }
+        requires few { length self.old < 2 ^ 16 }
+        ensures ok { OnOk result (self.new ≡ insert self.old index post) }
+        ensures err { OnErr result (self.new ≡ self.old) }
+    {
+        self.at.reserve(1)?;
+        self.guards.reserve(1)?;
+        let joint = post.joint;
+        let ahead = post.ahead;
+        if self.posts.insert(index, post).is_err() {
+            return Err(AllocError);
+        }
         count(&mut self.at, joint);
         if let Some(ahead) = ahead {
             count(&mut self.guards, (joint, ahead));

@@ -1,4 +1,4 @@
-//! Tests of what a scene file is read from: tracks, networks and scenes, each public call on its happy path,
+//! Tests of what a scene file is read from and edited by: tracks, networks, scenes and edit files, each public call on its happy path,
 //! the refusals in their order, and the ends of each range and limit.
 //!
 //! They stand here and not beside the calls because a crate with tests is proved twice, and apart from
@@ -7,6 +7,8 @@
 //! stands on this crate.
 #![tactic(auto)]
 
+#[cfg(test)]
+mod edits;
 #[cfg(test)]
 mod networks;
 #[cfg(test)]

@@ -8,7 +8,8 @@ mod pieces;
 
 use cases::CASES;
 use limits::LIMITS;
-use pieces::{OTHERS, ROOT, STATION, TRACK};
+pub(crate) use pieces::TRACK;
+use pieces::{OTHERS, ROOT, STATION};
 use rail_base::{Fault, Name, Time, TrainKind};
 use rail_routes::{Network, Route, Step};
 use rail_scene::{Scene, SceneTrain, read_scene};

@@ -11,7 +11,7 @@ pub use Rattle.rail_track.proofs.Refusals.{answers_first}
 -- a test that fails less often passes where the other does
 pub use Rattle.rail_track.proofs.Refusals.{passes_too}
 -- Withouts: a list without its first item that passes a test.
-pub use Rattle.rail_track.proofs.Withouts.{are_distinct-push, count_by-without, count_by-without-le, length-without-le, list_all-without, without-absent}
+pub use Rattle.rail_track.proofs.Withouts.{are_distinct-push, count_by-without, count_by-without-le, find_passes, length-without-le, list_all-without, without-absent}
 -- whether an item passes, by the number of those that do
 pub use Rattle.rail_track.proofs.Withouts.{count_by_none}
 -- some item passes where more than none do
@@ -28,3 +28,13 @@ pub use Rattle.rail_track.proofs.Soundness.{one_more}
 pub use Rattle.rail_track.proofs.SectionAcceptance.{distinct_before, count_before, none_before}
 -- the sections of a sound track are accepted in their order
 pub use Rattle.rail_track.proofs.SectionAcceptance.{accepted_after}
+-- Inserts: a list with an item put in at a place.
+pub use Rattle.rail_track.proofs.Inserts.{count_by-insert, find-insert, without-insert}
+-- an item that was taken out stood at the place where it was found
+pub use Rattle.rail_track.proofs.Inserts.{stood_at}
+-- what holds of all items holds of the one that was put in
+pub use Rattle.rail_track.proofs.Inserts.{all_inserted}
+-- what a result that is no fault says
+pub use Rattle.rail_track.proofs.Inserts.{on_ok}
+-- an item of a list whose items are apart is apart from all others
+pub use Rattle.rail_track.proofs.Inserts.{fresh_from}

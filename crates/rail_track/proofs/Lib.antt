@@ -6,3 +6,4 @@ mod Refusals
 mod Withouts
 mod Soundness
 mod SectionAcceptance
+mod Inserts

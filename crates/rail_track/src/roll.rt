@@ -1,10 +1,10 @@
-ghost use Rattle.std.specs.Prelude.{◌≡◌, false, List, [], ◌∷◌, ◌++◌, length, map, position, IsTrue, OnOk, OnErr, OnSome, IfNone};
+ghost use Rattle.std.specs.Prelude.{◌≡◌, ◌≤◌, false, List, [], ◌∷◌, ◌++◌, length, insert, map, position, IsTrue, OnOk, OnErr, OnSome, IfErr, IfNone};
 ghost use Rattle.std.specs.List.{find, list_any};
 ghost use Rattle.std.specs.Option.{option_copied};
 ghost use Rattle.rail_track.specs.Lists.{without};
 
 use indexmap::IndexSet;
-use std::alloc::{AllocError, Global};
+use std::alloc::{AllocError, AllocFailed, Global};
 use std::hash::Hash;
 use std::marker::Model;
 
@@ -99,6 +99,23 @@ impl<K: Eq + Hash + Drop, T: Keyed<K> + Drop> Roll<K, T> {
         self.keys.insert(item.key())?;
         self.items.push_reserved(item);
         Ok(())
+    }
+
+    /// Puts an item in at the index, from 0. It fails only for want of memory, and then gives the item back.
+    pub fn insert(&mut self, index: usize, item: T) -> Result<(), AllocFailed<T>>
+        requires within { index ≤ length self.old }
+        requires fresh { list_any (λ other. K.eq (T.key_of item) (T.key_of other)) self.old ≡ false }
+        ensures ok { OnOk result (self.new ≡ insert self.old index item) }
+        ensures err { OnErr result (self.new ≡ self.old) }
+        ensures returned { IfErr result (λ refused. refused.value ≡ item) }
+    {
+        if self.items.reserve(1).is_err() {
+            return Err(AllocFailed { value: item });
+        }
+        if self.keys.shift_insert(index, item.key()).is_err() {
+            return Err(AllocFailed { value: item });
+        }
+        self.items.insert(index, item)
     }
 
     /// Takes the item with the key out. The others keep their order. It takes no memory.

@@ -1,4 +1,4 @@
-ghost use Rattle.std.specs.Prelude.{◌≡◌, [], ◌∷◌, ◌++◌, Some, None, position, IfOk, IfErr, OnOk, OnErr};
+ghost use Rattle.std.specs.Prelude.{◌≡◌, ◌≤◌, [], ◌∷◌, ◌++◌, length, insert, Some, None, position, IfOk, IfErr, OnOk, OnErr};
 ghost use Rattle.std.specs.List.{list_any};
 ghost use Rattle.std.specs.Option.{option_copied};
 
@@ -10,7 +10,7 @@ use crate::tally::{Tally, count_each, discount_each, times};
 use indexmap::IndexMap;
 use rail_base::limits::{SECTION_LENGTH, SECTIONS, SPEED};
 use rail_base::{Name, Reason};
-use std::alloc::Global;
+use std::alloc::{AllocFailed, Global};
 use std::marker::Model;
 
 /// Sections by name, in the order in which they were added. Contracts see it as their list.
@@ -145,6 +145,29 @@ impl Track {
         let index = self.sections.as_slice().len();
         self.uses.reserve(section.joints.as_slice().len())?;
         self.sections.push(section)?;
+        count_each(
+            &mut self.uses,
+            self.sections.as_slice()[index].joints.as_slice(),
+        );
+        Ok(())
+    }
+
+    /// Puts a section back at the index where it stood, from 0: the track was sound with it. It fails only
+    /// for want of memory, and then gives the section back.
+    pub fn put_back(&mut self, index: usize, section: Section) -> Result<(), AllocFailed<Section>>
+        requires within { index ≤ length self.old }
+        requires sound { IsSoundTrack (insert self.old index section) }
+        ensures put { OnOk result (self.new ≡ insert self.old index section) }
+        ensures unchanged { OnErr result (self.new ≡ self.old) }
+        ensures returned { IfErr result (λ refused. refused.value ≡ section) }
+    {
+        if self.uses.reserve(section.joints.as_slice().len()).is_err() {
+            return Err(AllocFailed { value: section });
+        }
+        match self.sections.insert(index, section) {
+            Ok(()) => {}
+            Err(refused) => return Err(refused),
+        }
         count_each(
             &mut self.uses,
             self.sections.as_slice()[index].joints.as_slice(),

@@ -7,7 +7,7 @@ release = 20
 ";
 
 /// Three sections from one portal to another, and one or two items of each other part.
-pub(super) const TRACK: &str = "\
+pub(crate) const TRACK: &str = "\
 version = 1
 release = 20
 [[section]]

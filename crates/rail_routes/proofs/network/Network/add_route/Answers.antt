@@ -12,6 +12,10 @@ use Rattle.rail_routes.specs.Uses.{sections_of}
 use Rattle.rail_routes.proofs.Tables.{route_uses-le, runs_of-le, route_fits, short_length}
 use Rattle.rail_routes.specs.NetworkFields.{lists_of}
 use Rattle.rail_routes.proofs.WayChanges.{sound_with_route, sound_short}
+use Rattle.std.specs.List.{list_any}
+use Rattle.rail_routes.specs.Net.{is_route}
+use Rattle.rail_track.proofs.CallerLemmas.{same_name-self}
+use Rattle.rail_routes.proofs.Restorings.{found_last, fresh_route, without_last}
 use Rattle.rail_routes.proofs.network.Network.add_route.Goals as goal
 
 pub count_each-requires-clause-fits : goal.count_each-requires-clause-fits
@@ -60,3 +64,15 @@ invariant_of-self-2 c =
 
 pub returns-clause-sound : goal.returns-clause-sound
 returns-clause-sound c = rw c.in_ok-push.ensures.ok (sound_with_route (lists_of c.self.inside) c.args.route c.self.invariant.sound (ap (λ (net : Net). route_refusal net c.args.route) c.self.view_is ∙ sym c.in_default.ensures))
+
+pub returns-clause-found : goal.returns-clause-found
+returns-clause-found c =
+    let test = is_route c.args.route.name in
+    let fresh = ap (λ (net : Net). list_any test net.routes) c.self.view_is ∙ fresh_route c.args.self.now c.args.route (sym c.in_default.ensures) in
+    rw c.in_ok-push.ensures.ok (found_last test c.self.inside.routes c.args.route fresh (same_name-self c.args.route.name))
+
+pub returns-clause-back : goal.returns-clause-back
+returns-clause-back c =
+    let test = is_route c.args.route.name in
+    let fresh = ap (λ (net : Net). list_any test net.routes) c.self.view_is ∙ fresh_route c.args.self.now c.args.route (sym c.in_default.ensures) in
+    rw c.in_ok-push.ensures.ok (without_last test c.self.inside.routes c.args.route fresh (same_name-self c.args.route.name) ∙ ap (λ (net : Net). net.routes) c.self.view_is)

@@ -9,6 +9,13 @@ use Rattle.rail_routes.specs.SectionRules.{net_section_refusal}
 use Rattle.rail_routes.proofs.Extensions.{track_accepts}
 use Rattle.rail_routes.specs.NetworkFields.{lists_of}
 use Rattle.rail_routes.proofs.SectionChanges.{sound_after_adding}
+use Rattle.rail_track.specs.Joints.{is_named, section_named}
+use Rattle.rail_track.specs.Lists.{without}
+use Rattle.rail_track.specs.declared.section.Section.{Section}
+use Rattle.rail_track.proofs.CallerLemmas.{accepted, same_name-self}
+use Rattle.rail_routes.specs.SectionRules.{is_closed_by}
+use Rattle.rail_routes.proofs.Restorings.{found_last, on_ok_more, without_last}
+use Rattle.std.proofs.Common.{◌≡◌, List, ◌++◌, ◌∷◌, [], Some}
 use Rattle.rail_routes.proofs.network.Network.add_section.Goals as goal
 
 pub returns-in-Some-clause-refused : goal.returns-in-Some-clause-refused
@@ -34,3 +41,18 @@ invariant_of-self c =
 pub returns-clause-sound : goal.returns-clause-sound
 returns-clause-sound c =
     sound_after_adding (lists_of c.self.inside) c.args.section _ c.add_section.result c.self.invariant.sound (sym c.in_default.ensures) c.add_section.ensures.sound c.add_section.ensures.added c.add_section.ensures.unchanged
+
+pub returns-clause-found : goal.returns-clause-found
+returns-clause-found c =
+    let sections = c.self.inside.track in
+    let section = c.args.section in
+    let fresh = (accepted sections (is_closed_by sections c.self.inside.portals) section (sym c.in_default.ensures)).fresh in
+    on_ok_more c.add_section.result c.add_section.ensures.added (λ (added : c.add_section.new.self ≡ sections ++ section ∷ []). ap (section_named section.name) added ∙ found_last (is_named section.name) sections section fresh (same_name-self section.name))
+
+pub returns-clause-back : goal.returns-clause-back
+returns-clause-back c =
+    let sections = c.self.inside.track in
+    let section = c.args.section in
+    let fresh = (accepted sections (is_closed_by sections c.self.inside.portals) section (sym c.in_default.ensures)).fresh in
+    on_ok_more c.add_section.result c.add_section.ensures.added
+    (λ (added : c.add_section.new.self ≡ sections ++ section ∷ []). ap (without (is_named section.name)) added ∙ without_last (is_named section.name) sections section fresh (same_name-self section.name) ∙ ap (λ (net : Net). net.sections) c.self.view_is)

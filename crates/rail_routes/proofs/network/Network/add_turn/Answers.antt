@@ -9,6 +9,9 @@ use Rattle.rail_routes.specs.Net.{Net}
 use Rattle.rail_routes.specs.TurnRules.{turn_refusal}
 use Rattle.rail_routes.specs.NetworkFields.{lists_of}
 use Rattle.rail_routes.proofs.WayChanges.{sound_with_turn}
+use Rattle.std.specs.List.{list_any}
+use Rattle.rail_routes.specs.Net.{is_turn}
+use Rattle.rail_routes.proofs.Restorings.{found_last, fresh_turn, own_turn, without_last}
 use Rattle.rail_routes.proofs.network.Network.add_turn.Goals as goal
 
 pub count_each-requires-clause-fits : goal.count_each-requires-clause-fits
@@ -31,3 +34,15 @@ invariant_of-self-2 c =
 
 pub returns-clause-sound : goal.returns-clause-sound
 returns-clause-sound c = rw c.in_ok-push.ensures.ok (sound_with_turn (lists_of c.self.inside) c.args.turn c.self.invariant.sound (ap (λ (net : Net). turn_refusal net c.args.turn) c.self.view_is ∙ sym c.in_default.ensures))
+
+pub returns-clause-found : goal.returns-clause-found
+returns-clause-found c =
+    let test = is_turn c.args.turn.arriving c.args.turn.leaving in
+    let fresh = ap (λ (net : Net). list_any test net.turns) c.self.view_is ∙ fresh_turn c.args.self.now c.args.turn (sym c.in_default.ensures) in
+    rw c.in_ok-push.ensures.ok (found_last test c.self.inside.turns c.args.turn fresh (own_turn c.args.turn))
+
+pub returns-clause-back : goal.returns-clause-back
+returns-clause-back c =
+    let test = is_turn c.args.turn.arriving c.args.turn.leaving in
+    let fresh = ap (λ (net : Net). list_any test net.turns) c.self.view_is ∙ fresh_turn c.args.self.now c.args.turn (sym c.in_default.ensures) in
+    rw c.in_ok-push.ensures.ok (without_last test c.self.inside.turns c.args.turn fresh (own_turn c.args.turn) ∙ ap (λ (net : Net). net.turns) c.self.view_is)

@@ -5,6 +5,12 @@ use Rattle.rail_routes.specs.Uses.{post_removal}
 use Rattle.rail_routes.proofs.Removals.{post_known, post_of_lists, unused}
 use Rattle.rail_routes.specs.NetworkFields.{lists_of}
 use Rattle.rail_routes.proofs.PostChanges.{sound_without_post}
+use Rattle.std.proofs.Common.{◌≡◌, Some, IsSomeAnd, subst}
+use Rattle.rail_track.proofs.CallerLemmas.{same_from_name}
+use Rattle.rail_routes.specs.Net.{is_post, posts}
+use Rattle.rail_routes.specs.PostChanges.{PostStoodAt, post_position, without_post}
+use Rattle.rail_routes.proofs.Lists.{find_true}
+use Rattle.rail_routes.proofs.Restorings.{post_stood}
 use Rattle.rail_routes.proofs.network.Network.remove_post.Goals as goal
 
 pub invariant_of-self : goal.invariant_of-self
@@ -51,3 +57,18 @@ pub returns-clause-sound : goal.returns-clause-sound
 returns-clause-sound c =
     rw (c.remove-portal.ensures.rest, c.remove-signal.ensures.rest, c.remove-board.ensures.rest)
     (sound_without_post (lists_of c.self.inside) c.args.name c.self.invariant.sound (unused (lists_of c.self.inside) c.args.name (ap (λ (net : Net). post_removal net c.args.name) c.self.view_is ∙ sym c.in_default.ensures)))
+
+pub returns-clause-named : goal.returns-clause-named
+returns-clause-named c =
+    let post = c.in-Some-or.post in
+    let found = post_of_lists c.args.name c.self.inside.portals c.self.inside.signals c.self.inside.boards _ _ _ _ c.remove-portal.ensures.post c.remove-signal.ensures.post c.remove-board.ensures.post (c.or-2.ensures ∙ ap (λ o. option_or o c.remove-board.result) c.or.ensures) in
+    sym (same_from_name c.args.name post.name (find_true (is_post c.args.name) (posts (lists_of c.self.inside)) post (sym found ∙ c.in-Some-or.is)))
+
+pub returns-clause-stood : goal.returns-clause-stood
+returns-clause-stood c =
+    let net = lists_of c.self.inside in
+    let name = c.args.name in
+    let post = c.in-Some-or.post in
+    let found = post_of_lists name c.self.inside.portals c.self.inside.signals c.self.inside.boards _ _ _ _ c.remove-portal.ensures.post c.remove-signal.ensures.post c.remove-board.ensures.post (c.or-2.ensures ∙ ap (λ o. option_or o c.remove-board.result) c.or.ensures) in
+    rw (c.remove-portal.ensures.rest, c.remove-signal.ensures.rest, c.remove-board.ensures.rest)
+    (subst (λ (old : Net). IsSomeAnd (post_position name old) (PostStoodAt post (without_post name net) old)) c.self.view_is (post_stood net name post c.self.invariant.sound (sym found ∙ c.in-Some-or.is)))

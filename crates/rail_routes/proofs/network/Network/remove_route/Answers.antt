@@ -7,6 +7,11 @@ use Rattle.rail_routes.specs.Uses.{sections_of}
 use Rattle.rail_routes.proofs.Uses.{sum_by-without}
 use Rattle.rail_routes.specs.NetworkFields.{lists_of}
 use Rattle.rail_routes.proofs.WayChanges.{sound_without_route}
+use Rattle.std.proofs.Common.{ap}
+use Rattle.rail_track.proofs.CallerLemmas.{same_from_name}
+use Rattle.rail_routes.specs.Net.{Net}
+use Rattle.rail_routes.proofs.Lists.{find_true}
+use Rattle.rail_routes.proofs.Restorings.{stood_of}
 use Rattle.rail_routes.proofs.network.Network.remove_route.Goals as goal
 
 pub invariant_of-self : goal.invariant_of-self
@@ -44,3 +49,12 @@ returns-in_default-clause-sound c = rw c.remove.ensures.rest (sound_without_rout
 
 pub returns-clause-sound : goal.returns-clause-sound
 returns-clause-sound c = rw c.remove.ensures.rest (sound_without_route (lists_of c.self.inside) (is_route c.args.name) c.self.invariant.sound)
+
+pub returns-clause-named : goal.returns-clause-named
+returns-clause-named c =
+    let route = c.in-Some.route in
+    sym (same_from_name c.args.name route.name (find_true (is_route c.args.name) c.self.inside.routes route (sym c.in-Some.ensures.item)))
+
+pub returns-clause-stood : goal.returns-clause-stood
+returns-clause-stood c =
+    stood_of (is_route c.args.name) c.self.inside.routes c.args.self.now.routes _ c.in-Some.route (sym c.in-Some.ensures.item) c.remove.ensures.rest (ap (λ (net : Net). net.routes) c.self.view_is)

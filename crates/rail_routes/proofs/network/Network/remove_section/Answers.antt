@@ -5,6 +5,11 @@ use Rattle.rail_routes.proofs.Removals.{never_refused, section_known}
 use Rattle.rail_routes.specs.NetworkFields.{lists_of}
 use Rattle.rail_routes.specs.Uses.{section_removal}
 use Rattle.rail_routes.proofs.SectionChanges.{sound_after_removal}
+use Rattle.std.proofs.Common.{◌≡◌}
+use Rattle.rail_track.specs.Joints.{is_named}
+use Rattle.rail_track.specs.declared.section.Section.{Section}
+use Rattle.rail_track.proofs.CallerLemmas.{same_from_name}
+use Rattle.rail_routes.proofs.Restorings.{passes_if_found, stood_if_found}
 use Rattle.rail_routes.proofs.network.Network.remove_section.Goals as goal
 
 pub returns-clause-refused : goal.returns-clause-refused
@@ -27,3 +32,11 @@ pub returns-clause-sound : goal.returns-clause-sound
 returns-clause-sound c =
     sound_after_removal (lists_of c.self.inside) c.args.name _ c.remove_section.result c.self.invariant.sound (ap (λ (net : Net). section_removal net c.args.name) c.self.view_is ∙ sym c.in_default.ensures)
     c.remove_section.ensures.sound c.remove_section.ensures.removed c.remove_section.ensures.rest c.remove_section.ensures.unchanged
+
+pub returns-clause-named : goal.returns-clause-named
+returns-clause-named c =
+    passes_if_found (is_named c.args.name) c.self.inside.track c.remove_section.result (λ (s : Section). s.name ≡ c.args.name) c.remove_section.ensures.removed (λ (s : Section) passes. sym (same_from_name c.args.name s.name passes))
+
+pub returns-clause-stood : goal.returns-clause-stood
+returns-clause-stood c =
+    stood_if_found (is_named c.args.name) c.self.inside.track c.remove_section.result c.args.self.now.sections _ c.remove_section.ensures.removed c.remove_section.ensures.rest (ap (λ (net : Net). net.sections) c.self.view_is)

@@ -6,6 +6,11 @@ use Rattle.rail_routes.specs.Net.{is_turn}
 use Rattle.rail_routes.proofs.Uses.{sum_by-without}
 use Rattle.rail_routes.specs.NetworkFields.{lists_of}
 use Rattle.rail_routes.proofs.WayChanges.{sound_without_turn}
+use Rattle.std.proofs.Common.{ap}
+use Rattle.rail_track.proofs.CallerLemmas.{same_from_name}
+use Rattle.rail_routes.specs.Net.{Net}
+use Rattle.rail_routes.proofs.Lists.{both_true, find_true}
+use Rattle.rail_routes.proofs.Restorings.{stood_of}
 use Rattle.rail_routes.proofs.network.Network.remove_turn.Goals as goal
 
 pub invariant_of-self : goal.invariant_of-self
@@ -36,3 +41,19 @@ returns-in_default-clause-sound c = rw c.remove.ensures.rest (sound_without_turn
 
 pub returns-clause-sound : goal.returns-clause-sound
 returns-clause-sound c = rw c.remove.ensures.rest (sound_without_turn (lists_of c.self.inside) (is_turn c.args.arriving c.args.leaving) c.self.invariant.sound)
+
+pub returns-clause-arriving : goal.returns-clause-arriving
+returns-clause-arriving c =
+    let turn = c.in-Some.turn in
+    let passes = both_true (same_name c.args.arriving turn.arriving) (same_name c.args.leaving turn.leaving) (find_true (is_turn c.args.arriving c.args.leaving) c.self.inside.turns turn (sym c.in-Some.ensures.item)) in
+    sym (same_from_name c.args.arriving turn.arriving passes.0)
+
+pub returns-clause-leaving : goal.returns-clause-leaving
+returns-clause-leaving c =
+    let turn = c.in-Some.turn in
+    let passes = both_true (same_name c.args.arriving turn.arriving) (same_name c.args.leaving turn.leaving) (find_true (is_turn c.args.arriving c.args.leaving) c.self.inside.turns turn (sym c.in-Some.ensures.item)) in
+    sym (same_from_name c.args.leaving turn.leaving passes.1)
+
+pub returns-clause-stood : goal.returns-clause-stood
+returns-clause-stood c =
+    stood_of (is_turn c.args.arriving c.args.leaving) c.self.inside.turns c.args.self.now.turns _ c.in-Some.turn (sym c.in-Some.ensures.item) c.remove.ensures.rest (ap (λ (net : Net). net.turns) c.self.view_is)

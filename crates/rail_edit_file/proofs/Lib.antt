@@ -1,0 +1,4 @@
+-- The lemmas of this crate.
+mod JoinedLines
+mod Steps
+mod FileOrder

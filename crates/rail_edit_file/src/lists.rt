@@ -1,0 +1,66 @@
+//! The words at the end of a line that are a list.
+
+ghost use Rattle.std.specs.Prelude.{◌≡◌, ◌≤◌, ◌∷◌, MatchOption, cond, length, option_map, Some, None, IfOk, IfSome};
+ghost use Rattle.std.specs.List.{list_all};
+ghost use Rattle.rail_base.specs.NameForms.{is_name};
+ghost use Rattle.rail_command.specs.Lines.{words};
+ghost use Rattle.rail_edit_file.specs.EditLines.{steps_from};
+
+use rail_base::Name;
+use rail_command::next_word;
+use rail_routes::Step;
+use std::alloc::{AllocError, Global};
+
+/// The names that the words are: `None` exactly where a word is no name.
+pub(crate) fn names(alloc: Global, args: &[u8]) -> Result<Option<Vec<Name>>, AllocError>
+    ensures { IfOk result (λ read.
+        option_map (λ names. names.items) read ≡ cond (list_all is_name (words args.now)) (Some (words args.now)) None) }
+{
+    let mut names = Vec::new(alloc);
+    let mut left = args;
+    while let Some((word, rest)) = next_word(left) {
+        let Some(name) = Name::read(word) else {
+            return Ok(None);
+        };
+        names.push(name)?;
+        left = rest;
+    }
+    Ok(Some(names))
+}
+
+/// The steps that the words are, each a section and the joint at which it is left, from a joint on: `None`
+/// exactly where a word is no name, or a section has no joint behind it.
+pub(crate) fn steps(
+    alloc: Global,
+    start: Name,
+    args: &[u8],
+) -> Result<Option<Vec<Step>>, AllocError>
+    ensures { IfOk result (λ read. option_map (λ steps. steps.items) read ≡ steps_from start (words args.now)) }
+{
+    let mut steps = Vec::new(alloc);
+    let mut from = start;
+    let mut left = args;
+    while let Some((word, rest)) = next_word(left) {
+        let Some((step, rest)) = step(from, word, rest) else {
+            return Ok(None);
+        };
+        from = step.to;
+        steps.push(step)?;
+        left = rest;
+    }
+    Ok(Some(steps))
+}
+
+/// The step over the section that the word names, from a joint to the one that the next word names, and the
+/// text behind that.
+fn step<'a>(from: Name, section: &[u8], rest: &'a [u8]) -> Option<(Step, &'a [u8])>
+    ensures read { MatchOption result (steps_from from (section.now ∷ words rest.now) ≡ None) (λ parts.
+        steps_from from (section.now ∷ words rest.now)
+        ≡ option_map (λ steps. parts.0 ∷ steps) (steps_from parts.0.to (words parts.1.now))) }
+    ensures less { IfSome result (λ parts. length parts.1.now ≤ length rest.now) }
+{
+    let (to, rest) = next_word(rest)?;
+    let section = Name::read(section)?;
+    let to = Name::read(to)?;
+    Some((Step { section, from, to }, rest))
+}
