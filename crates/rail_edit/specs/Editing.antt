@@ -1,5 +1,5 @@
 -- An editor: its network, the edits that led to it, and the undone edits.
-use Rattle.std.specs.Prelude.{◌≡◌, Bool, true, nat_le, cond, List, [], ◌∷◌, Option, Some, None, length}
+use Rattle.std.specs.Prelude.{◌≡◌, nat_le, cond, List, [], ◌∷◌, Option, Some, None, length}
 use Rattle.rail_base.specs.Limits.{most, Edits}
 use Rattle.rail_base.specs.declared.refusals.Reason.TheVariants.{TooMany}
 use Rattle.rail_track.specs.declared.section.NetFault.{NetFault}

@@ -1,5 +1,5 @@
 -- How an editor is stored: its network, and of each edit only what takes it back.
-use Rattle.std.specs.Prelude.{ℕ, ◌+◌, ◌≤◌, List, [], ◌∷◌, length, reverse}
+use Rattle.std.specs.Prelude.{◌+◌, ◌≤◌, List, [], ◌∷◌, length, reverse}
 use Rattle.rail_base.specs.Limits.{most, Edits}
 use Rattle.rail_routes.specs.Net.{Net}
 use Rattle.rail_edit.specs.declared.edit.Kept.{Kept}

@@ -1,5 +1,5 @@
 -- Edits of a network.
-use Rattle.std.specs.Prelude.{Bool, true, List, [], ◌∷◌, ◌++◌, Option}
+use Rattle.std.specs.Prelude.{Bool, true, [], ◌∷◌, ◌++◌, Option}
 use Rattle.rail_track.specs.declared.section.NetFault.{NetFault}
 use Rattle.rail_track.specs.Joints.{is_named}
 use Rattle.rail_track.specs.Lists.{without}

@@ -1,5 +1,5 @@
 -- What is kept of an edit, and how it is taken back.
-use Rattle.std.specs.Prelude.{ℕ, ◌≤◌, List, [], Option, None, IsSome, unwrap_or, length, insert}
+use Rattle.std.specs.Prelude.{◌≤◌, [], None, IsSome, unwrap_or, length, insert}
 use Rattle.std.specs.List.{find}
 use Rattle.rail_track.specs.declared.section.Section.{Section}
 use Rattle.rail_track.specs.declared.section.SectionKind.TheVariants.{Plain}

@@ -38,6 +38,7 @@ pub(crate) fn make(network: &mut Network, alloc: Global, edit: Edit) -> Result<K
     }
 }
 
+/// Adds a section, and tells what takes it back.
 fn add_section(network: &mut Network, alloc: Global, section: Section) -> Result<Kept, NetFault>
     ensures accepted { OnOk result (edit_refusal (Edit.AddSection section) network.old ≡ None) }
     ensures edited { OnOk result (network.new ≡ edited (Edit.AddSection section) network.old) }
@@ -54,6 +55,7 @@ fn add_section(network: &mut Network, alloc: Global, section: Section) -> Result
     }
 }
 
+/// Adds a post, and tells what takes it back.
 fn add_post(network: &mut Network, alloc: Global, post: Post) -> Result<Kept, NetFault>
     requires { IsTrue (is_formed post) }
     ensures accepted { OnOk result (edit_refusal (Edit.AddPost post) network.old ≡ None) }
@@ -71,6 +73,7 @@ fn add_post(network: &mut Network, alloc: Global, post: Post) -> Result<Kept, Ne
     }
 }
 
+/// Adds a turn, and tells what takes it back.
 fn add_turn(network: &mut Network, alloc: Global, turn: Turn) -> Result<Kept, NetFault>
     ensures accepted { OnOk result (edit_refusal (Edit.AddTurn turn) network.old ≡ None) }
     ensures edited { OnOk result (network.new ≡ edited (Edit.AddTurn turn) network.old) }
@@ -91,6 +94,7 @@ fn add_turn(network: &mut Network, alloc: Global, turn: Turn) -> Result<Kept, Ne
     }
 }
 
+/// Adds a route, and tells what takes it back.
 fn add_route(network: &mut Network, alloc: Global, route: Route) -> Result<Kept, NetFault>
     ensures accepted { OnOk result (edit_refusal (Edit.AddRoute route) network.old ≡ None) }
     ensures edited { OnOk result (network.new ≡ edited (Edit.AddRoute route) network.old) }
@@ -107,6 +111,7 @@ fn add_route(network: &mut Network, alloc: Global, route: Route) -> Result<Kept,
     }
 }
 
+/// Takes a section out, and tells what takes that back.
 pub(crate) fn remove_section(network: &mut Network, name: Name) -> Result<Kept, NetFault>
     ensures accepted { OnOk result (edit_refusal (Edit.RemoveSection name) network.old ≡ None) }
     ensures edited { OnOk result (network.new ≡ edited (Edit.RemoveSection name) network.old) }
@@ -126,6 +131,7 @@ pub(crate) fn remove_section(network: &mut Network, name: Name) -> Result<Kept, 
     }
 }
 
+/// Takes a post out, and tells what takes that back.
 pub(crate) fn remove_post(network: &mut Network, name: Name) -> Result<Kept, NetFault>
     ensures accepted { OnOk result (edit_refusal (Edit.RemovePost name) network.old ≡ None) }
     ensures edited { OnOk result (network.new ≡ edited (Edit.RemovePost name) network.old) }
@@ -145,6 +151,7 @@ pub(crate) fn remove_post(network: &mut Network, name: Name) -> Result<Kept, Net
     }
 }
 
+/// Takes a turn out, and tells what takes that back.
 pub(crate) fn remove_turn(
     network: &mut Network,
     arriving: Name,
@@ -168,6 +175,7 @@ pub(crate) fn remove_turn(
     }
 }
 
+/// Takes a route out, and tells what takes that back.
 pub(crate) fn remove_route(network: &mut Network, name: Name) -> Result<Kept, NetFault>
     ensures accepted { OnOk result (edit_refusal (Edit.RemoveRoute name) network.old ≡ None) }
     ensures edited { OnOk result (network.new ≡ edited (Edit.RemoveRoute name) network.old) }

@@ -36,6 +36,7 @@ pub(crate) fn take_back(network: &mut Network, kept: Kept) -> Result<Edit, Kept>
     }
 }
 
+/// Puts a section back that an edit took out, and tells that edit.
 fn put_back_section(network: &mut Network, index: usize, section: Section) -> Result<Edit, Kept>
     requires fits { Fits (Kept.RemovedSection index section) network.old }
     requires sound { IsSoundNetwork (taken_back (Kept.RemovedSection index section) network.old) }
@@ -54,6 +55,7 @@ fn put_back_section(network: &mut Network, index: usize, section: Section) -> Re
     }
 }
 
+/// Puts a post back that an edit took out, and tells that edit.
 fn put_back_post(network: &mut Network, index: usize, post: Post) -> Result<Edit, Kept>
     requires fits { Fits (Kept.RemovedPost index post) network.old }
     requires sound { IsSoundNetwork (taken_back (Kept.RemovedPost index post) network.old) }
@@ -71,6 +73,7 @@ fn put_back_post(network: &mut Network, index: usize, post: Post) -> Result<Edit
     }
 }
 
+/// Puts a turn back that an edit took out, and tells that edit.
 fn put_back_turn(network: &mut Network, index: usize, turn: Turn) -> Result<Edit, Kept>
     requires fits { Fits (Kept.RemovedTurn index turn) network.old }
     requires sound { IsSoundNetwork (taken_back (Kept.RemovedTurn index turn) network.old) }
@@ -91,6 +94,7 @@ fn put_back_turn(network: &mut Network, index: usize, turn: Turn) -> Result<Edit
     }
 }
 
+/// Puts a route back that an edit took out, and tells that edit.
 fn put_back_route(network: &mut Network, index: usize, route: Route) -> Result<Edit, Kept>
     requires fits { Fits (Kept.RemovedRoute index route) network.old }
     requires sound { IsSoundNetwork (taken_back (Kept.RemovedRoute index route) network.old) }
@@ -137,6 +141,7 @@ pub(crate) fn make_again(network: &mut Network, edit: Edit) -> Result<Kept, Edit
     }
 }
 
+/// Adds a section again, and tells what takes it back.
 fn add_section_again(network: &mut Network, section: Section) -> Result<Kept, Edit>
     requires { IsSoundNetwork (edited (Edit.AddSection section) network.old) }
     ensures edited { OnOk result (network.new ≡ edited (Edit.AddSection section) network.old) }
@@ -154,6 +159,7 @@ fn add_section_again(network: &mut Network, section: Section) -> Result<Kept, Ed
     }
 }
 
+/// Adds a post again, and tells what takes it back.
 fn add_post_again(network: &mut Network, post: Post) -> Result<Kept, Edit>
     requires { IsSoundNetwork (edited (Edit.AddPost post) network.old) }
     ensures edited { OnOk result (network.new ≡ edited (Edit.AddPost post) network.old) }
@@ -172,6 +178,7 @@ fn add_post_again(network: &mut Network, post: Post) -> Result<Kept, Edit>
     }
 }
 
+/// Adds a turn again, and tells what takes it back.
 fn add_turn_again(network: &mut Network, turn: Turn) -> Result<Kept, Edit>
     requires { IsSoundNetwork (edited (Edit.AddTurn turn) network.old) }
     ensures edited { OnOk result (network.new ≡ edited (Edit.AddTurn turn) network.old) }
@@ -194,6 +201,7 @@ fn add_turn_again(network: &mut Network, turn: Turn) -> Result<Kept, Edit>
     }
 }
 
+/// Adds a route again, and tells what takes it back.
 fn add_route_again(network: &mut Network, route: Route) -> Result<Kept, Edit>
     requires { IsSoundNetwork (edited (Edit.AddRoute route) network.old) }
     ensures edited { OnOk result (network.new ≡ edited (Edit.AddRoute route) network.old) }

@@ -1,5 +1,5 @@
 -- The tables beside lists with an item put in at a place.
-use Rattle.std.proofs.Common.{◌≡◌, ℕ, zero, suc, ◌+◌, ◌≤◌, Bool, true, false, cond, nat_lt, List, [], ◌∷◌, count_by, Option, Some, None, insert, ap, ◌∙◌, arith}
+use Rattle.std.proofs.Common.{◌≡◌, ℕ, zero, suc, ◌+◌, ◌≤◌, Bool, true, false, cond, nat_lt, List, [], ◌∷◌, count_by, Some, None, insert, ap, ◌∙◌, arith}
 use Rattle.std.specs.List.{sum_by, list_any}
 use Rattle.std.proofs.lemmas.Bool.Decides.{nat_tests}
 use Rattle.rail_track.proofs.CallerLemmas.{list_any-count_by}

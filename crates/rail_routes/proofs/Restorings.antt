@@ -1,5 +1,5 @@
 -- Items that were put in are found by name and taken out again, and items that were taken out stood at their place.
-use Rattle.std.proofs.Common.{◌≡◌, ℕ, suc, ◌+◌, ◌≤◌, Bool, true, false, cond, not, ◌&&◌, ◌||◌, nat_lt, List, [], ◌∷◌, ◌++◌, length, count_by, insert, position, Option, Some, None, is_some, IsSomeAnd, Result, Ok, Err, OnOk, IfOk, refl, sym, ap, subst, ◌∙◌, arith}
+use Rattle.std.proofs.Common.{◌≡◌, ℕ, suc, ◌+◌, ◌≤◌, Bool, true, false, cond, not, ◌&&◌, ◌||◌, nat_lt, List, [], ◌∷◌, ◌++◌, length, count_by, position, Option, Some, None, is_some, IsSomeAnd, Result, Ok, Err, OnOk, IfOk, refl, sym, ap, subst, ◌∙◌, arith}
 use Rattle.std.specs.List.{find, list_all, list_any, position_or_len}
 use Rattle.std.specs.Option.{option_or}
 use Rattle.std.proofs.lemmas.Bool.Decides.{nat_tests}
@@ -13,7 +13,7 @@ use Rattle.rail_routes.specs.declared.items.Role.{Role}
 use Rattle.rail_routes.specs.declared.items.Role.TheVariants.{Portal, Signal, Board}
 use Rattle.rail_routes.specs.declared.items.Route.{Route}
 use Rattle.rail_routes.specs.declared.items.Turn.{Turn}
-use Rattle.rail_routes.specs.Net.{Net, posts, is_post, is_route, is_turn, post_named}
+use Rattle.rail_routes.specs.Net.{Net, is_post, is_route, is_turn, post_named}
 use Rattle.rail_routes.specs.PostChanges.{PostStoodAt, posts_of, post_position, with_post_as, with_post_at_as, without_post}
 use Rattle.rail_routes.specs.PostRules.{is_formed, post_refusal, post_tests, stands_well}
 use Rattle.rail_routes.specs.RouteRules.{route_refusal, route_tests}

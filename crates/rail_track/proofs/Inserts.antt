@@ -1,5 +1,5 @@
 -- A list with an item put in at a place.
-use Rattle.std.proofs.Common.{◌≡◌, ℕ, zero, suc, ◌+◌, ◌-◌, ◌<◌, if◌then◌else◌, ◌≤◌, nat_lt, Bool, true, false, cond, not, ◌&&◌, ◌||◌, List, [], ◌∷◌, ◌++◌, length, map, take, drop, insert, remove, slice_get, count_by, position, Some, None, IsSomeAnd, refl, sym, ap, ◌∙◌, arith, length-append, Result, Ok, Err, is_err, OnOk}
+use Rattle.std.proofs.Common.{◌≡◌, ℕ, zero, suc, ◌+◌, ◌-◌, ◌<◌, if◌then◌else◌, nat_lt, Bool, true, false, cond, not, ◌&&◌, ◌||◌, List, [], ◌∷◌, ◌++◌, length, map, insert, remove, slice_get, count_by, position, Some, None, IsSomeAnd, refl, sym, ap, ◌∙◌, arith, length-append, Result, Ok, Err, is_err, OnOk}
 use Rattle.std.specs.List.{find, list_any, list_all, position_or_len}
 use Rattle.std.specs.Option.{option_map_or}
 use Rattle.std.proofs.lemmas.Bool.{and_parts}

@@ -11,11 +11,10 @@ use Rattle.rail_routes.specs.NetworkFields.{lists_of}
 use Rattle.rail_routes.proofs.SectionChanges.{sound_after_adding}
 use Rattle.rail_track.specs.Joints.{is_named, section_named}
 use Rattle.rail_track.specs.Lists.{without}
-use Rattle.rail_track.specs.declared.section.Section.{Section}
 use Rattle.rail_track.proofs.CallerLemmas.{accepted, same_name-self}
 use Rattle.rail_routes.specs.SectionRules.{is_closed_by}
 use Rattle.rail_routes.proofs.Restorings.{found_last, on_ok_more, without_last}
-use Rattle.std.proofs.Common.{◌≡◌, List, ◌++◌, ◌∷◌, [], Some}
+use Rattle.std.proofs.Common.{◌≡◌, ◌++◌, ◌∷◌, []}
 use Rattle.rail_routes.proofs.network.Network.add_section.Goals as goal
 
 pub returns-in-Some-clause-refused : goal.returns-in-Some-clause-refused

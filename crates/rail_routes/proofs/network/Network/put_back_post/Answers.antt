@@ -1,13 +1,11 @@
-use Rattle.std.proofs.Common.{◌≡◌, List, insert, ap, subst, sym, ◌∙◌}
-use Rattle.std.specs.List.{list_any}
-use Rattle.rail_routes.specs.declared.items.Post.{Post}
+use Rattle.std.proofs.Common.{◌≡◌, insert, subst, sym, ◌∙◌}
 use Rattle.rail_routes.specs.declared.items.Role.{Role}
 use Rattle.rail_routes.specs.declared.items.Role.TheVariants.{Portal, Signal, Board}
-use Rattle.rail_routes.specs.Net.{Net, is_post}
+use Rattle.rail_routes.specs.Net.{Net}
 use Rattle.rail_routes.specs.NetworkFields.{lists_of}
 use Rattle.rail_routes.specs.PostChanges.{with_post_at_as}
 use Rattle.rail_routes.specs.Sound.{IsSoundNetwork}
-use Rattle.rail_routes.proofs.Restorings.{IsNewName, new_name, on_ok_more, post_found, post_taken}
+use Rattle.rail_routes.proofs.Restorings.{new_name, on_ok_more, post_found, post_taken}
 use Rattle.rail_routes.proofs.network.Network.put_back_post.Goals as goal
 
 pub insert-requires-clause-fresh : goal.insert-requires-clause-fresh

@@ -1,4 +1,4 @@
-use Rattle.std.proofs.Common.{◌≡◌, ℕ, ◌+◌, ◌≤◌, false, [], ◌∷◌, unwrap_or, count_by, ap, sym, ◌∙◌, arith, insert}
+use Rattle.std.proofs.Common.{◌≡◌, ℕ, false, [], ◌∷◌, unwrap_or, ap, sym, ◌∙◌, arith, insert}
 use Rattle.std.specs.List.{list_any}
 use Rattle.std.specs.Map.{lookup}
 use Rattle.std.proofs.lemmas.List.Sums.{count_by-le-length}

@@ -5,7 +5,7 @@ use Rattle.rail_routes.specs.Uses.{post_removal}
 use Rattle.rail_routes.proofs.Removals.{post_known, post_of_lists, unused}
 use Rattle.rail_routes.specs.NetworkFields.{lists_of}
 use Rattle.rail_routes.proofs.PostChanges.{sound_without_post}
-use Rattle.std.proofs.Common.{◌≡◌, Some, IsSomeAnd, subst}
+use Rattle.std.proofs.Common.{IsSomeAnd, subst}
 use Rattle.rail_track.proofs.CallerLemmas.{same_from_name}
 use Rattle.rail_routes.specs.Net.{is_post, posts}
 use Rattle.rail_routes.specs.PostChanges.{PostStoodAt, post_position, without_post}

@@ -1,6 +1,6 @@
 use Rattle.std.proofs.Common.{ap, ◌∙◌}
 use Rattle.std.specs.Option.{option_or}
-use Rattle.rail_routes.specs.Net.{Net, post_named}
+use Rattle.rail_routes.specs.Net.{post_named}
 use Rattle.rail_routes.proofs.Removals.{post_of_lists}
 use Rattle.rail_routes.proofs.network.Network.take_back_post.Goals as goal
 

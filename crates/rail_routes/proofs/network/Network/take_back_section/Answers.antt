@@ -1,11 +1,9 @@
-use Rattle.std.proofs.Common.{◌≡◌, Bool, List, Option, None, Result, Ok, Err, OnOk, OnErr, sym, ap, ◌∙◌}
+use Rattle.std.proofs.Common.{◌≡◌, Bool, List, None, Result, Ok, Err, OnOk, OnErr, sym, ap, ◌∙◌}
 use Rattle.std.specs.List.{find}
 use Rattle.rail_track.specs.Joints.{is_named}
 use Rattle.rail_track.specs.Lists.{without}
-use Rattle.rail_track.specs.declared.section.Section.{Section}
 use Rattle.rail_track.proofs.CallerLemmas.{without-absent}
 use Rattle.rail_routes.specs.Net.{Net}
-use Rattle.rail_routes.specs.NetworkFields.{lists_of}
 use Rattle.rail_routes.proofs.network.Network.take_back_section.Goals as goal
 
 -- what is left, whether there was such an item or not

@@ -1,4 +1,4 @@
-use Rattle.std.proofs.Common.{◌≡◌, ◌+◌, ◌<◌, ◌∙◌, sym, ap, arith, insert, if◌then◌else◌, is_ok, length}
+use Rattle.std.proofs.Common.{◌∙◌, sym, arith}
 use Rattle.std.proofs.lemmas.Bool.{false≢true}
 use Rattle.rail_track.proofs.Inserts.{inserted_keys, absent_key, on_ok}
 use Rattle.rail_track.proofs.roll.Roll.insert.Goals as goal
