@@ -29,8 +29,11 @@ EXAMPLES = "rail_worked"
 
 # Definitions of the top call's crate of which it is told how much they reach.
 PARTS = (
-    ("IsRun", "what `run` writes where it ends `Done`, of an input"),
-    ("AnswersRun", "the same with the plant of a scene file, and its refusals"),
+    ("IsRun", "what holds of the history that `run` writes, and of which `stairs`, `report` and `capacity` tell"),
+    ("AnswersRun", "what `run` answers"),
+    ("AnswersStairs", "what `stairs` answers"),
+    ("AnswersReport", "what `report` answers"),
+    ("AnswersCapacity", "what `capacity` answers"),
     ("AnswersCheck", "what `check` answers"),
     ("AnswersInfra", "what `infra` answers"),
     ("AnswersPlay", "what `play` answers"),
@@ -38,14 +41,14 @@ PARTS = (
 
 # The headline in words, and the fields of records of the top call's crate that say each part of it.
 HEADLINE = (
-    ("For every accepted input and every policy behaviour", (("AnswersRun", "all"), ("RunsInput", "accepted"))),
-    ("a `run` that ends `Done` writes one history", (("IsRun", "history"), ("IsRun", "adds"), ("RunsInput", "only"))),
+    ("For every accepted input and every policy behaviour", (("AnswersScenario", "all"), ("IsRun", "accepted"))),
+    ("a `run` that ends `Done` writes one history", (("IsRun", "history"), ("RunsInput", "adds"), ("IsRun", "only"))),
     ("in which blocking intervals of a section never overlap,", (("IsSafe", "apart"),)),
     ("the kept list always brings every train inside to its exit,", (("IsSafe", "complete"),)),
     ("each wait has its stated true cause,",
      (("IsSafe", "waits"), ("WaitsForStated", "true_cause"), ("WaitsForStated", "stated"), ("IsSafe", "causes"))),
     ("every line follows from the admissions,",
-     (("IsRun", "history"), ("IsSafe", "obeyed"), ("IsSafe", "repaired"), ("RunsInput", "timely"))),
+     (("IsRun", "history"), ("IsSafe", "obeyed"), ("IsSafe", "repaired"), ("IsRun", "timely"))),
     ("and, unless a closure or a stop remains,", (("NothingIsBarred", "opened"), ("NothingIsBarred", "going"))),
     ("every train that was not cancelled leaves",
      (("IsFinished", "names"), ("IsFinished", "nobody"), ("IsFinished", "left"))),
@@ -183,7 +186,7 @@ class Page:
     def headline(self):
         """The headline part by part, with the clauses that say it."""
         parts = ["", "### The headline, part by part", ""] + paragraph(
-            "Each part of the headline, and below it the clauses that say it, as they stand in `Runs.antt`.",
+            "Each part of the headline, and below it the clauses that say it, as they stand in `Runs.antt`, the first in `Scenarios.antt`.",
             "README.md has them in plain words.")
         for words, fields in HEADLINE:
             quoted = [line for record, field in fields for line in self.clause(record, field)]

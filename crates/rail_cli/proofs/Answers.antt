@@ -92,3 +92,11 @@ complete_answer first whole part ReadFault answer none read write = absurd (read
 complete_answer first whole part WriteFault answer none read write = absurd (write refl)
 complete_answer first whole part OutOfMemory answer none read write = inr refl
 complete_answer first whole part (CheckedNo line law) answer none read write = absurd answer
+
+-- where nothing is refused and a write failed, a first part was written
+pub part_answer : (whole part : Type 0) (status : Status) → status ≡ WriteFault → part → IsAnswer None whole part status
+part_answer whole part status is written = subst (IsAnswer None whole part) (sym is) (refl, written)
+
+-- the same where something else might have been refused, and is not
+pub late_part : (late : Option Refusal) (whole part : Type 0) (status : Status) → late ≡ None → status ≡ WriteFault → part → IsAnswer late whole part status
+late_part late whole part status none is written = subst (λ (o : Option Refusal). IsAnswer o whole part status) (sym none) (part_answer whole part status is written)

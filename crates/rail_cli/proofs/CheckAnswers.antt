@@ -35,7 +35,7 @@ use Rattle.rail_cli.specs.Answers.{Decides, IsAnswer, Told, status_of}
 use Rattle.rail_cli.specs.Checks.{AnswersCheck, AnswersHistory, IsAcceptedCheck, IsJudged, IsSaid, check_refusal, done_with, status_judged, verdict_text}
 use Rattle.rail_cli.specs.Files.{IsFileAnswer, IsNamedAnswer, named_file, told_of, too_large, too_large_if_any, too_many_bytes}
 use Rattle.rail_cli.proofs.Answers.{answer_decides, complete_answer, file_answer, none_decides, unread_decides}
-use Rattle.rail_cli.proofs.RunAnswers.{named_answer, named_decides}
+use Rattle.rail_cli.proofs.ScenarioAnswers.{named_answer, named_decides}
 
 -- a file that was not read ends no command with a verdict
 file_done : {S : Type 0} (shelf : Ghosts S) (number : ℕ) (file : List ℕ) (before now : S) (status : Status) → IsFileAnswer shelf number file before now status → done_with status ≡ status

@@ -1,16 +1,22 @@
 -- The words of a form.
-use Rattle.std.proofs.Common.{◌≡◌, ◌⊎◌, ℕ, List, [], ◌∷◌, Option, sym, ap, ◌∙◌, subst}
+use Rattle.std.proofs.Common.{◌≡◌, ◌⊎◌, ℕ, List, [], ◌∷◌, Option, Some, None, sym, ap, ◌∙◌, subst}
+use Rattle.std.specs.Prelude.{IsSomeAnd, MatchOption}
 use Rattle.std.proofs.lemmas.Option.{same_Some}
 use Rattle.std.specs.Option.{option_map_or}
 use Rattle.rail_words.specs.declared.forms.Form.{Form}
 use Rattle.rail_words.specs.declared.forms.Form.TheVariants as form
 use Rattle.rail_words.specs.Forms.{IsForm}
 use Rattle.rail_cli.specs.declared.status.Status.{Status}
-use Rattle.rail_cli.specs.declared.status.Status.TheVariants.{Done, ReadFault, WriteFault, OutOfMemory}
-use Rattle.rail_cli.specs.Answers.{Told}
+use Rattle.rail_cli.specs.declared.status.Status.TheVariants.{Done, OutOfMemory, ReadFault, Refused, WriteFault}
+use Rattle.rail_cli.specs.Answers.{Told, not_yet}
 use Rattle.rail_policy.specs.Seats.{DeskSeat}
-use Rattle.rail_cli.specs.Runs.{AnswersRun, IsAcceptedRun}
-use Rattle.rail_cli.specs.Forms.{AnswersForm, IsAcceptedInput, IsDone, files_named, files_of}
+use Rattle.rail_base.specs.declared.refusals.Refusal.{Refusal}
+use Rattle.rail_capacity.specs.declared.compression.Window.{Window}
+use Rattle.rail_rules.specs.Orders.{Input}
+use Rattle.rail_rules.specs.RunHistories.{Seat}
+use Rattle.rail_cli.specs.Capacity.{AnswersCapacity, AnswersStudy, IsAcceptedCapacity, IsSpelled, study_refusal}
+use Rattle.rail_cli.specs.Scenarios.{AnswersScenario, IsAcceptedScenario, OnScenario, Scenario, scenario_of}
+use Rattle.rail_cli.specs.Forms.{AnswersForm, AreRefusedAlone, IsAcceptedInput, IsDone, files_named, files_of}
 use Rattle.rail_cli.proofs.Answers.{complete_answer}
 use Rattle.rail_cli.proofs.CheckAnswers.{complete_check}
 
@@ -29,23 +35,53 @@ pub files_of_form : (form : Form) (words : List (List ℕ)) → IsForm form word
 files_of_form form [] h = absurd h
 files_of_form form (verb ∷ others) h = sym (ap (λ (o : Option Form). option_map_or (λ (form : Form). files_of form (verb ∷ others)) o []) h.0)
 
--- the same of a run
-complete_run : (scene timetable commands : List ℕ) (deck : List DeskSeat) (told : Told) (before now : Option (List ℕ)) (status : Status)
-    → AnswersRun scene timetable commands deck told before now status → IsAcceptedRun scene timetable commands deck told → (status ≡ ReadFault → ⊥) → (status ≡ WriteFault → ⊥)
-    → (status ≡ Done) ⊎ (status ≡ OutOfMemory)
-complete_run scene timetable commands deck told before now status answer ok read write =
-    complete_answer _ _ _ status (answer.all ok.bytes ok.calls ok.orders ok.scene_told ok.calls_told ok.orders_told) ok.fine read write
+-- words that are refused before any file are so by the form that they ask for
+pub refused_alone : (form other : Form) (words : List (List ℕ)) → IsForm form words → IsForm other words → AreRefusedAlone other words → AreRefusedAlone form words
+refused_alone form other words is asked alone = subst (λ (f : Form). AreRefusedAlone f words) (one_form other form words asked is) alone
+
+-- the same of a scenario that words name
+complete_scenario : (refusal : Option Refusal → Input → Option Refusal) (whole part : Input → List Seat → Type 0) (words : List (List ℕ)) (deck : List DeskSeat) (told : Told) (status : Status)
+    → OnScenario words (λ scenario. AnswersScenario refusal whole part scenario deck told status) status → IsSomeAnd (scenario_of words) (IsAcceptedScenario refusal deck told)
+    → (status ≡ ReadFault → ⊥) → (status ≡ WriteFault → ⊥) → (status ≡ Done) ⊎ (status ≡ OutOfMemory)
+complete_scenario refusal whole part words deck told status = of (scenario_of words)
+  where
+    of : (named : Option Scenario) → MatchOption named (status ≡ Refused not_yet) (λ scenario. AnswersScenario refusal whole part scenario deck told status)
+        → IsSomeAnd named (IsAcceptedScenario refusal deck told) → (status ≡ ReadFault → ⊥) → (status ≡ WriteFault → ⊥) → (status ≡ Done) ⊎ (status ≡ OutOfMemory)
+    of None answer ok read write = absurd ok
+    of (Some scenario) answer ok read write =
+        complete_answer _ _ _ status (answer.all ok.bytes ok.calls ok.orders ok.scene_told ok.calls_told ok.orders_told) ok.fine read write
+
+-- the same of a capacity study
+complete_capacity : (line from to : List ℕ) (words : List (List ℕ)) (deck : List DeskSeat) (told : Told) (before now : Option (List ℕ)) (status : Status)
+    → AnswersCapacity line from to words deck told before now status → IsSomeAnd (scenario_of words) (λ scenario. IsAcceptedCapacity line from to scenario deck told)
+    → (status ≡ ReadFault → ⊥) → (status ≡ WriteFault → ⊥) → (status ≡ Done) ⊎ (status ≡ OutOfMemory)
+complete_capacity line from to words deck told before now status answer ok read write = of (scenario_of words) answer.of_run ok
+  where
+    of : (named : Option Scenario)
+        → ((window : Window) → IsSpelled from to window → study_refusal line window ≡ None
+        → MatchOption named (status ≡ Refused not_yet) (λ scenario. AnswersStudy line window scenario deck told before now status))
+        → IsSomeAnd named (λ scenario. IsAcceptedCapacity line from to scenario deck told) → (status ≡ Done) ⊎ (status ≡ OutOfMemory)
+    of None answer ok = absurd ok
+    of (Some scenario) answer ok =
+        let fine = ok.accepted in
+        complete_answer _ _ _ status ((answer ok.window ok.spelled ok.filled).all fine.bytes fine.calls fine.orders fine.scene_told fine.calls_told fine.orders_told) fine.fine read write
 
 -- a command whose input is accepted is done, unless a call failed or memory is wanting
 pub complete_form : (form : Form) (words : List (List ℕ)) (deck : List DeskSeat) (told : Told) (before now : Option (List ℕ)) (status : Status)
     → AnswersForm form words deck told before now status → IsAcceptedInput form words deck told → (status ≡ ReadFault → ⊥) → (status ≡ WriteFault → ⊥)
     → IsDone form status ⊎ (status ≡ OutOfMemory)
-complete_form form.Run (verb ∷ scene ∷ []) deck told before now status answer ok read write = complete_run _ _ _ deck told before now status answer ok read write
-complete_form form.Run (verb ∷ scene ∷ timetable ∷ []) deck told before now status answer ok read write = complete_run _ _ _ deck told before now status answer ok read write
-complete_form form.Run (verb ∷ scene ∷ timetable ∷ commands ∷ []) deck told before now status answer ok read write = complete_run _ _ _ deck told before now status answer ok read write
+complete_form form.Run (verb ∷ words) deck told before now status answer ok read write = complete_scenario _ _ _ words deck told status answer ok read write
 complete_form form.Run [] deck told before now status answer ok read write = absurd ok
-complete_form form.Run (verb ∷ []) deck told before now status answer ok read write = absurd ok
-complete_form form.Run (verb ∷ scene ∷ timetable ∷ commands ∷ other ∷ more) deck told before now status answer ok read write = absurd ok
+complete_form form.Stairs (verb ∷ words) deck told before now status answer ok read write = complete_scenario _ _ _ words deck told status answer ok read write
+complete_form form.Stairs [] deck told before now status answer ok read write = absurd ok
+complete_form form.Report (verb ∷ words) deck told before now status answer ok read write = complete_scenario _ _ _ words deck told status answer ok read write
+complete_form form.Report [] deck told before now status answer ok read write = absurd ok
+complete_form form.Capacity (verb ∷ line ∷ from ∷ to ∷ words) deck told before now status answer ok read write =
+    complete_capacity line from to words deck told before now status answer ok read write
+complete_form form.Capacity [] deck told before now status answer ok read write = absurd ok
+complete_form form.Capacity (verb ∷ []) deck told before now status answer ok read write = absurd ok
+complete_form form.Capacity (verb ∷ line ∷ []) deck told before now status answer ok read write = absurd ok
+complete_form form.Capacity (verb ∷ line ∷ from ∷ []) deck told before now status answer ok read write = absurd ok
 complete_form form.Infra (verb ∷ scene ∷ []) deck told before now status answer ok read write = complete_answer _ _ _ status (answer ok.0 ok.1) ok.2 read write
 complete_form form.Infra [] deck told before now status answer ok read write = absurd ok
 complete_form form.Infra (verb ∷ []) deck told before now status answer ok read write = absurd ok
@@ -64,9 +100,6 @@ complete_form form.Check (verb ∷ scene ∷ []) deck told before now status ans
 complete_form form.Check (verb ∷ scene ∷ timetable ∷ []) deck told before now status answer ok read write = absurd ok
 complete_form form.Check (verb ∷ scene ∷ timetable ∷ commands ∷ []) deck told before now status answer ok read write = absurd ok
 complete_form form.Check (verb ∷ scene ∷ timetable ∷ commands ∷ history ∷ other ∷ more) deck told before now status answer ok read write = absurd ok
-complete_form form.Stairs words deck told before now status answer ok read write = absurd ok
-complete_form form.Report words deck told before now status answer ok read write = absurd ok
-complete_form form.Capacity words deck told before now status answer ok read write = absurd ok
 complete_form form.Edit words deck told before now status answer ok read write = absurd ok
 complete_form form.Gen words deck told before now status answer ok read write = absurd ok
 complete_form form.Scene words deck told before now status answer ok read write = absurd ok

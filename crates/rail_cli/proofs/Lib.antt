@@ -11,4 +11,8 @@ mod CheckAnswers
 mod Forms
 mod Parts
 mod Reading
-mod RunAnswers
+mod ScenarioAnswers
+mod NotedRuns
+mod Pieces
+mod CapacityTexts
+mod Studies

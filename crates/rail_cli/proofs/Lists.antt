@@ -13,7 +13,8 @@ use Rattle.rail_place.proofs.CallerLemmas.{holder_listed, state_apart}
 use Rattle.rail_command.specs.Lines.{lines_of}
 use Rattle.rail_words.specs.Lists.{last_setting, list_line_refusal, listed_in, places_test}
 use Rattle.rail_words.specs.ListAnswers.{ReadList, read_of}
-use Rattle.rail_cli.specs.Plays.{list_refusal, names_of, shared_at}
+use Rattle.rail_cli.specs.Names.{names_of}
+use Rattle.rail_cli.specs.Plays.{list_refusal, shared_at}
 
 -- where two trains hold one section the state is none
 overlap_invalid : (plan : Moves) (s : List ℕ) (x t u : ℕ) → IsOverlap plan s x t u → is_valid_state plan s ≡ false

@@ -26,7 +26,10 @@ use Rattle.rail_laws_events.proofs.CallerLemmas.{input_parts}
 use Rattle.rail_laws_end.specs.Forks.{are_marks}
 use Rattle.rail_laws_run.proofs.CallerLemmas.{run_lawful}
 use Rattle.rail_laws_text.proofs.CallerLemmas.{line_writable}
-use Rattle.rail_cli.specs.Runs.{RunsInput, RunsInputInPart}
+use Rattle.rail_ledger.specs.Inputs.{input_in}
+use Rattle.rail_ledger.specs.declared.input.RunInput.{RunInput}
+use Rattle.rail_cli.specs.Noted.{IsNext, IsNotedRun}
+use Rattle.rail_cli.specs.Runs.{IsRun, RunsInput, RunsInputInPart}
 use Rattle.rail_cli.proofs.LineBounds.{lines_at_most}
 use Rattle.rail_cli.proofs.Endings.{finished_run}
 use Rattle.rail_cli.proofs.Histories.{only_run, safe_run, timely_run}
@@ -101,32 +104,59 @@ module _ (input : Input) (seats : List Seat) (ok : is_accepted_input input ≡ t
   pub in_part : (before now then : Option (List ℕ)) → Adds before now (text input.plant front) → AddsPrefix now then (line_text plant (line_of line.entry list))
       → RunsInputInPart input seats before then
   in_part before now then so_far more = record {
-    accepted = ok;
+    front = line ∷ front;
     run = record {
-      front = line ∷ front;
+      accepted = ok;
       run = run;
       safe = safe_run input seats ok (line ∷ front) run;
-      adds = AddsPrefix-append so_far (subst (AddsPrefix now then) same_text more);
+      timely = timely_run input seats ok (line ∷ front) run;
     };
-    timely = timely_run input seats ok (line ∷ front) run;
+    adds = AddsPrefix-append so_far (subst (AddsPrefix now then) same_text more);
   }
 
--- all lines
-pub all_written : (input : Input) (seats : List Seat) → is_accepted_input input ≡ true → are_marks seats ≡ true → (front : Front) → is_run input seats front ≡ true → has_ended front ≡ true
-    → (before now : Option (List ℕ)) → Adds before now (text input.plant front) → RunsInput input seats before now
-all_written input seats ok marks front run ended before now adds =
+-- a run that has ended is a run history
+pub run_ended : (input : Input) (seats : List Seat) → is_accepted_input input ≡ true → are_marks seats ≡ true → (front : Front) → is_run input seats front ≡ true → has_ended front ≡ true
+    → IsRun input seats front
+run_ended input seats ok marks front run ended =
     let history : is_run_history input seats front ≡ true = and_from (is_run input seats front) (has_ended front) run ended in record {
       accepted = ok;
-      run = record {
-        front = front;
-        history = history;
-        safe = safe_run input seats ok front run;
-        finished = finished_run input seats ok front history;
-        adds = adds;
-      };
+      history = history;
+      safe = safe_run input seats ok front run;
+      finished = finished_run input seats ok front history;
       timely = timely_run input seats ok front run;
       only = only_run input seats ok marks front history;
     }
+
+-- all lines were written
+pub all_written : (input : Input) (seats : List Seat) → is_accepted_input input ≡ true → are_marks seats ≡ true → (front : Front) → is_run input seats front ≡ true → has_ended front ≡ true
+    → (before now : Option (List ℕ)) → Adds before now (text input.plant front) → RunsInput input seats before now
+all_written input seats ok marks front run ended before now adds = record { front = front; run = run_ended input seats ok marks front run ended; adds = adds }
+
+-- the engine stands for a front of so many lines, which were noted
+pub record IsNotedSoFar (are_noted : Input → Front → Type 0) (count : ℕ) (seats : List Seat) (engine : Ledger) (desk : Table) : Type 0 where
+  pub front : Front
+  pub stands : StandsFor seats front engine desk
+  pub long : length front ≡ count
+  pub noted : are_noted (input_in engine.input) front
+
+-- where the run has ended, the lines of a run history were noted
+pub noted_ended : (are_noted : Input → Front → Type 0) (count : ℕ) (seats : List Seat) (engine : Ledger) (desk : Table) (first : RunInput) → engine.input ≡ first → are_marks seats ≡ true
+    → (so_far : IsNotedSoFar are_noted count seats engine desk) → has_ended so_far.front ≡ true → IsNotedRun are_noted (input_in first) seats
+noted_ended are_noted count seats engine desk first is marks so_far ended = subst (λ (input : RunInput). IsNotedRun are_noted (input_in input) seats) is (record {
+  front = so_far.front;
+  run = run_ended (input_in engine.input) seats so_far.stands.at.accepted marks so_far.front so_far.stands.run.of_run ended;
+  noted = so_far.noted;
+})
+
+-- the next line may be noted
+pub next_noted : (seats : List Seat) (front : Front) (line : Line) (engine : Ledger) (desk : Table) (plant : Plant) → StandsFor seats (line ∷ front) engine desk → plant ≡ engine.input.plant
+    → IsNext (input_in engine.input) front line plant line.entry
+next_noted seats front line engine desk plant stands is = record {
+  accepted = stands.at.accepted;
+  lawful = run_lawful (input_in engine.input) seats (line ∷ front) stands.run.of_run;
+  plant_is = is;
+  entry_is = refl;
+}
 
 -- there are at most so many lines
 pub few_lines : (input : Input) (seats : List Seat) → is_accepted_input input ≡ true → (front : Front) → is_run input seats front ≡ true

@@ -1,5 +1,5 @@
 -- What is promised of the files: where one of them was not read, and where all were.
-use Rattle.std.proofs.Common.{◌≡◌, ℕ, suc, ◌+◌, ◌≤◌, true, false, not, List, [], ◌∷◌, ◌++◌, length, Option, Some, None, refl, sym, ap, ◌∙◌, subst, inl, inr, arith}
+use Rattle.std.proofs.Common.{◌≡◌, ℕ, suc, ◌+◌, ◌≤◌, true, false, not, ◌&&◌, List, [], ◌∷◌, ◌++◌, length, Option, Some, None, refl, sym, ap, ◌∙◌, subst, inl, inr, arith}
 use Rattle.std.specs.Prelude.{IfSome}
 use Rattle.std.proofs.lemmas.Bool.{false≢true}
 use Rattle.rail_base.specs.Refusals.{is_file}
@@ -8,7 +8,7 @@ use Rattle.rail_io.specs.declared.shelf.Shelf.{Ghosts}
 use Rattle.rail_io.specs.declared.sink.Sink.{Ghosts as SinkGhosts}
 use Rattle.rail_cli.specs.declared.status.Status.{Status}
 use Rattle.rail_cli.specs.declared.status.Status.TheVariants.{Done, Usage, Refused, ReadFault, WriteFault, OutOfMemory, CheckedNo}
-use Rattle.rail_cli.specs.Files.{FitsWhereTold, IsFileAnswer, IsOneOf, IsOneTooLarge, IsRead, IsReadFault, IsReadIfAny, IsTooLarge, comes_of_files, last_file}
+use Rattle.rail_cli.specs.Files.{FitsWhereTold, IsFileAnswer, IsOneOf, IsOneTooLarge, IsRead, IsReadFault, IsReadIfAny, IsTooLarge, comes_of_files, is_of_words, last_file}
 use Rattle.rail_cli.specs.Promises.{KeepsPromise, ReadsFiles, WritesAnswer, is_of_bytes}
 
 -- the files are no larger than a file may have bytes, where these are told
@@ -74,7 +74,7 @@ module _ {S : Type 0} (shelf : Ghosts S) (first later : List (Option (List ℕ))
       unread : (status : Status) → IsFileAnswer shelf (1 + length first) file between now status → comes_of_files status ≡ false
       unread Done answer = absurd answer
       unread Usage answer = refl
-      unread (Refused refusal) answer = ap (λ (r : Refusal). not (is_file r.part)) answer.is
+      unread (Refused refusal) answer = ap (λ (r : Refusal). not (is_file r.part) && not (is_of_words r.reason)) answer.is
       unread ReadFault answer = refl
       unread WriteFault answer = absurd answer
       unread OutOfMemory answer = refl

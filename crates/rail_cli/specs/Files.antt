@@ -1,12 +1,13 @@
 -- The files of a command, and why one is not read.
-use Rattle.std.specs.Prelude.{◌≡◌, ◌⊎◌, ℕ, suc, ◌<◌, ◌==◌, Bool, true, false, not, cond, nat_lt, length, List, [], ◌∷◌, Option, Some, None, codes, option_and_then}
+use Rattle.std.specs.Prelude.{◌≡◌, ◌⊎◌, ℕ, suc, ◌<◌, ◌==◌, Bool, true, false, not, ◌&&◌, cond, nat_lt, length, List, [], ◌∷◌, Option, Some, None, codes, option_and_then}
 use Rattle.std.specs.Option.{option_map}
 use Rattle.std.specs.Str.{bytes_eq}
 use Rattle.std.specs.Global.{Vec}
 use Rattle.rail_base.specs.Limits.{most, FileBytes, HistoryBytes}
 use Rattle.rail_base.specs.Refusals.{is_file}
 use Rattle.rail_base.specs.declared.refusals.Refusal.{Refusal}
-use Rattle.rail_base.specs.declared.refusals.Reason.TheVariants.{TooMany}
+use Rattle.rail_base.specs.declared.refusals.Reason.{Reason}
+use Rattle.rail_base.specs.declared.refusals.Reason.TheVariants.{LineEmpty, TooMany, WindowEmpty}
 use Rattle.rail_base.specs.declared.refusals.Part.TheVariants.{File}
 use Rattle.rail_rules.specs.Numbers.{or_else}
 use Rattle.rail_io.specs.FaultCounts.{Rose}
@@ -110,10 +111,17 @@ abbrev pub IsReadIfAny : {S : Type 0} → Ghosts S → Option (List ℕ) → S �
 IsReadIfAny shelf None before now = now ≡ before
 IsReadIfAny shelf (Some file) before now = IsRead shelf file now
 
--- with this status the last file was read to its end: it is no fault of reading, no want of memory and no refusal of a file for its size
+-- the words themselves are refused for this reason, before any file
+abbrev pub is_of_words : Reason → Bool
+is_of_words LineEmpty = true
+is_of_words WindowEmpty = true
+is_of_words reason = false
+
+-- with this status the last file was read to its end: it is no fault of reading, no want of memory, no refusal of the words
+-- themselves and none of a file for its size
 abbrev pub comes_of_files : Status → Bool
 comes_of_files Done = true
 comes_of_files WriteFault = true
-comes_of_files (Refused refusal) = not (is_file refusal.part)
+comes_of_files (Refused refusal) = not (is_file refusal.part) && not (is_of_words refusal.reason)
 comes_of_files (CheckedNo line law) = true
 comes_of_files status = false

@@ -1,5 +1,5 @@
 -- The forms: which files the words of each name, and what is answered to them.
-use Rattle.std.specs.Prelude.{◌≡◌, ℕ, List, [], ◌∷◌, Option, Some, None}
+use Rattle.std.specs.Prelude.{◌≡◌, ℕ, List, [], ◌∷◌, IsSomeAnd, Option, Some, None}
 use Rattle.std.specs.Option.{option_map_or}
 use Rattle.rail_words.specs.Forms.{form_named}
 use Rattle.rail_words.specs.declared.forms.Form.{Form}
@@ -9,18 +9,23 @@ use Rattle.rail_input.specs.Inputs.{plant_refusal}
 use Rattle.rail_cli.specs.declared.status.Status.{Status}
 use Rattle.rail_cli.specs.declared.status.Status.TheVariants.{Done, Refused}
 use Rattle.rail_rules.specs.Numbers.{or_else}
-use Rattle.rail_cli.specs.Files.{named_file, no_file, too_large}
+use Rattle.rail_cli.specs.Files.{named_file, too_large}
 use Rattle.rail_cli.specs.Answers.{Told, not_yet}
-use Rattle.rail_cli.specs.Runs.{AnswersRun, IsAcceptedRun}
+use Rattle.rail_cli.specs.Scenarios.{IsAcceptedScenario, OnScenario, nothing_else, scenario_files, scenario_of}
+use Rattle.rail_cli.specs.Runs.{AnswersRun}
+use Rattle.rail_cli.specs.Stairs.{AnswersStairs}
+use Rattle.rail_cli.specs.Reports.{AnswersReport}
+use Rattle.rail_cli.specs.Capacity.{AnswersCapacity, IsAcceptedCapacity, IsEmptyStudy}
 use Rattle.rail_cli.specs.Checks.{AnswersCheck, IsAcceptedCheck, done_with}
 use Rattle.rail_cli.specs.Infra.{AnswersInfra}
 use Rattle.rail_cli.specs.Plays.{AnswersPlay, play_refusal}
 
 -- what is answered to words of the form, with this deck; forms that are not built are refused before any file
 abbrev pub AnswersForm : Form → List (List ℕ) → List DeskSeat → Told → Option (List ℕ) → Option (List ℕ) → Status → Type 0
-AnswersForm form.Run (verb ∷ scene ∷ []) deck told before now status = AnswersRun scene no_file no_file deck told before now status
-AnswersForm form.Run (verb ∷ scene ∷ timetable ∷ []) deck told before now status = AnswersRun scene timetable no_file deck told before now status
-AnswersForm form.Run (verb ∷ scene ∷ timetable ∷ commands ∷ []) deck told before now status = AnswersRun scene timetable commands deck told before now status
+AnswersForm form.Run (verb ∷ words) deck told before now status = OnScenario words (λ scenario. AnswersRun scenario deck told before now status) status
+AnswersForm form.Stairs (verb ∷ words) deck told before now status = OnScenario words (λ scenario. AnswersStairs scenario deck told before now status) status
+AnswersForm form.Report (verb ∷ words) deck told before now status = OnScenario words (λ scenario. AnswersReport scenario deck told before now status) status
+AnswersForm form.Capacity (verb ∷ line ∷ from ∷ to ∷ words) deck told before now status = AnswersCapacity line from to words deck told before now status
 AnswersForm form.Infra (verb ∷ scene ∷ []) deck told before now status = AnswersInfra scene told before now status
 AnswersForm form.Play (verb ∷ scene ∷ list ∷ []) deck told before now status = AnswersPlay scene list told before now status
 AnswersForm form.Check (verb ∷ scene ∷ timetable ∷ commands ∷ history ∷ []) deck told before now status = AnswersCheck scene timetable commands history deck told before now status
@@ -28,9 +33,11 @@ AnswersForm form words deck told before now status = status ≡ Refused not_yet
 
 -- nothing is refused in what words of the form name: the bytes of the files are told, and accepted
 abbrev pub IsAcceptedInput : Form → List (List ℕ) → List DeskSeat → Told → Type 0
-IsAcceptedInput form.Run (verb ∷ scene ∷ []) deck told = IsAcceptedRun scene no_file no_file deck told
-IsAcceptedInput form.Run (verb ∷ scene ∷ timetable ∷ []) deck told = IsAcceptedRun scene timetable no_file deck told
-IsAcceptedInput form.Run (verb ∷ scene ∷ timetable ∷ commands ∷ []) deck told = IsAcceptedRun scene timetable commands deck told
+IsAcceptedInput form.Run (verb ∷ words) deck told = IsSomeAnd (scenario_of words) (IsAcceptedScenario nothing_else deck told)
+IsAcceptedInput form.Stairs (verb ∷ words) deck told = IsSomeAnd (scenario_of words) (IsAcceptedScenario nothing_else deck told)
+IsAcceptedInput form.Report (verb ∷ words) deck told = IsSomeAnd (scenario_of words) (IsAcceptedScenario nothing_else deck told)
+IsAcceptedInput form.Capacity (verb ∷ line ∷ from ∷ to ∷ words) deck told =
+    IsSomeAnd (scenario_of words) (λ scenario. IsAcceptedCapacity line from to scenario deck told)
 IsAcceptedInput form.Infra (verb ∷ scene ∷ []) deck told = (bytes : List ℕ) × (told scene ≡ Some bytes)
     × (or_else (too_large 1 bytes) (plant_refusal bytes) ≡ None)
 IsAcceptedInput form.Play (verb ∷ scene ∷ list ∷ []) deck told = (bytes : List ℕ) × (listed : List ℕ)
@@ -46,9 +53,10 @@ IsDone form status = status ≡ Done
 
 -- the files that words of the form name, in the order in which they are read; a form that is not built reads none
 abbrev pub files_of : Form → List (List ℕ) → List (Option (List ℕ))
-files_of form.Run (verb ∷ scene ∷ []) = Some scene ∷ named_file no_file ∷ named_file no_file ∷ []
-files_of form.Run (verb ∷ scene ∷ timetable ∷ []) = Some scene ∷ named_file timetable ∷ named_file no_file ∷ []
-files_of form.Run (verb ∷ scene ∷ timetable ∷ commands ∷ []) = Some scene ∷ named_file timetable ∷ named_file commands ∷ []
+files_of form.Run (verb ∷ words) = scenario_files words
+files_of form.Stairs (verb ∷ words) = scenario_files words
+files_of form.Report (verb ∷ words) = scenario_files words
+files_of form.Capacity (verb ∷ line ∷ from ∷ to ∷ words) = scenario_files words
 files_of form.Infra (verb ∷ scene ∷ []) = Some scene ∷ []
 files_of form.Play (verb ∷ scene ∷ list ∷ []) = Some scene ∷ Some list ∷ []
 files_of form.Check (verb ∷ scene ∷ timetable ∷ commands ∷ history ∷ []) = Some scene ∷ named_file timetable ∷ named_file commands ∷ Some history ∷ []
@@ -58,3 +66,8 @@ files_of form words = []
 abbrev pub files_named : List (List ℕ) → List (Option (List ℕ))
 files_named [] = []
 files_named (verb ∷ others) = option_map_or (λ (form : Form). files_of form (verb ∷ others)) (form_named verb) []
+
+-- words of the form that are refused before any file: a capacity study of no line, or of a window that is empty
+abbrev pub AreRefusedAlone : Form → List (List ℕ) → Type 0
+AreRefusedAlone form.Capacity (verb ∷ line ∷ from ∷ to ∷ words) = IsEmptyStudy line from to
+AreRefusedAlone form words = ⊥

@@ -1,6 +1,5 @@
 -- The form `run`: the history of a scene.
 use Rattle.std.specs.Prelude.{◌≡◌, ◌≢◌, ◌⊎◌, ℕ, suc, ◌<◌, ◌≤◌, ◌^◌, false, IsTrue, List, [], ◌∷◌, ◌++◌, length, Option, Some, None}
-use Rattle.rail_base.specs.declared.refusals.Refusal.{Refusal}
 use Rattle.rail_base.specs.declared.history.Note.{Note}
 use Rattle.rail_base.specs.declared.history.Note.TheVariants.{Fresh}
 use Rattle.rail_base.specs.declared.history.Cause.{Cause}
@@ -17,14 +16,11 @@ use Rattle.rail_rules.specs.RunHistories.{Seat, is_chosen, is_run, is_run_histor
 use Rattle.rail_rules.specs.Texts.{text}
 use Rattle.rail_rules.specs.Overlaps.{NeverOverlap}
 use Rattle.rail_rules.specs.Orders.{Input, is_cancelled, is_closed, is_stopped, told}
-use Rattle.rail_rules.specs.Numbers.{or_else}
 use Rattle.rail_laws_end.specs.Forks.{is_built_in_throughout}
-use Rattle.rail_policy.specs.Seats.{DeskSeat, handed_in, names_of}
-use Rattle.rail_input.specs.Inputs.{input_in, input_refusal, plant_refusal}
+use Rattle.rail_policy.specs.Seats.{DeskSeat}
 use Rattle.rail_cli.specs.declared.status.Status.{Status}
-use Rattle.rail_cli.specs.declared.status.Status.TheVariants.{Refused}
-use Rattle.rail_cli.specs.Answers.{Decides, IsAnswer, Told}
-use Rattle.rail_cli.specs.Files.{named_file, told_of, too_large, too_large_if_any, too_many_bytes}
+use Rattle.rail_cli.specs.Answers.{Told}
+use Rattle.rail_cli.specs.Scenarios.{AnswersScenario, Scenario, nothing_else}
 
 -- the next move of the train waits for a cause that is true and that its last hold line states
 pub record WaitsForStated (input : Input) (front : Front) (t : ℕ) : Type 0 where
@@ -76,21 +72,6 @@ pub record IsFinished (input : Input) (front : Front) : Type 0 where
   pub all_left : input.commands ≡ [] → (t : ℕ) → t < trains input.plant → IsTrue (is_out front t)
   pub all_lines : input.commands ≡ [] → lines_beside_holds front ≡ bound input.plant 0
 
--- the bytes added are the text of a run history, in which every event line is the due one
-pub record IsRun (input : Input) (seats : List Seat) (before now : Option (List ℕ)) : Type 0 where
-  pub front : Front
-  pub history : IsTrue (is_run_history input seats front)
-  pub safe : IsSafe input seats front
-  pub finished : IsFinished input front
-  pub adds : Adds before now (text input.plant front)
-
--- the bytes added are a first part of the text of a run front
-pub record IsRunInPart (input : Input) (seats : List Seat) (before now : Option (List ℕ)) : Type 0 where
-  pub front : Front
-  pub run : IsTrue (is_run input seats front)
-  pub safe : IsSafe input seats front
-  pub adds : AddsPrefix before now (text input.plant front)
-
 -- every time of the front is below 2^50 tenths of a second
 abbrev pub IsBeforeLimit : Front → Type 0
 IsBeforeLimit front = (later before : Front) (line : Line) → front ≡ later ++ line ∷ before → line.entry.at < 2 ^ 50
@@ -105,51 +86,36 @@ abbrev pub IsTheOnlyOne : Input → List Seat → Front → Type 0
 IsTheOnlyOne input seats front = IsTrue (is_built_in_throughout input seats front) → HasNoFreshList front
     → (other : Front) → IsTrue (is_run_history input seats other) → other ≡ front
 
--- the input may be run: it is within the limits, so that the laws on all such inputs speak of it; and its run, with the
--- boxes as they were handed in, was added
+-- the front is a run history of the input with the boxes as they were handed in, in which every event line is the due one
+pub record IsRun (input : Input) (seats : List Seat) (front : Front) : Type 0 where
+  -- the input is within the limits, so that the laws on all such inputs speak of it
+  pub accepted : IsTrue (is_accepted_input input)
+  pub history : IsTrue (is_run_history input seats front)
+  pub safe : IsSafe input seats front
+  pub finished : IsFinished input front
+  pub timely : IsBeforeLimit front
+  pub only : IsTheOnlyOne input seats front
+
+-- the front is a first part of a run of the input
+pub record IsRunInPart (input : Input) (seats : List Seat) (front : Front) : Type 0 where
+  pub accepted : IsTrue (is_accepted_input input)
+  pub run : IsTrue (is_run input seats front)
+  pub safe : IsSafe input seats front
+  pub timely : IsBeforeLimit front
+
+-- the bytes added are the text of a run history of the input
 pub record RunsInput (input : Input) (seats : List Seat) (before now : Option (List ℕ)) : Type 0 where
-  pub accepted : IsTrue (is_accepted_input input)
-  pub run : IsRun input seats before now
-  pub timely : IsBeforeLimit run.front
-  pub only : IsTheOnlyOne input seats run.front
+  pub front : Front
+  pub run : IsRun input seats front
+  pub adds : Adds before now (text input.plant front)
 
--- the input may be run, and a first part of its run was added
+-- the bytes added are a first part of the text of a run front of the input
 pub record RunsInputInPart (input : Input) (seats : List Seat) (before now : Option (List ℕ)) : Type 0 where
-  pub accepted : IsTrue (is_accepted_input input)
-  pub run : IsRunInPart input seats before now
-  pub timely : IsBeforeLimit run.front
+  pub front : Front
+  pub run : IsRunInPart input seats front
+  pub adds : AddsPrefix before now (text input.plant front)
 
--- why a run is refused whose files hold this, with this deck: for the size of each file in turn, and then for what they spell
-abbrev pub run_refusal : List ℕ → Option (List ℕ) → Option (List ℕ) → List DeskSeat → Option Refusal
-run_refusal scene timetable commands deck =
-    or_else (too_large 1 scene)
-    (or_else (too_large_if_any 2 timetable)
-    (or_else (too_large_if_any 3 commands)
-    (input_refusal scene timetable commands (names_of deck))))
-
--- the history of the scene with the timetable and the commands that these words name, with this deck
-pub record AnswersRun (scene timetable commands : List ℕ) (deck : List DeskSeat) (told : Told) (before now : Option (List ℕ))
-    (status : Status) : Type 0 where
-  -- where the bytes of all files are told
-  pub all : (bytes : List ℕ) (calls orders : Option (List ℕ)) → told scene ≡ Some bytes
-      → told_of told (named_file timetable) ≡ Some calls → told_of told (named_file commands) ≡ Some orders
-      → IsAnswer (run_refusal bytes calls orders deck)
-      (RunsInput (input_in bytes calls orders (names_of deck)) (handed_in deck) before now)
-      (RunsInputInPart (input_in bytes calls orders (names_of deck)) (handed_in deck) before now)
-      status
-  -- where those of the scene are told, whatever the other files are: the size of the scene's file, and behind the sizes of
-  -- the others the refusals of the scene
-  pub of_size : (bytes : List ℕ) → told scene ≡ Some bytes → Decides (too_large 1 bytes) status
-  pub of_scene : (bytes : List ℕ) → told scene ≡ Some bytes
-      → status ≢ Refused (too_many_bytes 2) → status ≢ Refused (too_many_bytes 3)
-      → Decides (or_else (too_large 1 bytes) (plant_refusal bytes)) status
-
--- the bytes of the files are told, and nothing is refused
-pub record IsAcceptedRun (scene timetable commands : List ℕ) (deck : List DeskSeat) (told : Told) : Type 0 where
-  pub bytes : List ℕ
-  pub calls : Option (List ℕ)
-  pub orders : Option (List ℕ)
-  pub scene_told : told scene ≡ Some bytes
-  pub calls_told : told_of told (named_file timetable) ≡ Some calls
-  pub orders_told : told_of told (named_file commands) ≡ Some orders
-  pub fine : run_refusal bytes calls orders deck ≡ None
+-- the history of the scenario, with this deck
+abbrev pub AnswersRun : Scenario → List DeskSeat → Told → Option (List ℕ) → Option (List ℕ) → Status → Type 0
+AnswersRun scenario deck told before now status = AnswersScenario nothing_else
+    (λ input seats. RunsInput input seats before now) (λ input seats. RunsInputInPart input seats before now) scenario deck told status

@@ -1,6 +1,13 @@
-//! The forms that are built, a module each: it reads its files, does what the form asks for, and answers.
+//! The forms that are built, a module each: it does what the form asks for, and answers.
 
+pub mod capacity;
 pub mod check;
 pub mod infra;
+pub mod names;
+pub mod notes;
 pub mod play;
+pub mod report;
 pub mod run;
+pub mod scenario;
+pub mod stairs;
+pub mod study;

@@ -9,11 +9,15 @@ rail simulates the operation of railway lines and stations, and proves what it p
     rail play SCENE LIST                     whether a list of moves brings every train inside to its exit
     rail check SCENE TIMETABLE COMMANDS HISTORY
                                              whether a history is lawful to its end, or its first wrong line
+    rail stairs SCENE [TIMETABLE [COMMANDS]] blocking intervals of the trains, and how long each section is occupied
+    rail report SCENE [TIMETABLE [COMMANDS]] how late the trains are, and for which causes they are held
+    rail capacity LINE FROM TO SCENE [TIMETABLE [COMMANDS]]
+                                             the trains pushed together on a line, and how full it is
     rail --help                              this text
     rail --version                           the version
 
 SCENE is a TOML file, TIMETABLE a CSV file, COMMANDS, LIST and HISTORY are files of lines. A `-` for TIMETABLE
-or COMMANDS stands for no file. The policies are `priority`, `timetable`, `fcfs` and `rotating`; a scene that
+or COMMANDS stands for no file. LINE has names of sections with commas between them; FROM and TO are times. The policies are `priority`, `timetable`, `fcfs` and `rotating`; a scene that
 names none is run by `fcfs`.
 
 Exit status: 0 done, 1 words not in the table, 2 input refused, 3 read fault, 4 write fault, 5 out of

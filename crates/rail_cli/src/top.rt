@@ -5,11 +5,11 @@ ghost use Rattle.rail_policy.specs.Seats.{is_fine_deck};
 ghost use Rattle.rail_words.specs.Forms.{IsForm};
 ghost use Rattle.rail_words.specs.declared.forms.Form.{Form};
 ghost use Rattle.rail_cli.specs.declared.status.Status.TheVariants as status;
-ghost use Rattle.rail_cli.specs.Forms.{AnswersForm, IsAcceptedInput, IsDone, files_named, files_of};
+ghost use Rattle.rail_cli.specs.Forms.{AnswersForm, AreRefusedAlone, IsAcceptedInput, IsDone, files_named, files_of};
 ghost use Rattle.rail_cli.specs.Promises.{IsComplete, KeepsPromise, ReadsFiles, WritesAnswer, ended};
 
-use crate::commands::{check, infra, play, run};
-use crate::files::NO_FILE;
+use crate::commands::scenario::Purpose;
+use crate::commands::{capacity, check, infra, play, scenario};
 use crate::status::{NOT_YET, Status};
 use rail_base::Word;
 use rail_io::{Shelf, Sink};
@@ -55,6 +55,7 @@ pub fn rail<S: Shelf, O: Sink>(
         → IsComplete S.Shelf O.Sink (IsAcceptedInput form words.now (map ⟦<Box<dyn Policy> as Policy>⟧.seat deck.items) (S.told shelf.old))
         (IsDone form result) shelf.old shelf.new out.old out.new result }
     ensures reads { ReadsFiles S.Shelf (files_named words.now) shelf.old shelf.new result }
+    ensures unread { (form : Form) → IsForm form words.now → AreRefusedAlone form words.now → shelf.new ≡ shelf.old }
     ensures writes { WritesAnswer O.Sink out.old out.new result }
 {
     match form_of(words) {
@@ -73,21 +74,25 @@ fn answer<S: Shelf, O: Sink>(
     deck: Vec<Box<dyn Policy>>,
 ) -> Result<(), Status>
     requires fine { IsTrue (is_fine_deck (map ⟦<Box<dyn Policy> as Policy>⟧.seat deck.items)) }
+    requires asked { IsForm form words.now }
     ensures kept { KeepsPromise S.Shelf O.Sink (files_of form words.now) shelf.old shelf.new out.old out.new (ended result) }
     ensures answer { AnswersForm form words.now (map ⟦<Box<dyn Policy> as Policy>⟧.seat deck.items)
         (S.told shelf.old) (O.written out.old) (O.written out.new) (ended result) }
+    ensures unread { AreRefusedAlone form words.now → shelf.new ≡ shelf.old }
 {
     match (form, words) {
-        (Form::Run, [_, scene]) => {
-            run::answer(alloc, scene.as_str(), NO_FILE, NO_FILE, shelf, out, deck)
+        (Form::Run, [_, scenario @ ..]) => {
+            scenario::answer(alloc, &Purpose::History, scenario, shelf, out, deck)
         }
-        (Form::Run, [_, scene, timetable]) => {
-            let timetable = timetable.as_str();
-            run::answer(alloc, scene.as_str(), timetable, NO_FILE, shelf, out, deck)
+        (Form::Stairs, [_, scenario @ ..]) => {
+            scenario::answer(alloc, &Purpose::Stairs, scenario, shelf, out, deck)
         }
-        (Form::Run, [_, scene, timetable, commands]) => {
-            let (timetable, commands) = (timetable.as_str(), commands.as_str());
-            run::answer(alloc, scene.as_str(), timetable, commands, shelf, out, deck)
+        (Form::Report, [_, scenario @ ..]) => {
+            scenario::answer(alloc, &Purpose::Report, scenario, shelf, out, deck)
+        }
+        (Form::Capacity, [_, line, from, to, scenario @ ..]) => {
+            let (line, from, to) = (line.as_str(), from.as_str(), to.as_str());
+            capacity::answer(alloc, line, from, to, scenario, shelf, out, deck)
         }
         (Form::Infra, [_, scene]) => infra::answer(alloc, scene.as_str(), shelf, out),
         (Form::Play, [_, scene, list]) => {

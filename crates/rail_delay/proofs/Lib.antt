@@ -1,3 +1,5 @@
+-- The lemmas of this crate; those for the crates above stand in CallerLemmas.
+pub mod CallerLemmas
 -- Lemmas on waits.
 mod Holds
 mod Within

@@ -6,6 +6,7 @@ mod decks;
 mod line;
 mod pieces;
 mod policies;
+mod reports;
 mod run_refusals;
 mod timetables;
 
@@ -19,6 +20,7 @@ use policies::{LAST, OUT_OF_RANGE, POLICIES, POLICIES_AMONG};
 use rail_base::{Seq, Word};
 use rail_cli::{HELP, Status, VERSION};
 use rail_io::{File, MemoryShelf, MemorySink};
+use reports::{REPORT_REFUSALS, STAIRWAYS};
 use run_refusals::{RUN_LIMITS, RUN_REFUSALS};
 use std::alloc::{AllocError, Global};
 use timetables::TIMETABLES;
@@ -30,6 +32,9 @@ fn names_the_forms_that_are_built(rt: HostRuntime) {
         "rail infra SCENE ",
         "rail play SCENE LIST ",
         "rail check SCENE TIMETABLE COMMANDS HISTORY",
+        "rail stairs SCENE ",
+        "rail report SCENE ",
+        "rail capacity LINE FROM TO SCENE ",
     ] {
         assert!(rt; HELP.contains(form), "{form}");
     }
@@ -42,6 +47,100 @@ fn answers_the_words(rt: HostRuntime) {
         let other = first_other(rt.alloc(), cases, Deck::BuiltIn, true);
         assert!(rt; other.is_none(), "{other:?}");
     }
+}
+
+#[test]
+fn reports_on_runs(rt: HostRuntime) {
+    for cases in [STAIRWAYS, REPORT_REFUSALS] {
+        let other = first_other(rt.alloc(), cases, Deck::BuiltIn, true);
+        assert!(rt; other.is_none(), "{other:?}");
+    }
+}
+
+#[test]
+fn reports_on_a_line_with_six_stations(rt: HostRuntime) {
+    let alloc = rt.alloc();
+    let stair = "\nstair T01 1 X0 00:00:00.0 ";
+    let total = "\ntotal trains 12 out 12 cancelled 0 late ";
+    assert!(rt; has_on_the_line(alloc, "stairs scene timetable", stair));
+    assert!(rt; has_on_the_line(alloc, "report scene timetable", total));
+    assert!(rt;
+        has_on_the_line(
+            alloc,
+            "capacity X3 00:00:00 02:00:00 scene timetable",
+            "\nrate "
+        )
+    );
+}
+
+/// Whether the words are done over the line with six stations, and add this text among others.
+fn has_on_the_line(alloc: Global, words: &str, text: &str) -> bool {
+    match format!(in alloc; "{words} / line / {CALLS} /  / sure 0 / {text}") {
+        Ok(case) => holds(alloc, &case, Deck::BuiltIn, false).unwrap_or(false),
+        Err(_) => false,
+    }
+}
+
+#[test]
+fn has_the_stairway_of_the_run_with_a_fresh_list(rt: HostRuntime) {
+    assert!(rt; has_its_stairway(rt.alloc(), "one-free-leg opposed / "));
+}
+
+/// Whether the run of the scene, which each train leaves, has the intervals of its stairway.
+fn has_its_stairway(alloc: Global, files: &str) -> bool {
+    match shelf_of(alloc, files, "sure 0") {
+        Some(mut shelf) => match sink_of(alloc, "sure 0") {
+            Ok(mut run) => match sink_of(alloc, "sure 0") {
+                Ok(mut stairs) => {
+                    adds(alloc, "run scene", &mut shelf, &mut run)
+                        && adds(alloc, "stairs scene", &mut shelf, &mut stairs)
+                        && are_of_one_run(text_in(&run), text_in(&stairs))
+                }
+                Err(_) => false,
+            },
+            Err(_) => false,
+        },
+        None => false,
+    }
+}
+
+/// Whether the words are done, and what they add is in the output then.
+fn adds(alloc: Global, words: &str, shelf: &mut MemoryShelf, out: &mut MemorySink) -> bool {
+    match words_of(alloc, words) {
+        Ok(words) => ask(alloc, &words, shelf, out, Deck::BuiltIn) == Some(Status::Done),
+        Err(_) => false,
+    }
+}
+
+/// The output as text.
+fn text_in(sink: &MemorySink) -> &str {
+    match sink.bytes() {
+        Some(bytes) => str::from_utf8(bytes).unwrap_or(""),
+        None => "",
+    }
+}
+
+/// Whether each section is given free when one of its intervals of the train ends, and there are no other intervals.
+fn are_of_one_run(history: &str, stairs: &str) -> bool {
+    let frees = history.matches(" free ").count();
+    let is_fresh = history.contains(" fresh ");
+    let ends = |line| ends_in(stairs, line);
+    is_fresh && stairs.matches("stair ").count() == frees && history.lines().all(ends)
+}
+
+/// Whether one of the intervals ends with the line, where the line gives a section free.
+fn ends_in(stairs: &str, line: &str) -> bool {
+    nth_word(line, 1) != Some("free")
+        || stairs.lines().any(|stair| {
+            nth_word(stair, 5) == nth_word(line, 0)
+                && nth_word(stair, 3) == nth_word(line, 2)
+                && nth_word(stair, 1) == nth_word(line, 3)
+        })
+}
+
+/// The word of the line behind so many others.
+fn nth_word(line: &str, before: usize) -> Option<&str> {
+    line.split(' ').nth(before)
 }
 
 #[test]
@@ -312,6 +411,7 @@ fn word(alloc: Global, text: &str) -> Result<Word, AllocError> {
 fn words_of(alloc: Global, line: &str) -> Result<Vec<Word>, AllocError> {
     let mut words = Vec::new(alloc);
     for text in line.split_whitespace() {
+        let text = if text == "\"\"" { "" } else { text };
         words.push(word(alloc, text)?)?;
     }
     Ok(words)

@@ -5,12 +5,14 @@ ghost use Rattle.rail_rules.specs.Texts.{behind};
 ghost use Rattle.rail_history.specs.declared.line.TheConstants.{ROOM};
 ghost use Rattle.rail_input.specs.Inputs.{plant_in};
 ghost use Rattle.rail_cli.specs.Answers.{IsTextAnswer};
-ghost use Rattle.rail_cli.specs.Plays.{AnswersPlay, bar_words, list_refusal, names_in, play_refusal, play_text, played_line, played_words, section_name, shared_at, train_name};
+ghost use Rattle.rail_cli.specs.Names.{names_in};
+ghost use Rattle.rail_cli.specs.Plays.{AnswersPlay, bar_words, list_refusal, play_refusal, play_text, played_line, played_words, shared_at};
 ghost use Rattle.rail_cli.specs.Promises.{KeepsPromise, WritesAnswer, WritesText, ended, is_of_bytes};
 
+use crate::commands::names::{put_section, put_train};
 use crate::files::read_file;
 use crate::status::Status;
-use rail_base::{Names, Part, Reason, Refusal, SectionNo, TrainNo};
+use rail_base::{Names, Part, Reason, Refusal, TrainNo};
 use rail_history::Line;
 use rail_input::read_plant;
 use rail_io::{Failed, Shelf, Sink, write_whole};
@@ -150,29 +152,5 @@ fn train_at(list: &[TrainNo], index: u32) -> TrainNo
     match list.get((index as usize).saturating_sub(1)) {
         Some(train) => *train,
         None => TrainNo(0),
-    }
-}
-
-/// Puts the name of a train.
-fn put_train(line: &mut Line, names: &Names, train: TrainNo)
-    requires { length line.old + 17 ≤ ROOM }
-    ensures text { line.new ≡ line.old ++ 32 ∷ train_name (names_in names.now) train }
-    ensures short { length line.new ≤ length line.old + 17 }
-{
-    match names.trains.get_index(usize::from(train.0)) {
-        Some(name) => line.put_name(name),
-        None => line.put_word(b""),
-    }
-}
-
-/// Puts the name of a section.
-fn put_section(line: &mut Line, names: &Names, section: SectionNo)
-    requires { length line.old + 17 ≤ ROOM }
-    ensures text { line.new ≡ line.old ++ 32 ∷ section_name (names_in names.now) section }
-    ensures short { length line.new ≤ length line.old + 17 }
-{
-    match names.sections.get_index(usize::from(section.0)) {
-        Some(name) => line.put_name(name),
-        None => line.put_word(b""),
     }
 }

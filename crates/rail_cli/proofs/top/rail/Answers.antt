@@ -1,6 +1,6 @@
 use Rattle.std.proofs.Common.{ℕ, List, sym, ◌∙◌, subst, Option}
 use Rattle.rail_cli.specs.Promises.{ReadsFiles, ended}
-use Rattle.rail_cli.proofs.Forms.{complete_form, files_of_form, form_answered}
+use Rattle.rail_cli.proofs.Forms.{complete_form, files_of_form, form_answered, refused_alone}
 use Rattle.rail_cli.proofs.top.rail.Goals as goal
 
 pub returns-in-Some-clause-usage : goal.returns-in-Some-clause-usage
@@ -29,3 +29,10 @@ returns-in-Some-clause-complete g c = λ form asked accepted no_read no_write.
 
 pub returns-in-None-clause-complete : goal.returns-in-None-clause-complete
 returns-in-None-clause-complete g c = λ form asked. absurd (c.in-None.ensures form asked)
+
+pub returns-in-Some-clause-unread : goal.returns-in-Some-clause-unread
+returns-in-Some-clause-unread g c = λ form asked alone.
+    c.answer.ensures.unread (refused_alone c.in-Some.form form c.args.words.now c.in-Some.ensures asked alone)
+
+pub returns-in-None-clause-unread : goal.returns-in-None-clause-unread
+returns-in-None-clause-unread g c = λ form asked. absurd (c.in-None.ensures form asked)

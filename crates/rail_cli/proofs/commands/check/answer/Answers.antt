@@ -7,7 +7,7 @@ use Rattle.rail_cli.specs.Promises.{KeepsPromise}
 use Rattle.rail_cli.proofs.Answers.{ended_with}
 use Rattle.rail_cli.proofs.CheckAnswers.{all_files, history_not_read, no_commands, no_scene, no_timetable}
 use Rattle.rail_cli.proofs.Reading.{keeps_failed}
-use Rattle.rail_cli.proofs.RunAnswers.{copied_is, fit_named, keeps_unnamed}
+use Rattle.rail_cli.proofs.ScenarioAnswers.{copied_is, fit_named, keeps_unnamed}
 use Rattle.rail_cli.proofs.commands.check.answer.Goals as goal
 
 pub returns-in_err-scene-clause-answer : goal.returns-in_err-scene-clause-answer

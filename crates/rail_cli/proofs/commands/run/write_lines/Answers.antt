@@ -6,7 +6,8 @@ use Rattle.rail_ledger.specs.declared.input.RunInput.{RunInput}
 use Rattle.rail_ledger.specs.Inputs.{input_in}
 use Rattle.rail_ledger.specs.Ledgers.{line_in}
 use Rattle.rail_base.specs.declared.orders.Command.{Command}
-use Rattle.rail_cli.proofs.RunAnswers.{runs_same, runs_same_in_part}
+use Rattle.rail_cli.specs.Runs.{RunsInput, RunsInputInPart}
+use Rattle.rail_cli.proofs.ScenarioAnswers.{runs_same}
 use Rattle.rail_cli.proofs.Progress.{none_so_far, next_added, in_part, all_written, next_writable, few_lines}
 use Rattle.rail_cli.proofs.commands.run.write_lines.Goals as goal
 
@@ -17,7 +18,7 @@ pub returns-in_default-clause-adds : goal.returns-in_default-clause-adds
 returns-in_default-clause-adds g c =
     let so_far = c.loop.invariant.so_far in
     let engine = c.loop.engine.core in
-    runs_same _ _ _ _ _ _ (ap input_in c.loop.invariant.input) refl (all_written (input_in engine.input) _ so_far.stands.at.accepted c.requires.marks so_far.front so_far.stands.run.of_run
+    runs_same (λ input seats. RunsInput input seats (g.O.Sink.written c.args.out.now) (g.O.Sink.written c.loop.out)) _ _ _ _ (ap input_in c.loop.invariant.input) refl (all_written (input_in engine.input) _ so_far.stands.at.accepted c.requires.marks so_far.front so_far.stands.run.of_run
     (c.in_default.ensures.ended refl _ so_far.front so_far.stands) _ _ so_far.adds)
 
 pub write_entry-requires : goal.write_entry-requires
@@ -41,7 +42,7 @@ returns-in_err-write_entry-clause-failed_adds_prefix g c =
     let before = g.O.Sink.written c.args.out.now in
     let now = g.O.Sink.written c.loop.out in
     let adds : Adds before now (text engine.input.plant so_far.front) = subst (λ (input : RunInput). Adds before now (text input.plant so_far.front)) (sym c.in-Some.ensures.input) so_far.adds in
-    let part = runs_same_in_part _ (input_in c.args.engine.now.core.input) _ _ before (g.O.Sink.written c.write_entry.new.out) (ap input_in (c.in-Some.ensures.input ∙ c.loop.invariant.input)) refl
+    let part = runs_same (λ input seats. RunsInputInPart input seats before (g.O.Sink.written c.write_entry.new.out)) _ (input_in c.args.engine.now.core.input) _ _ (ap input_in (c.in-Some.ensures.input ∙ c.loop.invariant.input)) refl
     (in_part (input_in engine.input) _ stands.at.accepted so_far.front (line_in engine c.in-Some.entry) stands.run.of_run
     c.plant-in-loop.result.now c.listed.result.now c.plant-in-loop.ensures (c.listed.ensures _ _ stands) before now _ adds more) in
     grind (arith, part)
