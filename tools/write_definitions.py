@@ -41,14 +41,14 @@ PARTS = (
 
 # The headline in words, and the fields of records of the top call's crate that say each part of it.
 HEADLINE = (
-    ("For every accepted input and every policy behaviour", (("AnswersScenario", "all"), ("IsRun", "accepted"))),
-    ("a `run` that ends `Done` writes one history", (("IsRun", "history"), ("RunsInput", "adds"), ("IsRun", "only"))),
+    ("For every accepted input and every policy behaviour", (("AnswersScenario", "all"), ("IsRunWithin", "accepted"))),
+    ("a `run` that ends `Done` writes one history", (("IsRun", "history"), ("RunsInput", "adds"), ("IsRunWithin", "only"))),
     ("in which blocking intervals of a section never overlap,", (("IsSafe", "apart"),)),
     ("the kept list always brings every train inside to its exit,", (("IsSafe", "complete"),)),
     ("each wait has its stated true cause,",
      (("IsSafe", "waits"), ("WaitsForStated", "true_cause"), ("WaitsForStated", "stated"), ("IsSafe", "causes"))),
     ("every line follows from the admissions,",
-     (("IsRun", "history"), ("IsSafe", "obeyed"), ("IsSafe", "repaired"), ("IsRun", "timely"))),
+     (("IsRun", "history"), ("IsSafe", "obeyed"), ("IsSafe", "repaired"), ("IsRunWithin", "timely"))),
     ("and, unless a closure or a stop remains,", (("NothingIsBarred", "opened"), ("NothingIsBarred", "going"))),
     ("every train that was not cancelled leaves",
      (("IsFinished", "names"), ("IsFinished", "nobody"), ("IsFinished", "left"))),

@@ -1,3 +1,4 @@
--- The lemmas of this crate.
+-- The lemmas of this crate; those for the crates above stand in CallerLemmas.
+pub mod CallerLemmas
 mod SoFar
 mod Printed

@@ -16,3 +16,4 @@ mod NotedRuns
 mod Pieces
 mod CapacityTexts
 mod Studies
+mod PrintedRuns

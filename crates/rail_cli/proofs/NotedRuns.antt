@@ -28,13 +28,13 @@ use Rattle.rail_cli.specs.Capacity.{IsCapacityText, capacity_text, line_of}
 use Rattle.rail_cli.specs.Names.{NameLists, names_of}
 use Rattle.rail_cli.specs.Noted.{IsNotedRun, ReportsRun}
 use Rattle.rail_cli.specs.Reports.{IsReportText}
-use Rattle.rail_cli.specs.Runs.{IsFinished, IsRun}
+use Rattle.rail_cli.specs.Runs.{IsFinished, IsRunWithin}
 use Rattle.rail_cli.specs.Stairs.{IsStairsText}
 
 -- a run history is lawful to its end
-run_complete : (input : Input) (seats : List Seat) (front : Front) → IsRun input seats front → is_complete input front ≡ true
+run_complete : (input : Input) (seats : List Seat) (front : Front) → IsRunWithin input seats front → is_complete input front ≡ true
 run_complete input seats front run =
-    let both = and_parts (is_run input seats front) (has_ended front) run.history in
+    let both = and_parts (is_run input seats front) (has_ended front) run.is_run.history in
     and_from (is_lawful input front) (has_ended front) (run_lawful input seats front both.0) both.1
 
 -- its end line has a time
@@ -54,12 +54,12 @@ module _ (input : Input) (seats : List Seat) (stairs : Stairs) (plant : Plant) (
     dispatch = record { commands = input.commands; deck = input.deck; force = input.force };
     front = noted.front;
     accepted = noted.run.accepted;
-    lawful = run_lawful input seats noted.front (and_parts (is_run input seats noted.front) (has_ended noted.front) noted.run.history).0;
+    lawful = run_lawful input seats noted.front (and_parts (is_run input seats noted.front) (has_ended noted.front) noted.run.is_run.history).0;
     noted = noted.noted;
   })
 
   pub stairs_ended : IsSome stairs.ended
-  stairs_ended = subst (λ (o : Option ℕ). IsSome o) (sym noted.noted.ended) (some_end input noted.front noted.run.finished)
+  stairs_ended = subst (λ (o : Option ℕ). IsSome o) (sym noted.noted.ended) (some_end input noted.front noted.run.is_run.finished)
 
   -- the text of its stairway
   pub stairs_told : (X : List ℕ → Type 0) → ((front : Front) → AreNoted plant front stairs → X (stairs_text plant front)) → ReportsRun IsStairsText input seats X

@@ -29,7 +29,7 @@ use Rattle.rail_laws_text.proofs.CallerLemmas.{line_writable}
 use Rattle.rail_ledger.specs.Inputs.{input_in}
 use Rattle.rail_ledger.specs.declared.input.RunInput.{RunInput}
 use Rattle.rail_cli.specs.Noted.{IsNext, IsNotedRun}
-use Rattle.rail_cli.specs.Runs.{IsRun, RunsInput, RunsInputInPart}
+use Rattle.rail_cli.specs.Runs.{IsRunWithin, RunsInput, RunsInputInPart}
 use Rattle.rail_cli.proofs.LineBounds.{lines_at_most}
 use Rattle.rail_cli.proofs.Endings.{finished_run}
 use Rattle.rail_cli.proofs.Histories.{only_run, safe_run, timely_run}
@@ -116,13 +116,11 @@ module _ (input : Input) (seats : List Seat) (ok : is_accepted_input input ≡ t
 
 -- a run that has ended is a run history
 pub run_ended : (input : Input) (seats : List Seat) → is_accepted_input input ≡ true → are_marks seats ≡ true → (front : Front) → is_run input seats front ≡ true → has_ended front ≡ true
-    → IsRun input seats front
+    → IsRunWithin input seats front
 run_ended input seats ok marks front run ended =
     let history : is_run_history input seats front ≡ true = and_from (is_run input seats front) (has_ended front) run ended in record {
       accepted = ok;
-      history = history;
-      safe = safe_run input seats ok front run;
-      finished = finished_run input seats ok front history;
+      is_run = record { history = history; safe = safe_run input seats ok front run; finished = finished_run input seats ok front history };
       timely = timely_run input seats ok front run;
       only = only_run input seats ok marks front history;
     }

@@ -7,7 +7,7 @@ use Rattle.rail_rules.specs.Lawful.{is_lawful}
 use Rattle.rail_rules.specs.Orders.{Input}
 use Rattle.rail_rules.specs.Plant.{Plant}
 use Rattle.rail_rules.specs.RunHistories.{Seat}
-use Rattle.rail_cli.specs.Runs.{IsRun}
+use Rattle.rail_cli.specs.Runs.{IsRunWithin}
 
 -- the entry is that of a line which lawfully follows the front, in a history of the input on this plant
 pub record IsNext (input : Input) (front : Front) (line : Line) (plant : Plant) (entry : Entry) : Type 0 where
@@ -27,13 +27,13 @@ pub record FollowsNoted (are_noted : Input → Front → Type 0) (plant : Plant)
 -- the lines of a run history of the input were noted
 pub record IsNotedRun (are_noted : Input → Front → Type 0) (input : Input) (seats : List Seat) : Type 0 where
   pub front : Front
-  pub run : IsRun input seats front
+  pub run : IsRunWithin input seats front
   pub noted : are_noted input front
 
 -- a text that tells this of a run history of the input was added, or so much of it
 pub record ReportsRun (tells : Input → Front → List ℕ → Type 0) (input : Input) (seats : List Seat) (adds : List ℕ → Type 0) : Type 0 where
   pub front : Front
-  pub run : IsRun input seats front
+  pub run : IsRunWithin input seats front
   pub text : List ℕ
   pub told : tells input front text
   pub added : adds text

@@ -88,11 +88,14 @@ IsTheOnlyOne input seats front = IsTrue (is_built_in_throughout input seats fron
 
 -- the front is a run history of the input with the boxes as they were handed in, in which every event line is the due one
 pub record IsRun (input : Input) (seats : List Seat) (front : Front) : Type 0 where
-  -- the input is within the limits, so that the laws on all such inputs speak of it
-  pub accepted : IsTrue (is_accepted_input input)
   pub history : IsTrue (is_run_history input seats front)
   pub safe : IsSafe input seats front
   pub finished : IsFinished input front
+
+-- it is the run of an input that may be run: one within the limits, so that the laws on all such inputs speak of it
+pub record IsRunWithin (input : Input) (seats : List Seat) (front : Front) : Type 0 where
+  pub accepted : IsTrue (is_accepted_input input)
+  pub is_run : IsRun input seats front
   pub timely : IsBeforeLimit front
   pub only : IsTheOnlyOne input seats front
 
@@ -106,7 +109,7 @@ pub record IsRunInPart (input : Input) (seats : List Seat) (front : Front) : Typ
 -- the bytes added are the text of a run history of the input
 pub record RunsInput (input : Input) (seats : List Seat) (before now : Option (List ℕ)) : Type 0 where
   pub front : Front
-  pub run : IsRun input seats front
+  pub run : IsRunWithin input seats front
   pub adds : Adds before now (text input.plant front)
 
 -- the bytes added are a first part of the text of a run front of the input

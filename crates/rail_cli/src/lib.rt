@@ -11,9 +11,11 @@
 mod commands;
 mod files;
 mod help;
+mod laws;
 mod status;
 mod top;
 
 pub use help::{HELP, VERSION};
+pub use laws::a_printed_run_is_checked_with_yes;
 pub use status::Status;
 pub use top::rail;

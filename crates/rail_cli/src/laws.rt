@@ -1,0 +1,28 @@
+//! What the forms promise together.
+
+ghost use Rattle.std.specs.Prelude.{◌≡◌, ◌≤◌, ◌++◌, ℕ, List, Option, None, Some, codes, length};
+ghost use Rattle.rail_base.specs.Limits.{most, HistoryBytes};
+ghost use Rattle.rail_io.specs.Writes.{Adds, AddsPrefix};
+ghost use Rattle.rail_policy.specs.Seats.{DeskSeat};
+ghost use Rattle.rail_cli.specs.Answers.{IsAnswer, Told};
+ghost use Rattle.rail_cli.specs.Checks.{AnswersCheck};
+ghost use Rattle.rail_cli.specs.Files.{named_file, told_of};
+ghost use Rattle.rail_cli.specs.Runs.{AnswersRun};
+ghost use Rattle.rail_cli.specs.Scenarios.{Scenario};
+ghost use Rattle.rail_cli.specs.declared.status.Status.{Status};
+ghost use Rattle.rail_cli.specs.declared.status.Status.TheVariants as status;
+
+/// What `run` printed is answered `yes` by `check` of the same files: where a `run` of a scenario ended `Done`, and what
+/// it added is what the history file holds, within the size that such a file may have, a `check` of the same scenario with
+/// that file, under the same deck, adds `yes` and ends `Done`, whatever the policies chose. Only a fault of reading or
+/// writing, or want of memory, may stand in place of that.
+pub fn a_printed_run_is_checked_with_yes()
+    ensures { (scenario : Scenario) (deck : List DeskSeat) (told : Told) (bytes : List ℕ) (calls orders : Option (List ℕ))
+        → told scenario.scene ≡ Some bytes → told_of told (named_file scenario.timetable) ≡ Some calls
+        → told_of told (named_file scenario.commands) ≡ Some orders
+        → (before printed : List ℕ) → AnswersRun scenario deck told (Some before) (Some (before ++ printed)) status.Done
+        → (history : List ℕ) → told history ≡ Some printed → length printed ≤ most HistoryBytes
+        → (out now : Option (List ℕ)) (end : Status)
+        → AnswersCheck scenario.scene scenario.timetable scenario.commands history deck told out now end
+        → IsAnswer None (Adds out now (codes "yes\n")) (AddsPrefix out now (codes "yes\n")) end }
+{}
