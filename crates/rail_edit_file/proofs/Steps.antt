@@ -1,5 +1,5 @@
 -- Names and steps that are read one by one.
-use Rattle.std.proofs.Common.{◌≡◌, ℕ, ◌&&◌, Bool, true, false, cond, List, [], ◌∷◌, ◌++◌, Option, Some, None, if◌then◌else◌, option_map, refl, sym, ap, ◌∙◌, append_assoc}
+use Rattle.std.proofs.Common.{◌≡◌, ℕ, ◌&&◌, Bool, true, false, cond, List, ◌∷◌, Some, None, if◌then◌else◌, option_map, refl, sym, ap, ◌∙◌}
 use Rattle.rail_base.specs.NameForms.{is_name}
 use Rattle.rail_routes.specs.declared.items.Step.{Step}
 use Rattle.rail_edit_file.specs.EditLines.{steps_from}
