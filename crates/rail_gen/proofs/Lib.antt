@@ -1,0 +1,6 @@
+-- The lemmas of this crate.
+mod LineAccepted
+mod Itineraries
+mod Trains
+mod Compiled
+mod Made
