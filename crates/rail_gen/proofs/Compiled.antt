@@ -15,7 +15,7 @@ use Rattle.rail_compile.specs.Itineraries.{tables_of, train_row}
 use Rattle.rail_compile.specs.Refusals.{train_tests, trains_tests, fault_for, refusal_in, compile_refusal}
 use Rattle.rail_gen.specs.MadeScenes.{line_scene}
 use Rattle.rail_gen.proofs.Itineraries.{always_at, is_fine, fault_of_row, made, fine_any}
-use Rattle.rail_gen.proofs.Trains.{IsMade, Each}
+use Rattle.rail_gen.proofs.MadeTrains.{IsMade, Each}
 
 none_of : {X : Type 0} (o : Option X) → not (is_some o) ≡ true → o ≡ None
 none_of None h = refl

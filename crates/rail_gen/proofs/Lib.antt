@@ -1,6 +1,9 @@
 -- The lemmas of this crate.
 mod LineAccepted
 mod Itineraries
-mod Trains
+mod MadeTrains
 mod Compiled
 mod Made
+mod Spellings
+mod Ranges
+mod Turns

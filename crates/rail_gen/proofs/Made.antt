@@ -1,11 +1,12 @@
 -- The scene of each number is one, and is accepted.
-use Rattle.std.proofs.Common.{◌≡◌, ℕ, ◌+◌, ◌<◌, true, None, arith}
+use Rattle.std.proofs.Common.{◌≡◌, ℕ, ◌+◌, ◌<◌, true, None, ap, ◌∙◌, arith}
 use Rattle.rand_pcg.specs.Lcg.{Lcg}
 use Rattle.rail_scene.specs.Scenes.{IsScene}
+use Rattle.rail_scene.specs.declared.scene.Scene.{Scene}
 use Rattle.rail_compile.specs.Refusals.{compile_refusal}
 use Rattle.rail_gen.specs.Accepted.{is_accepted_in_order}
 use Rattle.rail_gen.specs.MadeScenes.{drawn, generator_of, trains_from, line_scene, made_scene}
-use Rattle.rail_gen.proofs.Trains.{all_made, trains_count, trains_apart, is_scene}
+use Rattle.rail_gen.proofs.MadeTrains.{all_made, trains_count, trains_apart, is_scene}
 use Rattle.rail_gen.proofs.Compiled.{compiled}
 use Rattle.rail_gen.proofs.LineAccepted.{line_accepted}
 
@@ -41,3 +42,15 @@ unfolding made_scene
 made_accepted number =
     let few = drawn_below 7 (generator_of number) (omega arith) in
     line_accepted (2 + (drawn 7 (generator_of number)).0) (omega arith) (omega (arith, few))
+
+-- what is put together from the words in order is the scene of the number
+pub scene_made : (number : ℕ) (generator first second : Lcg) (stations trains : ℕ) (scene : Scene) → generator ≡ generator_of number
+    → stations ≡ (drawn 7 generator).0 → first ≡ (drawn 7 generator).1 → trains ≡ (drawn 29 first).0 → second ≡ (drawn 29 first).1
+    → scene ≡ line_scene (2 + stations) (trains_from (2 + stations) 1 (4 + trains) second) → scene ≡ made_scene number
+unfolding made_scene
+scene_made number generator first second stations trains scene seeded few left many rest is =
+    let few_of = few ∙ ap (λ g. (drawn 7 g).0) seeded in
+    let left_of = left ∙ ap (λ g. (drawn 7 g).1) seeded in
+    let many_of = many ∙ ap (λ g. (drawn 29 g).0) left_of in
+    let rest_of = rest ∙ ap (λ g. (drawn 29 g).1) left_of in
+    is ∙ (λ i. line_scene (2 + few_of i) (trains_from (2 + few_of i) 1 (4 + many_of i) (rest_of i)))

@@ -28,7 +28,7 @@ abbrev pub Each : (SceneTrain → Type 0) → List SceneTrain → Type 0
 Each G [] = Unit {0}
 Each G (x ∷ xs) = G x × Each G xs
 
-coins_count : (n : ℕ) (g : Lcg) → length (coins n g).0 ≡ n
+pub coins_count : (n : ℕ) (g : Lcg) → length (coins n g).0 ≡ n
 unfolding coins
 coins_count zero g = refl
 coins_count (suc n) g = ap suc (coins_count n (coin g).1)
