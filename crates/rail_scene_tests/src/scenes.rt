@@ -11,6 +11,7 @@ use limits::LIMITS;
 pub(crate) use pieces::TRACK;
 use pieces::{OTHERS, ROOT, STATION};
 use rail_base::{Fault, Name, Time, TrainKind};
+use rail_gen::scene_of;
 use rail_routes::{Network, Route, Step};
 use rail_scene::{Scene, SceneTrain, read_scene};
 use rail_scene_text::write_scene;
@@ -159,6 +160,43 @@ fn read_again(alloc: Global, bytes: &[u8]) -> Result<Scene, Fault>
         Err(_) => return Err(Fault::OutOfMemory),
     };
     read_scene(alloc, text.as_slice())
+}
+
+#[test]
+fn makes_up_a_scene_that_is_read_again(rt: HostRuntime) {
+    assert!(rt; makes_up_a_line(rt.alloc(), 1));
+}
+
+/// Whether the scene of the number is a line with its stations, also where it is read from what is written of it.
+fn makes_up_a_line(alloc: Global, number: u64) -> bool {
+    let Ok(scene) = scene_of(alloc, number) else {
+        return false;
+    };
+    let Ok(text) = write_scene(alloc, &scene) else {
+        return false;
+    };
+    match read_scene(alloc, text.as_slice()) {
+        Ok(again) => {
+            let is_line = is_a_line(&again)
+                && again.trains.as_slice().len() == scene.trains.as_slice().len();
+            drop(again);
+            is_line
+        }
+        Err(_) => false,
+    }
+}
+
+/// Whether the scene has the sections, signals and routes of some 2 to 8 stations, three train kinds, and 4 to 32 trains.
+fn is_a_line(scene: &Scene) -> bool {
+    let network = &scene.network;
+    let stations = network.signals().len() / 6;
+    let trains = scene.trains.as_slice().len();
+    (2..=8).contains(&stations)
+        && network.sections().len() == 5 * stations + 1
+        && network.portals().len() == 2
+        && network.routes().len() == 8 * stations + 2
+        && scene.kinds.as_slice().len() == 3
+        && (4..=32).contains(&trains)
 }
 
 /// Whether the scene is what its file spells, with a depth, a policy and a priority that the file leaves
