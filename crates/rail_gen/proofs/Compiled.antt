@@ -4,6 +4,7 @@ use Rattle.std.specs.Option.{option_or}
 use Rattle.std.proofs.lemmas.Bool.{and_parts}
 use Rattle.rail_base.specs.Clock.{two_digits}
 use Rattle.rail_base.specs.FirstRefusals.{first_failing}
+use Rattle.rail_base.specs.Refusals.{refusal_in}
 use Rattle.rail_base.specs.declared.plant.TrainRow.{TrainRow}
 use Rattle.rail_base.proofs.CallerLemmas.{first_failing-append}
 use Rattle.rail_rules.specs.Numbers.{or_else}
@@ -12,7 +13,7 @@ use Rattle.rail_plan.specs.PlanFaults.{bare, first_answer, fault_of_train, fault
 use Rattle.rail_scene.specs.declared.scene.Scene.{Scene}
 use Rattle.rail_scene.specs.declared.scene.SceneTrain.{SceneTrain}
 use Rattle.rail_compile.specs.Itineraries.{tables_of, train_row}
-use Rattle.rail_compile.specs.Refusals.{train_tests, trains_tests, fault_for, refusal_in, compile_refusal}
+use Rattle.rail_compile.specs.Refusals.{train_tests, trains_tests, fault_for, compile_refusal}
 use Rattle.rail_gen.specs.MadeScenes.{line_scene}
 use Rattle.rail_gen.proofs.Itineraries.{always_at, is_fine, fault_of_row, made, fine_any}
 use Rattle.rail_gen.proofs.MadeTrains.{IsMade, Each}
