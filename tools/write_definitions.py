@@ -37,6 +37,8 @@ PARTS = (
     ("AnswersCheck", "what `check` answers"),
     ("AnswersInfra", "what `infra` answers"),
     ("AnswersPlay", "what `play` answers"),
+    ("AnswersEdit", "what `edit` answers"),
+    ("AnswersScene", "what `scene` answers"),
 )
 
 # The headline in words, and the fields of records of the top call's crate that say each part of it.

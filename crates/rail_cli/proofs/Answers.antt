@@ -4,15 +4,12 @@ use Rattle.std.proofs.lemmas.Bool.Decides.{nat_tests}
 use Rattle.std.proofs.lemmas.Option.{none-some, same_Some}
 use Rattle.rail_base.specs.declared.refusals.Refusal.{Refusal}
 use Rattle.rail_rules.specs.Numbers.{or_else}
-use Rattle.rail_io.specs.Writes.{Adds, AddsPrefix}
 use Rattle.rail_cli.specs.declared.status.Status.{Status}
 use Rattle.rail_cli.specs.declared.status.Status.TheVariants.{Done, Usage, Refused, ReadFault, WriteFault, OutOfMemory, CheckedNo}
-use Rattle.rail_input.specs.Inputs.{plant_in}
 use Rattle.rail_cli.specs.Answers.{Decides, IsAnswer}
 use Rattle.rail_io.specs.declared.shelf.Shelf.{Ghosts}
 use Rattle.rail_cli.specs.Files.{IsFileAnswer, most_bytes, too_large, too_many_bytes}
 use Rattle.rail_cli.specs.Promises.{ended}
-use Rattle.rail_cli.specs.Plays.{play_refusal, play_text}
 
 not_more : (n m : ℕ) → m ≤ n → nat_lt n m ≡ false
 not_more n m le = grind (arith, nat_tests)
@@ -24,16 +21,6 @@ short_enough number bytes few = ap (λ b. cond b (Some (too_many_bytes number)) 
 -- where nothing is refused at first, the answer is that of what comes after it
 pub answer_after : (first later : Option Refusal) (whole part : Type 0) (status : Status) → first ≡ None → IsAnswer later whole part status → IsAnswer (or_else first later) whole part status
 answer_after first later whole part status none answer = subst (λ (refusal : Option Refusal). IsAnswer (or_else refusal later) whole part status) (sym none) answer
-
--- what the player answers to files that were read whole
-pub play_answer : (before now : Option (List ℕ)) (status : Status) (bytes listed scene list : List ℕ) → scene ≡ bytes → list ≡ listed → too_large 1 scene ≡ None → too_large 2 list ≡ None
-    → IsAnswer (play_refusal scene list) (Adds before now (play_text (plant_in scene) list)) (AddsPrefix before now (play_text (plant_in scene) list)) status
-    → IsAnswer (or_else (too_large 1 bytes) (or_else (too_large 2 listed) (play_refusal bytes listed))) (Adds before now (play_text (plant_in bytes) listed)) (AddsPrefix before now (play_text (plant_in bytes) listed)) status
-play_answer before now status bytes listed scene list is_scene is_list short_scene short_list answer =
-    let Answer : List ℕ → List ℕ → Type 0 = λ scene list.
-    IsAnswer (or_else (too_large 1 scene) (or_else (too_large 2 list) (play_refusal scene list))) (Adds before now (play_text (plant_in scene) list)) (AddsPrefix before now (play_text (plant_in scene) list)) status in
-    let whole : Answer scene list = answer_after _ _ _ _ status short_scene (answer_after _ _ _ _ status short_list answer) in
-    subst (λ xs. Answer xs listed) is_scene (subst (λ xs. Answer scene xs) is_list whole)
 
 -- nothing is decided where nothing is refused
 pub none_decides : (first : Option Refusal) (status : Status) → first ≡ None → Decides first status

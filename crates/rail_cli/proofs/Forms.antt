@@ -1,5 +1,5 @@
 -- The words of a form.
-use Rattle.std.proofs.Common.{◌≡◌, ◌⊎◌, ℕ, List, [], ◌∷◌, Option, Some, None, sym, ap, ◌∙◌, subst}
+use Rattle.std.proofs.Common.{◌≡◌, ◌⊎◌, ℕ, List, [], ◌∷◌, Option, Some, None, refl, sym, ap, ◌∙◌, subst}
 use Rattle.std.specs.Prelude.{IsSomeAnd, MatchOption}
 use Rattle.std.proofs.lemmas.Option.{same_Some}
 use Rattle.std.specs.Option.{option_map_or}
@@ -100,6 +100,14 @@ complete_form form.Check (verb ∷ scene ∷ []) deck told before now status ans
 complete_form form.Check (verb ∷ scene ∷ timetable ∷ []) deck told before now status answer ok read write = absurd ok
 complete_form form.Check (verb ∷ scene ∷ timetable ∷ commands ∷ []) deck told before now status answer ok read write = absurd ok
 complete_form form.Check (verb ∷ scene ∷ timetable ∷ commands ∷ history ∷ other ∷ more) deck told before now status answer ok read write = absurd ok
-complete_form form.Edit words deck told before now status answer ok read write = absurd ok
+complete_form form.Edit (verb ∷ scene ∷ edits ∷ []) deck told before now status answer ok read write =
+    complete_answer _ _ _ status (answer.both ok.0 ok.1 ok.2 ok.3) ok.4 read write
+complete_form form.Edit [] deck told before now status answer ok read write = absurd ok
+complete_form form.Edit (verb ∷ []) deck told before now status answer ok read write = absurd ok
+complete_form form.Edit (verb ∷ scene ∷ []) deck told before now status answer ok read write = absurd ok
+complete_form form.Edit (verb ∷ scene ∷ edits ∷ other ∷ more) deck told before now status answer ok read write = absurd ok
 complete_form form.Gen words deck told before now status answer ok read write = absurd ok
-complete_form form.Scene words deck told before now status answer ok read write = absurd ok
+complete_form form.Scene (verb ∷ number ∷ []) deck told before now status answer ok read write = complete_answer _ _ _ status (answer ok.0 ok.1) refl read write
+complete_form form.Scene [] deck told before now status answer ok read write = absurd ok
+complete_form form.Scene (verb ∷ []) deck told before now status answer ok read write = absurd ok
+complete_form form.Scene (verb ∷ number ∷ other ∷ more) deck told before now status answer ok read write = absurd ok

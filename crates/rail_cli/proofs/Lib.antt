@@ -7,8 +7,10 @@ mod InfraTexts
 mod Writes
 mod Lists
 mod Answers
+mod TwoFiles
 mod CheckAnswers
 mod Forms
+mod Numbers
 mod Parts
 mod Reading
 mod ScenarioAnswers

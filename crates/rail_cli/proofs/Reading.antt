@@ -111,6 +111,23 @@ keeps_read shelf sink file files before now out_before out_now status read told_
   in_table = λ is. false≢true (sym (ap is_of_bytes is) ∙ of_bytes);
 }
 
+-- what is promised where no file is named, and nothing came of one
+pub keeps_unread : {S O : Type 0} (shelf : Ghosts S) (sink : SinkGhosts O) (before : S) (out_before out_now : O) (status : Status)
+    → is_of_bytes status ≡ true → WritesAnswer sink out_before out_now status → KeepsPromise shelf sink [] before before out_before out_now status
+keeps_unread shelf sink before out_before out_now status of_bytes writes = record {
+  reads = record {
+    read_fault = λ is. absurd (false≢true (sym (ap is_of_bytes is) ∙ of_bytes));
+    too_large = λ refusal is of_file. absurd (false≢true (ap not (sym of_file) ∙ sym (ap is_of_bytes is) ∙ of_bytes));
+    read = λ comes. tt;
+    unread = λ empty. refl;
+    usage_unread = λ is. refl;
+    told_stays = refl;
+    faults_never_fall = omega arith;
+  };
+  writes = writes;
+  in_table = λ is. false≢true (sym (ap is_of_bytes is) ∙ of_bytes);
+}
+
 -- the last of three files, of which the first is there
 pub last_read : {S : Type 0} (shelf : Ghosts S) (file : List ℕ) (second third : Option (List ℕ)) (one two three : S) → IsRead shelf file one → IsReadIfAny shelf second one two
     → IsReadIfAny shelf third two three → IfSome (last_file (Some file ∷ second ∷ third ∷ [])) (λ last. IsRead shelf last three)

@@ -1,7 +1,7 @@
 -- The forms: which files the words of each name, and what is answered to them.
 use Rattle.std.specs.Prelude.{◌≡◌, ℕ, List, [], ◌∷◌, IsSomeAnd, Option, Some, None}
 use Rattle.std.specs.Option.{option_map_or}
-use Rattle.rail_words.specs.Forms.{form_named}
+use Rattle.rail_words.specs.Forms.{IsNumberWord, form_named}
 use Rattle.rail_words.specs.declared.forms.Form.{Form}
 use Rattle.rail_words.specs.declared.forms.Form.TheVariants as form
 use Rattle.rail_policy.specs.Seats.{DeskSeat}
@@ -19,6 +19,9 @@ use Rattle.rail_cli.specs.Capacity.{AnswersCapacity, IsAcceptedCapacity, IsEmpty
 use Rattle.rail_cli.specs.Checks.{AnswersCheck, IsAcceptedCheck, done_with}
 use Rattle.rail_cli.specs.Infra.{AnswersInfra}
 use Rattle.rail_cli.specs.Plays.{AnswersPlay, play_refusal}
+use Rattle.rail_cli.specs.SceneTexts.{AnswersScene}
+use Rattle.rail_cli.specs.Edits.{AnswersEdit}
+use Rattle.rail_edit_file.specs.EditedScenes.{edited_scene_refusal}
 
 -- what is answered to words of the form, with this deck; forms that are not built are refused before any file
 abbrev pub AnswersForm : Form → List (List ℕ) → List DeskSeat → Told → Option (List ℕ) → Option (List ℕ) → Status → Type 0
@@ -29,6 +32,8 @@ AnswersForm form.Capacity (verb ∷ line ∷ from ∷ to ∷ words) deck told be
 AnswersForm form.Infra (verb ∷ scene ∷ []) deck told before now status = AnswersInfra scene told before now status
 AnswersForm form.Play (verb ∷ scene ∷ list ∷ []) deck told before now status = AnswersPlay scene list told before now status
 AnswersForm form.Check (verb ∷ scene ∷ timetable ∷ commands ∷ history ∷ []) deck told before now status = AnswersCheck scene timetable commands history deck told before now status
+AnswersForm form.Edit (verb ∷ scene ∷ edits ∷ []) deck told before now status = AnswersEdit scene edits told before now status
+AnswersForm form.Scene (verb ∷ number ∷ []) deck told before now status = AnswersScene number before now status
 AnswersForm form words deck told before now status = status ≡ Refused not_yet
 
 -- nothing is refused in what words of the form name: the bytes of the files are told, and accepted
@@ -44,6 +49,10 @@ IsAcceptedInput form.Play (verb ∷ scene ∷ list ∷ []) deck told = (bytes : 
     × (told scene ≡ Some bytes) × (told list ≡ Some listed)
     × (or_else (too_large 1 bytes) (or_else (too_large 2 listed) (play_refusal bytes listed)) ≡ None)
 IsAcceptedInput form.Check (verb ∷ scene ∷ timetable ∷ commands ∷ history ∷ []) deck told = IsAcceptedCheck scene timetable commands history deck told
+IsAcceptedInput form.Edit (verb ∷ scene ∷ edits ∷ []) deck told = (bytes : List ℕ) × (lines : List ℕ)
+    × (told scene ≡ Some bytes) × (told edits ≡ Some lines)
+    × (or_else (too_large 1 bytes) (or_else (too_large 2 lines) (edited_scene_refusal bytes lines)) ≡ None)
+IsAcceptedInput form.Scene (verb ∷ number ∷ []) deck told = IsNumberWord number
 IsAcceptedInput form words deck told = ⊥
 
 -- a command of the form is done: a check also where it ends with a verdict that is no
@@ -60,6 +69,7 @@ files_of form.Capacity (verb ∷ line ∷ from ∷ to ∷ words) = scenario_file
 files_of form.Infra (verb ∷ scene ∷ []) = Some scene ∷ []
 files_of form.Play (verb ∷ scene ∷ list ∷ []) = Some scene ∷ Some list ∷ []
 files_of form.Check (verb ∷ scene ∷ timetable ∷ commands ∷ history ∷ []) = Some scene ∷ named_file timetable ∷ named_file commands ∷ Some history ∷ []
+files_of form.Edit (verb ∷ scene ∷ edits ∷ []) = Some scene ∷ Some edits ∷ []
 files_of form words = []
 
 -- the files that the words name, by the form of their verb

@@ -12,6 +12,9 @@ pub mod Reports
 pub mod Capacity
 pub mod Purposes
 pub mod Infra
+pub mod TwoFiles
 pub mod Plays
 pub mod Checks
+pub mod SceneTexts
+pub mod Edits
 pub mod Forms

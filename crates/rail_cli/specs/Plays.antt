@@ -1,5 +1,5 @@
 -- The form `play`: what the player of a list answers, as a line.
-use Rattle.std.specs.Prelude.{◌≡◌, ◌≢◌, ℕ, ◌-◌, List, [], ◌∷◌, ◌++◌, get_or, map, codes, decimal, Option, Some}
+use Rattle.std.specs.Prelude.{ℕ, ◌-◌, List, [], ◌∷◌, ◌++◌, get_or, map, codes, decimal, Option}
 use Rattle.rail_base.specs.declared.names.Names.{Names}
 use Rattle.rail_base.specs.declared.plant.SectionRow.{SectionRow}
 use Rattle.rail_base.specs.declared.plant.TrainRow.{TrainRow}
@@ -17,10 +17,10 @@ use Rattle.rail_place.specs.declared.barring.Played.TheVariants.{Completes, Ille
 use Rattle.rail_rules.specs.Texts.{behind}
 use Rattle.rail_words.specs.Lists.{Listed, list_line_refusal, listed_in, places_test}
 use Rattle.rail_cli.specs.declared.status.Status.{Status}
-use Rattle.rail_cli.specs.declared.status.Status.TheVariants.{Refused}
+use Rattle.rail_io.specs.Writes.{Adds, AddsPrefix}
 use Rattle.rail_input.specs.Inputs.{plant_in, plant_refusal}
-use Rattle.rail_cli.specs.Answers.{Decides, IsTextAnswer, Told}
-use Rattle.rail_cli.specs.Files.{too_large, too_many_bytes}
+use Rattle.rail_cli.specs.Answers.{Told}
+use Rattle.rail_cli.specs.TwoFiles.{AnswersTwoFiles}
 use Rattle.rail_cli.specs.Names.{NameLists, names_in, names_of, section_name, train_name}
 
 -- why a train of the list may not move
@@ -64,13 +64,7 @@ play_text plant list = let listed : Listed = listed_for plant list in
     played_line (names_of plant) listed.list (outcome (moves_of plant) listed.positions 1 listed.list)
 
 -- what the player of the scene answers to the list
-pub record AnswersPlay (scene list : List ℕ) (told : Told) (before now : Option (List ℕ)) (status : Status) : Type 0 where
-  -- where the bytes of both files are told
-  pub both : (bytes listed : List ℕ) → told scene ≡ Some bytes → told list ≡ Some listed
-      → IsTextAnswer (or_else (too_large 1 bytes) (or_else (too_large 2 listed) (play_refusal bytes listed)))
-      (play_text (plant_in bytes) listed) before now status
-  -- where those of the scene are told, whatever the list is: the size of the scene's file, and behind that of the
-  -- list's file the refusals of the scene
-  pub of_size : (bytes : List ℕ) → told scene ≡ Some bytes → Decides (too_large 1 bytes) status
-  pub of_scene : (bytes : List ℕ) → told scene ≡ Some bytes → status ≢ Refused (too_many_bytes 2)
-      → Decides (or_else (too_large 1 bytes) (plant_refusal bytes)) status
+abbrev pub AnswersPlay : List ℕ → List ℕ → Told → Option (List ℕ) → Option (List ℕ) → Status → Type 0
+AnswersPlay scene list told before now status = AnswersTwoFiles (λ bytes listed. list_refusal (plant_in bytes) listed)
+    (λ bytes listed. Adds before now (play_text (plant_in bytes) listed))
+    (λ bytes listed. AddsPrefix before now (play_text (plant_in bytes) listed)) scene list told status

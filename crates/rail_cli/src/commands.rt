@@ -2,6 +2,7 @@
 
 pub mod capacity;
 pub mod check;
+pub mod edit;
 pub mod infra;
 pub mod names;
 pub mod notes;
@@ -9,5 +10,6 @@ pub mod play;
 pub mod report;
 pub mod run;
 pub mod scenario;
+pub mod scene;
 pub mod stairs;
 pub mod study;

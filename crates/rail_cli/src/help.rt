@@ -13,10 +13,12 @@ rail simulates the operation of railway lines and stations, and proves what it p
     rail report SCENE [TIMETABLE [COMMANDS]] how late the trains are, and for which causes they are held
     rail capacity LINE FROM TO SCENE [TIMETABLE [COMMANDS]]
                                              the trains pushed together on a line, and how full it is
+    rail edit SCENE EDITS                    the scene after the edits, as a scene file
+    rail scene NUMBER                        the made-up scene of the number, as a scene file
     rail --help                              this text
     rail --version                           the version
 
-SCENE is a TOML file, TIMETABLE a CSV file, COMMANDS, LIST and HISTORY are files of lines. A `-` for TIMETABLE
+SCENE is a TOML file, TIMETABLE a CSV file, COMMANDS, LIST, HISTORY and EDITS are files of lines. A `-` for TIMETABLE
 or COMMANDS stands for no file. LINE has names of sections with commas between them; FROM and TO are times. The policies are `priority`, `timetable`, `fcfs` and `rotating`; a scene that
 names none is run by `fcfs`.
 

@@ -9,7 +9,7 @@ ghost use Rattle.rail_cli.specs.Forms.{AnswersForm, AreRefusedAlone, IsAcceptedI
 ghost use Rattle.rail_cli.specs.Promises.{IsComplete, KeepsPromise, ReadsFiles, WritesAnswer, ended};
 
 use crate::commands::scenario::Purpose;
-use crate::commands::{capacity, check, infra, play, scenario};
+use crate::commands::{capacity, check, edit, infra, play, scenario, scene};
 use crate::status::{NOT_YET, Status};
 use rail_base::Word;
 use rail_io::{Shelf, Sink};
@@ -65,6 +65,7 @@ pub fn rail<S: Shelf, O: Sink>(
 }
 
 /// Does what words of the form ask for; a form that is not built is refused.
+#[tactic(auto, using(crate::proofs::Reading::keeps_unread))]
 fn answer<S: Shelf, O: Sink>(
     alloc: Global,
     form: Form,
@@ -112,6 +113,10 @@ fn answer<S: Shelf, O: Sink>(
                 &deck,
             )
         }
+        (Form::Edit, [_, scene, edits]) => {
+            edit::answer(alloc, scene.as_str(), edits.as_str(), shelf, out)
+        }
+        (Form::Scene, [_, number]) => scene::answer(alloc, number.as_str(), out),
         _ => Err(Status::Refused(NOT_YET)),
     }
 }

@@ -3,6 +3,7 @@ mod cases;
 mod checks;
 mod commands;
 mod decks;
+mod edits;
 mod line;
 mod pieces;
 mod policies;
@@ -14,6 +15,7 @@ use cases::{AMONG, CASES};
 use checks::CHECKS;
 use commands::COMMANDS;
 use decks::{Deck, ask};
+use edits::{EDIT_REFUSALS, EDITS_DONE, push_edits};
 use line::{CALLS, push_line};
 use pieces::piece;
 use policies::{LAST, OUT_OF_RANGE, POLICIES, POLICIES_AMONG};
@@ -35,6 +37,8 @@ fn names_the_forms_that_are_built(rt: HostRuntime) {
         "rail stairs SCENE ",
         "rail report SCENE ",
         "rail capacity LINE FROM TO SCENE ",
+        "rail edit SCENE EDITS ",
+        "rail scene NUMBER ",
     ] {
         assert!(rt; HELP.contains(form), "{form}");
     }
@@ -43,7 +47,14 @@ fn names_the_forms_that_are_built(rt: HostRuntime) {
 
 #[test]
 fn answers_the_words(rt: HostRuntime) {
-    for cases in [CASES, TIMETABLES, COMMANDS, POLICIES, RUN_REFUSALS] {
+    for cases in [
+        CASES,
+        TIMETABLES,
+        COMMANDS,
+        POLICIES,
+        RUN_REFUSALS,
+        EDIT_REFUSALS,
+    ] {
         let other = first_other(rt.alloc(), cases, Deck::BuiltIn, true);
         assert!(rt; other.is_none(), "{other:?}");
     }
@@ -151,7 +162,7 @@ fn checks_histories(rt: HostRuntime) {
 
 #[test]
 fn runs_with_these_lines_among_others(rt: HostRuntime) {
-    for cases in [AMONG, POLICIES_AMONG, RUN_LIMITS] {
+    for cases in [AMONG, POLICIES_AMONG, RUN_LIMITS, EDITS_DONE] {
         let other = first_other(rt.alloc(), cases, Deck::BuiltIn, false);
         assert!(rt; other.is_none(), "{other:?}");
     }
@@ -273,6 +284,65 @@ fn have_same(first: &MemorySink, second: &MemorySink) -> bool {
         (Some(first), Some(second)) => !first.is_empty() && first == second,
         _ => false,
     }
+}
+
+#[test]
+fn writes_scenes_that_are_read(rt: HostRuntime) {
+    let alloc = rt.alloc();
+    let added = "loop apart / add section Z plain 500 80 y z";
+    let undone = "loop apart / add section Z plain 500 80 y z, undo";
+    assert!(rt; is_shown_after(alloc, "scene 1", "none / ", "infra sections "));
+    assert!(rt;
+        is_shown_after(
+            alloc,
+            "edit scene list",
+            added,
+            "infra sections 7 portals 2 "
+        )
+    );
+    assert!(rt;
+        is_shown_after(
+            alloc,
+            "edit scene list",
+            undone,
+            "infra sections 6 portals 2 "
+        )
+    );
+}
+
+/// Whether the words are done over these files, and what they add is a scene of which `infra` tells so.
+fn is_shown_after(alloc: Global, words: &str, files: &str, text: &str) -> bool {
+    match shelf_of(alloc, files, "sure 0") {
+        Some(mut shelf) => match sink_of(alloc, "sure 0") {
+            Ok(mut sink) => {
+                adds(alloc, words, &mut shelf, &mut sink) && is_shown(alloc, text_in(&sink), text)
+            }
+            Err(_) => false,
+        },
+        None => false,
+    }
+}
+
+/// Whether `infra` tells so of the scene.
+fn is_shown(alloc: Global, scene: &str, text: &str) -> bool {
+    match shelf_with(alloc, scene) {
+        Ok(mut shelf) => match sink_of(alloc, "sure 0") {
+            Ok(mut sink) => {
+                adds(alloc, "infra scene", &mut shelf, &mut sink)
+                    && text_in(&sink).starts_with(text)
+            }
+            Err(_) => false,
+        },
+        Err(_) => false,
+    }
+}
+
+/// The shelf with this scene alone.
+fn shelf_with(alloc: Global, scene: &str) -> Result<MemoryShelf, AllocError> {
+    let fails = fails(alloc, "sure 0", "shelf")?;
+    let mut files = Vec::new(alloc);
+    files.push(file(alloc, "scene", String::from_str(alloc, scene)?)?)?;
+    Ok(MemoryShelf::new(files, fails))
 }
 
 /// The first of the cases that is answered otherwise than it says, with these policies. Its output is whole, or
@@ -450,7 +520,7 @@ fn push_piece(alloc: Global, text: &mut String, name: &str) -> Result<(), AllocE
     text.push_str(piece(name))
 }
 
-/// The file of these lines; `~N` is a comment of so many bytes, and `*N` are so many commands.
+/// The file of these lines; `~N` is a comment of so many bytes, `*N` are so many commands, and `^N` so many edits.
 fn lines_of(alloc: Global, lines: &str) -> Result<String, AllocError> {
     let mut text = String::new(alloc);
     if lines.is_empty() {
@@ -468,6 +538,9 @@ fn push_words(text: &mut String, line: &str) -> Result<(), AllocError> {
     }
     if let Some(count) = line.strip_prefix("*") {
         return push_commands(text, number(count));
+    }
+    if let Some(count) = line.strip_prefix("^") {
+        return push_edits(text, number(count));
     }
     text.push_str(line)?;
     text.push_str("\n")

@@ -142,7 +142,7 @@ illegal 1 held B PW A\n\
 == run scene list list list / three none /  / sure 0 / usage\n\
 == run absent / three none /  / sure 0 / read fault\n\
 == play scene absent / loop apart /  / sure 0 / read fault\n\
-== edit absent absent / three none /  / sure 0 / refused 39 NotYet root 0 0\n\
+== gen 1 / three none /  / sure 0 / refused 39 NotYet root 0 0\n\
 == run scene / loop apart /  / sure 0 / \n\
 00:01:48.0 ready A 1\n\
 00:01:48.0 ready B 1\n\
