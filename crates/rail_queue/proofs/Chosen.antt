@@ -13,27 +13,13 @@ use Rattle.rail_queue.specs.Choice.{turn, AreNearEmpty, IsNearest, IsChosen}
 use Rattle.rail_queue.proofs.Ordered.{asymmetric, irreflexive}
 use Rattle.rail_queue.proofs.Stable.{in_order_first, not_trans}
 use Rattle.rail_queue.proofs.Place.{each-append, each_front, each_back, later}
-use Rattle.rail_queue.proofs.Lying.{near_at, near_kept, each_near, each_map, ring_is}
-
-below : (j step : ℕ) → j < step + 1 → j ≢ step → j < step
-below j step low ne = ⊎_elim (λ less. less) (λ most. absurd (ne (omega (arith, low, most)))) (cases_lt j step)
-
--- one more empty chain
-pub one_more_empty : (chains : List (List (ℕ × Event))) (base step : ℕ) → AreNearEmpty chains base step → get_or chains (turn base step) [] ≡ [] → AreNearEmpty chains base (step + 1)
-one_more_empty chains base step so_far here j low =
-    ⊎_elim
-    (λ (e : j ≡ step). ap (λ n. get_or chains (turn base n) []) e ∙ here)
-    (λ (ne : j ≢ step). so_far j (below j step low ne))
-    (cases_eq j step)
+use Rattle.rail_queue.proofs.Ringed.{near_at, near_kept, each_near, each_map, ring_is}
 
 -- where an event of the ring lies, counted from its beginning
 step_of : (base b c : ℕ) → base ≤ b → b < base + 1024 → b % 1024 ≡ c → turn base (b - base) ≡ c
 step_of base b c low high at = omega arith
 
-steps_same : (base i j : ℕ) → i < 1024 → j < 1024 → i ≡ j → turn base i ≡ turn base j
-steps_same base i j low_i low_j e = ap (turn base) e
-
--- the first event of the nearest chain goes before each event of another chain of the ring
+-- an event of an earlier bucket goes before
 sooner : (e x : Event) → bucket e < bucket x → goes_before e x ≡ true
 sooner e x less = let at : e.at < x.at = omega (arith, less) in or_left (ltb e.at x.at) _ (lt-ltb e.at x.at at)
 
@@ -45,13 +31,6 @@ some_none y ys h = cc
 
 beyond : (base a b step : ℕ) → a ≡ base + step → base ≤ b → step ≤ b - base → ((b - base ≡ step) → ⊥) → a < b
 beyond base a b step is low most differ = ⊎_elim (λ less. less) (λ high. absurd (differ (omega (arith, is, low, most, high)))) (cases_lt a b)
-
-nearest_in : (chains : List (List (ℕ × Event))) (base step : ℕ) → step < 1024 → AreNearEmpty chains base step → (list : List (ℕ × Event)) → get_or chains (turn base step) [] ≡ list → is_some (first_slot list) ≡ true → IsNearest chains base (turn base step)
-nearest_in chains base step low before [] is some = absurd (false≢true some)
-nearest_in chains base step low before (b ∷ rest) is some = record { step = step; low = low; at = refl; before = before; slot = b.0; first = b.1; rest = rest; is = is }
-
-pub is_nearest : (chains : List (List (ℕ × Event))) (base step : ℕ) → step < 1024 → AreNearEmpty chains base step → is_some (first_slot (get_or chains (turn base step) [])) ≡ true → IsNearest chains base (turn base step)
-is_nearest chains base step low before some = nearest_in chains base step low before (get_or chains (turn base step) []) refl some
 
 -- what the nearest chain says of a chain of the ring
 in_chain : (P : Event → Type 0) (chains : List (List (ℕ × Event))) (base k : ℕ) (list : List (ℕ × Event)) → get_or chains k [] ≡ list → AllByRecursion (LiesIn ring base k) (events_in list) → ((x : Event) → LiesIn ring base k x → (get_or chains k [] ≡ [] → ⊥) → P x) → AllByRecursion P (events_in list)

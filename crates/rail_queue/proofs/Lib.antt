@@ -5,8 +5,9 @@ mod Ordered
 mod Kept
 mod Filtered
 mod Stable
--- How an event finds its place in a chain, how the ring stays one, and which chain has the next event.
+-- How an event finds its place in a chain, how the ring stays one, which chain has the next event, and what is left without some events.
 mod Place
-mod Lying
+mod Ringed
 mod Chosen
+mod Marked
 mod Removed

@@ -12,7 +12,7 @@ use Rattle.rail_queue.specs.Removal.{staying, first_stays, in_use, IsCleared, Is
 use Rattle.rail_queue.proofs.Filtered.{sorted_left}
 use Rattle.rail_queue.proofs.Stable.{first_of_all, in_order_sorted, not_trans}
 use Rattle.rail_queue.proofs.Place.{begins, first_in}
-use Rattle.rail_queue.proofs.Lying.{each_map, ring_is}
+use Rattle.rail_queue.proofs.Ringed.{each_map, ring_is}
 use Rattle.rail_queue.proofs.Chosen.{each_none}
 
 stay_in : (test : Event → Bool) (x : ℕ × Event) (xs : List (ℕ × Event)) → test x.1 ≡ true → staying test (x ∷ xs) ≡ x ∷ staying test xs
@@ -46,11 +46,6 @@ cleared_more test old new after k first item rest within so_far is out chains sp
       same = sym (stay_out test (first, item) rest out) ∙ ap (staying test) (sym left) ∙ so_far.same;
       room = omega (arith, ap length left, spare, so_far.room);
     }
-
-pub shorter : (new after : List (List (ℕ × Event))) (k first : ℕ) (item : Event) (rest : List (ℕ × Event)) → k < length new → get_or new k [] ≡ (first, item) ∷ rest → after ≡ set new k (behind_first (get_or new k [])) → length (get_or after k []) < length (get_or new k [])
-shorter new after k first item rest within is chains =
-    let there : get_or after k [] ≡ rest = ap (λ cs. get_or cs k []) chains ∙ get_or-set_same new k (behind_first (get_or new k [])) [] within ∙ ap behind_first is in
-    omega (arith, ap length there, ap length is)
 
 -- the events behind the first one
 pub swept_first : (test : Event → Bool) (room : Room Event) (k first : ℕ) → k < length room.chains → first_slot (get_or room.chains k []) ≡ Some first → first_stays test (get_or room.chains k []) ≡ true → IsSwept test room room k first
@@ -143,12 +138,6 @@ swept_end test old new after k slot swept none chains spare =
     }
 
 -- a whole chain
-pub thinned_none : (test : Event → Bool) (old new : Room Event) (k : ℕ) → k < length old.chains → IsCleared test old new k → get_or new.chains k [] ≡ [] → IsThinned test old new k
-thinned_none test old new k within cleared none =
-    let left : cleared.left ≡ [] = sym (cleared_here test old new k within cleared) ∙ none in
-    let same : cleared.left ≡ staying test (get_or old.chains k []) = left ∙ sym (ap (staying test) left) ∙ cleared.same in
-    record { chains = cleared.chains ∙ ap (set old.chains k) same; room = omega (arith, ap length same, cleared.room) }
-
 pub thinned_both : (test : Event → Bool) (old mid new : Room Event) (k : ℕ) → k < length old.chains → IsCleared test old mid k → IsThinned test mid new k → IsThinned test old new k
 thinned_both test old mid new k within cleared thinned =
     let here : get_or mid.chains k [] ≡ cleared.left = cleared_here test old mid k within cleared in
@@ -164,9 +153,6 @@ in_use_set : (chains : List (List (ℕ × Event))) (k : ℕ) (new : List (ℕ ×
 in_use_set [] k new within = absurd (omega (arith, within))
 in_use_set (x ∷ xs) zero new within = omega arith
 in_use_set (x ∷ xs) (suc k) new within = omega (arith, in_use_set xs k new (omega (arith, within)))
-
-pub all_thinned_none : (test : Event → Bool) (room : Room Event) → AreThinned test room room 0
-all_thinned_none test room = record { long = refl; thin = λ c low. absurd (omega (arith, low)); same = λ c high. refl; room = refl }
 
 pub all_thinned_more : (test : Event → Bool) (old new after : Room Event) (k : ℕ) → k < length old.chains → AreThinned test old new k → IsThinned test new after k → AreThinned test old after (k + 1)
 all_thinned_more test old new after k within so_far thinned =

@@ -4,4 +4,5 @@ pub mod Queue
 pub mod Ring
 pub mod Walk
 pub mod Choice
+pub mod Marks
 pub mod Removal

@@ -1,36 +1,26 @@
 //! The chain whose first event comes first of all.
 
-ghost use Rattle.std.specs.Prelude.{◌≡◌, ◌<◌, ◌≤◌, [], length, IfSome, IfNone};
-ghost use Rattle.rail_queue.specs.Choice.{IsNearest, IsChosen, AreNearEmpty};
-ghost use Rattle.rail_queue.specs.Ring.{all_events, IsRing, ring};
+ghost use Rattle.std.specs.Prelude.{◌≡◌, [], IfSome, IfNone};
+ghost use Rattle.rail_queue.specs.Choice.{IsChosen};
+ghost use Rattle.rail_queue.specs.Marks.{IsKept};
+ghost use Rattle.rail_queue.specs.Ring.{all_events, ring};
 
 use crate::event::Event;
+use crate::marks::Marks;
 use crate::queue::RING;
 use rail_slots::Slots;
 
-/// The first chain of the ring from the bucket `base` on that has an event.
-pub(crate) fn nearest(slots: &Slots<Event>, base: u64) -> Option<usize>
-    requires { 1025 ≤ length slots.now.chains }
-    ensures some { IfSome result (λ chain. IsNearest slots.now.chains base chain) }
-    ensures none { IfNone result (AreNearEmpty slots.now.chains base 1024) }
-{
-    let start = base % 1024;
-    for step in 0..1024 {
-        let chain = ((start + step) % 1024) as usize;
-        if slots.first(chain).is_some() {
-            return Some(chain);
-        }
-    }
-    None
-}
-
-/// The chain whose first event comes first of all; of two equal ones that of the far chain.
-pub(crate) fn earliest(slots: &Slots<Event>, base: u64) -> Option<usize>
-    requires { IsRing ring base slots.now.chains }
+/// The chain whose first event comes first of all; of two equal ones that of the far chain, which was pushed
+/// before the other.
+///
+/// It looks at the first events of two chains, however far time jumps: the nearest one of the ring, found by the
+/// marks, and the far one.
+pub(crate) fn earliest(slots: &Slots<Event>, marks: &Marks, base: u64) -> Option<usize>
+    requires { IsKept base marks.now.words slots.now.chains }
     ensures some { IfSome result (λ chain. IsChosen slots.now.chains chain) }
     ensures none { IfNone result (all_events ring slots.now.chains ≡ []) }
 {
-    let Some(near) = nearest(slots, base) else {
+    let Some(near) = marks.first_from((base % 1024) as usize) else {
         if slots.first(RING).is_some() {
             return Some(RING);
         }
@@ -42,9 +32,7 @@ pub(crate) fn earliest(slots: &Slots<Event>, base: u64) -> Option<usize>
     let Some(first) = slots.first(near) else {
         unreachable!()
     };
-    if slots.item(first).goes_before(&slots.item(far)) {
-        Some(near)
-    } else {
-        Some(RING)
-    }
+    let sooner = slots.item(first).goes_before(&slots.item(far));
+    let chain = if sooner { near } else { RING };
+    Some(chain)
 }

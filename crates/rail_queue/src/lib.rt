@@ -15,6 +15,7 @@ mod chains;
 mod choice;
 mod event;
 mod laws;
+mod marks;
 mod queue;
 mod removal;
 

@@ -7,6 +7,7 @@ ghost use Rattle.rail_queue.specs.Ring.{all_events, bucket, chain_at, IsPut, IsR
 use crate::chains::put_in_order;
 use crate::choice::earliest;
 use crate::event::{Class, Event};
+use crate::marks::Marks;
 use crate::removal::take_out;
 use rail_base::{OutOfMemory, Time};
 use rail_slots::Slots;
@@ -27,6 +28,8 @@ pub(crate) const RING: usize = 1024;
 pub struct EventQueue {
     slots: Slots<Event>,
     base: u64,
+    /// Which chains of the ring have an event.
+    marks: Marks,
 }
 
 impl Drop for EventQueue {
@@ -34,19 +37,20 @@ impl Drop for EventQueue {
         let EventQueue {
             slots: _slots,
             base: _base,
+            marks: _marks,
         } = self;
     }
 }
 
 impl Model for EventQueue {
     ghost use Rattle.rail_queue.specs.Queue.{Queue, queue_of};
-    ghost use Rattle.rail_queue.specs.Ring.{IsRing, ring};
+    ghost use Rattle.rail_queue.specs.Marks.{IsKept};
 
     ghost Value = { Queue };
 
     ghost view = { λ queue. queue_of queue.slots queue.base };
 
-    ghost invariant = { λ queue. IsRing ring queue.base queue.slots.chains };
+    ghost invariant = { λ queue. IsKept queue.base queue.marks.words queue.slots.chains };
 }
 
 /// The chain of an event in the ring that begins with the bucket `base`.
@@ -70,7 +74,11 @@ impl EventQueue {
         ensures walked { IfOk result (λ queue. queue.slots.walked ≡ 0) }
     {
         let slots = Slots::with_room(alloc, RING + 1, room)?;
-        Ok(EventQueue { slots, base: 0 })
+        Ok(EventQueue {
+            slots,
+            base: 0,
+            marks: Marks::new(),
+        })
     }
 
     /// How many more events there is room for.
@@ -112,6 +120,7 @@ impl EventQueue {
     {
         let chain = chain_of(self.base, &event);
         put_in_order(&mut self.slots, chain, event);
+        self.marks.note(&self.slots, chain);
     }
 
     /// The next event, if there is one.
@@ -121,7 +130,7 @@ impl EventQueue {
         ensures least { IfSome result (λ event. list_any (λ other. goes_before other event) self.now.events ≡ false) }
         ensures sorted { IsTrue (is_sorted self.now.events) }
     {
-        let Some(chain) = earliest(&self.slots, self.base) else {
+        let Some(chain) = earliest(&self.slots, &self.marks, self.base) else {
             return None;
         };
         let Some(first) = self.slots.first(chain) else {
@@ -140,12 +149,13 @@ impl EventQueue {
             → count_by p self.old.events ≡ count_by p (event ∷ []) + count_by p self.new.events) }
         ensures base { MatchOption result (self.new.base ≡ self.old.base) (λ event. self.new.base ≡ max self.old.base (bucket event)) }
     {
-        let Some(chain) = earliest(&self.slots, self.base) else {
+        let Some(chain) = earliest(&self.slots, &self.marks, self.base) else {
             return None;
         };
         let Some(event) = self.slots.take_first(chain) else {
             unreachable!()
         };
+        self.marks.note(&self.slots, chain);
         self.base = self.base.max(event.at.0 / 64);
         Some(event)
     }
@@ -159,6 +169,7 @@ impl EventQueue {
         ensures base { self.new.base ≡ self.old.base }
     {
         take_out(&mut self.slots, RING + 1, class, number);
+        self.marks.note_all(&self.slots);
     }
 
     /// When the next event happens, if there is one.

@@ -5,19 +5,22 @@ use Rattle.rail_queue.specs.Queue.{Queue}
 use Rattle.rail_queue.specs.Removal.{stays}
 use Rattle.rail_queue.specs.Ring.{all_events, ring}
 use Rattle.rail_queue.proofs.Filtered.{count_left}
-use Rattle.rail_queue.proofs.Lying.{ring_is}
+use Rattle.rail_queue.proofs.Ringed.{ring_is}
 use Rattle.rail_queue.proofs.Removed.{Left, left_of}
 use Rattle.rail_queue.proofs.queue.EventQueue.forget.Goals.{After-take_out}
 use Rattle.rail_queue.proofs.queue.EventQueue.forget.Goals as goal
 
 pub take_out-requires : goal.take_out-requires
-take_out-requires c = omega (arith, c.self.invariant.long, ring_is)
+take_out-requires c = omega (arith, c.self.invariant.ringed.long, ring_is)
 
 left : (c : After-take_out) → Left (stays c.args.class c.args.number) c.self.inside.base c.self.inside.slots c.take_out.new.slots
-left c = left_of (stays c.args.class c.args.number) c.self.inside.base c.self.inside.slots c.take_out.new.slots c.self.invariant c.take_out.ensures
+left c = left_of (stays c.args.class c.args.number) c.self.inside.base c.self.inside.slots c.take_out.new.slots c.self.invariant.ringed c.take_out.ensures
+
+pub note_all-requires : goal.note_all-requires
+note_all-requires c = omega (arith, c.take_out.ensures.long, c.self.invariant.ringed.long, ring_is)
 
 pub invariant_of-self : goal.invariant_of-self
-invariant_of-self c = (left (goal.at.invariant_of-self c).After-take_out).ring_is
+invariant_of-self c = record { ringed = (left (goal.at.invariant_of-self c).After-take_out).ring_is; marked = c.note_all.ensures }
 
 pub returns-clause-events : goal.returns-clause-events
 returns-clause-events c =

@@ -1,22 +1,33 @@
-use Rattle.std.proofs.Common.{max, sym, ap, ◌∙◌}
+use Rattle.std.proofs.Common.{max, [], get_or, length, sym, ap, ◌∙◌, arith}
 use Rattle.std.proofs.lemmas.Bool.{false≢true}
+use Rattle.std.proofs.lemmas.List.{length-set}
+use Rattle.rail_slots.specs.Slots.{behind_first}
 use Rattle.rail_queue.specs.declared.event.Event.{Event}
 use Rattle.rail_queue.specs.Order.{is_sorted}
 use Rattle.rail_queue.specs.Queue.{Queue}
 use Rattle.rail_queue.specs.Ring.{bucket, all_events, ring}
 use Rattle.rail_queue.proofs.Stable.{in_order_sorted}
-use Rattle.rail_queue.proofs.Lying.{counted_first}
+use Rattle.rail_queue.proofs.Ringed.{counted_first}
 use Rattle.rail_queue.proofs.Chosen.{Popped, popped_of, least_in, not_nothing}
+use Rattle.rail_queue.proofs.Marked.{marked_set}
 use Rattle.rail_queue.proofs.queue.EventQueue.pop.Goals.{After-max-self-inside}
 use Rattle.rail_queue.proofs.queue.EventQueue.pop.Goals as goal
 
 done : (c : After-max-self-inside) → Popped c.self.inside.base c.max-self-inside.result c.self.inside.slots.chains c.take_first.new.self.chains c.in-Some-take_first.event
 done c =
-    popped_of c.self.inside.base c.max-self-inside.result c.self.inside.slots.chains c.take_first.new.self.chains c.in-Some.chain c.in-Some-take_first.event c.in-Some.ensures.some c.self.invariant
+    popped_of c.self.inside.base c.max-self-inside.result c.self.inside.slots.chains c.take_first.new.self.chains c.in-Some.chain c.in-Some-take_first.event c.in-Some.ensures.some c.self.invariant.ringed
     c.in-Some-take_first.ensures.item c.take_first.ensures.chains (c.max-self-inside.ensures ∙ ap (λ (e : Event). max c.self.inside.base (bucket e)) c.event.view_is)
 
+pub note-requires : goal.note-requires
+note-requires c =
+    let chains = c.self.inside.slots.chains in
+    omega (arith, ap length c.take_first.ensures.chains, length-set chains c.in-Some.chain (behind_first (get_or chains c.in-Some.chain [])), c.in-Some.ensures.some.within)
+
 pub invariant_of-self : goal.invariant_of-self
-invariant_of-self c = (done (goal.at.invariant_of-self c).After-max-self-inside).left
+invariant_of-self c = record {
+  ringed = (done (goal.at.invariant_of-self c).After-max-self-inside).left;
+  marked = marked_set c.self.inside.marks.words c.note.new.self.words c.self.inside.slots.chains c.take_first.new.self.chains c.in-Some.chain _ c.self.invariant.marked c.take_first.ensures.chains c.note.ensures.here c.note.ensures.others;
+}
 
 pub returns-clause-next : goal.returns-clause-next
 returns-clause-next c = ap (λ (queue : Queue). queue.events) (sym c.self.view_is) ∙ (done (goal.at.returns-clause-next c).After-max-self-inside).events

@@ -1,20 +1,32 @@
-use Rattle.std.proofs.Common.{◌≡◌, ap, ◌∙◌, count_by, arith}
+use Rattle.std.proofs.Common.{◌∷◌, ◌++◌, ap, ◌∙◌, count_by, length, arith}
+use Rattle.std.proofs.lemmas.List.{length-set}
 use Rattle.std.specs.Prelude.{nat_eq}
 use Rattle.rail_queue.specs.Order.{inserted}
 use Rattle.rail_queue.specs.Queue.{Queue}
 use Rattle.rail_queue.specs.Ring.{bucket}
-use Rattle.rail_queue.proofs.Lying.{Pushed, chain_within, ring_is, pushed_in, short_chain, counted}
+use Rattle.rail_queue.proofs.Ringed.{Pushed, chain_within, ring_is, pushed_in, short_chain, counted}
+use Rattle.rail_queue.proofs.Marked.{marked_set}
 use Rattle.rail_queue.proofs.queue.EventQueue.push.Goals.{After-put_in_order}
 use Rattle.rail_queue.proofs.queue.EventQueue.push.Goals as goal
 
 pub put_in_order-requires-clause-chain : goal.put_in_order-requires-clause-chain
-put_in_order-requires-clause-chain c = omega (arith, c.chain_of-chain.ensures, chain_within c.self.inside.base c.args.event, c.self.invariant.long, ring_is)
+put_in_order-requires-clause-chain c = omega (arith, c.chain_of-chain.ensures, chain_within c.self.inside.base c.args.event, c.self.invariant.ringed.long, ring_is)
 
 pushed : (c : After-put_in_order) → Pushed c.self.inside.base c.self.inside.slots.chains c.put_in_order.new.slots.chains c.args.event
-pushed c = pushed_in c.self.inside.base c.self.inside.slots.chains c.put_in_order.new.slots.chains c.args.event c.chain_of-chain.result c.chain_of-chain.ensures c.self.invariant c.put_in_order.ensures.put
+pushed c = pushed_in c.self.inside.base c.self.inside.slots.chains c.put_in_order.new.slots.chains c.args.event c.chain_of-chain.result c.chain_of-chain.ensures c.self.invariant.ringed c.put_in_order.ensures.put
+
+pub note-requires : goal.note-requires
+note-requires c =
+    let put = c.put_in_order.ensures.put in
+    omega (arith, ap length put.is, length-set c.self.inside.slots.chains c.chain_of-chain.result (put.front ++ (put.slot, c.args.event) ∷ put.rest), c.chain_of-chain.ensures, chain_within c.self.inside.base c.args.event, c.self.invariant.ringed.long, ring_is)
 
 pub invariant_of-self : goal.invariant_of-self
-invariant_of-self c = (pushed (goal.at.invariant_of-self c).After-put_in_order).ring_is
+invariant_of-self c =
+    let put = c.put_in_order.ensures.put in
+    record {
+      ringed = (pushed (goal.at.invariant_of-self c).After-put_in_order).ring_is;
+      marked = marked_set c.self.inside.marks.words c.note.new.self.words c.self.inside.slots.chains c.put_in_order.new.slots.chains c.chain_of-chain.result _ c.self.invariant.marked put.is c.note.ensures.here c.note.ensures.others;
+    }
 
 pub returns-clause-events : goal.returns-clause-events
 returns-clause-events c = (pushed (goal.at.returns-clause-events c).After-put_in_order).events ∙ ap (λ (queue : Queue). inserted c.args.event queue.events) c.self.view_is
@@ -27,5 +39,5 @@ returns-clause-counted c = λ p.
 pub returns-clause-near : goal.returns-clause-near
 returns-clause-near c = λ low high.
     let base = ap (λ (queue : Queue). queue.base) c.self.view_is in
-    let short = short_chain c.self.inside.base c.self.inside.slots.chains c.args.event c.chain_of-chain.result c.chain_of-chain.ensures c.self.invariant (omega (arith, base, low)) (omega (arith, base, high)) in
+    let short = short_chain c.self.inside.base c.self.inside.slots.chains c.args.event c.chain_of-chain.result c.chain_of-chain.ensures c.self.invariant.ringed (omega (arith, base, low)) (omega (arith, base, high)) in
     omega (arith, short, c.put_in_order.ensures.walked, ap (λ (queue : Queue). queue.slots.walked) c.self.view_is, ap (λ (queue : Queue). count_by (λ held. nat_eq (bucket held) (bucket c.args.event)) queue.events) c.self.view_is)

@@ -314,7 +314,7 @@ short_chain base chains event c is whole low high =
     omega (arith, parts, whole_count, some)
 
 -- an empty ring
-empty_chain : (n k : ℕ) → get_or (replicate {A = List (ℕ × Event)} n []) k [] ≡ []
+pub empty_chain : (n k : ℕ) → get_or (replicate {A = List (ℕ × Event)} n []) k [] ≡ []
 empty_chain zero k = refl
 empty_chain (suc n) zero = refl
 empty_chain (suc n) (suc k) = empty_chain n k
