@@ -20,7 +20,7 @@ pub(crate) fn earliest(slots: &Slots<Event>, marks: &Marks, base: u64) -> Option
     ensures some { IfSome result (λ chain. IsChosen slots.now.chains chain) }
     ensures none { IfNone result (all_events ring slots.now.chains ≡ []) }
 {
-    let Some(near) = marks.first_from((base % 1024) as usize) else {
+    let Some(near) = marks.first_from((base % RING as u64) as usize) else {
         if slots.first(RING).is_some() {
             return Some(RING);
         }

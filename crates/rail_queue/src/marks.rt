@@ -7,12 +7,15 @@ use crate::event::Event;
 use crate::queue::RING;
 use rail_slots::Slots;
 
+/// How many words have a bit for each chain of the ring.
+const WORDS: usize = RING / 64;
+
 /// A mark for each chain of the ring that has an event, so that the next one is found without a look at the
 /// chains between.
 #[derive(Debug, Drop)]
 pub(crate) struct Marks {
     /// A bit for each chain, the lowest bit of a word for the first of its 64 chains.
-    words: [u64; 16],
+    words: [u64; WORDS],
 }
 
 impl Marks {
@@ -20,7 +23,7 @@ impl Marks {
     pub(crate) fn new() -> Marks
         ensures { (chain : ℕ) → mark_at result.words chain ≡ 0 }
     {
-        Marks { words: [0; 16] }
+        Marks { words: [0; WORDS] }
     }
 
     /// Marks the chain.
@@ -78,8 +81,8 @@ impl Marks {
         if rest != 0 {
             return Some(start + rest.trailing_zeros() as usize);
         }
-        for step in 1..17 {
-            let at = (word + step) % 16;
+        for step in 1..WORDS + 1 {
+            let at = (word + step) % WORDS;
             let bits = self.words[at];
             if bits != 0 {
                 return Some(at * 64 + bits.trailing_zeros() as usize);

@@ -57,9 +57,9 @@ impl Model for EventQueue {
 fn chain_of(base: u64, event: &Event) -> usize
     ensures { result ≡ chain_at base event.now }
 {
-    let bucket = event.at.0 / 64;
-    if base <= bucket && bucket - base < 1024 {
-        (bucket % 1024) as usize
+    let bucket = event.bucket();
+    if base <= bucket && bucket - base < RING as u64 {
+        (bucket % RING as u64) as usize
     } else {
         RING
     }
@@ -156,7 +156,7 @@ impl EventQueue {
             unreachable!()
         };
         self.marks.note(&self.slots, chain);
-        self.base = self.base.max(event.at.0 / 64);
+        self.base = self.base.max(event.bucket());
         Some(event)
     }
 

@@ -2,38 +2,29 @@
 use Rattle.std.proofs.Common.{◌≡◌, ℕ, zero, suc, ◌+◌, ◌<◌, ◌≤◌, cond, eqb, List, [], ◌∷◌, ◌++◌, length, get_or, set, map, Option, Some, None, IfSome, refl, sym, ap, ◌∙◌, ⊎_elim, append_assoc, arith}
 use Rattle.std.proofs.lemmas.Bool.{cases_eq, eq-eqb, ne_eqb}
 use Rattle.std.proofs.lemmas.List.{get_or-set_same, length-set}
-use Rattle.rail_slots.specs.Slots.{StandsAt, first_slot, behind_first, slots_from, left_from}
+use Rattle.rail_slots.specs.Slots.{StandsAt, first_slot, behind_first, slots_from, left_from, times_in, places}
 use Rattle.rail_slots.specs.Links.{lists_of, held, held_with, times, all_times, IsSound}
 use Rattle.rail_slots.proofs.Linked.{one_if}
 use Rattle.rail_slots.proofs.Shown.{Used, standing_of}
 
--- how often a slot stands in a chain, and in all chains
-abbrev standing : {T : Type 0} → ℕ → List (ℕ × T) → ℕ
-standing q [] = 0
-standing q (x ∷ rest) = cond (eqb x.0 q) 1 0 + standing q rest
-
-abbrev all_standing : {T : Type 0} → ℕ → List (List (ℕ × T)) → ℕ
-all_standing q [] = 0
-all_standing q (chain ∷ chains) = standing q chain + all_standing q chains
-
 -- no slot stands twice, since no cell does
-standing_with : {T : Type 0} → (q x : ℕ) (o : Option T) (l : List (ℕ × T)) → standing q (held_with x o l) ≤ cond {A = ℕ} (eqb x q) 1 0 + standing q l
+standing_with : {T : Type 0} → (q x : ℕ) (o : Option T) (l : List (ℕ × T)) → times_in q (held_with x o l) ≤ cond {A = ℕ} (eqb x q) 1 0 + times_in q l
 standing_with q x None l = omega arith
 standing_with q x (Some y) l = omega arith
 
-standing_held : {T : Type 0} → (kept : List (Option T)) (q : ℕ) (list : List ℕ) → standing q (held kept list) ≤ times q list
+standing_held : {T : Type 0} → (kept : List (Option T)) (q : ℕ) (list : List ℕ) → times_in q (held kept list) ≤ times q list
 standing_held kept q [] = omega arith
 standing_held kept q (x ∷ rest) = omega (arith, standing_with q x (get_or kept x None) (held kept rest), standing_held kept q rest)
 
-all_held : {T : Type 0} → (kept : List (Option T)) (q : ℕ) (lists : List (List ℕ)) → all_standing q (map (held kept) lists) ≤ all_times q lists
+all_held : {T : Type 0} → (kept : List (Option T)) (q : ℕ) (lists : List (List ℕ)) → places (map (held kept) lists) q ≤ all_times q lists
 all_held kept q [] = omega arith
 all_held kept q (list ∷ lists) = omega (arith, standing_held kept q list, all_held kept q lists)
 
-once : {T : Type 0} → (next : List (Option ℕ)) (kept : List (Option T)) (chains spare : ℕ) (shows : List (List (ℕ × T))) → IsSound next kept chains spare → map (held kept) (lists_of next 1 chains) ≡ shows → (q : ℕ) → all_standing q shows ≤ 1
-once next kept chains spare shows sound is q = omega (arith, ap (all_standing q) is, all_held kept q (lists_of next 1 chains), sound.linked.once q)
+pub once : {T : Type 0} → (next : List (Option ℕ)) (kept : List (Option T)) (chains spare : ℕ) (shows : List (List (ℕ × T))) → IsSound next kept chains spare → map (held kept) (lists_of next 1 chains) ≡ shows → (q : ℕ) → places shows q ≤ 1
+once next kept chains spare shows sound is q = omega (arith, ap (λ ls. places ls q) is, all_held kept q (lists_of next 1 chains), sound.linked.once q)
 
 -- a slot that stands in no chain leads nowhere
-none_from : {T : Type 0} → (q : ℕ) (list : List (ℕ × T)) → standing q list ≡ 0 → slots_from q list ≡ 0
+none_from : {T : Type 0} → (q : ℕ) (list : List (ℕ × T)) → times_in q list ≡ 0 → slots_from q list ≡ 0
 none_from q [] none = refl
 none_from q (x ∷ rest) none =
     ⊎_elim
@@ -41,16 +32,16 @@ none_from q (x ∷ rest) none =
     (λ other. rw (ne_eqb x.0 q other) (none_from q rest (omega (arith, none))))
     (cases_eq x.0 q)
 
-none_left : {T : Type 0} → (q : ℕ) (shows : List (List (ℕ × T))) → all_standing q shows ≡ 0 → left_from shows q ≡ 0
+none_left : {T : Type 0} → (q : ℕ) (shows : List (List (ℕ × T))) → places shows q ≡ 0 → left_from shows q ≡ 0
 none_left q [] none = refl
 none_left q (list ∷ shows) none = omega (arith, none_from q list (omega (arith, none)), none_left q shows (omega (arith, none)))
 
-stands_once : {T : Type 0} → (q : ℕ) (front : List (ℕ × T)) (item : T) (back : List (ℕ × T)) → standing q (front ++ (q, item) ∷ back) ≡ standing q front + (1 + standing q back)
+stands_once : {T : Type 0} → (q : ℕ) (front : List (ℕ × T)) (item : T) (back : List (ℕ × T)) → times_in q (front ++ (q, item) ∷ back) ≡ times_in q front + (1 + times_in q back)
 stands_once q [] item back = omega (arith, one_if q q refl)
 stands_once q (x ∷ front) item back = omega (arith, stands_once q front item back)
 
 -- a slot that stands once leads over what is behind it
-behind : {T : Type 0} → (q : ℕ) (front : List (ℕ × T)) (item : T) (back : List (ℕ × T)) → standing q (front ++ (q, item) ∷ back) ≤ 1 → slots_from q (front ++ (q, item) ∷ back) ≡ suc (length back)
+behind : {T : Type 0} → (q : ℕ) (front : List (ℕ × T)) (item : T) (back : List (ℕ × T)) → times_in q (front ++ (q, item) ∷ back) ≤ 1 → slots_from q (front ++ (q, item) ∷ back) ≡ suc (length back)
 behind q [] item back low = rw (eq-eqb q q refl) refl
 behind q (x ∷ front) item back low =
     ⊎_elim
@@ -58,18 +49,18 @@ behind q (x ∷ front) item back low =
     (λ other. rw (ne_eqb x.0 q other) (behind q front item back (omega (arith, low))))
     (cases_eq x.0 q)
 
-at_least : {T : Type 0} → (q : ℕ) (shows : List (List (ℕ × T))) (k : ℕ) (front : List (ℕ × T)) (item : T) (back : List (ℕ × T)) → k < length shows → get_or shows k [] ≡ front ++ (q, item) ∷ back → 1 ≤ all_standing q shows
-at_least q [] k front item back within is = absurd (omega (arith, within))
-at_least q (list ∷ shows) zero front item back within is = omega (arith, ap (standing q) is, stands_once q front item back)
-at_least q (list ∷ shows) (suc k) front item back within is = omega (arith, at_least q shows k front item back (omega (arith, within)) is)
+in_place : {T : Type 0} → (q : ℕ) (shows : List (List (ℕ × T))) (k : ℕ) (front : List (ℕ × T)) (item : T) (back : List (ℕ × T)) → k < length shows → get_or shows k [] ≡ front ++ (q, item) ∷ back → 1 ≤ places shows q
+in_place q [] k front item back within is = absurd (omega (arith, within))
+in_place q (list ∷ shows) zero front item back within is = omega (arith, ap (times_in q) is, stands_once q front item back)
+in_place q (list ∷ shows) (suc k) front item back within is = omega (arith, in_place q shows k front item back (omega (arith, within)) is)
 
-left_at : {T : Type 0} → (q : ℕ) (shows : List (List (ℕ × T))) (k : ℕ) (front : List (ℕ × T)) (item : T) (back : List (ℕ × T)) → k < length shows → get_or shows k [] ≡ front ++ (q, item) ∷ back → all_standing q shows ≤ 1 → left_from shows q ≡ suc (length back)
+left_at : {T : Type 0} → (q : ℕ) (shows : List (List (ℕ × T))) (k : ℕ) (front : List (ℕ × T)) (item : T) (back : List (ℕ × T)) → k < length shows → get_or shows k [] ≡ front ++ (q, item) ∷ back → places shows q ≤ 1 → left_from shows q ≡ suc (length back)
 left_at q [] k front item back within is low = absurd (omega (arith, within))
 left_at q (list ∷ shows) zero front item back within is low =
-    let here = behind q front item back (omega (arith, ap (standing q) is, low)) in
-    omega (arith, ap (slots_from q) is, here, none_left q shows (omega (arith, low, ap (standing q) is, stands_once q front item back)))
+    let here = behind q front item back (omega (arith, ap (times_in q) is, low)) in
+    omega (arith, ap (slots_from q) is, here, none_left q shows (omega (arith, low, ap (times_in q) is, stands_once q front item back)))
 left_at q (list ∷ shows) (suc k) front item back within is low =
-    let there = at_least q shows k front item back (omega (arith, within)) is in
+    let there = in_place q shows k front item back (omega (arith, within)) is in
     omega (arith, none_from q list (omega (arith, low, there)), left_at q shows k front item back (omega (arith, within)) is (omega (arith, low)))
 
 pub left_is : {T : Type 0} → (next : List (Option ℕ)) (kept : List (Option T)) (chains spare slot k : ℕ) (shows : List (List (ℕ × T))) (front : List (ℕ × T)) (item : T) (back : List (ℕ × T)) → IsSound next kept chains spare → map (held kept) (lists_of next 1 chains) ≡ shows → StandsAt shows slot k front item back → left_from shows slot ≡ suc (length back)

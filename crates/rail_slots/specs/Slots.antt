@@ -42,6 +42,16 @@ abbrev pub behind_first : {T : Type 0} → List (ℕ × T) → List (ℕ × T)
 behind_first [] = []
 behind_first (first ∷ rest) = rest
 
+-- how often a slot stands in a chain
+abbrev pub times_in : {T : Type 0} → ℕ → List (ℕ × T) → ℕ
+times_in slot [] = 0
+times_in slot (first ∷ rest) = cond (eqb first.0 slot) 1 0 + times_in slot rest
+
+-- in how many places of the chains a slot stands
+abbrev pub places : {T : Type 0} → List (List (ℕ × T)) → ℕ → ℕ
+places [] slot = 0
+places (chain ∷ chains) slot = times_in slot chain + places chains slot
+
 -- how many slots of a chain come from a slot on, this one counted; none where it doesn't stand there
 abbrev pub slots_from : {T : Type 0} → ℕ → List (ℕ × T) → ℕ
 slots_from slot [] = 0

@@ -1,5 +1,5 @@
 ghost use Rattle.std.specs.Prelude.{◌≡◌, ℕ, ◌+◌, ◌^◌, ◌-◌, ◌<◌, ◌≤◌, min, List, [], ◌∷◌, ◌++◌, get_or, set, replicate, length, IfOk, IfSome, MatchOption, Some, None};
-ghost use Rattle.rail_slots.specs.Slots.{Stands, StandsAt, first_slot, first_item, behind_first, left_from};
+ghost use Rattle.rail_slots.specs.Slots.{Stands, StandsAt, first_slot, first_item, behind_first, left_from, places};
 
 use crate::links::{free_behind, put_all_behind, use_behind};
 use rail_base::OutOfMemory;
@@ -68,7 +68,8 @@ impl<T: Copy> Slots<T> {
 
     /// How many more items there is room for.
     pub fn spare(&self) -> usize
-        ensures { result ≡ self.now.spare }
+        ensures spare { result ≡ self.now.spare }
+        ensures once { (slot : ℕ) → places self.now.chains slot ≤ 1 }
     {
         self.spare
     }

@@ -2,10 +2,9 @@ use Rattle.std.proofs.Common.{max, [], get_or, length, sym, ap, ◌∙◌, arith
 use Rattle.std.proofs.lemmas.Bool.{false≢true}
 use Rattle.std.proofs.lemmas.List.{length-set}
 use Rattle.rail_slots.specs.Slots.{behind_first}
-use Rattle.rail_queue.specs.declared.event.Event.{Event}
 use Rattle.rail_queue.specs.Order.{is_sorted}
 use Rattle.rail_queue.specs.Queue.{Queue}
-use Rattle.rail_queue.specs.Ring.{bucket, all_events, ring}
+use Rattle.rail_queue.specs.Ring.{all_events, ring}
 use Rattle.rail_queue.proofs.Stable.{in_order_sorted}
 use Rattle.rail_queue.proofs.Ringed.{counted_first}
 use Rattle.rail_queue.proofs.Chosen.{Popped, popped_of, least_in, not_nothing}
@@ -16,7 +15,7 @@ use Rattle.rail_queue.proofs.queue.EventQueue.pop.Goals as goal
 done : (c : After-max-self-inside) → Popped c.self.inside.base c.max-self-inside.result c.self.inside.slots.chains c.take_first.new.self.chains c.in-Some-take_first.event
 done c =
     popped_of c.self.inside.base c.max-self-inside.result c.self.inside.slots.chains c.take_first.new.self.chains c.in-Some.chain c.in-Some-take_first.event c.in-Some.ensures.some c.self.invariant.ringed
-    c.in-Some-take_first.ensures.item c.take_first.ensures.chains (c.max-self-inside.ensures ∙ ap (λ (e : Event). max c.self.inside.base (bucket e)) c.event.view_is)
+    c.in-Some-take_first.ensures.item c.take_first.ensures.chains (c.max-self-inside.ensures ∙ ap (max c.self.inside.base) c.bucket.ensures)
 
 pub note-requires : goal.note-requires
 note-requires c =
