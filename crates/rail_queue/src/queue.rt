@@ -21,9 +21,9 @@ pub(crate) const RING: usize = 1024;
 /// pushed first comes first.
 ///
 /// They lie in chains by buckets of 64 tenths of a second. The base is the greatest bucket of an event that was
-/// popped. An event whose bucket at its push is less than 1,024 buckets behind the base lies in the chain of its
-/// bucket modulo 1,024; all others lie in the far chain. A push into a near bucket so looks at no more events than
-/// the bucket has, however many are pending.
+/// popped. An event whose bucket at its push is one of the 1,024 from the base on lies in the chain of its bucket
+/// modulo 1,024; all others lie in the far chain. So a push into a near bucket looks at held events of this bucket
+/// alone, however many are pending.
 #[derive(Debug)]
 pub struct EventQueue {
     slots: Slots<Event>,
@@ -99,6 +99,7 @@ impl EventQueue {
     /// The chains in which the events lie: 1,024 near ones and the far one. Each is sorted.
     pub fn slots(&self) -> &Slots<Event>
         ensures slots { result.now ≡ self.now.slots }
+        ensures long { length self.now.slots.chains ≡ 1025 }
         ensures ring { IsRing ring self.now.base self.now.slots.chains }
         ensures events { self.now.events ≡ in_order (all_events ring self.now.slots.chains) }
         ensures spare { self.now.spare ≡ self.now.slots.spare }

@@ -84,7 +84,10 @@ fn near_events_lie_in_the_chains_of_their_buckets(rt: HostRuntime) {
     assert_eq!(rt; queue.slots().first(2).is_some(), true);
     assert_eq!(rt; queue.slots().first(1024).is_some(), true);
     assert_eq!(rt; queue.slots().walked(), 1);
-    assert_eq!(rt; next_place(&mut queue), Some(2));
+    let Some(next) = queue.pop() else {
+        panic!(rt; "no event");
+    };
+    assert_eq!(rt; next.place, 2);
     assert_eq!(rt; queue.base(), 2);
     queue.push(event(far, Class::Free, 1, 4));
     assert_eq!(rt; queue.slots().first(0).is_some(), true);
