@@ -1,7 +1,13 @@
 -- The lemmas of this crate; those for the crates above stand in CallerLemmas.
 pub mod CallerLemmas
--- The order of events, what a push makes of a queue, and which events it keeps in their order.
+-- The order of events, which events an insert and a filter keep in their order, and a stable sort.
 mod Ordered
-mod Pushed
 mod Kept
 mod Filtered
+mod Stable
+-- How an event finds its place in a chain, how the ring stays one, which chain has the next event, and what is left without some events.
+mod Place
+mod Ringed
+mod Chosen
+mod Marked
+mod Removed

@@ -1,22 +1,17 @@
 -- What callers see of a queue.
-use Rattle.std.specs.Prelude.{ℕ, ◌-◌, List, reverse, vec_len, vec_capacity, IsTrue}
-use Rattle.std.specs.Global.{Vec}
+use Rattle.std.specs.Prelude.{ℕ, List}
+use Rattle.rail_slots.specs.Slots.{Room}
 use Rattle.rail_queue.specs.declared.event.Event.{Event}
-use Rattle.rail_queue.specs.Order.{is_sorted}
+use Rattle.rail_queue.specs.Order.{in_order}
+use Rattle.rail_queue.specs.Ring.{all_events, ring}
 
--- the pending events, the next one first, and how many more there is room for
+-- the pending events, the next one first, how many more there is room for, the bucket with which the ring begins, and the chains in which the events lie
 pub record Queue : Type 0 where
   pub events : List Event
   pub spare : ℕ
+  pub base : ℕ
+  pub slots : Room Event
 
--- the pending events are kept with the next one last
-abbrev pub events_of : Vec Event → List Event
-events_of pending = reverse pending.items
-
--- there is room for an event where none is kept
-abbrev pub spare_of : Vec Event → ℕ
-spare_of pending = vec_capacity pending - vec_len pending
-
--- the next event is kept last, and no event goes before one that is kept after it
-abbrev pub IsFalling : Vec Event → Type 0
-IsFalling pending = IsTrue (is_sorted (events_of pending))
+-- what a queue shows of its chains and its base: the events are the items of the slots in use, in order
+abbrev pub queue_of : Room Event → ℕ → Queue
+queue_of slots base = record { events = in_order (all_events ring slots.chains); spare = slots.spare; base = base; slots = slots }

@@ -1,35 +1,68 @@
-ghost use Rattle.std.specs.Prelude.{◌≡◌, ℕ, ◌+◌, ◌≤◌, Bool, false, List, [], ◌∷◌, IfOk, IsTrue, IsNone, IfSome, ◌↔◌, MatchOption, count_by, drop, length, not, ◌&&◌, vec_capacity};
+ghost use Rattle.std.specs.Prelude.{◌≡◌, ℕ, ◌+◌, ◌/◌, ◌<◌, ◌≤◌, Bool, false, List, [], ◌∷◌, IfOk, IsTrue, IsNone, IfSome, ◌↔◌, MatchOption, max, count_by, drop, length, nat_eq, not, ◌&&◌};
 ghost use Rattle.std.specs.List.{filter, list_any};
 ghost use Rattle.rail_queue.specs.declared.event.Event.{Event};
-ghost use Rattle.rail_queue.specs.Order.{goes_before, inserted, is_of, is_sorted, first_time_of};
+ghost use Rattle.rail_queue.specs.Order.{goes_before, in_order, inserted, is_of, is_sorted, first_time_of};
+ghost use Rattle.rail_queue.specs.Ring.{all_events, bucket, chain_at, IsPut, IsRing, ring};
 
+use crate::chains::put_in_order;
+use crate::choice::earliest;
 use crate::event::{Class, Event};
+use crate::marks::Marks;
+use crate::removal::take_out;
 use rail_base::{OutOfMemory, Time};
+use rail_slots::Slots;
 use std::alloc::Global;
 use std::marker::Model;
 
+/// The number of chains of the ring, each of one bucket of time; the chain after them is for all that is far.
+pub(crate) const RING: usize = 1024;
+
 /// Pending events, sorted by time, class and number. Of events that are equal in these the one that was
 /// pushed first comes first.
+///
+/// They lie in chains by buckets of 64 tenths of a second. The base is the greatest bucket of an event that was
+/// popped. An event whose bucket at its push is one of the 1,024 from the base on lies in the chain of its bucket
+/// modulo 1,024; all others lie in the far chain. So a push into a near bucket looks at held events of this bucket
+/// alone, however many are pending.
 #[derive(Debug)]
 pub struct EventQueue {
-    /// In falling order, so that the next event is the last item.
-    pending: Vec<Event>,
+    slots: Slots<Event>,
+    base: u64,
+    /// Which chains of the ring have an event.
+    marks: Marks,
 }
 
 impl Drop for EventQueue {
     fn drop(self) {
-        let EventQueue { pending: _pending } = self;
+        let EventQueue {
+            slots: _slots,
+            base: _base,
+            marks: _marks,
+        } = self;
     }
 }
 
 impl Model for EventQueue {
-    ghost use Rattle.rail_queue.specs.Queue.{Queue, events_of, spare_of, IsFalling};
+    ghost use Rattle.rail_queue.specs.Queue.{Queue, queue_of};
+    ghost use Rattle.rail_queue.specs.Marks.{IsKept};
 
     ghost Value = { Queue };
 
-    ghost view = { λ queue. record { events = events_of queue.pending; spare = spare_of queue.pending } };
+    ghost view = { λ queue. queue_of queue.slots queue.base };
 
-    ghost invariant = { λ queue. IsFalling queue.pending };
+    ghost invariant = { λ queue. IsKept queue.base queue.marks.words queue.slots.chains };
+}
+
+/// The chain of an event in the ring that begins with the bucket `base`.
+fn chain_of(base: u64, event: &Event) -> usize
+    ensures { result ≡ chain_at base event.now }
+{
+    let bucket = event.bucket();
+    if base <= bucket && bucket - base < RING as u64 {
+        (bucket % RING as u64) as usize
+    } else {
+        RING
+    }
 }
 
 impl EventQueue {
@@ -37,9 +70,15 @@ impl EventQueue {
     pub fn with_room(alloc: Global, room: usize) -> Result<EventQueue, OutOfMemory>
         ensures empty { IfOk result (λ queue. queue.events ≡ []) }
         ensures spare { IfOk result (λ queue. queue.spare ≡ room) }
+        ensures base { IfOk result (λ queue. queue.base ≡ 0) }
+        ensures walked { IfOk result (λ queue. queue.slots.walked ≡ 0) }
     {
-        let pending = Vec::with_capacity(alloc, room)?;
-        Ok(EventQueue { pending })
+        let slots = Slots::with_room(alloc, RING + 1, room)?;
+        Ok(EventQueue {
+            slots,
+            base: 0,
+            marks: Marks::new(),
+        })
     }
 
     /// How many more events there is room for.
@@ -47,21 +86,42 @@ impl EventQueue {
         ensures spare { result ≡ self.now.spare }
         ensures sorted { IsTrue (is_sorted self.now.events) }
     {
-        self.pending.capacity() - self.pending.len()
+        self.slots.spare()
+    }
+
+    /// The greatest bucket, of 64 tenths of a second each, of an event that was popped; 0 before.
+    pub fn base(&self) -> u64
+        ensures { result ≡ self.now.base }
+    {
+        self.base
+    }
+
+    /// The chains in which the events lie: 1,024 near ones and the far one. Each is sorted.
+    pub fn slots(&self) -> &Slots<Event>
+        ensures slots { result.now ≡ self.now.slots }
+        ensures long { length self.now.slots.chains ≡ 1025 }
+        ensures ring { IsRing ring self.now.base self.now.slots.chains }
+        ensures events { self.now.events ≡ in_order (all_events ring self.now.slots.chains) }
+        ensures spare { self.now.spare ≡ self.now.slots.spare }
+    {
+        &self.slots
     }
 
     /// Puts the event behind those that come before it and those that are equal to it in time, class and
-    /// number.
+    /// number. Where its bucket is near, the search looks at held events of that bucket alone.
     pub fn push(&mut self, event: Event)
         requires { 1 ≤ self.old.spare }
         ensures events { self.new.events ≡ inserted event self.old.events }
         ensures spare { self.new.spare + 1 ≡ self.old.spare }
         ensures counted { (p : Event → Bool) → count_by p self.new.events ≡ count_by p (event ∷ []) + count_by p self.old.events }
+        ensures base { self.new.base ≡ self.old.base }
+        ensures chain { IsPut self.old.slots.chains self.new.slots.chains (chain_at self.old.base event) event }
+        ensures near { self.old.base ≤ bucket event → bucket event < self.old.base + 1024
+            → self.new.slots.walked ≤ self.old.slots.walked + count_by (λ held. nat_eq (bucket held) (bucket event)) self.old.events }
     {
-        let place = self
-            .pending
-            .partition_point(|later| event.goes_before(later));
-        self.pending.insert(place, event).unwrap();
+        let chain = chain_of(self.base, &event);
+        put_in_order(&mut self.slots, chain, event);
+        self.marks.note(&self.slots, chain);
     }
 
     /// The next event, if there is one.
@@ -69,9 +129,15 @@ impl EventQueue {
         ensures none { IsNone result ↔ (self.now.events ≡ []) }
         ensures next { IfSome result (λ event. self.now.events ≡ event ∷ drop 1 self.now.events) }
         ensures least { IfSome result (λ event. list_any (λ other. goes_before other event) self.now.events ≡ false) }
+        ensures sorted { IsTrue (is_sorted self.now.events) }
     {
-        let (event, _) = self.pending.split_last()?;
-        Some(*event)
+        let Some(chain) = earliest(&self.slots, &self.marks, self.base) else {
+            return None;
+        };
+        let Some(first) = self.slots.first(chain) else {
+            unreachable!()
+        };
+        Some(self.slots.item(first))
     }
 
     /// Takes out the next event, if there is one.
@@ -82,8 +148,17 @@ impl EventQueue {
         ensures least { IfSome result (λ event. list_any (λ other. goes_before other event) self.old.events ≡ false) }
         ensures counted { IfSome result (λ event. (p : Event → Bool)
             → count_by p self.old.events ≡ count_by p (event ∷ []) + count_by p self.new.events) }
+        ensures base { MatchOption result (self.new.base ≡ self.old.base) (λ event. self.new.base ≡ max self.old.base (bucket event)) }
     {
-        self.pending.pop()
+        let Some(chain) = earliest(&self.slots, &self.marks, self.base) else {
+            return None;
+        };
+        let Some(event) = self.slots.take_first(chain) else {
+            unreachable!()
+        };
+        self.marks.note(&self.slots, chain);
+        self.base = self.base.max(event.bucket());
+        Some(event)
     }
 
     /// Takes out the events of the class with the number. The others stay in their order.
@@ -92,8 +167,10 @@ impl EventQueue {
         ensures counted { (p : Event → Bool)
             → count_by p self.new.events ≡ count_by (λ event. not (is_of class number event) && p event) self.old.events }
         ensures room { length self.new.events + self.new.spare ≡ length self.old.events + self.old.spare }
+        ensures base { self.new.base ≡ self.old.base }
     {
-        keep_others(&mut self.pending, class, number);
+        take_out(&mut self.slots, RING + 1, class, number);
+        self.marks.note_all(&self.slots);
     }
 
     /// When the next event happens, if there is one.
@@ -101,14 +178,7 @@ impl EventQueue {
         ensures time { result ≡ first_time_of self.now.events }
         ensures sorted { IsTrue (is_sorted self.now.events) }
     {
-        self.pending.last().map(|event| event.at)
+        let event = self.first()?;
+        Some(event.at)
     }
-}
-
-/// Keeps what is not of the class with the number.
-fn keep_others(pending: &mut Vec<Event>, class: Class, number: u16)
-    ensures events { pending.new.items ≡ filter (λ event. not (is_of class number event)) pending.old.items }
-    ensures room { vec_capacity pending.new ≡ vec_capacity pending.old }
-{
-    pending.retain(|event| !event.is_of(class, number));
 }

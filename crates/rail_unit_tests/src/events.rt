@@ -69,3 +69,31 @@ fn nothing_is_forgotten_where_the_number_is_of_another_class(rt: HostRuntime) {
     assert_eq!(rt; next_place(&mut queue), Some(2));
     assert_eq!(rt; queue.spare(), 2);
 }
+
+#[test]
+fn near_events_lie_in_the_chains_of_their_buckets(rt: HostRuntime) {
+    let Ok(mut queue) = EventQueue::with_room(rt.alloc(), 4) else {
+        panic!(rt; "no memory");
+    };
+    let far = 64 * 1024;
+    queue.push(event(far, Class::Free, 1, 1));
+    queue.push(event(130, Class::Free, 1, 2));
+    queue.push(event(130, Class::Free, 1, 3));
+    assert_eq!(rt; queue.base(), 0);
+    assert_eq!(rt; queue.slots().first(0), None);
+    assert_eq!(rt; queue.slots().first(2).is_some(), true);
+    assert_eq!(rt; queue.slots().first(1024).is_some(), true);
+    assert_eq!(rt; queue.slots().walked(), 1);
+    let Some(next) = queue.pop() else {
+        panic!(rt; "no event");
+    };
+    assert_eq!(rt; next.place, 2);
+    assert_eq!(rt; queue.base(), 2);
+    queue.push(event(far, Class::Free, 1, 4));
+    assert_eq!(rt; queue.slots().first(0).is_some(), true);
+    assert_eq!(rt; next_place(&mut queue), Some(3));
+    assert_eq!(rt; next_place(&mut queue), Some(1));
+    assert_eq!(rt; next_place(&mut queue), Some(4));
+    assert_eq!(rt; queue.base(), 1024);
+    assert_eq!(rt; queue.first(), None);
+}

@@ -11,6 +11,8 @@ mod analysis;
 #[cfg(test)]
 mod capacity;
 #[cfg(test)]
+mod chains;
+#[cfg(test)]
 mod commands;
 #[cfg(test)]
 mod events;

@@ -15,7 +15,7 @@ use Rattle.rail_ledger.proofs.ledger.Ledger.says.Goals as goal
 
 -- the queue without its first event
 abbrev rest_of : Ledger → Queue
-rest_of ledger = record { events = drop 1 ledger.state.queue.events; spare = ledger.state.queue.spare + 1 }
+rest_of ledger = record { events = drop 1 ledger.state.queue.events; spare = ledger.state.queue.spare + 1; base = ledger.state.queue.base; slots = ledger.state.queue.slots }
 
 pub says_of-requires-clause-first : goal.says_of-requires-clause-first
 says_of-requires-clause-first c =

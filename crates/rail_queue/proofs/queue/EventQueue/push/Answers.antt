@@ -1,33 +1,43 @@
-use Rattle.std.proofs.Common.{rules, ◌≡◌, ◌+◌, List, true, false, ap, ◌∙◌, reverse, count_by, [], ◌∷◌}
-use Rattle.std.specs.List.{insert}
-use Rattle.std.specs.List.Sorted.{IsPartitionPoint, IsPartitionedBy}
-use Rattle.std.proofs.lemmas.List.Sorted.{IsPartitionPoint-from_clause}
-use Rattle.rail_queue.specs.declared.event.Event.{Event}
-use Rattle.rail_queue.specs.Order.{goes_before, inserted, is_sorted}
+use Rattle.std.proofs.Common.{◌∷◌, ◌++◌, ap, ◌∙◌, count_by, length, arith}
+use Rattle.std.proofs.lemmas.List.{length-set}
+use Rattle.std.specs.Prelude.{nat_eq}
+use Rattle.rail_queue.specs.Order.{inserted}
 use Rattle.rail_queue.specs.Queue.{Queue}
-use Rattle.rail_queue.proofs.Pushed.{is_parted, found, stays_sorted, counted}
+use Rattle.rail_queue.specs.Ring.{bucket}
+use Rattle.rail_queue.proofs.Ringed.{Pushed, chain_within, ring_is, pushed_in, short_chain, counted}
+use Rattle.rail_queue.proofs.Marked.{marked_set}
+use Rattle.rail_queue.proofs.queue.EventQueue.push.Goals.{After-put_in_order}
 use Rattle.rail_queue.proofs.queue.EventQueue.push.Goals as goal
 
--- what is pending after the insert
-pending_now : (c : goal.After-unwrap) → c.insert.new.self.items ≡ insert c.self.inside.pending.items c.partition_point-place.result c.args.event
-pending_now c = rw c.unwrap.ensures at c.insert.ensures.items
+pub put_in_order-requires-clause-chain : goal.put_in_order-requires-clause-chain
+put_in_order-requires-clause-chain c = omega (arith, c.chain_of-chain.ensures, chain_within c.self.inside.base c.args.event, c.self.invariant.ringed.long, ring_is)
 
-events_now : (c : goal.After-unwrap) → reverse c.insert.new.self.items ≡ inserted c.args.event (reverse c.self.inside.pending.items)
-events_now c =
-    let shown : c.deref.result.now ≡ c.self.inside.pending.items = c.deref.ensures.value in
-    let parted : IsPartitionedBy (goes_before c.args.event) c.deref.result.now = is_parted c.args.event c.deref.result.now (ap (λ (xs : List Event). is_sorted (reverse xs)) shown ∙ c.self.invariant) in
-    let point : IsPartitionPoint (λ x. goes_before c.args.event x ≡ true) (λ x. goes_before c.args.event x ≡ false) c.deref.result.now c.partition_point-place.result =
-    IsPartitionPoint-from_clause (goes_before c.args.event) _ _ c.partition_point-place.ensures.partitioned parted (λ a r q k. search rules) in
-    found c.args.event c.deref.result.now c.self.inside.pending.items c.insert.new.self.items c.partition_point-place.result shown c.partition_point-place.ensures.bound point (pending_now c)
+pushed : (c : After-put_in_order) → Pushed c.self.inside.base c.self.inside.slots.chains c.put_in_order.new.slots.chains c.args.event
+pushed c = pushed_in c.self.inside.base c.self.inside.slots.chains c.put_in_order.new.slots.chains c.args.event c.chain_of-chain.result c.chain_of-chain.ensures c.self.invariant.ringed c.put_in_order.ensures.put
+
+pub note-requires : goal.note-requires
+note-requires c =
+    let put = c.put_in_order.ensures.put in
+    omega (arith, ap length put.is, length-set c.self.inside.slots.chains c.chain_of-chain.result (put.front ++ (put.slot, c.args.event) ∷ put.rest), c.chain_of-chain.ensures, chain_within c.self.inside.base c.args.event, c.self.invariant.ringed.long, ring_is)
 
 pub invariant_of-self : goal.invariant_of-self
-invariant_of-self c = ap is_sorted (events_now c) ∙ stays_sorted c.args.event (reverse c.self.inside.pending.items) c.self.invariant
+invariant_of-self c =
+    let put = c.put_in_order.ensures.put in
+    record {
+      ringed = (pushed (goal.at.invariant_of-self c).After-put_in_order).ring_is;
+      marked = marked_set c.self.inside.marks.words c.note.new.self.words c.self.inside.slots.chains c.put_in_order.new.slots.chains c.chain_of-chain.result _ c.self.invariant.marked put.is c.note.ensures.here c.note.ensures.others;
+    }
 
 pub returns-clause-events : goal.returns-clause-events
-returns-clause-events c = events_now c ∙ ap (λ (queue : Queue). inserted c.args.event queue.events) c.self.view_is
+returns-clause-events c = (pushed (goal.at.returns-clause-events c).After-put_in_order).events ∙ ap (λ (queue : Queue). inserted c.args.event queue.events) c.self.view_is
 
 pub returns-clause-counted : goal.returns-clause-counted
-returns-clause-counted c =
-    λ p. ap (λ (xs : List Event). count_by p (reverse xs)) (pending_now c)
-    ∙ counted p c.args.event c.self.inside.pending.items c.partition_point-place.result
-    ∙ ap (λ (queue : Queue). count_by p (c.args.event ∷ []) + count_by p queue.events) c.self.view_is
+returns-clause-counted c = λ p.
+    counted p c.args.event _ c.args.self.now.events
+    ((pushed (goal.at.returns-clause-counted c).After-put_in_order).events ∙ ap (λ (queue : Queue). inserted c.args.event queue.events) c.self.view_is)
+
+pub returns-clause-near : goal.returns-clause-near
+returns-clause-near c = λ low high.
+    let base = ap (λ (queue : Queue). queue.base) c.self.view_is in
+    let short = short_chain c.self.inside.base c.self.inside.slots.chains c.args.event c.chain_of-chain.result c.chain_of-chain.ensures c.self.invariant.ringed (omega (arith, base, low)) (omega (arith, base, high)) in
+    omega (arith, short, c.put_in_order.ensures.walked, ap (λ (queue : Queue). queue.slots.walked) c.self.view_is, ap (λ (queue : Queue). count_by (λ held. nat_eq (bucket held) (bucket c.args.event)) queue.events) c.self.view_is)

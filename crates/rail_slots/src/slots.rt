@@ -1,0 +1,187 @@
+ghost use Rattle.std.specs.Prelude.{◌≡◌, ℕ, ◌+◌, ◌^◌, ◌-◌, ◌<◌, ◌≤◌, min, List, [], ◌∷◌, ◌++◌, get_or, set, replicate, length, IfOk, IfSome, MatchOption, Some, None};
+ghost use Rattle.rail_slots.specs.Slots.{Stands, StandsAt, first_slot, first_item, behind_first, left_from, places};
+
+use crate::links::{free_behind, put_all_behind, use_behind};
+use rail_base::OutOfMemory;
+use std::alloc::Global;
+use std::marker::Model;
+
+/// Chains of slots in one room. Chains count from 0; a slot's number means nothing but the slot.
+#[derive(Debug, Drop)]
+pub struct Slots<T> {
+    /// The cell behind each cell. Cell 0 stands before the free slots, cell 1 before the first chain and so on;
+    /// the other cells are the slots.
+    next: Vec<Option<usize>>,
+    /// The item of each slot in use.
+    items: Vec<Option<T>>,
+    chains: usize,
+    spare: usize,
+    walked: u64,
+}
+
+impl<T> Model for Slots<T> {
+    ghost use Rattle.rail_slots.specs.Slots.{Room, room_code};
+
+    ghost Value = { Room T };
+
+    ghost coded = { room_code T.code };
+
+    ghost use Rattle.rail_slots.specs.Links.{lists_of, held, IsSound};
+    ghost use Rattle.std.specs.Prelude.{map};
+
+    ghost view = { λ slots. record { chains = map (held slots.items.items) (lists_of slots.next.items 1 slots.chains); spare = slots.spare; walked = slots.walked } };
+
+    ghost invariant = { λ slots. IsSound slots.next.items slots.items.items slots.chains slots.spare };
+}
+
+/// So many places where nothing is.
+fn nothing<T: Copy>(alloc: Global, places: usize) -> Result<Vec<Option<T>>, OutOfMemory>
+    ensures { IfOk result (λ made. made.items ≡ replicate places None) }
+{
+    Ok(vec![in alloc; None; places]?)
+}
+
+impl<T: Copy> Slots<T> {
+    /// So many empty chains, and room for so many items in all.
+    pub fn with_room(alloc: Global, chains: usize, room: usize) -> Result<Slots<T>, OutOfMemory>
+        ensures chains { IfOk result (λ slots. slots.chains ≡ replicate chains []) }
+        ensures spare { IfOk result (λ slots. slots.spare ≡ room) }
+        ensures walked { IfOk result (λ slots. slots.walked ≡ 0) }
+    {
+        let Some(heads) = chains.checked_add(1) else {
+            return Err(OutOfMemory);
+        };
+        let Some(cells) = heads.checked_add(room) else {
+            return Err(OutOfMemory);
+        };
+        let mut next = nothing(alloc, cells)?;
+        let items = nothing(alloc, cells)?;
+        put_all_behind(&mut next, heads);
+        Ok(Slots {
+            next,
+            items,
+            chains,
+            spare: room,
+            walked: 0,
+        })
+    }
+
+    /// How many more items there is room for.
+    pub fn spare(&self) -> usize
+        ensures spare { result ≡ self.now.spare }
+        ensures once { (slot : ℕ) → places self.now.chains slot ≤ 1 }
+    {
+        self.spare
+    }
+
+    /// How many steps were made from a slot to the next one; it stays at 2^64 - 1 once there.
+    pub fn walked(&self) -> u64
+        ensures { result ≡ self.now.walked }
+    {
+        self.walked
+    }
+
+    /// The first slot of the chain, if it has one.
+    pub fn first(&self, chain: usize) -> Option<usize>
+        requires { chain < length self.now.chains }
+        ensures first { result ≡ first_slot (get_or self.now.chains chain []) }
+        ensures fits { length (get_or self.now.chains chain []) < 2 ^ 64 }
+    {
+        self.next[chain + 1]
+    }
+
+    /// The item of a slot in use.
+    pub fn item(&self, slot: usize) -> T
+        requires { Stands self.now.chains slot }
+        ensures { (chain : ℕ) (before rest : List (ℕ × T)) (item : T) → StandsAt self.now.chains slot chain before item rest → result ≡ item }
+    {
+        match self.items[slot] {
+            Some(item) => item,
+            None => unreachable!(),
+        }
+    }
+
+    /// The slot after a slot in use, if it isn't the last of its chain. The step is counted.
+    pub fn next(&mut self, slot: usize) -> Option<usize>
+        requires { Stands self.old.chains slot }
+        ensures next { (chain : ℕ) (before rest : List (ℕ × T)) (item : T) → StandsAt self.old.chains slot chain before item rest → result ≡ first_slot rest }
+        ensures chains { self.new.chains ≡ self.old.chains }
+        ensures spare { self.new.spare ≡ self.old.spare }
+        ensures walked { self.new.walked ≡ min (self.old.walked + 1) (2 ^ 64 - 1) }
+        ensures nearer { IfSome result (λ after. left_from self.new.chains after + 1 ≡ left_from self.old.chains slot) }
+    {
+        self.walked = self.walked.saturating_add(1);
+        self.next[slot]
+    }
+
+    /// Puts an item into a slot that was not in use, as the first of the chain.
+    pub fn put_first(&mut self, chain: usize, item: T) -> usize
+        requires chain { chain < length self.old.chains }
+        requires spare { 1 ≤ self.old.spare }
+        ensures chains { self.new.chains ≡ set self.old.chains chain ((result, item) ∷ get_or self.old.chains chain []) }
+        ensures unused { Stands self.old.chains result → ⊥ }
+        ensures spare { self.new.spare + 1 ≡ self.old.spare }
+        ensures walked { self.new.walked ≡ self.old.walked }
+    {
+        let Some(slot) = self.next[0] else {
+            unreachable!()
+        };
+        use_behind(&mut self.next, chain + 1, slot);
+        self.items[slot] = Some(item);
+        self.spare -= 1;
+        slot
+    }
+
+    /// Puts an item into a slot that was not in use, straight after a slot in use.
+    pub fn put_after(&mut self, slot: usize, item: T) -> usize
+        requires slot { Stands self.old.chains slot }
+        requires spare { 1 ≤ self.old.spare }
+        ensures chains { (chain : ℕ) (before rest : List (ℕ × T)) (item_before : T) → StandsAt self.old.chains slot chain before item_before rest
+            → self.new.chains ≡ set self.old.chains chain (before ++ (slot, item_before) ∷ (result, item) ∷ rest) }
+        ensures unused { Stands self.old.chains result → ⊥ }
+        ensures spare { self.new.spare + 1 ≡ self.old.spare }
+        ensures walked { self.new.walked ≡ self.old.walked }
+    {
+        let Some(new) = self.next[0] else {
+            unreachable!()
+        };
+        use_behind(&mut self.next, slot, new);
+        self.items[new] = Some(item);
+        self.spare -= 1;
+        new
+    }
+
+    /// Takes out the first item of the chain, if it has one.
+    pub fn take_first(&mut self, chain: usize) -> Option<T>
+        requires { chain < length self.old.chains }
+        ensures item { result ≡ first_item (get_or self.old.chains chain []) }
+        ensures chains { self.new.chains ≡ set self.old.chains chain (behind_first (get_or self.old.chains chain [])) }
+        ensures spare { MatchOption result (self.new.spare ≡ self.old.spare) (λ _. self.new.spare ≡ self.old.spare + 1) }
+        ensures walked { self.new.walked ≡ self.old.walked }
+    {
+        let Some(slot) = self.next[chain + 1] else {
+            return None;
+        };
+        free_behind(&mut self.next, chain + 1, slot);
+        self.spare += 1;
+        self.items[slot]
+    }
+
+    /// Takes out the item of the slot after a slot in use, if that isn't the last of its chain. It counts no step.
+    pub fn take_after(&mut self, slot: usize) -> Option<T>
+        requires { Stands self.old.chains slot }
+        ensures item { (chain : ℕ) (before rest : List (ℕ × T)) (item : T) → StandsAt self.old.chains slot chain before item rest → result ≡ first_item rest }
+        ensures chains { (chain : ℕ) (before rest : List (ℕ × T)) (item : T) → StandsAt self.old.chains slot chain before item rest
+            → self.new.chains ≡ set self.old.chains chain (before ++ (slot, item) ∷ behind_first rest) }
+        ensures spare { MatchOption result (self.new.spare ≡ self.old.spare) (λ _. self.new.spare ≡ self.old.spare + 1) }
+        ensures walked { self.new.walked ≡ self.old.walked }
+        ensures fewer { IfSome result (λ _. left_from self.new.chains slot + 1 ≡ left_from self.old.chains slot) }
+    {
+        let Some(old) = self.next[slot] else {
+            return None;
+        };
+        free_behind(&mut self.next, slot, old);
+        self.spare += 1;
+        self.items[old]
+    }
+}
