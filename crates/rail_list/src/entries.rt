@@ -1,6 +1,6 @@
 //! The entries of a list, and for each how many of the same train stand behind it.
 
-ghost use Rattle.std.specs.Prelude.{◌≡◌, ◌≢◌, ℕ, ◌+◌, ◌-◌, ◌<◌, ◌≤◌, [], ◌++◌, drop, length, get_or, replicate, IsTrue, IfSome, is_some, not, vec_len, vec_capacity};
+ghost use Rattle.std.specs.Prelude.{◌≡◌, ◌≢◌, ℕ, ◌+◌, ◌-◌, ◌<◌, ◌≤◌, ◌++◌, drop, length, get_or, replicate, IsTrue, IfSome, is_some, not, vec_len, vec_capacity};
 ghost use Rattle.std.specs.List.{All, remove};
 ghost use Rattle.rail_base.specs.declared.limits.TheConstants.{LIST_TRAINS, SECTIONS};
 ghost use Rattle.rail_rules.specs.Numbers.{are_apart, is_in};

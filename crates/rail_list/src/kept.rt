@@ -1,14 +1,11 @@
-ghost use Rattle.std.specs.Prelude.{◌≡◌, ℕ, ◌-◌, ◌<◌, ◌≤◌, [], ◌++◌, drop, if◌then◌else◌, length, replicate, IsTrue, IfOk, IfSome, is_some, vec_capacity};
-ghost use Rattle.std.specs.List.{remove};
+ghost use Rattle.std.specs.Prelude.{◌≡◌, ◌<◌, ◌≤◌, [], if◌then◌else◌, length, IsTrue, IfOk};
 ghost use Rattle.rail_base.specs.declared.limits.TheConstants.{LIST_TRAINS};
 ghost use Rattle.rail_rules.specs.Fronts.{without_first};
-ghost use Rattle.rail_rules.specs.Moves.{stand};
 ghost use Rattle.rail_rules.specs.Numbers.{sum_below};
 ghost use Rattle.rail_rules.specs.Places.{after, completes, is_inside, is_legal, place_of};
 ghost use Rattle.rail_place.specs.Made.{IsMadeFor};
 ghost use Rattle.rail_place.specs.Tables.{moves_in};
-ghost use Rattle.rail_consequence.specs.Needs.{times};
-ghost use Rattle.rail_list.specs.KeptLists.{HasRoomFor, before_first, entries_behind, is_free_before, with_moves_left};
+ghost use Rattle.rail_list.specs.KeptLists.{HasRoomFor, entries_behind, with_moves_left};
 ghost use Rattle.rail_list.specs.Repairs.{is_repairable_for};
 
 use crate::entries::{

@@ -1,6 +1,6 @@
 //! Which trains inside need sections for the moves that they have left.
 
-ghost use Rattle.std.specs.Prelude.{◌≡◌, ℕ, ◌<◌, ◌&&◌, length, nat_le, nat_lt, not, IsTrue};
+ghost use Rattle.std.specs.Prelude.{◌≡◌, ℕ, ◌<◌, ◌&&◌, length, nat_le, not, IsTrue};
 ghost use Rattle.rail_base.specs.declared.limits.TheConstants.{SECTIONS};
 ghost use Rattle.rail_rules.specs.Analysis.{needs_later};
 ghost use Rattle.rail_rules.specs.Numbers.{any_below, are_apart, is_in};
