@@ -1,3 +1,5 @@
+-- The lemmas of this crate; those for the crates above stand in CallerLemmas.
+pub mod CallerLemmas
 -- Legs, safe legs, and what a search finds.
 mod Legs
 mod Safe

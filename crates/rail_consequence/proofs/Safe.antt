@@ -171,11 +171,11 @@ safe_from_clear plan s leg clear =
     or_right (eqb leg.place (plan.moves leg.train)) (not test) (not_from_false test (clear_to plan s leg.train (stand plan leg.train leg.place) clear))
 
 -- at the end of its moves a train stands nowhere
-stand_out : (plan : Moves) (t p : ℕ) → plan.moves t ≤ p → stand plan t p ≡ []
+pub stand_out : (plan : Moves) (t p : ℕ) → plan.moves t ≤ p → stand plan t p ≡ []
 stand_out plan t zero high = refl
 stand_out plan t (suc m) high = cond-false (ltb (suc m) (plan.moves t)) (plan.standing t m) [] (le-ltb (suc m) (plan.moves t) high)
 
-apart_none : (xs : List ℕ) → are_apart xs [] ≡ true
+pub apart_none : (xs : List ℕ) → are_apart xs [] ≡ true
 apart_none xs = apart_from xs [] (λ x _. refl)
 
 pub clear_from_safe : (plan : Moves) (s : List ℕ) (leg : Leg) → is_safe plan s leg ≡ true → IsClear plan s leg.train (stand plan leg.train leg.place)

@@ -1,16 +1,26 @@
--- The list with the moves that are left to an entering train at its end, and how long a list that completes is.
-use Rattle.std.proofs.Common.{◌≡◌, ◌≢◌, ℕ, zero, suc, ◌+◌, ◌-◌, ◌<◌, ◌≤◌, true, false, not, ◌&&◌, ltb, List, [], ◌∷◌, ◌++◌, length, replicate, refl, sym, ap, ◌∙◌, subst, ⊎_elim, arith}
+-- The list with the moves that are left to an entering train at its end: it completes exactly where the first move ended safely. How long a list that completes is.
+use Rattle.std.proofs.Common.{◌≡◌, ◌≢◌, ℕ, zero, suc, ◌+◌, ◌-◌, ◌<◌, ◌≤◌, Bool, true, false, not, ◌&&◌, ◌||◌, ltb, leb, eqb, List, [], ◌∷◌, ◌++◌, length, replicate, refl, sym, ap, ◌∙◌, subst, ⊎_elim, arith}
 use Rattle.std.specs.List.{All, list_any, list_all}
-use Rattle.std.proofs.lemmas.Bool.{and_parts, and_from, and_right, le-ltb, cases_eq, cases_Bool, cond-false, lt-ltb, ltb-true, not-true, not_from_false, false≢true, and_cases}
+use Rattle.std.proofs.lemmas.Bool.{and_parts, and_from, and_left, and_right, le-ltb, cases_eq, cases_lt, cases_Bool, cond-false, eqb-true, lt-ltb, ltb-true, ne_eqb, not-true, not_from_false, false≢true, and_cases}
 use Rattle.std.proofs.lemmas.List.{get_or-set_same, length-set}
 use Rattle.std.proofs.lemmas.List.Elements.{All-nil, All-cons}
 use Rattle.rail_rules.specs.Numbers.{any_below, sum_below, is_in, are_apart}
 use Rattle.rail_rules.specs.Moves.{Moves, stand, is_valid}
-use Rattle.rail_rules.specs.Places.{place_of, holds, is_held, is_inside, is_legal, after, nobody_inside, completes}
-use Rattle.rail_rules.proofs.CallerLemmas.{any_below_at, any_below_none, sum_below-le, list_any_none, apart_at}
-use Rattle.rail_place.specs.Plays.{IsPlayed, plays}
+use Rattle.rail_rules.specs.Places.{place_of, holds, is_held, is_inside, is_legal, after, completes}
+use Rattle.rail_rules.specs.Analysis.{Leg, is_safe, needs_later}
+use Rattle.rail_rules.proofs.CallerLemmas.{any_below_at, any_below_found, any_below_none, apart_at, apart_from, apart_sym, list_any_at, list_any_none, sum_below-le}
+use Rattle.rail_place.specs.Plays.{IsPlayed}
 use Rattle.rail_place.proofs.CallerLemmas.{move_valid, inside_listed, played_left}
+use Rattle.rail_consequence.proofs.CallerLemmas.{IsClear, apart_none, clear_from_safe, inside_from, inside_parts, inside_same, nobody_at, safe_from_clear, stand_out}
 use Rattle.rail_list.proofs.Pulling.{place_kept, inside_kept, after_comm}
+use Rattle.rail_consequence.specs.Needs.{times}
+use Rattle.rail_list.proofs.Beside.{legal_beside}
+use Rattle.rail_list.proofs.MovesLeft.{none_left}
+
+-- each train named is inside at its turn, and its move is legal
+abbrev plays : Moves → List ℕ → List ℕ → Bool
+plays plan s [] = true
+plays plan s (t ∷ rest) = let later = plays plan (after s t) rest in is_inside plan s t && is_legal plan s t && later
 
 -- a train that is not inside holds nothing
 outside_holds : (plan : Moves) (u p : ℕ) → (ltb 0 p && ltb p (plan.moves u)) ≡ false → stand plan u p ≡ []
@@ -64,14 +74,6 @@ alone_completes plan s t (suc k) valid lt listed some all alone =
     (alone_legal plan s t valid lt some more alone))
     (alone_completes plan next t k valid lt (omega (arith, listed, length-set s t (suc (place_of s t)))) (omega (arith, here)) (omega (arith, here, all)) (λ u ne. inside_kept plan s u t ne ∙ alone u ne))
 
--- where nobody is inside, no number is that of a train inside
-nobody_at : (plan : Moves) (s : List ℕ) (u : ℕ) → nobody_inside plan s ≡ true → is_inside plan s u ≡ false
-nobody_at plan s u nobody =
-    ⊎_elim
-    (λ inside. absurd (false≢true (sym (any_below_at (is_inside plan s) (length s) u (not-true (any_below (is_inside plan s) (length s)) nobody) (inside_listed plan s u inside)) ∙ inside)))
-    (λ out. out)
-    (cases_Bool (is_inside plan s u))
-
 -- a train inside is not one that stands outside
 inside_other : (plan : Moves) (s : List ℕ) (t u : ℕ) → place_of s t ≡ 0 → is_inside plan s u ≡ true → t ≢ u
 inside_other plan s t u out inside same =
@@ -79,7 +81,7 @@ inside_other plan s t u out inside same =
     omega (arith, out, some, ap (place_of s) same)
 
 -- once the train has made its first move, the list with its other moves at the end completes exactly where the old list plays
-pub appended_completes : (plan : Moves) (s list : List ℕ) (t : ℕ) → is_valid plan ≡ true → t < plan.trains
+appended_completes : (plan : Moves) (s list : List ℕ) (t : ℕ) → is_valid plan ≡ true → t < plan.trains
     → t < length s → 0 < plan.moves t → place_of s t ≡ 0 → completes plan s list ≡ true
     → plays plan (after s t) list ≡ completes plan (after s t) (list ++ replicate (plan.moves t - 1) t)
 appended_completes plan s [] t valid lt listed some out done =
@@ -95,6 +97,183 @@ appended_completes plan s (u ∷ rest) t valid lt listed some out done =
     let rest_is = appended_completes plan (after s u) rest t valid lt (omega (arith, listed, length-set s u (suc (place_of s u)))) some (place_kept s t u ne ∙ out) parts.1 in
     ap (λ b. is_inside plan r u && is_legal plan r u && b)
     (ap (λ q. plays plan q rest) turned ∙ rest_is ∙ ap (λ q. completes plan q whole) (sym turned))
+
+-- a train that stands outside has no entry in a list that completes
+pub outside_has_none : (plan : Moves) (s list : List ℕ) (t : ℕ) → place_of s t ≡ 0 → completes plan s list ≡ true → times t list ≡ 0
+outside_has_none plan s list t out done =
+    none_left plan s list t done (and_left (ltb 0 (place_of s t)) (ltb (place_of s t) (plan.moves t)) (ap (ltb 0) out))
+
+-- what no other train needs later it doesn't need later after a move of another train
+clear_on : (plan : Moves) (s : List ℕ) (t u : ℕ) (sections : List ℕ) → is_inside plan s u ≡ true → IsClear plan s t sections → IsClear plan (after s u) t sections
+clear_on plan s t u sections inside_u clear = λ v i not_t inside from below.
+    ⊎_elim
+    (λ is_u.
+    let at : place_of (after s u) v ≡ suc (place_of s u) = ap (place_of (after s u)) is_u ∙ get_or-set_same s u (suc (place_of s u)) 0 (inside_listed plan s u inside_u) in
+    clear v i not_t (ap (is_inside plan s) is_u ∙ inside_u) (omega (arith, from, at, ap (place_of s) is_u)) below)
+    (λ not_u.
+    let at : place_of (after s u) v ≡ place_of s v = place_kept s v u not_u in
+    clear v i not_t (inside_same plan (after s u) s v (sym at) inside) (omega (arith, from, at)) below)
+    (cases_eq v u)
+
+-- the first move of a train that stands outside, beside a move of another train
+legal_entered : (plan : Moves) (s : List ℕ) (t u : ℕ) → t < length s → u ≢ t → place_of s t ≡ 0 → is_legal plan s u ≡ true
+    → is_legal plan (after s t) u ≡ are_apart (stand plan t 1) (plan.claim u (place_of s u))
+legal_entered plan s t u lt ne out legal =
+    legal_beside plan s t u lt ne legal ∙ ap (λ p. are_apart (stand plan t (suc p)) (plan.claim u (place_of s u))) out
+
+plays_clear : (plan : Moves) (s list : List ℕ) (t : ℕ) → t < length s → place_of s t ≡ 0 → completes plan s list ≡ true → IsClear plan s t (stand plan t 1) → plays plan (after s t) list ≡ true
+plays_clear plan s [] t lt out done clear = refl
+plays_clear plan s (u ∷ rest) t lt out done clear =
+    let parts = and_parts (is_inside plan s u && is_legal plan s u) (completes plan (after s u) rest) done in
+    let now = and_parts (is_inside plan s u) (is_legal plan s u) parts.0 in
+    let ne : t ≢ u = inside_other plan s t u out now.0 in
+    let other : u ≢ t = λ e. ne (sym e) in
+    let r : List ℕ = after s t in
+    let apart = clear u (place_of s u) other now.0 (omega arith) (inside_parts plan s u now.0).1 in
+    and_from (is_inside plan r u && is_legal plan r u) (plays plan (after r u) rest)
+    (and_from (is_inside plan r u) (is_legal plan r u)
+    (inside_kept plan s u t other ∙ now.0)
+    (legal_entered plan s t u lt other out now.1 ∙ apart_sym (plan.claim u (place_of s u)) (stand plan t 1) apart))
+    (ap (λ q. plays plan q rest) (after_comm s t u ne)
+    ∙ plays_clear plan (after s u) rest t (omega (arith, lt, length-set s u (suc (place_of s u)))) (place_kept s t u ne ∙ out) parts.1 (clear_on plan s t u (stand plan t 1) now.0 clear))
+
+clear_plays : (plan : Moves) (s list : List ℕ) (t : ℕ) → t < length s → place_of s t ≡ 0 → completes plan s list ≡ true → plays plan (after s t) list ≡ true → IsClear plan s t (stand plan t 1)
+clear_plays plan s [] t lt out done played = λ v i not_t inside from below. absurd (false≢true (sym (nobody_at plan s v done) ∙ inside))
+clear_plays plan s (u ∷ rest) t lt out done played =
+    let parts = and_parts (is_inside plan s u && is_legal plan s u) (completes plan (after s u) rest) done in
+    let now = and_parts (is_inside plan s u) (is_legal plan s u) parts.0 in
+    let ne : t ≢ u = inside_other plan s t u out now.0 in
+    let other : u ≢ t = λ e. ne (sym e) in
+    let r : List ℕ = after s t in
+    let made = and_parts (is_inside plan r u && is_legal plan r u) (plays plan (after r u) rest) played in
+    let legal = (and_parts (is_inside plan r u) (is_legal plan r u) made.0).1 in
+    let apart : are_apart (plan.claim u (place_of s u)) (stand plan t 1) ≡ true = apart_sym (stand plan t 1) (plan.claim u (place_of s u)) (sym (legal_entered plan s t u lt other out now.1) ∙ legal) in
+    let later = clear_plays plan (after s u) rest t (omega (arith, lt, length-set s u (suc (place_of s u)))) (place_kept s t u ne ∙ out) parts.1 (ap (λ q. plays plan q rest) (sym (after_comm s t u ne)) ∙ made.1) in
+    λ v i not_t inside from below.
+    ⊎_elim
+    (λ is_u.
+    let at : place_of (after s u) v ≡ suc (place_of s u) = ap (place_of (after s u)) is_u ∙ get_or-set_same s u (suc (place_of s u)) 0 (inside_listed plan s u now.0) in
+    ⊎_elim
+    (λ more. later v i not_t (inside_from plan (after s u) v (omega (arith, at)) (omega (arith, at, more, below))) (omega (arith, at, more)) below)
+    (λ last.
+    let same : i ≡ place_of s u = omega (arith, last, from, ap (place_of s) is_u) in
+    ap (λ w. are_apart (plan.claim w i) (stand plan t 1)) is_u ∙ ap (λ k. are_apart (plan.claim u k) (stand plan t 1)) same ∙ apart)
+    (cases_lt (place_of s u) i))
+    (λ not_u.
+    let at : place_of (after s u) v ≡ place_of s v = place_kept s v u not_u in
+    later v i not_t (inside_same plan s (after s u) v at inside) (omega (arith, from, at)) below)
+    (cases_eq v u)
+
+-- the train's first move, as a leg
+abbrev entering : ℕ → Leg
+entering t = record { train = t; place = 1 }
+
+-- once the train has made its first move, the list with its other moves at the end completes exactly where that move ended safely
+pub appended_where_safe : (plan : Moves) (s list : List ℕ) (t : ℕ) → is_valid plan ≡ true → t < plan.trains
+    → t < length s → 0 < plan.moves t → place_of s t ≡ 0 → completes plan s list ≡ true
+    → completes plan (after s t) (list ++ replicate (plan.moves t - 1) t) ≡ is_safe plan s (record { train = t; place = 1 })
+appended_where_safe plan s list t valid lt listed some out done =
+    sym (appended_completes plan s list t valid lt listed some out done)
+    ∙ ⊎_elim
+    (λ safe. plays_clear plan s list t listed out done (clear_from_safe plan s (entering t) safe) ∙ sym safe)
+    (λ free. ⊎_elim
+    (λ played. absurd (false≢true (sym free ∙ safe_from_clear plan s (entering t) (clear_plays plan s list t listed out done played))))
+    (λ stopped. stopped ∙ sym free)
+    (cases_Bool (plays plan (after s t) list)))
+    (cases_Bool (is_safe plan s (entering t)))
+
+-- a train that stands outside needs nothing later
+outside_needs : (plan : Moves) (s : List ℕ) (t n : ℕ) (sections : List ℕ) → place_of s t ≡ 0
+    → any_below (λ u. not (eqb u t) && needs_later plan s sections u) n ≡ any_below (needs_later plan s sections) n
+outside_needs plan s t zero sections out = refl
+outside_needs plan s t (suc n) sections out =
+    let others : Bool = any_below (λ u. not (eqb u t) && needs_later plan s sections u) n in
+    let needs : ℕ → Bool = needs_later plan s sections in
+    let step : (not (eqb n t) && needs n) ≡ needs n =
+    ⊎_elim
+    (λ same.
+    let none : needs n ≡ false = and_left (is_inside plan s n) (any_below (λ i. leb (place_of s n) i && not (are_apart (plan.claim n i) sections)) (plan.moves n))
+    (and_left (ltb 0 (place_of s n)) (ltb (place_of s n) (plan.moves n)) (ap (λ k. ltb 0 (place_of s k)) same ∙ ap (ltb 0) out)) in
+    and_right (not (eqb n t)) (needs n) none ∙ sym none)
+    (λ other. ap (λ b. not b && needs n) (ne_eqb n t other))
+    (cases_eq n t) in
+    ap (λ b. others || b) step ∙ ap (λ b. b || needs n) (outside_needs plan s t n sections out)
+
+-- nothing needs a section of none
+none_needed : (plan : Moves) (s : List ℕ) (n : ℕ) → any_below (needs_later plan s []) n ≡ false
+none_needed plan s n = any_below_none (needs_later plan s []) n (λ u _.
+    let left : ℕ → Bool = λ i. leb (place_of s u) i && not (are_apart (plan.claim u i) []) in
+    and_right (is_inside plan s u) (any_below left (plan.moves u))
+    (any_below_none left (plan.moves u) (λ i _. and_right (leb (place_of s u) i) (not (are_apart (plan.claim u i) [])) (ap not (apart_none (plan.claim u i))))))
+
+-- the first move of a train that stands outside ends safely exactly where no train inside needs later what it then stands on
+safe_where_unneeded : (plan : Moves) (s : List ℕ) (t : ℕ) → place_of s t ≡ 0
+    → is_safe plan s (record { train = t; place = 1 }) ≡ not (any_below (needs_later plan s (stand plan t 1)) (length s))
+safe_where_unneeded plan s t out =
+    let sections : List ℕ = stand plan t 1 in
+    ap (λ b. eqb 1 (plan.moves t) || not b) (outside_needs plan s t (length s) sections out)
+    ∙ ⊎_elim
+    (λ last.
+    let none : sections ≡ [] = stand_out plan t 1 (omega (arith, eqb-true 1 (plan.moves t) last)) in
+    let unneeded : any_below (needs_later plan s sections) (length s) ≡ false = ap (λ xs. any_below (needs_later plan s xs) (length s)) none ∙ none_needed plan s (length s) in
+    ap (λ b. b || not (any_below (needs_later plan s sections) (length s))) last ∙ sym (ap not unneeded))
+    (λ more. ap (λ b. b || not (any_below (needs_later plan s sections) (length s))) more)
+    (cases_Bool (eqb 1 (plan.moves t)))
+
+-- so the appended list completes exactly where no train inside needs later what the train then stands on
+pub appended_where_unneeded : (plan : Moves) (s list : List ℕ) (t : ℕ) → is_valid plan ≡ true → t < plan.trains
+    → t < length s → 0 < plan.moves t → place_of s t ≡ 0 → completes plan s list ≡ true
+    → completes plan (after s t) (list ++ replicate (plan.moves t - 1) t) ≡ not (any_below (needs_later plan s (stand plan t 1)) (length s))
+appended_where_unneeded plan s list t valid lt listed some out done =
+    appended_where_safe plan s list t valid lt listed some out done ∙ safe_where_unneeded plan s t out
+
+-- some section is needed for a move left exactly where some move left needs one of the sections
+pub needed_either_way : (claim : ℕ → List ℕ) (sections : List ℕ) (p n : ℕ)
+    → list_any (λ x. any_below (λ m. leb p m && is_in x (claim m)) n) sections ≡ any_below (λ m. leb p m && not (are_apart (claim m) sections)) n
+needed_either_way claim sections p n =
+    let by_section : ℕ → Bool = λ x. any_below (λ m. leb p m && is_in x (claim m)) n in
+    let by_move : ℕ → Bool = λ m. leb p m && not (are_apart (claim m) sections) in
+    ⊎_elim
+    (λ some.
+    let move = any_below_found by_move n some in
+    let parts = and_parts (leb p move.0) (not (are_apart (claim move.0) sections)) move.2 in
+    ⊎_elim
+    (λ found. found ∙ sym some)
+    (λ none. absurd (false≢true (sym (not-true (are_apart (claim move.0) sections) parts.1)
+    ∙ apart_from (claim move.0) sections (λ x needed.
+    ⊎_elim
+    (λ is.
+    let unneeded = any_below_at (λ k. leb p k && is_in x (claim k)) n move.0 (list_any_at by_section sections x none is) move.1 in
+    absurd (false≢true (sym unneeded ∙ and_from (leb p move.0) (is_in x (claim move.0)) parts.0 needed)))
+    (λ out. out)
+    (cases_Bool (is_in x sections))))))
+    (cases_Bool (list_any by_section sections)))
+    (λ none.
+    list_any_none by_section sections (λ x is.
+    any_below_none (λ m. leb p m && is_in x (claim m)) n (λ m below.
+    ⊎_elim
+    (λ needed.
+    let parts = and_parts (leb p m) (is_in x (claim m)) needed in
+    let apart : are_apart (claim m) sections ≡ true = ⊎_elim
+    (λ yes. yes)
+    (λ meets. absurd (false≢true (sym (any_below_at by_move n m none below) ∙ and_from (leb p m) (not (are_apart (claim m) sections)) parts.0 (not_from_false (are_apart (claim m) sections) meets))))
+    (cases_Bool (are_apart (claim m) sections)) in
+    absurd (false≢true (sym (apart_at (claim m) sections x apart parts.1) ∙ is)))
+    (λ unneeded. unneeded)
+    (cases_Bool (leb p m && is_in x (claim m)))))
+    ∙ sym none)
+    (cases_Bool (any_below by_move n))
+
+-- a section that is needed for a move left is one of those that some move left needs
+pub needed_here : (claim : ℕ → List ℕ) (sections : List ℕ) (p n x : ℕ) → is_in x sections ≡ true → any_below (λ m. leb p m && is_in x (claim m)) n ≡ true
+    → any_below (λ m. leb p m && not (are_apart (claim m) sections)) n ≡ true
+needed_here claim sections p n x is needed =
+    let by_section : ℕ → Bool = λ y. any_below (λ m. leb p m && is_in y (claim m)) n in
+    sym (needed_either_way claim sections p n)
+    ∙ ⊎_elim
+    (λ found. found)
+    (λ none. absurd (false≢true (sym (list_any_at by_section sections x none is) ∙ needed)))
+    (cases_Bool (list_any by_section sections))
 
 -- the state to which a list leads
 abbrev end_of : List ℕ → List ℕ → List ℕ

@@ -2,6 +2,9 @@
 pub mod CallerLemmas
 -- Lemmas on repaired lists, and the law that a public function states.
 mod Pulling
+mod Beside
+mod MovesLeft
+mod Turns
 mod Appending
 mod Trying
 -- Lemmas on fresh lists and on taking the move back, and the law that a public function states.

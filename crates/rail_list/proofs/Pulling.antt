@@ -1,5 +1,5 @@
 -- The list without the first entry of a train that has made its move: the entries before that one, and the rest.
-use Rattle.std.proofs.Common.{◌≡◌, ◌≢◌, ℕ, suc, ◌+◌, ◌<◌, true, ◌&&◌, eqb, ltb, List, [], ◌∷◌, length, get_or, take, drop, set, refl, sym, ap, ◌∙◌, subst, ⊎_elim, arith}
+use Rattle.std.proofs.Common.{◌≡◌, ◌≢◌, ℕ, suc, ◌+◌, ◌<◌, true, ◌&&◌, eqb, ltb, List, [], ◌∷◌, length, get_or, drop, set, refl, sym, ap, ◌∙◌, ⊎_elim, arith}
 use Rattle.std.specs.List.{remove}
 use Rattle.std.proofs.lemmas.Bool.{and_parts, cases_eq, cond-true, cond-false, eq-eqb, ne_eqb, not-true, false≢true}
 use Rattle.std.proofs.lemmas.List.{get_or-set_other, set_comm, drop_more}
@@ -8,7 +8,6 @@ use Rattle.rail_rules.specs.Moves.{Moves}
 use Rattle.rail_rules.specs.Places.{place_of, is_inside, is_legal, after, completes}
 use Rattle.rail_rules.specs.Fronts.{without_first}
 use Rattle.rail_rules.proofs.CallerLemmas.{any_below_at}
-use Rattle.rail_place.specs.Plays.{plays}
 use Rattle.rail_place.proofs.CallerLemmas.{inside_listed}
 use Rattle.rail_list.specs.KeptLists.{before_first}
 
@@ -40,48 +39,7 @@ first_there plan s (u ∷ rest) t done inside =
     omega (arith, rest_there, ap length (cond-false (eqb u t) [] (u ∷ before_first t rest) (ne_eqb u t other))))
     (cases_eq u t)
 
--- once the train has made its move early, the list without its first entry completes exactly where the entries before that one play
-pub pulled_completes : (plan : Moves) (s list : List ℕ) (t : ℕ) → completes plan s list ≡ true → is_inside plan s t ≡ true → plays plan (after s t) (before_first t list) ≡ completes plan (after s t) (without_first t list)
-pulled_completes plan s [] t done inside = absurd (false≢true (sym (any_below_at (is_inside plan s) (length s) t (not-true (any_below (is_inside plan s) (length s)) done) (inside_listed plan s t inside)) ∙ inside))
-pulled_completes plan s (u ∷ rest) t done inside =
-    let later = (and_parts (is_inside plan s u && is_legal plan s u) (completes plan (after s u) rest) done).1 in
-    let r : List ℕ = after s t in
-    ⊎_elim
-    (λ same.
-    let P : ℕ → Type 0 = λ k. completes plan (after s k) rest ≡ true in
-    ap (plays plan r) (cond-true (eqb u t) [] (u ∷ before_first t rest) (eq-eqb u t same))
-    ∙ sym (subst P same later)
-    ∙ sym (ap (completes plan r) (cond-true (eqb u t) rest (u ∷ without_first t rest) (eq-eqb u t same))))
-    (λ other.
-    let ne : t ≢ u = λ e. other (sym e) in
-    let rest_is = pulled_completes plan (after s u) rest t later (inside_kept plan s t u ne ∙ inside) in
-    let turned : after r u ≡ after (after s u) t = after_comm s t u ne in
-    ap (plays plan r) (cond-false (eqb u t) [] (u ∷ before_first t rest) (ne_eqb u t other))
-    ∙ ap (λ b. is_inside plan r u && is_legal plan r u && b)
-    (ap (λ q. plays plan q (before_first t rest)) turned ∙ rest_is ∙ ap (λ q. completes plan q (without_first t rest)) (sym turned))
-    ∙ sym (ap (completes plan r) (cond-false (eqb u t) rest (u ∷ without_first t rest) (ne_eqb u t other))))
-    (cases_eq u t)
-
--- the entries before the first of the train are the front of the list, and one entry is taken out behind them
-pub front_is : (list : List ℕ) (t : ℕ) → take (length (before_first t list)) list ≡ before_first t list
-front_is [] t = refl
-front_is (u ∷ rest) t =
-    ⊎_elim
-    (λ same. ap (λ xs. take (length xs) (u ∷ rest)) (cond-true (eqb u t) [] (u ∷ before_first t rest) (eq-eqb u t same)) ∙ sym (cond-true (eqb u t) [] (u ∷ before_first t rest) (eq-eqb u t same)))
-    (λ other.
-    ap (λ xs. take (length xs) (u ∷ rest)) (cond-false (eqb u t) [] (u ∷ before_first t rest) (ne_eqb u t other))
-    ∙ ap (λ xs. u ∷ xs) (front_is rest t)
-    ∙ sym (cond-false (eqb u t) [] (u ∷ before_first t rest) (ne_eqb u t other)))
-    (cases_eq u t)
-
--- the count of entries that was read, by the list as callers see it
-pub counted : (list own read : List ℕ) (t k : ℕ) → own ≡ list → read ≡ own → k ≡ length (before_first t read) → k ≡ length (before_first t list)
-counted list own read t k same is k_is = k_is ∙ ap (λ xs. length (before_first t xs)) (is ∙ same)
-
--- the front of the list that was read
-pub front : (list own read : List ℕ) (t k : ℕ) → own ≡ list → read ≡ own → k ≡ length (before_first t list) → take k read ≡ before_first t list
-front list own read t k same is k_is = ap (λ n. take n read) k_is ∙ ap (take (length (before_first t list))) (is ∙ same) ∙ front_is list t
-
+-- the first entry of the train taken out
 pub removed_is : (list : List ℕ) (t : ℕ) → remove list (length (before_first t list)) ≡ without_first t list
 removed_is [] t = refl
 removed_is (u ∷ rest) t =
@@ -93,12 +51,7 @@ removed_is (u ∷ rest) t =
     ∙ sym (cond-false (eqb u t) rest (u ∷ without_first t rest) (ne_eqb u t other)))
     (cases_eq u t)
 
--- looking for the first entry of the train, from an index on
-pub before_here : (list : List ℕ) (i u t : ℕ) → i < length list → u ≡ get_or list i u → u ≡ t → length (before_first t (drop i list)) ≡ 0
-before_here list i u t lt is same =
-    let split : drop i list ≡ u ∷ drop (i + 1) list = drop_more list i u lt ∙ ap (λ x. x ∷ drop (i + 1) list) (sym is) in
-    ap (λ xs. length (before_first t xs)) split ∙ ap length (cond-true (eqb u t) [] (u ∷ before_first t (drop (i + 1) list)) (eq-eqb u t same))
-
+-- the entries before the first of the train, from an index on
 pub before_later : (list : List ℕ) (i u t : ℕ) → i < length list → u ≡ get_or list i u → u ≢ t → length (before_first t (drop i list)) ≡ suc (length (before_first t (drop (i + 1) list)))
 before_later list i u t lt is other =
     let split : drop i list ≡ u ∷ drop (i + 1) list = drop_more list i u lt ∙ ap (λ x. x ∷ drop (i + 1) list) (sym is) in

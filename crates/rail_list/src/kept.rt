@@ -1,39 +1,60 @@
-ghost use Rattle.std.specs.Prelude.{◌≡◌, ℕ, ◌+◌, ◌-◌, ◌<◌, ◌≤◌, [], ◌++◌, if◌then◌else◌, length, replicate, IsTrue, IfOk, vec_len, vec_capacity};
-ghost use Rattle.std.specs.List.{All};
+ghost use Rattle.std.specs.Prelude.{◌≡◌, ◌<◌, ◌≤◌, [], if◌then◌else◌, length, IsTrue, IfOk};
+ghost use Rattle.rail_base.specs.declared.limits.TheConstants.{LIST_TRAINS};
 ghost use Rattle.rail_rules.specs.Fronts.{without_first};
 ghost use Rattle.rail_rules.specs.Numbers.{sum_below};
 ghost use Rattle.rail_rules.specs.Places.{after, completes, is_inside, is_legal, place_of};
 ghost use Rattle.rail_place.specs.Made.{IsMadeFor};
-ghost use Rattle.rail_place.specs.Plays.{plays};
 ghost use Rattle.rail_place.specs.Tables.{moves_in};
-ghost use Rattle.rail_list.specs.KeptLists.{HasRoomFor, before_first, with_moves_left};
+ghost use Rattle.rail_list.specs.KeptLists.{HasRoomFor, entries_behind, with_moves_left};
 ghost use Rattle.rail_list.specs.Repairs.{is_repairable_for};
 
+use crate::entries::{
+    add_all, add_behind, add_times, close_gap, count_all, free_entries_before, make_room,
+};
+use crate::needers::is_needed_inside;
 use rail_base::{OutOfMemory, TrainNo};
 use rail_place::{Moves, Places};
 use std::alloc::Global;
 use std::marker::Model;
 
+/// How many numbers of trains there are.
+pub const TRAIN_NUMBERS: usize = 65_536;
+
 /// A list of moves by their trains, in the order in which they are made. Trains count from 0. It has
 /// room for the moves for which it was made, so that no repair takes memory.
 #[derive(Debug)]
 pub struct KeptList {
+    /// The list, from `front` on.
     trains: Vec<TrainNo>,
+    /// For each entry how many of the same train stand behind it. Where the list has all the moves that its
+    /// trains have left, this tells which move of its train the entry is.
+    behind: Vec<u16>,
+    front: usize,
+    /// How many entries each train has, while these are counted, and else 0.
+    counts: Vec<u16>,
 }
 
 impl Drop for KeptList {
     fn drop(self) {
-        let KeptList { trains: _trains } = self;
+        let KeptList {
+            trains: _trains,
+            behind: _behind,
+            front: _front,
+            counts: _counts,
+        } = self;
     }
 }
 
 impl Model for KeptList {
-    ghost use Rattle.std.specs.Prelude.{vec_capacity};
-    ghost use Rattle.rail_list.specs.KeptLists.{Kept};
+    ghost use Rattle.std.specs.Prelude.{drop, vec_capacity};
+    ghost use Rattle.rail_list.specs.KeptLists.{IsTold, Kept};
 
     ghost Value = { Kept };
 
-    ghost view = { λ kept. record { trains = kept.trains.items; room = vec_capacity kept.trains } };
+    ghost view = { λ kept. record { trains = drop kept.front kept.trains.items; room = vec_capacity kept.trains } };
+
+    ghost invariant = { λ kept. IsTold kept.trains.items kept.behind.items kept.counts.items kept.front
+        (vec_capacity kept.trains) (vec_capacity kept.behind) };
 }
 
 impl KeptList {
@@ -42,86 +63,85 @@ impl KeptList {
         ensures trains { IfOk result (λ kept. kept.trains ≡ []) }
         ensures made { IfOk result (HasRoomFor moves.now) }
     {
+        let room = moves_of_all(moves);
         Ok(KeptList {
-            trains: Vec::with_capacity(alloc, moves_of_all(moves))?,
+            trains: Vec::with_capacity(alloc, room)?,
+            behind: Vec::with_capacity(alloc, room)?,
+            front: 0,
+            counts: vec![in alloc; 0u16; TRAIN_NUMBERS]?,
         })
     }
 
     /// Takes the first entry of the train, which is inside and makes this move now, out of the list.
     /// True exactly where the list without it completes from the places after the move; else the list
-    /// stays. The places are as before. Only the entries before that first one are played, since the
-    /// rest goes on as it did.
-    pub fn pull(&mut self, moves: &Moves, places: &mut Places, train: TrainNo) -> bool
-        requires made { IsMadeFor moves.now places.old }
+    /// stays. No move is played: the other trains make the moves that they made, so only an entry before
+    /// that first one is in the way, which needs what the train then stands on.
+    pub fn pull(&mut self, moves: &Moves, places: &Places, train: TrainNo) -> bool
+        requires made { IsMadeFor moves.now places.now }
         requires room { HasRoomFor moves.now self.old }
-        requires completes { IsTrue (completes (moves_in moves.now) places.old.positions self.old.trains) }
+        requires completes { IsTrue (completes (moves_in moves.now) places.now.positions self.old.trains) }
         requires train { train < length moves.now }
-        requires inside { IsTrue (is_inside (moves_in moves.now) places.old.positions train) }
-        requires legal { IsTrue (is_legal (moves_in moves.now) places.old.positions train) }
-        ensures exact { result ≡ completes (moves_in moves.now) (after places.old.positions train) (without_first train self.old.trains) }
+        requires inside { IsTrue (is_inside (moves_in moves.now) places.now.positions train) }
+        requires legal { IsTrue (is_legal (moves_in moves.now) places.now.positions train) }
+        ensures exact { result ≡ completes (moves_in moves.now) (after places.now.positions train) (without_first train self.old.trains) }
         ensures trains { self.new.trains ≡ (if result then without_first train self.old.trains else self.old.trains) }
         ensures room { self.new.room ≡ self.old.room }
-        ensures made { IsMadeFor moves.now places.new }
-        ensures positions { places.new.positions ≡ places.old.positions }
-        ensures owners { places.new.owners ≡ places.old.owners }
-        ensures rises { places.old.played ≤ places.new.played }
-        ensures short { places.new.played ≤ places.old.played + 1 + length (before_first train self.old.trains) }
     {
-        let first = entries_before(&self.trains, train);
-        let completes = plays_after(places, moves, train, &self.trains[..first]);
-        if completes {
-            let _ = self.trains.remove(first);
+        let sections = moves.stand(train, places.position(train) + 1);
+        match free_entries_before(moves, self.as_slice(), self.behind(), train, sections) {
+            Some(first) => {
+                close_gap(&mut self.trains, self.front, first);
+                close_gap(&mut self.behind, self.front, first);
+                self.front += 1;
+                true
+            }
+            None => false,
         }
-        completes
     }
 
     /// Adds the moves that are left to the train, which stands outside and makes its first move now, at
     /// the end of the list. True exactly where the list with them completes from the places after the
-    /// move; else the list stays. The places are as before. Only the old list is played: the train then
-    /// stands alone, and nothing is in its way.
-    pub fn append(&mut self, moves: &Moves, places: &mut Places, train: TrainNo) -> bool
-        requires made { IsMadeFor moves.now places.old }
+    /// move; else the list stays. No move is played: the list has each move that the trains inside have left,
+    /// and the train then stands still until it is alone, so only a train that needs later what it stands on
+    /// is in the way. This costs a look at each train, and for one inside a look at the table for each section.
+    pub fn append(&mut self, moves: &Moves, places: &Places, train: TrainNo) -> bool
+        requires made { IsMadeFor moves.now places.now }
         requires room { HasRoomFor moves.now self.old }
-        requires completes { IsTrue (completes (moves_in moves.now) places.old.positions self.old.trains) }
+        requires completes { IsTrue (completes (moves_in moves.now) places.now.positions self.old.trains) }
         requires train { train < length moves.now }
-        requires outside { place_of places.old.positions train ≡ 0 }
-        requires legal { IsTrue (is_legal (moves_in moves.now) places.old.positions train) }
-        ensures exact { result ≡ completes (moves_in moves.now) (after places.old.positions train)
+        requires outside { place_of places.now.positions train ≡ 0 }
+        requires legal { IsTrue (is_legal (moves_in moves.now) places.now.positions train) }
+        ensures exact { result ≡ completes (moves_in moves.now) (after places.now.positions train)
             (with_moves_left (moves_in moves.now) train self.old.trains) }
         ensures trains { self.new.trains ≡ (if result
             then with_moves_left (moves_in moves.now) train self.old.trains
             else self.old.trains) }
         ensures room { self.new.room ≡ self.old.room }
-        ensures made { IsMadeFor moves.now places.new }
-        ensures positions { places.new.positions ≡ places.old.positions }
-        ensures owners { places.new.owners ≡ places.old.owners }
-        ensures rises { places.old.played ≤ places.new.played }
-        ensures short { places.new.played ≤ places.old.played + 1 + length self.old.trains }
     {
-        let completes = plays_after(places, moves, train, &self.trains);
-        if completes {
-            add_times(&mut self.trains, train, moves.places(train) - 1);
+        if is_needed_inside(moves, places, moves.stand(train, 1)) {
+            return false;
         }
-        completes
+        let count = moves.places(train) - 1;
+        self.front = make_room(&mut self.trains, &mut self.behind, self.front, count);
+        add_times(&mut self.trains, &mut self.behind, train, count);
+        true
     }
 
     /// Whether the list repaired for the train's next move completes from the places after it: without the first
-    /// entry of a train that is inside, with the moves that are left to an entering train at its end. List and
-    /// places are as before.
-    pub fn is_repairable(&self, moves: &Moves, places: &mut Places, train: TrainNo) -> bool
-        requires made { IsMadeFor moves.now places.old }
-        requires completes { IsTrue (completes (moves_in moves.now) places.old.positions self.now.trains) }
+    /// entry of a train that is inside, with the moves that are left to an entering train at its end.
+    pub fn is_repairable(&self, moves: &Moves, places: &Places, train: TrainNo) -> bool
+        requires made { IsMadeFor moves.now places.now }
+        requires completes { IsTrue (completes (moves_in moves.now) places.now.positions self.now.trains) }
         requires train { train < length moves.now }
-        requires legal { IsTrue (is_legal (moves_in moves.now) places.old.positions train) }
-        ensures exact { result ≡ is_repairable_for (moves_in moves.now) places.old.positions self.now.trains train }
-        ensures made { IsMadeFor moves.now places.new }
-        ensures positions { places.new.positions ≡ places.old.positions }
+        requires legal { IsTrue (is_legal (moves_in moves.now) places.now.positions train) }
+        ensures exact { result ≡ is_repairable_for (moves_in moves.now) places.now.positions self.now.trains train }
     {
-        if places.position(train) == 0 {
-            return plays_after(places, moves, train, &self.trains);
+        let place = places.position(train);
+        let sections = moves.stand(train, place + 1);
+        if place == 0 {
+            return !is_needed_inside(moves, places, sections);
         }
-        let first = entries_before(&self.trains, train);
-        plays_after(places, moves, train, &self.trains[..first])
+        free_entries_before(moves, self.as_slice(), self.behind(), train, sections).is_some()
     }
 
     /// The list is then this one.
@@ -131,77 +151,36 @@ impl KeptList {
         ensures room { self.new.room ≡ self.old.room }
     {
         self.trains.clear();
+        self.behind.clear();
+        self.front = 0;
         add_all(&mut self.trains, list);
+        count_all(&mut self.counts, list);
+        add_behind(&mut self.behind, &mut self.counts, list);
     }
 
     /// The list.
     pub fn as_slice(&self) -> &[TrainNo]
         ensures { result.now ≡ self.now.trains }
     {
-        self.trains.as_slice()
+        &self.trains[self.front..]
+    }
+
+    /// For each entry how many of the same train stand behind it.
+    fn behind(&self) -> &[u16]
+        ensures { result.now ≡ entries_behind self.now.trains }
+    {
+        &self.behind[self.front..]
     }
 }
 
 /// How many moves all trains have.
 fn moves_of_all(moves: &Moves) -> usize
-    ensures { result ≡ sum_below (moves_in moves.now).moves (length moves.now) }
+    ensures sum { result ≡ sum_below (moves_in moves.now).moves (length moves.now) }
+    ensures few { result ≤ LIST_TRAINS }
 {
     let mut sum = 0;
     for number in 0..moves.trains() {
         sum += usize::from(moves.places(TrainNo(number)));
     }
     sum
-}
-
-/// How many entries stand before the first of the train.
-fn entries_before(list: &[TrainNo], train: TrainNo) -> usize
-    ensures { result ≡ length (before_first train list.now) }
-{
-    for (place, other) in list.iter().enumerate() {
-        if *other == train {
-            return place;
-        }
-    }
-    list.len()
-}
-
-/// Whether the list plays from the places after the next move of the train, which is legal.
-fn plays_after(places: &mut Places, moves: &Moves, train: TrainNo, list: &[TrainNo]) -> bool
-    requires made { IsMadeFor moves.now places.old }
-    requires train { train < length moves.now }
-    requires legal { IsTrue (is_legal (moves_in moves.now) places.old.positions train) }
-    requires trains { All (λ t. t < length moves.now) list.now }
-    ensures exact { result ≡ plays (moves_in moves.now) (after places.old.positions train) list.now }
-    ensures made { IsMadeFor moves.now places.new }
-    ensures positions { places.new.positions ≡ places.old.positions }
-    ensures owners { places.new.owners ≡ places.old.owners }
-    ensures rises { places.old.played ≤ places.new.played }
-    ensures short { places.new.played ≤ places.old.played + 1 + length list.now }
-{
-    places.advance(moves, train);
-    let plays = places.plays(moves, list);
-    places.retreat(moves, train);
-    plays
-}
-
-/// Adds the train so many times at the end.
-fn add_times(list: &mut Vec<TrainNo>, train: TrainNo, count: u16)
-    requires { vec_len list.old + count ≤ vec_capacity list.old }
-    ensures trains { list.new.items ≡ list.old.items ++ replicate count train }
-    ensures room { vec_capacity list.new ≡ vec_capacity list.old }
-{
-    for _ in 0..count {
-        list.push_reserved(train);
-    }
-}
-
-/// Adds the trains at the end.
-fn add_all(list: &mut Vec<TrainNo>, trains: &[TrainNo])
-    requires { vec_len list.old + length trains.now ≤ vec_capacity list.old }
-    ensures trains { list.new.items ≡ list.old.items ++ trains.now }
-    ensures room { vec_capacity list.new ≡ vec_capacity list.old }
-{
-    for train in trains {
-        list.push_reserved(*train);
-    }
 }

@@ -1,7 +1,10 @@
-ghost use Rattle.std.specs.Prelude.{ℕ, ◌≤◌, List, length, IsTrue};
-ghost use Rattle.rail_rules.specs.Moves.{Moves};
+ghost use Rattle.std.specs.Prelude.{◌≡◌, ℕ, suc, ◌<◌, ◌≤◌, List, length, IsTrue};
+ghost use Rattle.rail_rules.specs.Analysis.{is_safe};
+ghost use Rattle.rail_rules.specs.Fronts.{without_first};
+ghost use Rattle.rail_rules.specs.Moves.{Moves, is_valid, stand};
 ghost use Rattle.rail_rules.specs.Numbers.{sum_below};
-ghost use Rattle.rail_rules.specs.Places.{completes};
+ghost use Rattle.rail_rules.specs.Places.{after, completes, is_inside, place_of};
+ghost use Rattle.rail_list.specs.KeptLists.{is_free_before, with_moves_left};
 
 /// A list that completes has no more entries than the trains have moves, so that it fits into each
 /// kept list that was made for these moves.
@@ -9,4 +12,22 @@ pub fn a_completing_list_fits()
     ensures { (plan : Moves) (s list : List ℕ)
         → IsTrue (completes plan s list)
         → length list ≤ sum_below plan.moves (length s) }
+{}
+
+/// After the first move of an entering train, the list with its other moves at the end completes exactly where
+/// that move ended safely: where no train inside needs later what the train then stands on.
+pub fn an_appended_list_completes_exactly_where_the_train_entered_safely()
+    ensures { (plan : Moves) (s list : List ℕ) (t : ℕ)
+        → IsTrue (is_valid plan) → t < plan.trains → t < length s → 0 < plan.moves t
+        → place_of s t ≡ 0 → IsTrue (completes plan s list)
+        → completes plan (after s t) (with_moves_left plan t list) ≡ is_safe plan s (record { train = t; place = 1 }) }
+{}
+
+/// After a train's move, the list without its first entry completes exactly where no entry before that one needs,
+/// for its move, what the train then stands on.
+pub fn a_pulled_list_completes_exactly_where_no_earlier_entry_needs_what_the_train_stands_on()
+    ensures { (plan : Moves) (s list : List ℕ) (t : ℕ)
+        → IsTrue (is_inside plan s t) → IsTrue (completes plan s list)
+        → completes plan (after s t) (without_first t list)
+        ≡ is_free_before plan t (stand plan t (suc (place_of s t))) list }
 {}

@@ -3,25 +3,33 @@
 //! This layer stands on `rail_place` for places and legal moves, on `rail_consequence` for a fresh list, and
 //! on `rail_rules` for what a list that completes is. Where a train is admitted, the kept list is repaired for
 //! the places after its move: the train's first entry is pulled out of it, or its remaining moves are appended.
-//! Since the old list completes, only the entries that the move may disturb are played: those before the pulled
-//! entry, or the old list. Only where it can't be repaired is the analysis asked for a fresh one, and a move is
-//! made only where a list is known. So wherever the kept list completes before a call, it does so after it.
-//! `specs/` says for which moves a list has room, what the repaired list is, when a list is known, and which
-//! list goes with each note.
+//! Since the old list completes, no move is played to test the new one: an entering train must have ended its
+//! first move safely, and before a pulled entry no entry may need what the train then stands on; both are laws.
+//! The list lies in one room from a front on, so that a pull moves only the entries before it. Only where the list
+//! can't be repaired is the analysis asked for a fresh one, and a move is made only where a list is known. So
+//! wherever the kept list completes before a call, it does so after it. `specs/` says for which moves a list has
+//! room, what is kept beside it, what the repaired list is, when a list is known, and which list goes with each
+//! note.
 //!
 //! How the repaired list is tested and how a fresh one is found may be changed. That the answer is true exactly
 //! where it completes may not, nor that repair goes before a fresh list, that a move is made exactly where a list
 //! is known, and that nothing but `KeptList::new` takes memory.
 #![tactic(auto)]
 
+mod entries;
 mod given;
 mod kept;
 mod laws;
+mod needers;
 mod notes;
 mod repair;
 
 pub use given::admit_given;
 pub use kept::KeptList;
-pub use laws::a_completing_list_fits;
+pub use laws::{
+    a_completing_list_fits,
+    a_pulled_list_completes_exactly_where_no_earlier_entry_needs_what_the_train_stands_on,
+    an_appended_list_completes_exactly_where_the_train_entered_safely,
+};
 pub use notes::the_list_of_a_note_completes;
 pub use repair::{admit_by_list, is_list_known};

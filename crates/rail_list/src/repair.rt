@@ -49,20 +49,18 @@ pub fn admit_by_list(
 }
 
 /// Repairs the list for the train's next move, and says how. `None` exactly where the repaired list
-/// doesn't complete after the move; then the list is as before. The places are as before.
-fn repair(moves: &Moves, places: &mut Places, kept: &mut KeptList, train: TrainNo) -> Option<Note>
-    requires made { IsMadeFor moves.now places.old }
+/// doesn't complete after the move; then the list is as before.
+fn repair(moves: &Moves, places: &Places, kept: &mut KeptList, train: TrainNo) -> Option<Note>
+    requires made { IsMadeFor moves.now places.now }
     requires room { HasRoomFor moves.now kept.old }
-    requires completes { IsTrue (completes (moves_in moves.now) places.old.positions kept.old.trains) }
+    requires completes { IsTrue (completes (moves_in moves.now) places.now.positions kept.old.trains) }
     requires train { train < length moves.now }
-    requires legal { IsTrue (is_legal (moves_in moves.now) places.old.positions train) }
-    ensures made { IsMadeFor moves.now places.new }
+    requires legal { IsTrue (is_legal (moves_in moves.now) places.now.positions train) }
     ensures room { kept.new.room ≡ kept.old.room }
-    ensures positions { places.new.positions ≡ places.old.positions }
     ensures none { IsNone result → (kept.new.trains ≡ kept.old.trains)
-        × (is_repairable_for (moves_in moves.now) places.old.positions kept.old.trains train ≡ false) }
+        × (is_repairable_for (moves_in moves.now) places.now.positions kept.old.trains train ≡ false) }
     ensures note { IfSome result (λ note. (depth : ℕ)
-        → IsNoted (moves_in moves.now) depth places.old.positions kept.old.trains train note kept.new.trains) }
+        → IsNoted (moves_in moves.now) depth places.now.positions kept.old.trains train note kept.new.trains) }
 {
     if places.position(train) > 0 {
         if kept.pull(moves, places, train) {

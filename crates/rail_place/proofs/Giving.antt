@@ -8,12 +8,12 @@ use Rattle.rail_place.specs.declared.barring.Barred.TheVariants.{Held}
 use Rattle.rail_place.specs.Bars.{held_by}
 use Rattle.rail_place.specs.Owners.{given, first_owned_in}
 
-pub length-given : (owners : List (Option ℕ)) (xs : List ℕ) (owner : Option ℕ) → length (given owners xs owner) ≡ length owners
+pub length-given : {X : Type 0} → (owners : List X) (xs : List ℕ) (owner : X) → length (given owners xs owner) ≡ length owners
 length-given owners [] owner = refl
 length-given owners (x ∷ xs) owner = length-given (set owners x owner) xs owner ∙ length-set owners x owner
 
 -- a section that isn't named keeps its owner
-pub given-other : (owners : List (Option ℕ)) (xs : List ℕ) (owner d : Option ℕ) (x : ℕ) → is_in x xs ≡ false → get_or (given owners xs owner) x d ≡ get_or owners x d
+pub given-other : {X : Type 0} → (owners : List X) (xs : List ℕ) (owner d : X) (x : ℕ) → is_in x xs ≡ false → get_or (given owners xs owner) x d ≡ get_or owners x d
 given-other owners [] owner d x out = refl
 given-other owners (y ∷ ys) owner d x out =
     let parts = or_parts (eqb y x) (is_in x ys) out in
@@ -21,7 +21,7 @@ given-other owners (y ∷ ys) owner d x out =
     ∙ get_or-set_other owners y x owner d (λ same. eqb-false y x parts.0 (sym same))
 
 -- each section that is named has the owner
-pub given-named : (owners : List (Option ℕ)) (xs : List ℕ) (owner d : Option ℕ) (x : ℕ) → is_in x xs ≡ true → x < length owners → get_or (given owners xs owner) x d ≡ owner
+pub given-named : {X : Type 0} → (owners : List X) (xs : List ℕ) (owner d : X) (x : ℕ) → is_in x xs ≡ true → x < length owners → get_or (given owners xs owner) x d ≡ owner
 given-named owners [] owner d x is lt = absurd (false≢true is)
 given-named owners (y ∷ ys) owner d x is lt =
     ⊎_elim

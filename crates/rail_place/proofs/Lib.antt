@@ -7,3 +7,4 @@ mod Firsts
 mod Making
 mod Playing
 mod Taking
+mod LastMoves

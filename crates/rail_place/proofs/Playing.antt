@@ -1,6 +1,6 @@
 -- Lists played from one state to another: one move more, one move less, and how long such a list may be.
 use Rattle.std.proofs.Common.{◌≡◌, ◌≢◌, ℕ, zero, suc, ◌+◌, ◌-◌, ◌*◌, ◌<◌, ◌≤◌, true, false, ◌&&◌, ltb, List, [], ◌∷◌, ◌++◌, length, get_or, set, drop, Option, Some, None, refl, sym, ap, ◌∙◌, subst, ⊎_elim, arith}
-use Rattle.std.proofs.lemmas.Bool.{and_parts, and_from, and_left, and_right, cases_lt, cases_eq, cases_order, cases_Bool, ltb-true, lt-ltb, cond-true, cond-false}
+use Rattle.std.proofs.lemmas.Bool.{and_parts, and_from, cases_lt, cases_eq, cases_order, cases_Bool, ltb-true, lt-ltb, cond-true, cond-false}
 use Rattle.std.proofs.lemmas.List.{get_or-set_same, get_or-set_other, get_or_past, length-set, set-set, set-get_or, drop_more}
 use Rattle.std.proofs.lemmas.Option.{none-some}
 use Rattle.std.proofs.lemmas.Bool.{not-true, not_from_false}
@@ -12,7 +12,7 @@ use Rattle.rail_rules.specs.Analysis.{moves_left}
 use Rattle.rail_rules.proofs.CallerLemmas.{any_below_at, sum_below-lt, apart_sym, apart_from, state_parts, legal_move_kept}
 use Rattle.rail_place.specs.Tables.{moves_in, MoveLists}
 use Rattle.rail_place.specs.Made.{State, IsMadeFor}
-use Rattle.rail_place.specs.Plays.{IsPlayed, plays}
+use Rattle.rail_place.specs.Plays.{IsPlayed}
 use Rattle.rail_place.specs.declared.barring.Barred.{Barred}
 use Rattle.rail_place.specs.declared.barring.Barred.TheVariants.{Outside}
 use Rattle.rail_place.specs.declared.barring.Played.{Played}
@@ -208,35 +208,6 @@ completes_to plan s n (t ∷ rest) h =
     let now = and_parts (is_inside plan s t) (is_legal plan s t) later.0 in
     ap (λ o. unless_barred n o (outcome plan (after s t) (n + 1) rest)) (bar_from_move plan s t now.0 now.1)
     ∙ completes_to plan (after s t) (n + 1) rest later.1
-
--- a list plays exactly where no train of it is barred
-ending_not_barred : (o : Option ℕ) (k : ℕ) (why : Barred) → ending o ≡ Illegal k why → ⊥
-ending_not_barred None k why h = cc
-ending_not_barred (Some u) k why h = cc
-
-plays_step : (plan : Moves) (s : List ℕ) (n t : ℕ) (rest : List ℕ) (o : Option ℕ) (bar : Option Barred)
-    → bar_in_list plan s t ≡ bar → unless_barred n bar (outcome plan (after s t) (n + 1) rest) ≡ ending o
-    → (outcome plan (after s t) (n + 1) rest ≡ ending o → plays plan (after s t) rest ≡ true)
-    → plays plan s (t ∷ rest) ≡ true
-plays_step plan s n t rest o None e h later =
-    let both = move_from_bar plan s t e in
-    and_from (is_inside plan s t && is_legal plan s t) (plays plan (after s t) rest) (and_from (is_inside plan s t) (is_legal plan s t) both.0 both.1) (later h)
-plays_step plan s n t rest o (Some why) e h later = absurd (ending_not_barred o n why (sym h))
-
-pub plays_to_end : (plan : Moves) (s : List ℕ) (n : ℕ) (xs : List ℕ) (o : Option ℕ) → outcome plan s n xs ≡ ending o → plays plan s xs ≡ true
-plays_to_end plan s n [] o h = refl
-plays_to_end plan s n (t ∷ rest) o h = plays_step plan s n t rest o (bar_in_list plan s t) refl h (plays_to_end plan (after s t) (n + 1) rest o)
-
-stops_step : (plan : Moves) (s : List ℕ) (n t k : ℕ) (rest : List ℕ) (why : Barred) (bar : Option Barred)
-    → bar_in_list plan s t ≡ bar → unless_barred n bar (outcome plan (after s t) (n + 1) rest) ≡ Illegal k why
-    → (outcome plan (after s t) (n + 1) rest ≡ Illegal k why → plays plan (after s t) rest ≡ false)
-    → plays plan s (t ∷ rest) ≡ false
-stops_step plan s n t k rest why None e h later = and_right (is_inside plan s t && is_legal plan s t) (plays plan (after s t) rest) (later h)
-stops_step plan s n t k rest why (Some first) e h later = and_left (is_inside plan s t && is_legal plan s t) (plays plan (after s t) rest) (barred_stops plan s t first e)
-
-pub plays_to_bar : (plan : Moves) (s : List ℕ) (n : ℕ) (xs : List ℕ) (k : ℕ) (why : Barred) → outcome plan s n xs ≡ Illegal k why → plays plan s xs ≡ false
-plays_to_bar plan s n [] k why h = absurd (ending_not_barred (first_below (is_inside plan s) (length s)) k why h)
-plays_to_bar plan s n (t ∷ rest) k why h = stops_step plan s n t k rest why (bar_in_list plan s t) refl h (plays_to_bar plan (after s t) (n + 1) rest k why)
 
 -- the last move of a list can be taken back
 pub way_last : (plan : Moves) (s xs r : List ℕ) (t : ℕ) → is_valid plan ≡ true → is_valid_state plan s ≡ true → IsPlayed plan s (xs ++ t ∷ []) r → (q : List ℕ) × IsPlayed plan s xs q × IsWayBack plan q r t

@@ -7,3 +7,4 @@ pub mod Plays
 pub mod Overlaps
 pub mod Holdings
 pub mod Room
+pub mod Lasts

@@ -5,7 +5,7 @@ use Rattle.rail_place.specs.declared.barring.Barred.{Barred}
 use Rattle.rail_place.specs.Bars.{held_by}
 
 -- the table after each of the sections is given to the owner
-abbrev pub given : List (Option ℕ) → List ℕ → Option ℕ → List (Option ℕ)
+abbrev pub given : {X : Type 0} → List X → List ℕ → X → List X
 given owners [] owner = owners
 given owners (x ∷ xs) owner = given (set owners x owner) xs owner
 

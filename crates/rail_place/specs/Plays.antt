@@ -1,5 +1,5 @@
 -- A list of moves played from one state to another.
-use Rattle.std.specs.Prelude.{◌≡◌, ℕ, Bool, true, ◌&&◌, List, [], ◌∷◌, IsTrue}
+use Rattle.std.specs.Prelude.{◌≡◌, ℕ, List, [], ◌∷◌, IsTrue}
 use Rattle.rail_rules.specs.Moves.{Moves}
 use Rattle.rail_rules.specs.Places.{is_inside, is_legal, after}
 
@@ -7,8 +7,3 @@ use Rattle.rail_rules.specs.Places.{is_inside, is_legal, after}
 abbrev pub IsPlayed : Moves → List ℕ → List ℕ → List ℕ → Type 0
 IsPlayed plan s [] r = s ≡ r
 IsPlayed plan s (t ∷ rest) r = IsTrue (is_inside plan s t) × IsTrue (is_legal plan s t) × IsPlayed plan (after s t) rest r
-
--- each train named is inside at its turn, and its move is legal
-abbrev pub plays : Moves → List ℕ → List ℕ → Bool
-plays plan s [] = true
-plays plan s (t ∷ rest) = let later = plays plan (after s t) rest in is_inside plan s t && is_legal plan s t && later

@@ -13,6 +13,7 @@
 
 mod barring;
 mod holdings;
+mod lasts;
 mod moves;
 mod owners;
 mod places;

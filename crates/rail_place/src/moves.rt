@@ -1,7 +1,9 @@
-ghost use Rattle.std.specs.Prelude.{◌≡◌, ℕ, ◌+◌, ◌-◌, ◌<◌, ◌≤◌, [], ◌∷◌, ◌++◌, length, get_or, IsTrue, OnOk, OnErr};
-ghost use Rattle.rail_rules.specs.Numbers.{is_in};
+ghost use Rattle.std.specs.Prelude.{◌≡◌, ℕ, ◌+◌, ◌-◌, ◌<◌, ◌≤◌, ◌&&◌, [], ◌∷◌, ◌++◌, nat_le, length, get_or, IsTrue, OnOk, OnErr};
+ghost use Rattle.rail_rules.specs.Numbers.{any_below, is_in};
 ghost use Rattle.rail_rules.specs.Moves.{is_valid, stand};
+ghost use Rattle.rail_place.specs.Lasts.{last_need};
 
+use crate::lasts::last_needs;
 use rail_base::limits::{ITINERARY_ROUTES, ROUTE_SECTIONS, SECTIONS, TRAINS};
 use rail_base::{OutOfMemory, SectionNo, Seq, TrainNo};
 use std::alloc::Global;
@@ -12,6 +14,8 @@ use std::marker::Model;
 struct Row {
     needs: Vec<Seq<SectionNo>>,
     stands: Vec<Seq<SectionNo>>,
+    /// For each section the last move that needs it, so that no moves are looked through for it.
+    lasts: Vec<u16>,
 }
 
 /// The moves of all trains: the sections that each move needs, in route order, and the sections on
@@ -31,13 +35,16 @@ impl Drop for Moves {
 impl Model for Moves {
     ghost use Rattle.std.specs.Prelude.{ℕ, List};
     ghost use Rattle.std.specs.Prelude.{map};
+    ghost use Rattle.std.specs.List.{All};
+    ghost use Rattle.rail_place.specs.Lasts.{TellsLasts};
     ghost use Rattle.rail_place.specs.Tables.{IsTable, MoveLists, lists_of};
 
     ghost Value = { List MoveLists };
 
     ghost view = { λ moves. map (λ row. lists_of row.needs.items row.stands.items) moves.rows.items };
 
-    ghost invariant = { λ moves. IsTable (map (λ row. lists_of row.needs.items row.stands.items) moves.rows.items) };
+    ghost invariant = { λ moves. IsTable (map (λ row. lists_of row.needs.items row.stands.items) moves.rows.items)
+        × All (λ row. TellsLasts row.needs.items row.lasts.items) moves.rows.items };
 }
 
 impl Moves {
@@ -57,7 +64,7 @@ impl Moves {
     /// memory is not found nothing is changed.
     pub fn push_train(
         &mut self,
-        _alloc: Global,
+        alloc: Global,
         need: Vec<Seq<SectionNo>>,
         stand: Vec<Seq<SectionNo>>,
     ) -> Result<(), OutOfMemory>
@@ -69,9 +76,13 @@ impl Moves {
         ensures ok { OnOk result (self.new ≡ self.old ++ lists_of need.items stand.items ∷ []) }
         ensures err { OnErr result (self.new ≡ self.old) }
     {
+        let Ok(lasts) = last_needs(alloc, &need) else {
+            return Err(OutOfMemory);
+        };
         let Ok(()) = self.rows.push(Row {
             needs: need,
             stands: stand,
+            lasts,
         })
         else {
             return Err(OutOfMemory);
@@ -120,5 +131,36 @@ impl Moves {
         } else {
             &[]
         }
+    }
+
+    /// Whether the train's move to this place needs the section. The sections of the move are looked at only
+    /// where the train makes this or a later move over the section.
+    pub fn needs(&self, train: TrainNo, place: u16, section: SectionNo) -> bool
+        requires train { train < length self.now }
+        requires first { 1 ≤ place }
+        requires last { place ≤ (moves_in self.now).moves train }
+        requires section { section < SECTIONS }
+        ensures { result ≡ is_in section ((moves_in self.now).claim train (place - 1)) }
+    {
+        place <= self.last_need(train, section) && self.need(train, place).contains(&section)
+    }
+
+    /// Whether the train needs the section for a move that it has left at this place.
+    pub fn needs_after(&self, train: TrainNo, place: u16, section: SectionNo) -> bool
+        requires train { train < length self.now }
+        requires section { section < SECTIONS }
+        ensures { result ≡ any_below (λ m. nat_le place m && is_in section ((moves_in self.now).claim train m))
+            ((moves_in self.now).moves train) }
+    {
+        place < self.last_need(train, section)
+    }
+
+    /// The last move of the train that needs the section, counted from 1, and 0 where none does.
+    fn last_need(&self, train: TrainNo, section: SectionNo) -> u16
+        requires train { train < length self.now }
+        requires section { section < SECTIONS }
+        ensures { result ≡ last_need (moves_in self.now) train section }
+    {
+        self.rows[usize::from(train.0)].lasts[usize::from(section.0)]
     }
 }

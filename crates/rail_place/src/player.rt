@@ -7,7 +7,7 @@ ghost use Rattle.rail_rules.specs.Places.{completes, is_inside, is_legal, is_val
 ghost use Rattle.rail_place.specs.Tables.{moves_in};
 ghost use Rattle.rail_place.specs.Made.{IsMadeFor};
 ghost use Rattle.rail_place.specs.Bars.{bar_in_list, ending, moves_made, outcome};
-ghost use Rattle.rail_place.specs.Plays.{IsPlayed, plays};
+ghost use Rattle.rail_place.specs.Plays.{IsPlayed};
 
 use crate::barring::{Barred, Played};
 use crate::moves::Moves;
@@ -40,24 +40,6 @@ impl Places {
         };
         self.take_back(moves, &list[..made]);
         played
-    }
-
-    /// Whether each move of the list is legal from these places, each train being inside at its turn.
-    /// The places are as before. It takes no memory, and costs the moves that it makes: who is inside
-    /// afterwards is not looked at.
-    pub fn plays(&mut self, moves: &Moves, list: &[TrainNo]) -> bool
-        requires made { IsMadeFor moves.now self.old }
-        requires trains { All (λ t. t < length moves.now) list.now }
-        ensures made { IsMadeFor moves.now self.new }
-        ensures positions { self.new.positions ≡ self.old.positions }
-        ensures exact { result ≡ plays (moves_in moves.now) self.old.positions list.now }
-        ensures played { self.new.played
-            ≡ min (self.old.played + moves_made (moves_in moves.now) self.old.positions list.now) (2 ^ 64 - 1) }
-    {
-        let (made, barred) = play_on(self, moves, list);
-        let front = &list[..made];
-        self.take_back(moves, front);
-        barred.is_none()
     }
 
     /// Takes the moves of the list back, which were made in this order, the last first. The places are

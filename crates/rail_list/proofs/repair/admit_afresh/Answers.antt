@@ -1,12 +1,11 @@
-use Rattle.std.proofs.Common.{◌≡◌, ℕ, ◌<◌, List, length, refl, sym, ap, ◌∙◌, arith}
+use Rattle.std.proofs.Common.{◌≡◌, length, refl, sym, ap, ◌∙◌, arith}
 use Rattle.std.proofs.lemmas.Bool.{true≢false}
 use Rattle.rail_rules.specs.Analysis.{finds}
 use Rattle.rail_rules.specs.Moves.{Moves}
 use Rattle.rail_rules.specs.Numbers.{sum_below}
-use Rattle.rail_rules.specs.Places.{after}
-use Rattle.rail_place.specs.Made.{State, IsMadeFor}
-use Rattle.rail_place.specs.Tables.{moves_in, MoveLists}
-use Rattle.rail_place.proofs.CallerLemmas.{made_long, IsWayBack, way_back}
+use Rattle.rail_place.specs.Made.{State}
+use Rattle.rail_place.specs.Tables.{moves_in}
+use Rattle.rail_place.proofs.CallerLemmas.{made_long}
 use Rattle.rail_list.proofs.Appending.{completing_fits}
 use Rattle.rail_list.proofs.Trying.{way}
 use Rattle.rail_list.proofs.Finding.{finds_none, finds_some}

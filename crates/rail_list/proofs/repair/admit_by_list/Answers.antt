@@ -1,7 +1,6 @@
-use Rattle.std.proofs.Common.{◌≡◌, ℕ, true, List, refl, sym, ap, ◌∙◌, subst, arith}
-use Rattle.rail_rules.specs.Analysis.{finds}
+use Rattle.std.proofs.Common.{refl, sym, ap, ◌∙◌, arith}
 use Rattle.rail_rules.specs.Moves.{Moves}
-use Rattle.rail_rules.specs.Places.{after, completes}
+use Rattle.rail_rules.specs.Places.{completes}
 use Rattle.rail_place.specs.Made.{State}
 use Rattle.rail_place.specs.Tables.{moves_in}
 use Rattle.rail_place.proofs.CallerLemmas.{made_long}
@@ -14,7 +13,7 @@ returns-in-Some-clause-completes c =
     let s = c.args.places.now.positions in
     let t = c.args.train in
     let list = c.repair.new.kept.trains in
-    ap (λ r. completes plan r list) (c.advance.ensures.positions ∙ ap (λ r. after r t) c.in-Some.ensures.positions)
+    ap (λ r. completes plan r list) c.advance.ensures.positions
     ∙ noted_completes plan c.args.depth s c.args.kept.now.trains t c.in-Some.note list (c.in-Some.ensures.note c.args.depth)
 
 pub returns-then-admit_afresh-clause-note : goal.returns-then-admit_afresh-clause-note
@@ -24,15 +23,10 @@ returns-then-admit_afresh-clause-note c =
     let now : State = c.args.places.now in
     let t = c.args.train in
     let list = c.args.kept.now.trains in
-    let same = c.in_default.ensures.positions in
     let not_so = (c.in_default.ensures.none refl).1 in
-    let there = sym c.admit_afresh.ensures.exact ∙ c.if-admit_afresh.true in
-    let fresh = c.admit_afresh.ensures.completes c.if-admit_afresh.true in
-    let P : List ℕ → Type 0 = λ r. finds plan c.args.depth (after r t) ≡ true in
-    let Q : List ℕ → Type 0 = λ r. completes plan (after r t) c.admit_afresh.new.kept.trains ≡ true in
-    let done = subst Q same fresh in (
+    let done = c.admit_afresh.ensures.completes c.if-admit_afresh.true in (
       not_so,
-      subst P same there,
+      sym c.admit_afresh.ensures.exact ∙ c.if-admit_afresh.true,
       done,
       fresh_some plan now.positions list c.admit_afresh.new.kept.trains t (omega (arith, c.requires.train, made_long table now c.requires.made)) c.requires.completes not_so done,
     )

@@ -1,12 +1,9 @@
-use Rattle.std.proofs.Common.{◌≡◌, ℕ, ◌<◌, List, Option, Some, None, is_some, length, refl, sym, ap, ◌∙◌, arith}
+use Rattle.std.proofs.Common.{◌≡◌, ℕ, List, Option, Some, None, is_some, refl, sym, ap, ◌∙◌}
 use Rattle.std.specs.Prelude.{◌↔◌, IsNone}
 use Rattle.std.proofs.lemmas.Bool.{true≢false}
 use Rattle.rail_rules.specs.Analysis.{Finds, finds}
 use Rattle.rail_rules.specs.Moves.{Moves}
-use Rattle.rail_rules.specs.Places.{after}
-use Rattle.rail_place.specs.Made.{State, IsMadeFor}
-use Rattle.rail_place.specs.Tables.{moves_in, MoveLists}
-use Rattle.rail_place.proofs.CallerLemmas.{made_long, IsWayBack, way_back}
+use Rattle.rail_place.specs.Tables.{moves_in}
 use Rattle.rail_list.proofs.Trying.{way}
 use Rattle.rail_list.proofs.Finding.{finds_none, finds_some}
 use Rattle.rail_list.proofs.repair.is_found.Goals as goal

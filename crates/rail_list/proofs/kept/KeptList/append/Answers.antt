@@ -1,63 +1,82 @@
-use Rattle.std.proofs.Common.{◌≡◌, ℕ, suc, ◌-◌, ◌<◌, ◌++◌, true, List, length, replicate, sym, ap, ◌∙◌, arith}
-use Rattle.std.proofs.lemmas.List.{length-append, length-replicate, length-set}
-use Rattle.std.proofs.lemmas.List.Elements.{All-same}
-use Rattle.rail_rules.specs.Moves.{Moves}
-use Rattle.rail_rules.specs.Numbers.{sum_below}
+use Rattle.std.proofs.Common.{◌≡◌, ℕ, suc, ◌-◌, ◌<◌, ◌≤◌, ◌++◌, Bool, true, not, List, length, drop, replicate, sym, ap, ◌∙◌, arith}
+use Rattle.std.proofs.lemmas.List.{drop-append-le, length-append, length-drop, length-replicate, length-set}
+use Rattle.rail_rules.specs.Analysis.{needs_later}
+use Rattle.rail_rules.specs.Moves.{Moves, stand}
+use Rattle.rail_rules.specs.Numbers.{any_below, sum_below}
 use Rattle.rail_rules.specs.Places.{place_of, is_legal, after, completes}
-use Rattle.rail_place.specs.Plays.{plays}
 use Rattle.rail_place.specs.Tables.{moves_in, MoveLists}
 use Rattle.rail_place.specs.Made.{State, IsMadeFor}
 use Rattle.rail_place.proofs.CallerLemmas.{legal_ahead, made_long}
-use Rattle.rail_list.specs.KeptLists.{Kept}
-use Rattle.rail_list.proofs.Appending.{appended_completes, completing_fits, completing_listed}
+use Rattle.rail_list.specs.KeptLists.{Kept, entries_behind}
+use Rattle.rail_list.proofs.Appending.{appended_where_unneeded, completing_fits, outside_has_none}
+use Rattle.rail_list.proofs.MovesLeft.{behind_append, length-behind}
 use Rattle.rail_list.proofs.kept.KeptList.append.Goals as goal
 
--- the old list plays after the train's first move exactly where the appended list completes
-exact : (table : List MoveLists) (now : State) (list read : List ℕ) (t : ℕ) → IsMadeFor table now
+-- the answer is that of the appended list
+exact : (table : List MoveLists) (now : State) (list sections : List ℕ) (t : ℕ) (needed : Bool) → IsMadeFor table now
     → t < length table → is_legal (moves_in table) now.positions t ≡ true → place_of now.positions t ≡ 0
-    → completes (moves_in table) now.positions list ≡ true → read ≡ list
-    → plays (moves_in table) (after now.positions t) read
-    ≡ completes (moves_in table) (after now.positions t) (list ++ replicate ((moves_in table).moves t - 1) t)
-exact table now list read t made lt legal out done is =
+    → completes (moves_in table) now.positions list ≡ true → sections ≡ stand (moves_in table) t 1
+    → needed ≡ any_below (needs_later (moves_in table) now.positions sections) (length now.positions)
+    → not needed ≡ completes (moves_in table) (after now.positions t) (list ++ replicate ((moves_in table).moves t - 1) t)
+exact table now list sections t needed made lt legal out done stands told =
     let plan : Moves = moves_in table in
     let s = now.positions in
-    ap (plays plan (after s t)) is
-    ∙ appended_completes plan s list t made.moves.valid lt (omega (arith, lt, made_long table now made)) (omega (arith, legal_ahead plan s t legal, out)) out done
+    ap not (told ∙ ap (λ xs. any_below (needs_later plan s xs) (length s)) stands)
+    ∙ sym (appended_where_unneeded plan s list t made.moves.valid lt (omega (arith, lt, made_long table now made)) (omega (arith, legal_ahead plan s t legal, out)) out done)
 
-pub plays_after-completes-requires-clause-trains : goal.plays_after-completes-requires-clause-trains
-plays_after-completes-requires-clause-trains c =
-    let table = c.args.moves.now in
-    let list = c.args.self.now.trains in
-    let P : ℕ → Type 0 = λ t. t < length table in
-    let same : c.self.inside.trains.items ≡ list = ap (λ (k : Kept). k.trains) c.self.view_is in
-    All-same P c.deref.result.now list (c.deref.ensures.value ∙ same)
-    (completing_listed (moves_in table) c.args.places.now.positions list (length table) (made_long table c.args.places.now c.requires.made) c.requires.completes)
+pub returns-then-is_needed_inside-clause-exact : goal.returns-then-is_needed_inside-clause-exact
+returns-then-is_needed_inside-clause-exact c =
+    sym (ap not c.if-is_needed_inside.true)
+    ∙ exact c.args.moves.now c.args.places.now c.args.self.now.trains c.stand.result.now c.args.train c.is_needed_inside.result c.requires.made c.requires.train c.requires.legal c.requires.outside c.requires.completes c.stand.ensures.sections c.is_needed_inside.ensures
 
-pub add_times-requires : goal.add_times-requires
-add_times-requires c =
+pub returns-clause-exact : goal.returns-clause-exact
+returns-clause-exact c =
+    sym (ap not c.if-is_needed_inside.false)
+    ∙ exact c.args.moves.now c.args.places.now c.args.self.now.trains c.stand.result.now c.args.train c.is_needed_inside.result c.requires.made c.requires.train c.requires.legal c.requires.outside c.requires.completes c.stand.ensures.sections c.is_needed_inside.ensures
+
+pub make_room-self-inside-requires-clause-fits : goal.make_room-self-inside-requires-clause-fits
+make_room-self-inside-requires-clause-fits c =
     let table = c.args.moves.now in
     let plan : Moves = moves_in table in
     let now : State = c.args.places.now in
     let list = c.args.self.now.trains in
     let t = c.args.train in
-    let same : c.self.inside.trains.items ≡ list = ap (λ (k : Kept). k.trains) c.self.view_is in
+    let own = c.self.inside.trains in
+    let view : drop c.self.inside.front own.items ≡ list = ap (λ (k : Kept). k.trains) c.self.view_is in
     let rest : List ℕ = replicate (plan.moves t - 1) t in
     let done : completes plan (after now.positions t) (list ++ rest) ≡ true =
-    sym (exact table now list c.deref.result.now t c.requires.made c.requires.train c.requires.legal c.requires.outside c.requires.completes (c.deref.ensures.value ∙ same))
-    ∙ sym c.plays_after-completes.ensures.exact ∙ c.if-completes.true in
+    sym (sym (ap not c.if-is_needed_inside.false)
+    ∙ exact table now list c.stand.result.now t c.is_needed_inside.result c.requires.made c.requires.train c.requires.legal c.requires.outside c.requires.completes c.stand.ensures.sections c.is_needed_inside.ensures) in
     let fits = completing_fits plan (after now.positions t) (list ++ rest) done in
     let trains : length (after now.positions t) ≡ length table = length-set now.positions t (suc (place_of now.positions t)) ∙ made_long table now c.requires.made in
     let all : sum_below plan.moves (length (after now.positions t)) ≡ sum_below plan.moves (length table) = ap (sum_below plan.moves) trains in
-    omega (arith, fits, all, c.requires.room, ap (λ (k : Kept). k.room) c.self.view_is, length-append list rest, length-replicate (plan.moves t - 1) t, c.places.ensures, ap length same, c.self.inside.trains.ok)
+    omega (arith, fits, all, c.requires.room, ap (λ (k : Kept). k.room) c.self.view_is, length-append list rest, length-replicate (plan.moves t - 1) t, c.places-count.ensures, ap length view, length-drop c.self.inside.front own.items, own.ok)
 
-pub returns-then-completes-clause-exact : goal.returns-then-completes-clause-exact
-returns-then-completes-clause-exact c =
-    let same : c.self.inside.trains.items ≡ c.args.self.now.trains = ap (λ (k : Kept). k.trains) c.self.view_is in
-    c.plays_after-completes.ensures.exact
-    ∙ exact c.args.moves.now c.args.places.now c.args.self.now.trains c.deref.result.now c.args.train c.requires.made c.requires.train c.requires.legal c.requires.outside c.requires.completes (c.deref.ensures.value ∙ same)
-
-pub returns-else-completes-clause-exact : goal.returns-else-completes-clause-exact
-returns-else-completes-clause-exact c =
-    let same : c.self.inside.trains.items ≡ c.args.self.now.trains = ap (λ (k : Kept). k.trains) c.self.view_is in
-    c.plays_after-completes.ensures.exact
-    ∙ exact c.args.moves.now c.args.places.now c.args.self.now.trains c.deref.result.now c.args.train c.requires.made c.requires.train c.requires.legal c.requires.outside c.requires.completes (c.deref.ensures.value ∙ same)
+pub invariant_of-self : goal.invariant_of-self
+invariant_of-self c =
+    let plan : Moves = moves_in c.args.moves.now in
+    let s = c.args.places.now.positions in
+    let list = c.args.self.now.trains in
+    let t = c.args.train in
+    let count : ℕ = c.places-count.result - 1 in
+    let front = c.make_room-self-inside.result in
+    let trains = c.make_room-self-inside.new.trains in
+    let behind = c.make_room-self-inside.new.behind in
+    let rest : List ℕ = replicate count t in
+    let view : drop c.self.inside.front c.self.inside.trains.items ≡ list = ap (λ (k : Kept). k.trains) c.self.view_is in
+    let within : front ≤ length trains.items = omega (arith, c.make_room-self-inside.ensures.within, trains.ok) in
+    let long : length behind.items ≡ length trains.items = omega (arith, c.make_room-self-inside.ensures.long, trains.ok, behind.ok) in
+    let now_trains : drop front c.add_times.new.trains.items ≡ list ++ rest =
+    ap (drop front) c.add_times.ensures.trains ∙ drop-append-le front trains.items rest within ∙ ap (λ xs. xs ++ rest) (c.make_room-self-inside.ensures.trains ∙ view) in
+    let now_behind : drop front c.add_times.new.behind.items ≡ entries_behind list ++ entries_behind rest =
+    ap (drop front) c.add_times.ensures.behind ∙ drop-append-le front behind.items (entries_behind rest) (omega (arith, within, long))
+    ∙ ap (λ xs. xs ++ entries_behind rest) (c.make_room-self-inside.ensures.behind ∙ c.self.invariant.told ∙ ap entries_behind view) in
+    record {
+      within = omega (arith, within, ap length c.add_times.ensures.trains, length-append trains.items rest);
+      long = omega (arith, long, ap length c.add_times.ensures.trains, length-append trains.items rest, ap length c.add_times.ensures.behind, length-append behind.items (entries_behind rest), length-behind rest);
+      told = now_behind ∙ sym (behind_append t count list (outside_has_none plan s list t c.requires.outside c.requires.completes)) ∙ sym (ap entries_behind now_trains);
+      few = omega (arith, c.add_times.ensures.room, c.make_room-self-inside.ensures.room, c.self.invariant.few);
+      same_room = c.add_times.ensures.room_behind ∙ c.make_room-self-inside.ensures.room_behind ∙ c.self.invariant.same_room ∙ sym (c.add_times.ensures.room ∙ c.make_room-self-inside.ensures.room);
+      wide = c.self.invariant.wide;
+      cleared = c.self.invariant.cleared;
+    }

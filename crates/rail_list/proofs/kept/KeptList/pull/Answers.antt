@@ -1,80 +1,101 @@
-use Rattle.std.proofs.Common.{◌≡◌, ℕ, ◌<◌, List, length, take, sym, ap, ◌∙◌, arith}
+use Rattle.std.proofs.Common.{◌≡◌, ℕ, suc, ◌+◌, ◌<◌, true, List, length, drop, sym, ap, ◌∙◌, arith}
 use Rattle.std.specs.List.{remove}
-use Rattle.std.proofs.lemmas.Bool.{cond-true}
-use Rattle.std.proofs.lemmas.List.{length-take-le}
-use Rattle.std.proofs.lemmas.List.Elements.{All-take, All-same}
+use Rattle.std.proofs.lemmas.List.{length-drop}
+use Rattle.std.proofs.lemmas.List.Elements.{All-same}
 use Rattle.rail_rules.specs.Fronts.{without_first}
-use Rattle.rail_rules.specs.Moves.{Moves}
-use Rattle.rail_rules.specs.Places.{after}
-use Rattle.rail_place.specs.Plays.{plays}
+use Rattle.rail_rules.specs.Moves.{Moves, stand}
+use Rattle.rail_rules.specs.Places.{after, completes, is_inside, place_of}
 use Rattle.rail_place.specs.Tables.{moves_in}
 use Rattle.rail_place.proofs.CallerLemmas.{made_long}
-use Rattle.rail_list.specs.KeptLists.{Kept, before_first}
-use Rattle.rail_list.proofs.Pulling.{counted, first_there, front, pulled_completes, removed_is}
+use Rattle.rail_consequence.specs.Needs.{times}
+use Rattle.rail_list.specs.KeptLists.{Kept, before_first, entries_behind, is_free_before}
+use Rattle.rail_list.proofs.Pulling.{first_there, removed_is}
 use Rattle.rail_list.proofs.Appending.{completing_listed}
+use Rattle.rail_list.proofs.MovesLeft.{behind_without, entries_fit}
+use Rattle.rail_list.proofs.Turns.{pulled_where_free}
 use Rattle.rail_list.proofs.kept.KeptList.pull.Goals as goal
 
-pub slice_bounds-plays_after-end : goal.slice_bounds-plays_after-end
-slice_bounds-plays_after-end c =
-    let list = c.args.self.now.trains in
-    let t = c.args.train in
-    let same : c.self.inside.trains.items ≡ list = ap (λ (k : Kept). k.trains) c.self.view_is in
-    let first = counted list c.self.inside.trains.items c.deref.result.now t c.entries_before-first.result same c.deref.ensures.value c.entries_before-first.ensures in
-    let there = first_there (moves_in c.args.moves.now) c.args.places.now.positions list t c.requires.completes c.requires.inside in
-    let long : length c.deref-2.result.now ≡ length list = ap length (c.deref-2.ensures.value ∙ same) in
-    sym (length-take-le c.entries_before-first.result c.deref-2.result.now (omega (arith, first, there, long)))
-
-pub plays_after-completes-requires-clause-trains : goal.plays_after-completes-requires-clause-trains
-plays_after-completes-requires-clause-trains c =
+pub free_entries_before-requires-clause-known : goal.free_entries_before-requires-clause-known
+free_entries_before-requires-clause-known c =
     let table = c.args.moves.now in
     let list = c.args.self.now.trains in
-    let P : ℕ → Type 0 = λ t. t < length table in
-    let same : c.self.inside.trains.items ≡ list = ap (λ (k : Kept). k.trains) c.self.view_is in
-    All-take P c.entries_before-first.result c.deref-2.result.now
-    (All-same P c.deref-2.result.now list (c.deref-2.ensures.value ∙ same)
-    (completing_listed (moves_in table) c.args.places.now.positions list (length table) (made_long table c.args.places.now c.requires.made) c.requires.completes))
+    All-same (λ t. t < length table) c.as_slice.result.now list c.as_slice.ensures
+    (completing_listed (moves_in table) c.args.places.now.positions list (length table) (made_long table c.args.places.now c.requires.made) c.requires.completes)
 
-pub remove-requires : goal.remove-requires
-remove-requires c =
+pub free_entries_before-requires-clause-few : goal.free_entries_before-requires-clause-few
+free_entries_before-requires-clause-few c = λ u.
+    omega (arith, ap (times u) c.as_slice.ensures, entries_fit (moves_in c.args.moves.now) c.args.places.now.positions c.args.self.now.trains u c.requires.completes)
+
+-- the entries before the first of the train end within the room
+within : (plan : Moves) (s list read room : List ℕ) (t front first : ℕ) → completes plan s list ≡ true → is_inside plan s t ≡ true
+    → read ≡ list → drop front room ≡ list → first ≡ length (before_first t read) → front + first < length room
+within plan s list read room t front first done inside is view first_is =
+    omega (arith, first_there plan s list t done inside, ap (λ xs. length (before_first t xs)) is, first_is, ap length view, length-drop front room)
+
+pub close_gap-requires : goal.close_gap-requires
+close_gap-requires c =
+    let own = c.self.inside.trains in
+    let there = within (moves_in c.args.moves.now) c.args.places.now.positions c.args.self.now.trains c.as_slice.result.now own.items c.args.train c.self.inside.front c.in-Some.first c.requires.completes c.requires.inside c.as_slice.ensures (ap (λ (k : Kept). k.trains) c.self.view_is) c.in-Some.ensures.first in
+    omega (arith, there, own.ok)
+
+pub close_gap-requires-in-Some : goal.close_gap-requires-in-Some
+close_gap-requires-in-Some c =
+    let own = c.self.inside.trains in
+    let there = within (moves_in c.args.moves.now) c.args.places.now.positions c.args.self.now.trains c.as_slice.result.now own.items c.args.train c.self.inside.front c.in-Some.first c.requires.completes c.requires.inside c.as_slice.ensures (ap (λ (k : Kept). k.trains) c.self.view_is) c.in-Some.ensures.first in
+    omega (arith, there, c.self.invariant.long, c.self.inside.behind.ok)
+
+-- the entry that is taken out is the first of the train
+first_is : (list read : List ℕ) (t first : ℕ) → read ≡ list → first ≡ length (before_first t read) → first ≡ length (before_first t list)
+first_is list read t first is told = told ∙ ap (λ xs. length (before_first t xs)) is
+
+pub returns-in-Some-clause-trains : goal.returns-in-Some-clause-trains
+returns-in-Some-clause-trains c =
     let list = c.args.self.now.trains in
     let t = c.args.train in
-    let same : c.self.inside.trains.items ≡ list = ap (λ (k : Kept). k.trains) c.self.view_is in
-    let first = counted list c.self.inside.trains.items c.deref.result.now t c.entries_before-first.result same c.deref.ensures.value c.entries_before-first.ensures in
-    let there = first_there (moves_in c.args.moves.now) c.args.places.now.positions list t c.requires.completes c.requires.inside in
-    omega (arith, first, there, ap length same, c.self.inside.trains.ok)
-
-pub returns-then-completes-clause-exact : goal.returns-then-completes-clause-exact
-returns-then-completes-clause-exact c =
-    let plan : Moves = moves_in c.args.moves.now in
-    let s = c.args.places.now.positions in
-    let list = c.args.self.now.trains in
-    let t = c.args.train in
-    let same : c.self.inside.trains.items ≡ list = ap (λ (k : Kept). k.trains) c.self.view_is in
-    let first = counted list c.self.inside.trains.items c.deref.result.now t c.entries_before-first.result same c.deref.ensures.value c.entries_before-first.ensures in
-    c.plays_after-completes.ensures.exact
-    ∙ ap (plays plan (after s t)) (front list c.self.inside.trains.items c.deref-2.result.now t c.entries_before-first.result same c.deref-2.ensures.value first)
-    ∙ pulled_completes plan s list t c.requires.completes c.requires.inside
-
-pub returns-then-completes-clause-trains : goal.returns-then-completes-clause-trains
-returns-then-completes-clause-trains c =
-    let list = c.args.self.now.trains in
-    let t = c.args.train in
-    let same : c.self.inside.trains.items ≡ list = ap (λ (k : Kept). k.trains) c.self.view_is in
-    let first = counted list c.self.inside.trains.items c.deref.result.now t c.entries_before-first.result same c.deref.ensures.value c.entries_before-first.ensures in
-    c.remove.ensures.items
-    ∙ ap (remove c.self.inside.trains.items) first
-    ∙ ap (λ xs. remove xs (length (before_first t list))) same
+    c.close_gap.ensures.items
+    ∙ ap (λ xs. remove xs c.in-Some.first) (ap (λ (k : Kept). k.trains) c.self.view_is)
+    ∙ ap (remove list) (first_is list c.as_slice.result.now t c.in-Some.first c.as_slice.ensures c.in-Some.ensures.first)
     ∙ removed_is list t
-    ∙ sym (cond-true c.plays_after-completes.result (without_first t list) list c.if-completes.true)
 
-pub returns-else-completes-clause-exact : goal.returns-else-completes-clause-exact
-returns-else-completes-clause-exact c =
-    let plan : Moves = moves_in c.args.moves.now in
-    let s = c.args.places.now.positions in
+pub invariant_of-self : goal.invariant_of-self
+invariant_of-self c =
     let list = c.args.self.now.trains in
     let t = c.args.train in
-    let same : c.self.inside.trains.items ≡ list = ap (λ (k : Kept). k.trains) c.self.view_is in
-    let first = counted list c.self.inside.trains.items c.deref.result.now t c.entries_before-first.result same c.deref.ensures.value c.entries_before-first.ensures in
-    c.plays_after-completes.ensures.exact
-    ∙ ap (plays plan (after s t)) (front list c.self.inside.trains.items c.deref-2.result.now t c.entries_before-first.result same c.deref-2.ensures.value first)
-    ∙ pulled_completes plan s list t c.requires.completes c.requires.inside
+    let front = c.self.inside.front in
+    let own = c.self.inside.trains in
+    let there = within (moves_in c.args.moves.now) c.args.places.now.positions c.args.self.now.trains c.as_slice.result.now own.items c.args.train c.self.inside.front c.in-Some.first c.requires.completes c.requires.inside c.as_slice.ensures (ap (λ (k : Kept). k.trains) c.self.view_is) c.in-Some.ensures.first in
+    let view : drop front c.self.inside.trains.items ≡ list = ap (λ (k : Kept). k.trains) c.self.view_is in
+    let first = first_is list c.as_slice.result.now t c.in-Some.first c.as_slice.ensures c.in-Some.ensures.first in
+    record {
+      within = omega (arith, there, own.ok, c.close_gap.ensures.length, c.close_gap.new.list.ok);
+      long = omega (arith, c.close_gap.ensures.length, c.close_gap-in-Some.ensures.length, c.self.invariant.long, c.self.inside.trains.ok, c.self.inside.behind.ok, c.close_gap.new.list.ok, c.close_gap-in-Some.new.list.ok);
+      told = c.close_gap-in-Some.ensures.items
+          ∙ ap (λ xs. remove xs c.in-Some.first) (c.self.invariant.told ∙ ap entries_behind view)
+          ∙ ap (remove (entries_behind list)) first
+          ∙ behind_without t list
+          ∙ sym (ap entries_behind (returns-in-Some-clause-trains c));
+      few = omega (arith, c.close_gap.ensures.room, c.self.invariant.few);
+      same_room = c.close_gap-in-Some.ensures.room ∙ c.self.invariant.same_room ∙ sym c.close_gap.ensures.room;
+      wide = c.self.invariant.wide;
+      cleared = c.self.invariant.cleared;
+    }
+
+-- what was looked at is what the train stands on after its move
+exact : (plan : Moves) (s list read sections : List ℕ) (t place : ℕ) → completes plan s list ≡ true → is_inside plan s t ≡ true
+    → read ≡ list → place ≡ place_of s t → sections ≡ stand plan t (place + 1)
+    → is_free_before plan t sections read ≡ completes plan (after s t) (without_first t list)
+exact plan s list read sections t place done inside is here stands =
+    let next : place + 1 ≡ suc (place_of s t) = omega (arith, here) in
+    ap (λ xs. is_free_before plan t xs read) (stands ∙ ap (stand plan t) next)
+    ∙ ap (is_free_before plan t (stand plan t (suc (place_of s t)))) is
+    ∙ sym (pulled_where_free plan s list t done inside)
+
+pub returns-in-Some-clause-exact : goal.returns-in-Some-clause-exact
+returns-in-Some-clause-exact c =
+    c.in-Some.ensures.exact
+    ∙ exact (moves_in c.args.moves.now) c.args.places.now.positions c.args.self.now.trains c.as_slice.result.now c.stand-sections.result.now c.args.train c.position.result c.requires.completes c.requires.inside c.as_slice.ensures c.position.ensures c.stand-sections.ensures.sections
+
+pub returns-in-None-clause-exact : goal.returns-in-None-clause-exact
+returns-in-None-clause-exact c =
+    c.in-None.ensures.exact
+    ∙ exact (moves_in c.args.moves.now) c.args.places.now.positions c.args.self.now.trains c.as_slice.result.now c.stand-sections.result.now c.args.train c.position.result c.requires.completes c.requires.inside c.as_slice.ensures c.position.ensures c.stand-sections.ensures.sections

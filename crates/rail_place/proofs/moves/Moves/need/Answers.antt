@@ -11,5 +11,5 @@ returns-clause-in_range c =
     let same : c.from-2.result ≡ c.args.place = c.from-2.ensures in
     let within : c.from-2.result - 1 < length row.needs.items = omega (arith, moves_at now c.args.train row at, c.requires.last, c.requires.first) in
     λ x stands.
-    need_range now c.args.train (c.from-2.result - 1) row c.index-2.result.now (table_at now c.self.inside.rows.items c.self.view_is c.self.invariant) at within c.index-2.ensures x
+    need_range now c.args.train (c.from-2.result - 1) row c.index-2.result.now (table_at now c.self.inside.rows.items c.self.view_is c.self.invariant.0) at within c.index-2.ensures x
     (ap (is_in x) (sym c.as_slice.ensures) ∙ stands)

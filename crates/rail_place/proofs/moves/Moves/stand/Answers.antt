@@ -10,7 +10,7 @@ index-requires c =
     let now = c.args.self.now in
     let row = c.index-row.result.now in
     let at = row_at now c.self.inside.rows.items c.args.train c.from.result row c.self.view_is (c.from.ensures ∙ c.train.view_is) c.requires.train c.index-row.ensures in
-    let h = table_at now c.self.inside.rows.items c.self.view_is c.self.invariant in
+    let h = table_at now c.self.inside.rows.items c.self.view_is c.self.invariant.0 in
     let high : c.from-place.result < length row.needs.items = omega arith in
     omega (arith, stand_room now c.args.train c.from-place.result row h c.requires.train at c.if-place-gt0.true high)
 
@@ -19,7 +19,7 @@ returns-then-place-len-clause-sections c =
     let now = c.args.self.now in
     let row = c.index-row.result.now in
     let at = row_at now c.self.inside.rows.items c.args.train c.from.result row c.self.view_is (c.from.ensures ∙ c.train.view_is) c.requires.train c.index-row.ensures in
-    let h = table_at now c.self.inside.rows.items c.self.view_is c.self.invariant in
+    let h = table_at now c.self.inside.rows.items c.self.view_is c.self.invariant.0 in
     let high : c.from-place.result < length row.needs.items = omega arith in
     let room = stand_room now c.args.train c.from-place.result row h c.requires.train at c.if-place-gt0.true high in
     c.as_slice.ensures
@@ -29,5 +29,5 @@ returns-then-place-len-clause-sections c =
 pub returns-then-place-len-clause-in_range : goal.returns-then-place-len-clause-in_range
 returns-then-place-len-clause-in_range c =
     let now = c.args.self.now in
-    let h = table_at now c.self.inside.rows.items c.self.view_is c.self.invariant in
+    let h = table_at now c.self.inside.rows.items c.self.view_is c.self.invariant.0 in
     λ x stands. stand_in_range now c.args.train c.args.place x h c.requires.train (ap (is_in x) (sym (returns-then-place-len-clause-sections c)) ∙ stands)

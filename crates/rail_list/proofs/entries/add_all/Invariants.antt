@@ -1,5 +1,5 @@
 use Rattle.std.proofs.Common.{◌≡◌, ◌++◌, take, vec_capacity}
-use Rattle.rail_list.proofs.kept.add_all.Given as goal
+use Rattle.rail_list.proofs.entries.add_all.Given as goal
 
 abbrev pub invariant-loop-train : goal.invariant-loop-train
 invariant-loop-train l = record {

@@ -1,0 +1,66 @@
+-- What is pulled completes exactly where no earlier entry needs what the train then stands on, and the walk over these entries.
+use Rattle.std.proofs.Common.{◌≡◌, ◌≢◌, ℕ, suc, ◌+◌, ◌-◌, ◌<◌, true, ◌&&◌, eqb, List, [], ◌∷◌, length, get_or, drop, sym, ap, ◌∙◌, subst, ⊎_elim, arith}
+use Rattle.std.proofs.lemmas.Bool.{and_parts, cases_eq, cond-true, cond-false, eq-eqb, ne_eqb, false≢true}
+use Rattle.std.proofs.lemmas.List.{drop_more}
+use Rattle.rail_rules.specs.Numbers.{are_apart}
+use Rattle.rail_rules.specs.Moves.{Moves, stand}
+use Rattle.rail_rules.specs.Places.{place_of, is_inside, is_legal, after, completes}
+use Rattle.rail_rules.specs.Fronts.{without_first}
+use Rattle.rail_place.proofs.CallerLemmas.{inside_listed}
+use Rattle.rail_consequence.specs.Needs.{times}
+use Rattle.rail_consequence.proofs.CallerLemmas.{nobody_at}
+use Rattle.rail_list.specs.KeptLists.{is_free_before}
+use Rattle.rail_list.proofs.Pulling.{place_kept, inside_kept, after_comm}
+use Rattle.rail_list.proofs.Beside.{legal_beside}
+use Rattle.rail_list.proofs.MovesLeft.{entries_left, times-same}
+
+-- the train's own entry, and an entry of another train
+free_here : (plan : Moves) (t u : ℕ) (sections rest : List ℕ) → u ≡ t → is_free_before plan t sections (u ∷ rest) ≡ true
+free_here plan t u sections rest same =
+    cond-true (eqb u t) true (are_apart sections (plan.claim u (plan.moves u - suc (times u rest))) && is_free_before plan t sections rest) (eq-eqb u t same)
+
+free_next : (plan : Moves) (t u : ℕ) (sections rest : List ℕ) → u ≢ t
+    → is_free_before plan t sections (u ∷ rest) ≡ (are_apart sections (plan.claim u (plan.moves u - suc (times u rest))) && is_free_before plan t sections rest)
+free_next plan t u sections rest other =
+    cond-false (eqb u t) true (are_apart sections (plan.claim u (plan.moves u - suc (times u rest))) && is_free_before plan t sections rest) (ne_eqb u t other)
+
+-- once the train has made its move early, the list without its first entry completes exactly where no entry before that one needs what the train then stands on
+pub pulled_where_free : (plan : Moves) (s list : List ℕ) (t : ℕ) → completes plan s list ≡ true → is_inside plan s t ≡ true
+    → completes plan (after s t) (without_first t list) ≡ is_free_before plan t (stand plan t (suc (place_of s t))) list
+pulled_where_free plan s [] t done inside = absurd (false≢true (sym (nobody_at plan s t done) ∙ inside))
+pulled_where_free plan s (u ∷ rest) t done inside =
+    let parts = and_parts (is_inside plan s u && is_legal plan s u) (completes plan (after s u) rest) done in
+    let now = and_parts (is_inside plan s u) (is_legal plan s u) parts.0 in
+    let r : List ℕ = after s t in
+    let sections : List ℕ = stand plan t (suc (place_of s t)) in
+    ⊎_elim
+    (λ same.
+    let P : ℕ → Type 0 = λ k. completes plan (after s k) rest ≡ true in
+    ap (completes plan r) (cond-true (eqb u t) rest (u ∷ without_first t rest) (eq-eqb u t same))
+    ∙ subst P same parts.1
+    ∙ sym (free_here plan t u sections rest same))
+    (λ other.
+    let ne : t ≢ u = λ e. other (sym e) in
+    let left = entries_left plan s (u ∷ rest) u done now.0 in
+    let turn : place_of s u ≡ plan.moves u - suc (times u rest) = omega (arith, left, times-same u rest) in
+    let later = pulled_where_free plan (after s u) rest t parts.1 (inside_kept plan s t u ne ∙ inside) in
+    let turned : after r u ≡ after (after s u) t = after_comm s t u ne in
+    let legal : is_legal plan r u ≡ are_apart sections (plan.claim u (plan.moves u - suc (times u rest))) =
+    legal_beside plan s t u (inside_listed plan s t inside) other now.1 ∙ ap (λ m. are_apart sections (plan.claim u m)) turn in
+    let rest_is : completes plan (after r u) (without_first t rest) ≡ is_free_before plan t sections rest =
+    ap (λ q. completes plan q (without_first t rest)) turned ∙ later
+    ∙ ap (λ p. is_free_before plan t (stand plan t (suc p)) rest) (place_kept s t u ne) in
+    ap (completes plan r) (cond-false (eqb u t) rest (u ∷ without_first t rest) (ne_eqb u t other))
+    ∙ ap (λ b. b && is_legal plan r u && completes plan (after r u) (without_first t rest)) (inside_kept plan s u t other ∙ now.0)
+    ∙ ap (λ b. b && completes plan (after r u) (without_first t rest)) legal
+    ∙ ap (λ b. are_apart sections (plan.claim u (plan.moves u - suc (times u rest))) && b) rest_is
+    ∙ sym (free_next plan t u sections rest other))
+    (cases_eq u t)
+
+-- the walk over the entries, from an index on
+pub walk_next : (plan : Moves) (list sections : List ℕ) (i u t : ℕ) → i < length list → u ≡ get_or list i u → u ≢ t
+    → is_free_before plan t sections (drop i list)
+    ≡ (are_apart sections (plan.claim u (plan.moves u - suc (times u (drop (i + 1) list)))) && is_free_before plan t sections (drop (i + 1) list))
+walk_next plan list sections i u t lt is other =
+    let split : drop i list ≡ u ∷ drop (i + 1) list = drop_more list i u lt ∙ ap (λ x. x ∷ drop (i + 1) list) (sym is) in
+    ap (is_free_before plan t sections) split ∙ free_next plan t u sections (drop (i + 1) list) other

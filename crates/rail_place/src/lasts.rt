@@ -1,0 +1,33 @@
+//! For each section the last move of a train that needs it.
+
+ghost use Rattle.std.specs.Prelude.{◌≡◌, ℕ, ◌<◌, ◌≤◌, [], length, get_or, IsTrue, IfOk};
+ghost use Rattle.rail_rules.specs.Numbers.{is_in};
+ghost use Rattle.rail_place.specs.Lasts.{TellsLasts};
+ghost use Rattle.rail_place.specs.Owners.{given};
+
+use rail_base::limits::{ITINERARY_ROUTES, SECTIONS};
+use rail_base::{SectionNo, Seq};
+use std::alloc::{AllocError, Global};
+
+/// The last of the moves that needs each section, counted from 1, and 0 where none does.
+pub fn last_needs(alloc: Global, need: &[Seq<SectionNo>]) -> Result<Vec<u16>, AllocError>
+    requires short { length need.now ≤ ITINERARY_ROUTES }
+    requires in_range { (m x : ℕ) → IsTrue (is_in x (get_or need.now m [])) → x < SECTIONS }
+    ensures { IfOk result (λ lasts. TellsLasts need.now lasts.items) }
+{
+    let mut lasts = vec![in alloc; 0u16; SECTIONS]?;
+    for (made, sections) in need.iter().enumerate() {
+        note(&mut lasts, sections.as_slice(), made as u16 + 1);
+    }
+    Ok(lasts)
+}
+
+/// Notes the move for each of the sections.
+fn note(lasts: &mut Vec<u16>, sections: &[SectionNo], place: u16)
+    requires { (x : ℕ) → IsTrue (is_in x sections.now) → x < length lasts.old.items }
+    ensures { lasts.new.items ≡ given lasts.old.items sections.now place }
+{
+    for section in sections {
+        lasts[usize::from(section.0)] = place;
+    }
+}
