@@ -1,14 +1,14 @@
 -- The words of a form.
 use Rattle.std.proofs.Common.{◌≡◌, ◌⊎◌, ℕ, List, [], ◌∷◌, Option, Some, None, refl, sym, ap, ◌∙◌, subst}
-use Rattle.std.specs.Prelude.{IsSomeAnd, MatchOption}
+use Rattle.std.specs.Prelude.{IsSomeAnd}
 use Rattle.std.proofs.lemmas.Option.{same_Some}
 use Rattle.std.specs.Option.{option_map_or}
 use Rattle.rail_words.specs.declared.forms.Form.{Form}
 use Rattle.rail_words.specs.declared.forms.Form.TheVariants as form
 use Rattle.rail_words.specs.Forms.{IsForm}
 use Rattle.rail_cli.specs.declared.status.Status.{Status}
-use Rattle.rail_cli.specs.declared.status.Status.TheVariants.{Done, OutOfMemory, ReadFault, Refused, WriteFault}
-use Rattle.rail_cli.specs.Answers.{Told, not_yet}
+use Rattle.rail_cli.specs.declared.status.Status.TheVariants.{Done, OutOfMemory, ReadFault, WriteFault}
+use Rattle.rail_cli.specs.Answers.{Told}
 use Rattle.rail_policy.specs.Seats.{DeskSeat}
 use Rattle.rail_base.specs.declared.refusals.Refusal.{Refusal}
 use Rattle.rail_capacity.specs.declared.compression.Window.{Window}
@@ -41,11 +41,11 @@ refused_alone form other words is asked alone = subst (λ (f : Form). AreRefused
 
 -- the same of a scenario that words name
 complete_scenario : (refusal : Option Refusal → Input → Option Refusal) (whole part : Input → List Seat → Type 0) (words : List (List ℕ)) (deck : List DeskSeat) (told : Told) (status : Status)
-    → OnScenario words (λ scenario. AnswersScenario refusal whole part scenario deck told status) status → IsSomeAnd (scenario_of words) (IsAcceptedScenario refusal deck told)
+    → OnScenario words (λ scenario. AnswersScenario refusal whole part scenario deck told status) → IsSomeAnd (scenario_of words) (IsAcceptedScenario refusal deck told)
     → (status ≡ ReadFault → ⊥) → (status ≡ WriteFault → ⊥) → (status ≡ Done) ⊎ (status ≡ OutOfMemory)
 complete_scenario refusal whole part words deck told status = of (scenario_of words)
   where
-    of : (named : Option Scenario) → MatchOption named (status ≡ Refused not_yet) (λ scenario. AnswersScenario refusal whole part scenario deck told status)
+    of : (named : Option Scenario) → IsSomeAnd named (λ scenario. AnswersScenario refusal whole part scenario deck told status)
         → IsSomeAnd named (IsAcceptedScenario refusal deck told) → (status ≡ ReadFault → ⊥) → (status ≡ WriteFault → ⊥) → (status ≡ Done) ⊎ (status ≡ OutOfMemory)
     of None answer ok read write = absurd ok
     of (Some scenario) answer ok read write =
@@ -59,7 +59,7 @@ complete_capacity line from to words deck told before now status answer ok read 
   where
     of : (named : Option Scenario)
         → ((window : Window) → IsSpelled from to window → study_refusal line window ≡ None
-        → MatchOption named (status ≡ Refused not_yet) (λ scenario. AnswersStudy line window scenario deck told before now status))
+        → IsSomeAnd named (λ scenario. AnswersStudy line window scenario deck told before now status))
         → IsSomeAnd named (λ scenario. IsAcceptedCapacity line from to scenario deck told) → (status ≡ Done) ⊎ (status ≡ OutOfMemory)
     of None answer ok = absurd ok
     of (Some scenario) answer ok =
@@ -106,7 +106,10 @@ complete_form form.Edit [] deck told before now status answer ok read write = ab
 complete_form form.Edit (verb ∷ []) deck told before now status answer ok read write = absurd ok
 complete_form form.Edit (verb ∷ scene ∷ []) deck told before now status answer ok read write = absurd ok
 complete_form form.Edit (verb ∷ scene ∷ edits ∷ other ∷ more) deck told before now status answer ok read write = absurd ok
-complete_form form.Gen words deck told before now status answer ok read write = absurd ok
+complete_form form.Gen (verb ∷ number ∷ []) deck told before now status answer ok read write = complete_answer _ _ _ status (answer ok.0 ok.1) refl read write
+complete_form form.Gen [] deck told before now status answer ok read write = absurd ok
+complete_form form.Gen (verb ∷ []) deck told before now status answer ok read write = absurd ok
+complete_form form.Gen (verb ∷ number ∷ other ∷ more) deck told before now status answer ok read write = absurd ok
 complete_form form.Scene (verb ∷ number ∷ []) deck told before now status answer ok read write = complete_answer _ _ _ status (answer ok.0 ok.1) refl read write
 complete_form form.Scene [] deck told before now status answer ok read write = absurd ok
 complete_form form.Scene (verb ∷ []) deck told before now status answer ok read write = absurd ok

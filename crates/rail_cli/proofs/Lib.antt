@@ -15,6 +15,7 @@ mod Parts
 mod Reading
 mod ScenarioAnswers
 mod NotedRuns
+mod Summaries
 mod Pieces
 mod CapacityTexts
 mod Studies

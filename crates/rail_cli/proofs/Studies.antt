@@ -35,10 +35,10 @@ module _ (line from to : List ℕ) (window : Window) (spelled : IsSpelled from t
   module _ (fine : study_refusal line window ≡ None) where
     -- or goes on to its scenario
     pub study_answered : (words : List (List ℕ)) (deck : List DeskSeat) (told : Told) (before now : Option (List ℕ)) (status : Status)
-        → OnScenario words (λ scenario. AnswersStudy line window scenario deck told before now status) status → AnswersCapacity line from to words deck told before now status
+        → OnScenario words (λ scenario. AnswersStudy line window scenario deck told before now status) → AnswersCapacity line from to words deck told before now status
     study_answered words deck told before now status answer = record {
       of_words = λ other spelled_so why refused. absurd (none-some why (sym fine ∙ sym (same_refusal other spelled_so) ∙ refused));
-      of_run = λ other spelled_so none. subst (λ (w : Window). OnScenario words (λ scenario. AnswersStudy line w scenario deck told before now status) status) (same_window other spelled_so) answer;
+      of_run = λ other spelled_so none. subst (λ (w : Window). OnScenario words (λ scenario. AnswersStudy line w scenario deck told before now status)) (same_window other spelled_so) answer;
     }
 
     pub study_not_empty : IsEmptyStudy line from to → ⊥

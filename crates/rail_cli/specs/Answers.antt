@@ -1,8 +1,6 @@
 -- What a status says, and what the forms have in common.
 use Rattle.std.specs.Prelude.{◌≡◌, ℕ, List, Option, Some, None}
 use Rattle.rail_base.specs.declared.refusals.Refusal.{Refusal}
-use Rattle.rail_base.specs.declared.refusals.Reason.TheVariants.{NotYet}
-use Rattle.rail_base.specs.declared.refusals.Part.TheVariants.{Root}
 use Rattle.rail_base.specs.declared.refusals.Fault.{Fault}
 use Rattle.rail_base.specs.declared.refusals.Fault.TheVariants as fault
 use Rattle.rail_io.specs.Writes.{Adds, AddsPrefix}
@@ -37,10 +35,6 @@ Decides (Some first) status = Unit {0}
 -- the same of a text, all of which is added, or a first part of it
 abbrev pub IsTextAnswer : Option Refusal → List ℕ → Option (List ℕ) → Option (List ℕ) → Status → Type 0
 IsTextAnswer first text before now status = IsAnswer first (Adds before now text) (AddsPrefix before now text) status
-
--- a form that is not built yet
-abbrev pub not_yet : Refusal
-not_yet = record { reason = NotYet; part = Root; item = 0; step = 0 }
 
 -- what a fault of reading an input ends with
 abbrev pub status_of : Fault → Status

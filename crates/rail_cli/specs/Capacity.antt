@@ -135,7 +135,7 @@ pub record AnswersCapacity (line from to : List ℕ) (words : List (List ℕ)) (
   pub of_words : (window : Window) → IsSpelled from to window → (refusal : Refusal)
       → study_refusal line window ≡ Some refusal → status ≡ Refused refusal
   pub of_run : (window : Window) → IsSpelled from to window → study_refusal line window ≡ None
-      → OnScenario words (λ scenario. AnswersStudy line window scenario deck told before now status) status
+      → OnScenario words (λ scenario. AnswersStudy line window scenario deck told before now status)
 
 -- nothing is refused in what the words name
 pub record IsAcceptedCapacity (line from to : List ℕ) (scenario : Scenario) (deck : List DeskSeat) (told : Told) : Type 0 where

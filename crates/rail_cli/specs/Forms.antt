@@ -7,10 +7,10 @@ use Rattle.rail_words.specs.declared.forms.Form.TheVariants as form
 use Rattle.rail_policy.specs.Seats.{DeskSeat}
 use Rattle.rail_input.specs.Inputs.{plant_refusal}
 use Rattle.rail_cli.specs.declared.status.Status.{Status}
-use Rattle.rail_cli.specs.declared.status.Status.TheVariants.{Done, Refused}
+use Rattle.rail_cli.specs.declared.status.Status.TheVariants.{Done}
 use Rattle.rail_rules.specs.Numbers.{or_else}
 use Rattle.rail_cli.specs.Files.{named_file, too_large}
-use Rattle.rail_cli.specs.Answers.{Told, not_yet}
+use Rattle.rail_cli.specs.Answers.{Told}
 use Rattle.rail_cli.specs.Scenarios.{IsAcceptedScenario, OnScenario, nothing_else, scenario_files, scenario_of}
 use Rattle.rail_cli.specs.Runs.{AnswersRun}
 use Rattle.rail_cli.specs.Stairs.{AnswersStairs}
@@ -20,21 +20,23 @@ use Rattle.rail_cli.specs.Checks.{AnswersCheck, IsAcceptedCheck, done_with}
 use Rattle.rail_cli.specs.Infra.{AnswersInfra}
 use Rattle.rail_cli.specs.Plays.{AnswersPlay, play_refusal}
 use Rattle.rail_cli.specs.SceneTexts.{AnswersScene}
+use Rattle.rail_cli.specs.Summaries.{AnswersGen}
 use Rattle.rail_cli.specs.Edits.{AnswersEdit}
 use Rattle.rail_edit_file.specs.EditedScenes.{edited_scene_refusal}
 
--- what is answered to words of the form, with this deck; forms that are not built are refused before any file
+-- what is answered to words of the form, with this deck; other words are of no form
 abbrev pub AnswersForm : Form → List (List ℕ) → List DeskSeat → Told → Option (List ℕ) → Option (List ℕ) → Status → Type 0
-AnswersForm form.Run (verb ∷ words) deck told before now status = OnScenario words (λ scenario. AnswersRun scenario deck told before now status) status
-AnswersForm form.Stairs (verb ∷ words) deck told before now status = OnScenario words (λ scenario. AnswersStairs scenario deck told before now status) status
-AnswersForm form.Report (verb ∷ words) deck told before now status = OnScenario words (λ scenario. AnswersReport scenario deck told before now status) status
+AnswersForm form.Run (verb ∷ words) deck told before now status = OnScenario words (λ scenario. AnswersRun scenario deck told before now status)
+AnswersForm form.Stairs (verb ∷ words) deck told before now status = OnScenario words (λ scenario. AnswersStairs scenario deck told before now status)
+AnswersForm form.Report (verb ∷ words) deck told before now status = OnScenario words (λ scenario. AnswersReport scenario deck told before now status)
 AnswersForm form.Capacity (verb ∷ line ∷ from ∷ to ∷ words) deck told before now status = AnswersCapacity line from to words deck told before now status
 AnswersForm form.Infra (verb ∷ scene ∷ []) deck told before now status = AnswersInfra scene told before now status
 AnswersForm form.Play (verb ∷ scene ∷ list ∷ []) deck told before now status = AnswersPlay scene list told before now status
 AnswersForm form.Check (verb ∷ scene ∷ timetable ∷ commands ∷ history ∷ []) deck told before now status = AnswersCheck scene timetable commands history deck told before now status
 AnswersForm form.Edit (verb ∷ scene ∷ edits ∷ []) deck told before now status = AnswersEdit scene edits told before now status
 AnswersForm form.Scene (verb ∷ number ∷ []) deck told before now status = AnswersScene number before now status
-AnswersForm form words deck told before now status = status ≡ Refused not_yet
+AnswersForm form.Gen (verb ∷ number ∷ []) deck told before now status = AnswersGen number deck before now status
+AnswersForm form words deck told before now status = ⊥
 
 -- nothing is refused in what words of the form name: the bytes of the files are told, and accepted
 abbrev pub IsAcceptedInput : Form → List (List ℕ) → List DeskSeat → Told → Type 0
@@ -53,6 +55,7 @@ IsAcceptedInput form.Edit (verb ∷ scene ∷ edits ∷ []) deck told = (bytes :
     × (told scene ≡ Some bytes) × (told edits ≡ Some lines)
     × (or_else (too_large 1 bytes) (or_else (too_large 2 lines) (edited_scene_refusal bytes lines)) ≡ None)
 IsAcceptedInput form.Scene (verb ∷ number ∷ []) deck told = IsNumberWord number
+IsAcceptedInput form.Gen (verb ∷ number ∷ []) deck told = IsNumberWord number
 IsAcceptedInput form words deck told = ⊥
 
 -- a command of the form is done: a check also where it ends with a verdict that is no
@@ -60,7 +63,7 @@ abbrev pub IsDone : Form → Status → Type 0
 IsDone form.Check status = done_with status ≡ Done
 IsDone form status = status ≡ Done
 
--- the files that words of the form name, in the order in which they are read; a form that is not built reads none
+-- the files that words of the form name, in the order in which they are read; a made-up scene stands in no file
 abbrev pub files_of : Form → List (List ℕ) → List (Option (List ℕ))
 files_of form.Run (verb ∷ words) = scenario_files words
 files_of form.Stairs (verb ∷ words) = scenario_files words

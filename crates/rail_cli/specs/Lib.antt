@@ -16,5 +16,6 @@ pub mod TwoFiles
 pub mod Plays
 pub mod Checks
 pub mod SceneTexts
+pub mod Summaries
 pub mod Edits
 pub mod Forms

@@ -1,5 +1,5 @@
 -- Scenarios: a scene with a timetable and commands, as words name them, and what is answered to one.
-use Rattle.std.specs.Prelude.{◌≡◌, ◌≢◌, ℕ, List, [], ◌∷◌, MatchOption, Option, Some, None}
+use Rattle.std.specs.Prelude.{◌≡◌, ◌≢◌, ℕ, List, [], ◌∷◌, IsSomeAnd, Option, Some, None}
 use Rattle.std.specs.Option.{option_map_or}
 use Rattle.rail_base.specs.declared.refusals.Refusal.{Refusal}
 use Rattle.rail_input.specs.Inputs.{input_in, input_refusal, plant_refusal}
@@ -9,7 +9,7 @@ use Rattle.rail_rules.specs.Orders.{Input}
 use Rattle.rail_rules.specs.RunHistories.{Seat}
 use Rattle.rail_cli.specs.declared.status.Status.{Status}
 use Rattle.rail_cli.specs.declared.status.Status.TheVariants.{Refused}
-use Rattle.rail_cli.specs.Answers.{Decides, IsAnswer, Told, not_yet}
+use Rattle.rail_cli.specs.Answers.{Decides, IsAnswer, Told}
 use Rattle.rail_cli.specs.Files.{named_file, no_file, told_of, too_large, too_large_if_any, too_many_bytes}
 
 -- the words for a scene, a timetable and commands
@@ -33,9 +33,9 @@ files_in scenario = Some scenario.scene ∷ named_file scenario.timetable ∷ na
 abbrev pub scenario_files : List (List ℕ) → List (Option (List ℕ))
 scenario_files words = option_map_or files_in (scenario_of words) []
 
--- the answer to a scenario; words that name none are those of a form that is not built
-abbrev pub OnScenario : List (List ℕ) → (Scenario → Type 0) → Status → Type 0
-OnScenario words answers status = MatchOption (scenario_of words) (status ≡ Refused not_yet) answers
+-- the answer to the scenario that words name
+abbrev pub OnScenario : List (List ℕ) → (Scenario → Type 0) → Type 0
+OnScenario words answers = IsSomeAnd (scenario_of words) answers
 
 -- a form that refuses nothing else than the input of a run
 abbrev pub nothing_else : Option Refusal → Input → Option Refusal

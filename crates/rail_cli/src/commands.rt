@@ -1,4 +1,4 @@
-//! The forms that are built, a module each: it does what the form asks for, and answers.
+//! The forms, a module each: it does what the form asks for, and answers.
 
 pub mod capacity;
 pub mod check;
@@ -13,3 +13,4 @@ pub mod scenario;
 pub mod scene;
 pub mod stairs;
 pub mod study;
+pub mod summary;

@@ -29,14 +29,6 @@ pub enum Status {
     CheckedNo { line: u32, law: u8 },
 }
 
-/// The refusal of a form that is not built yet.
-pub const NOT_YET: Refusal = Refusal {
-    reason: Reason::NotYet,
-    part: Part::Root,
-    item: 0,
-    step: 0,
-};
-
 impl Status {
     /// The exit status of the program.
     pub fn exit(&self) -> u8

@@ -9,8 +9,8 @@ ghost use Rattle.rail_cli.specs.Forms.{AnswersForm, AreRefusedAlone, IsAcceptedI
 ghost use Rattle.rail_cli.specs.Promises.{IsComplete, KeepsPromise, ReadsFiles, WritesAnswer, ended};
 
 use crate::commands::scenario::Purpose;
-use crate::commands::{capacity, check, edit, infra, play, scenario, scene};
-use crate::status::{NOT_YET, Status};
+use crate::commands::{capacity, check, edit, infra, play, scenario, scene, summary};
+use crate::status::Status;
 use rail_base::Word;
 use rail_io::{Shelf, Sink};
 use rail_policy::Policy;
@@ -64,7 +64,7 @@ pub fn rail<S: Shelf, O: Sink>(
     }
 }
 
-/// Does what words of the form ask for; a form that is not built is refused.
+/// Does what words of the form ask for.
 #[tactic(auto, using(crate::proofs::Reading::keeps_unread))]
 fn answer<S: Shelf, O: Sink>(
     alloc: Global,
@@ -117,7 +117,9 @@ fn answer<S: Shelf, O: Sink>(
             edit::answer(alloc, scene.as_str(), edits.as_str(), shelf, out)
         }
         (Form::Scene, [_, number]) => scene::answer(alloc, number.as_str(), out),
-        _ => Err(Status::Refused(NOT_YET)),
+        (Form::Gen, [_, number]) => summary::answer(alloc, number.as_str(), out, deck),
+        // No other words are of a form.
+        _ => unreachable!(),
     }
 }
 

@@ -21,6 +21,7 @@ mod visits;
 
 pub use delays::Delays;
 pub use laws::{a_lawful_front_is_in_order, held_is_the_sum_of_the_four_kinds};
+pub use lines::put_count;
 pub use report::write_report;
 pub use rows::{
     a_report_of_a_cancelled_train, a_report_of_a_closed_section, a_report_of_a_deadlock_avoided,

@@ -6,7 +6,7 @@ ghost use Rattle.rail_rules.specs.Texts.{behind};
 ghost use Rattle.rail_delay.specs.Reports.{lateness, number_word, time_word, times_words};
 
 use itoa::Buffer;
-use rail_base::{Time, write_time};
+use rail_base::Time;
 use rail_history::Line;
 
 /// Puts a time, or a dash where there is none.
@@ -16,11 +16,7 @@ pub fn put_time(line: &mut Line, time: Option<Time>)
     ensures short { length line.new ≤ length line.old + 33 }
 {
     match time {
-        Some(at) => {
-            let mut text = [0; 32];
-            let len = write_time(at, &mut text);
-            line.put_word(&text[..len]);
-        }
+        Some(at) => line.put_time(at),
         None => line.put_word(b"-"),
     }
 }

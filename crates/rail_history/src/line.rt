@@ -1,8 +1,9 @@
 ghost use Rattle.std.specs.Prelude.{◌≡◌, ◌+◌, ◌≤◌, [], ◌∷◌, ◌++◌, decimal, length};
+ghost use Rattle.rail_base.specs.Clock.{time_text};
 ghost use Rattle.rail_history.specs.declared.line.TheConstants.{ROOM};
 
 use itoa::Buffer;
-use rail_base::Name;
+use rail_base::{Name, Time, write_time};
 use std::marker::Model;
 
 /// The bytes that a line has room for.
@@ -82,6 +83,17 @@ impl Line {
         let mut digits = Buffer::new();
         self.put(b"*");
         self.put(digits.format(count).as_bytes());
+    }
+
+    /// Puts a space and the time at the end, in its canonical form.
+    pub fn put_time(&mut self, time: Time)
+        requires { length self.old + 33 ≤ ROOM }
+        ensures text { self.new ≡ self.old ++ 32 ∷ time_text time }
+        ensures short { length self.new ≤ length self.old + 33 }
+    {
+        let mut text = [0; 32];
+        let len = write_time(time, &mut text);
+        self.put_word(&text[..len]);
     }
 
     /// Puts a space and the name at the end.

@@ -19,6 +19,7 @@ use Rattle.rail_rules.specs.Plant.{Plant}
 use Rattle.rail_plan.specs.CallTables.{with_calls}
 use Rattle.rail_scene.specs.Order.{scene_refusal}
 use Rattle.rail_scene.specs.SpelledScenes.{spelled_scene}
+use Rattle.rail_scene.specs.declared.scene.Scene.{Scene}
 use Rattle.rail_compile.specs.Itineraries.{plant_of_scene}
 use Rattle.rail_compile.specs.Refusals.{compile_refusal}
 use Rattle.rail_command.specs.Commands.{commands_in, commands_refusal}
@@ -89,6 +90,16 @@ input_in scene timetable commands deck = record {
   commands = commands_of (plant_in scene).tables commands;
   deck = deck;
   force = force_of (spelled_scene scene).policy deck;
+}
+
+-- the run of a scene by itself: no calls and no commands; where the deck has no policy of the scene's name, its first one
+-- is in force
+abbrev pub scene_input : Scene → List (List ℕ) → Input
+scene_input scene deck = record {
+  plant = plant_of_scene scene;
+  commands = [];
+  deck = deck;
+  force = force_of scene.policy deck;
 }
 
 -- the fault refuses a file for its size

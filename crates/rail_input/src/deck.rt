@@ -1,6 +1,6 @@
 //! The deck of policies.
 
-ghost use Rattle.std.specs.Prelude.{◌≡◌, ◌<◌, length, ok_or, None, Some, IfOk, OnErr, OnOk};
+ghost use Rattle.std.specs.Prelude.{◌≡◌, ◌<◌, length, ok_or, None, Some, IfOk, IfSome, OnErr, OnOk};
 ghost use Rattle.rail_base.specs.declared.refusals.Fault.TheVariants.{Refused};
 ghost use Rattle.rail_input.specs.Inputs.{force_of, place_in_deck, policy_refusal, unknown_policy};
 
@@ -21,8 +21,9 @@ pub(crate) fn force_of(policy: Name, deck: &[Name]) -> Result<usize, Fault>
 }
 
 /// The place in the deck of the first policy of this name, counted from 0.
-fn place_in_deck(policy: Name, deck: &[Name]) -> Option<usize>
-    ensures { result ≡ place_in_deck policy deck.now }
+pub(crate) fn place_in_deck(policy: Name, deck: &[Name]) -> Option<usize>
+    ensures place { result ≡ place_in_deck policy deck.now }
+    ensures in_range { IfSome result (λ place. place < length deck.now) }
 {
     deck.iter().position(|name| policy == *name)
 }

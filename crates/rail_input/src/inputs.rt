@@ -4,13 +4,17 @@ ghost use Rattle.std.specs.Prelude.{◌≡◌, ◌-◌, ◌<◌, ◌≤◌, ◌^
 ghost use Rattle.rail_base.specs.Limits.{is_from_one, most, Commands, Policies};
 ghost use Rattle.rail_base.specs.Refusals.{AnswersFirst};
 ghost use Rattle.rail_rules.specs.Accepted.{are_commands_in_range, are_distinct_names, is_accepted, is_accepted_input};
-ghost use Rattle.rail_input.specs.Inputs.{calls_refusal, commands_of, input_in, input_refusal, orders_refusal, refuses_file, with_timetable};
+ghost use Rattle.rail_compile.specs.Refusals.{compile_refusal};
+ghost use Rattle.rail_scene.specs.Scenes.{IsScene};
+ghost use Rattle.rail_input.specs.Inputs.{calls_refusal, commands_of, input_in, input_refusal, orders_refusal, refuses_file, scene_input, with_timetable};
 
-use crate::deck::force_of;
+use crate::deck::{force_of, place_in_deck};
 use crate::scenes::{Planned, read_plant};
-use rail_base::{Command, Fault, Name};
+use rail_base::{Command, Fault, Name, OutOfMemory};
 use rail_command::read_commands;
+use rail_compile::compile;
 use rail_plan::Plant;
+use rail_scene::Scene;
 use rail_timetable::read_timetable;
 use std::alloc::Global;
 
@@ -58,6 +62,33 @@ pub fn read_input(
     let force = force_of(scene.policy, deck)?;
     let plant = with_timetable(alloc, plant, timetable)?;
     let commands = commands_of(alloc, &plant, commands)?;
+    Ok(ReadInput {
+        plant,
+        commands,
+        force,
+    })
+}
+
+/// The run of a scene by itself, without calls and commands. The policy that is in force first is the one that the
+/// scene names, and the first of the deck where it has none of that name. The plant of the scene must not be refused.
+pub fn scene_input(alloc: Global, scene: &Scene, deck: &[Name]) -> Result<ReadInput, OutOfMemory>
+    requires kept { IsScene scene.now }
+    requires compiled { compile_refusal scene.now ≡ None }
+    requires filled { 1 ≤ length deck.now }
+    ensures plant { IfOk result (λ read. read.plant ≡ (scene_input scene.now deck.now).plant) }
+    ensures commands { IfOk result (λ read. read.commands.items ≡ (scene_input scene.now deck.now).commands) }
+    ensures force { IfOk result (λ read. read.force ≡ (scene_input scene.now deck.now).force) }
+    ensures in_range { IfOk result (λ read. read.force < length deck.now) }
+    ensures fine { is_from_one (most Policies) (length deck.now) ≡ true → are_distinct_names deck.now ≡ true
+        → OnOk result (is_accepted_input (scene_input scene.now deck.now) ≡ true) }
+{
+    let plant = match compile(alloc, scene) {
+        Ok(plant) => plant,
+        Err(Fault::OutOfMemory) => return Err(OutOfMemory),
+        Err(Fault::Refused(_)) => unreachable!(),
+    };
+    let force = place_in_deck(scene.policy, deck).unwrap_or(0);
+    let commands = Vec::new(alloc);
     Ok(ReadInput {
         plant,
         commands,

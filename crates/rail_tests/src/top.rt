@@ -28,7 +28,7 @@ use std::alloc::{AllocError, Global};
 use timetables::TIMETABLES;
 
 #[test]
-fn names_the_forms_that_are_built(rt: HostRuntime) {
+fn names_the_forms(rt: HostRuntime) {
     for form in [
         "rail run SCENE ",
         "rail infra SCENE ",
@@ -39,6 +39,7 @@ fn names_the_forms_that_are_built(rt: HostRuntime) {
         "rail capacity LINE FROM TO SCENE ",
         "rail edit SCENE EDITS ",
         "rail scene NUMBER ",
+        "rail gen NUMBER ",
     ] {
         assert!(rt; HELP.contains(form), "{form}");
     }

@@ -17,7 +17,7 @@ ghost use Rattle.rail_ledger.specs.Inputs.{input_in};
 ghost use Rattle.rail_policy.specs.Desks.{run_seats};
 ghost use Rattle.rail_policy.specs.Seats.{is_fine_deck};
 ghost use Rattle.rail_rules.specs.Texts.{behind, spaced};
-ghost use Rattle.rail_words.specs.Forms.{IsTimeWord};
+ghost use Rattle.rail_words.specs.Forms.{IsScenario, IsTimeWord};
 ghost use Rattle.rail_cli.specs.Answers.{IsAnswer};
 ghost use Rattle.rail_cli.specs.Capacity.{AnswersCapacity, IsCapacityText, IsEmptyStudy, IsSpelled, capacity_text, line_refusal, piece_refusal, piece_refused, pieces, pieces_refusal, rate_lines, rate_word, section_named, sections_on, shift_line, study_refusal, tight_words};
 ghost use Rattle.rail_cli.specs.Names.{names_in};
@@ -74,6 +74,7 @@ pub fn answer<S: Shelf, O: Sink>(
     requires fine { IsTrue (is_fine_deck (map ⟦<Box<dyn Policy> as Policy>⟧.seat deck.items)) }
     requires from { IsTimeWord from.now }
     requires to { IsTimeWord to.now }
+    requires words { IsScenario words.now }
     ensures kept { KeepsPromise S.Shelf O.Sink (scenario_files words.now) shelf.old shelf.new out.old out.new (ended result) }
     ensures answer { AnswersCapacity line.now from.now to.now words.now (map ⟦<Box<dyn Policy> as Policy>⟧.seat deck.items)
         (S.told shelf.old) (O.written out.old) (O.written out.new) (ended result) }

@@ -7,6 +7,7 @@ ghost use Rattle.rail_laws_end.specs.Forks.{are_marks};
 ghost use Rattle.rail_ledger.specs.Inputs.{input_in};
 ghost use Rattle.rail_policy.specs.Desks.{run_seats};
 ghost use Rattle.rail_policy.specs.Seats.{handed_in, is_fine_deck, names_of};
+ghost use Rattle.rail_words.specs.Forms.{IsScenario};
 ghost use Rattle.rail_cli.specs.Answers.{IsAnswer};
 ghost use Rattle.rail_cli.specs.Files.{named_file};
 ghost use Rattle.rail_cli.specs.Promises.{KeepsPromise, WritesAnswer, ended, is_of_bytes};
@@ -17,7 +18,7 @@ use crate::commands::run::write_lines;
 use crate::commands::study::Study;
 use crate::commands::{capacity, report, stairs};
 use crate::files::{NO_FILE, read_file, read_named};
-use crate::status::{NOT_YET, Status};
+use crate::status::Status;
 use rail_base::Word;
 use rail_engine::Engine;
 use rail_input::{ReadInput, read_input};
@@ -49,10 +50,11 @@ pub fn answer<S: Shelf, O: Sink>(
     deck: Vec<Box<dyn Policy>>,
 ) -> Result<(), Status>
     requires fine { IsTrue (is_fine_deck (map ⟦<Box<dyn Policy> as Policy>⟧.seat deck.items)) }
+    requires words { IsScenario words.now }
     ensures kept { KeepsPromise S.Shelf O.Sink (scenario_files words.now) shelf.old shelf.new out.old out.new (ended result) }
     ensures answer { let deck = map ⟦<Box<dyn Policy> as Policy>⟧.seat deck.items in
         OnScenario words.now (λ scenario. AnswersPurpose purpose.now scenario deck (S.told shelf.old)
-        (O.written out.old) (O.written out.new) (ended result)) (ended result) }
+        (O.written out.old) (O.written out.new) (ended result)) }
 {
     match words {
         [scene] => {
@@ -71,7 +73,7 @@ pub fn answer<S: Shelf, O: Sink>(
             );
             run_named(alloc, purpose, scene, timetable, commands, shelf, out, deck)
         }
-        _ => Err(Status::Refused(NOT_YET)),
+        _ => unreachable!(),
     }
 }
 

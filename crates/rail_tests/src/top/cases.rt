@@ -142,7 +142,9 @@ illegal 1 held B PW A\n\
 == run scene list list list / three none /  / sure 0 / usage\n\
 == run absent / three none /  / sure 0 / read fault\n\
 == play scene absent / loop apart /  / sure 0 / read fault\n\
-== gen 1 / three none /  / sure 0 / refused 39 NotYet root 0 0\n\
+== gen 31 / three none /  / sure 0 / \n\
+gen 31 trains 10 moves 130 lines 901 holds 5 last 02:16:25.2 out 10\n\
+== gen 31 / three none /  / sink 1 / write fault\n\
 == run scene / loop apart /  / sure 0 / \n\
 00:01:48.0 ready A 1\n\
 00:01:48.0 ready B 1\n\
@@ -278,4 +280,8 @@ pub const AMONG: &str = "\
 00:03:40.0 hold B 1 nolist\n\
 00:03:52.0 admit A1 3 \n\
 00:03:52.0 admit B 1 fresh \n\
+== gen 1 / three none /  / sure 0 / \n\
+gen 1 trains 21 moves 147 lines 1009 holds \n\
+== gen 1 / three none /  / sure 0 / \n\
+ out 21\n\
 ";
