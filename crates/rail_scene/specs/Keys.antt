@@ -1,5 +1,5 @@
 -- The keys of the tables of a scene file.
-use Rattle.std.specs.Prelude.{ℕ, Bool, true, false, List, [], ◌∷◌, map, codes}
+use Rattle.std.specs.Prelude.{ℕ, Bool, true, false, List, [], ◌∷◌, map, codes, Option, Some, None}
 use Rattle.rail_base.specs.Limits.{most, SectionLength, TrainLength, Speed, SettingTime, WatchingTime, ApproachTime, TurnTime, ReleaseTime, StartSupplement, StopSupplement, Depth}
 use Rattle.rail_base.specs.declared.refusals.Part.{Part}
 use Rattle.rail_base.specs.declared.refusals.Part.TheVariants as part
@@ -102,3 +102,28 @@ part_of Turn = part.Turn
 part_of Route = part.Route
 part_of Kind = part.Kind
 part_of Train = part.Train
+
+-- the keys of a table of the part: of the root, or of an item
+abbrev pub keys_in : Part → List Key
+keys_in part.Root = root_keys
+keys_in part.Section = keys_of Section
+keys_in part.Portal = keys_of Portal
+keys_in part.Signal = keys_of Signal
+keys_in part.Board = keys_of Board
+keys_in part.Turn = keys_of Turn
+keys_in part.Route = keys_of Route
+keys_in part.Kind = keys_of Kind
+keys_in part.Train = keys_of Train
+keys_in _ = []
+
+-- the list of a part that is one
+abbrev pub list_in : Part → Option ListPart
+list_in part.Section = Some Section
+list_in part.Portal = Some Portal
+list_in part.Signal = Some Signal
+list_in part.Board = Some Board
+list_in part.Turn = Some Turn
+list_in part.Route = Some Route
+list_in part.Kind = Some Kind
+list_in part.Train = Some Train
+list_in _ = None

@@ -10,3 +10,4 @@ pub mod SceneItems
 pub mod SpelledItems
 pub mod SpelledScenes
 pub mod Order
+pub mod ItemNames

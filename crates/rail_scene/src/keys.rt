@@ -1,10 +1,10 @@
 //! The tables of a scene file: which keys each has, in which order, and of which form.
 //!
 //! The reader cites these constants alone. The contracts here say that they are the keys of the format, which stand in
-//! a table of the definitions, `key_row` in `specs/Keys.antt`. The types are public, since the definitions speak of them; what
-//! is done with them is not.
-ghost use Rattle.std.specs.Prelude.{◌≡◌};
-ghost use Rattle.rail_scene.specs.Keys.{text_of, list_key, keys_of, part_of};
+//! a table of the definitions, `key_row` in `specs/Keys.antt`. The types are public, since the definitions speak of them, and
+//! so is `keys_in`, for whoever tells of a key; what the reader does with them is not.
+ghost use Rattle.std.specs.Prelude.{◌≡◌, ◌≤◌, length};
+ghost use Rattle.rail_scene.specs.Keys.{text_of, list_key, keys_of, part_of, keys_in, list_in};
 
 use rail_base::{Part, limits};
 
@@ -50,8 +50,9 @@ pub enum KeyName {
 
 impl KeyName {
     /// The text of the key.
-    pub(crate) fn text(self) -> &'static str
-        ensures { result.now ≡ text_of self }
+    pub fn text(self) -> &'static str
+        ensures text { result.now ≡ text_of self }
+        ensures short { length result.now ≤ 8 }
     {
         match self {
             KeyName::Version => "version",
@@ -204,6 +205,42 @@ impl ListPart {
             ListPart::Kind => Part::Kind,
             ListPart::Train => Part::Train,
         }
+    }
+}
+
+/// The keys of a table of the part, in their order: of the root, or of an item. Other parts have none.
+pub fn keys_in(part: Part) -> &'static [Key]
+    ensures keys { result.now ≡ keys_in part }
+    ensures few { length result.now ≤ 12 }
+{
+    match part {
+        Part::Root => &ROOT_KEYS,
+        Part::Section => &SECTION_KEYS,
+        Part::Portal => &PORTAL_KEYS,
+        Part::Signal => &SIGNAL_KEYS,
+        Part::Board => &BOARD_KEYS,
+        Part::Turn => &TURN_KEYS,
+        Part::Route => &ROUTE_KEYS,
+        Part::Kind => &KIND_KEYS,
+        Part::Train => &TRAIN_KEYS,
+        Part::Bytes | Part::Row | Part::Line | Part::Word | Part::File => &[],
+    }
+}
+
+/// The list of a part that is one.
+pub(crate) fn list_in(part: Part) -> Option<ListPart>
+    ensures { result ≡ list_in part }
+{
+    match part {
+        Part::Section => Some(ListPart::Section),
+        Part::Portal => Some(ListPart::Portal),
+        Part::Signal => Some(ListPart::Signal),
+        Part::Board => Some(ListPart::Board),
+        Part::Turn => Some(ListPart::Turn),
+        Part::Route => Some(ListPart::Route),
+        Part::Kind => Some(ListPart::Kind),
+        Part::Train => Some(ListPart::Train),
+        Part::Bytes | Part::Root | Part::Row | Part::Line | Part::Word | Part::File => None,
     }
 }
 

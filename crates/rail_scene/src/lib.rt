@@ -17,11 +17,13 @@ mod fields;
 mod forms;
 pub mod keys;
 mod laws;
+mod naming;
 mod places;
 mod reading;
 mod rosters;
 mod scene;
 
 pub use laws::the_number_of_an_item_is_told_as_it_is;
+pub use naming::item_name;
 pub use reading::read_scene;
 pub use scene::{Scene, SceneTrain};

@@ -1,0 +1,112 @@
+//! What a reason means where no key is told with it.
+
+ghost use Rattle.std.specs.Prelude.{◌≤◌, length};
+
+use rail_base::{Part, Reason, Refusal};
+
+/// What the reason of a refusal means. The reasons that are told with a key, a joint, a step or a place have their words
+/// behind these.
+pub fn meaning(refusal: &Refusal) -> &'static [u8]
+    ensures short { length result.now ≤ 140 }
+{
+    match refusal.reason {
+        Reason::NotToml => b" is no TOML in UTF-8",
+        Reason::KeyMissing => b" is missing",
+        Reason::WrongKind => b" has a value of another kind",
+        Reason::KeyUnknown => b" has a key that is none of its keys",
+        Reason::BadName => b" must be a name: 1 to 16 of A-Z a-z 0-9 _ -",
+        Reason::Repeated => repeated(refusal.part),
+        Reason::Unknown => b" names what is not there",
+        Reason::Range => b" is out of its range",
+        Reason::JointCrowded => {
+            b" is in two sections already, stands twice in this one, or carries a portal"
+        }
+        Reason::PostPlace => post_place(refusal.part),
+        Reason::RouteBroken => b" does not lead on from where the route is, or begins or ends at another post",
+        Reason::RouteRepeat => b" is over a section that stood in the route before",
+        Reason::ItineraryBroken => {
+            b": the next route does not begin at the signal where this one ends, and no turn leads there"
+        }
+        Reason::NotPortal => b": the way must begin and end at a portal",
+        Reason::TooLong => b": the train is longer than the sections of the route on which it is to stand",
+        Reason::SelfBlocked => b": the train would stand on a section that its next move needs",
+        Reason::TooMany => too_many(refusal.part),
+        Reason::TimetableForm => {
+            b" must have the five fields train,place,arrival,departure,dwell; record 1 is that header"
+        }
+        Reason::TimetableValue => {
+            b" must have a train, a place of its way without another call, times or nothing, and a dwell or pass"
+        }
+        Reason::InUse => b" takes out what is still in use",
+        Reason::UnknownPolicy => b" must be priority, timetable, fcfs or rotating",
+        Reason::CommandForm => {
+            b" must be a time and close, open, stop, go, cancel, priority, policy or retire with its words"
+        }
+        Reason::CommandName => b" names a section or a train that is not in the scene",
+        Reason::CommandOrder => b" has a time before that of the command above it",
+        Reason::HistoryForm => b" is no line of a history, or has no line feed at its end",
+        Reason::LineEmpty => b", LINE, must name one section or more",
+        Reason::WindowEmpty => b", FROM, must be before TO",
+        Reason::EditForm => b" must be add or remove with the words of an item, undo or redo",
+        Reason::NothingToUndo => b" has no edit left to undo",
+        Reason::NothingToRedo => b" has no undone edit left to make again",
+        Reason::ListForm => b" must be at TRAIN PLACE, or behind all of these move TRAIN",
+        Reason::ListName => b" names a train that is not in the scene",
+        Reason::ListPlaces => b": two trains would stand on one section at these places",
+        Reason::SnapshotForm => b" is no line of a snapshot",
+        Reason::SnapshotOther => b" belongs to another input",
+        Reason::NoPath => b" has no free path",
+        Reason::RerouteForm => b" has not the form of a rerouting",
+        Reason::RerouteName => b" has a name that is not there",
+        Reason::NotYet => b" asks for a form that is not built",
+    }
+}
+
+/// What stands already.
+fn repeated(part: Part) -> &'static [u8]
+    ensures short { length result.now ≤ 140 }
+{
+    match part {
+        Part::Turn => b" leads between two posts that have a turn already",
+        Part::Portal | Part::Signal | Part::Board => {
+            b" has a name that a portal, signal or board before it has"
+        }
+        Part::Word => b", LINE, names a section twice",
+        Part::Line => b" gives a name, or a turn, that stands already",
+        _ => b" has a name that stands before it",
+    }
+}
+
+/// Where posts and turns have to be.
+fn post_place(part: Part) -> &'static [u8]
+    ensures short { length result.now ≤ 140 }
+{
+    match part {
+        Part::Portal => b" must stand at a joint of one section, which has no portal and no board yet",
+        Part::Signal => {
+            b" must stand at a joint of two sections, one of them ahead of it, with no other signal that looks there"
+        }
+        Part::Board => b" must stand at a joint of one or two sections, which has no portal and no board yet",
+        Part::Turn => b" must arrive at no portal, leave over a signal, and have two posts",
+        _ => b" does not stand as it has to",
+    }
+}
+
+/// How many there may be.
+fn too_many(part: Part) -> &'static [u8]
+    ensures short { length result.now ≤ 140 }
+{
+    match part {
+        Part::File => b" is larger than a file may be: 1,048,576 bytes, and a history 16,777,216",
+        Part::Section => b" is one too many: there may be 512 sections",
+        Part::Portal | Part::Signal | Part::Board => {
+            b" is one too many: there may be 512 portals, signals and boards together"
+        }
+        Part::Turn => b" is one too many: there may be 512 turns",
+        Part::Route => b" is one too many: there may be 1,024 routes",
+        Part::Kind => b" is one too many: there may be 128 kinds",
+        Part::Train => b" is one too many: there may be 128 trains",
+        Part::Line => b" is one too many: there may be 1,024 commands, 4,096 edits kept, and 8,192 trains in a list",
+        _ => b" is more than there may be",
+    }
+}
