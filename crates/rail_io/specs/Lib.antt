@@ -8,4 +8,6 @@ pub mod MemoryShelf
 pub mod MemorySink
 pub mod SureShelf
 pub mod SureSink
+pub mod Room
+pub mod GatheredSink
 pub mod Whole

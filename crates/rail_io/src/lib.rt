@@ -9,17 +9,20 @@
 #![tactic(auto)]
 
 mod files;
+mod gathered;
 mod kept;
 mod memory;
 mod paper;
 mod plan;
 mod reading;
+mod room;
 mod shelf;
 mod sink;
 mod sure;
 mod whole;
 
 pub use files::{FileShelf, OutSink};
+pub use gathered::GatheredSink;
 pub use kept::File;
 pub use memory::{MemoryShelf, MemorySink};
 pub use shelf::{Shelf, StartFault};

@@ -155,9 +155,28 @@ pub fn write_whole<O: Sink>(sink: &mut O, piece: &[u8]) -> Result<(), Failed>
     ensures empty_takes_no_call { piece.now ≡ [] → sink.new ≡ sink.old }
     ensures faults_never_fall { O.faults sink.old ≤ O.faults sink.new }
 {
+    if write_front(sink, piece) == piece.len() {
+        Ok(())
+    } else {
+        Err(Failed)
+    }
+}
+
+/// Writes the piece from its front on, in as many calls as the sink needs, until all is taken or a call
+/// fails, and says how many bytes were taken. An empty piece takes no call.
+pub(crate) fn write_front<O: Sink>(sink: &mut O, piece: &[u8]) -> usize
+    ensures within { result ≤ length piece.now }
+    ensures adds { Adds (O.written sink.old) (O.written sink.new) (take result piece.now) }
+    ensures part_rose { result < length piece.now → Rose (O.faults sink.old) (O.faults sink.new) }
+    ensures empty_takes_no_call { piece.now ≡ [] → sink.new ≡ sink.old }
+    ensures faults_never_fall { O.faults sink.old ≤ O.faults sink.new }
+{
     let mut done = 0;
     while done < piece.len() {
-        done += sink.write(&piece[done..])?;
+        let Ok(count) = sink.write(&piece[done..]) else {
+            return done;
+        };
+        done += count;
     }
-    Ok(())
+    done
 }

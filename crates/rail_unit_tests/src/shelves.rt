@@ -2,8 +2,8 @@
 //! call that fails; each call through the bound of its trait too.
 use rail_base::{OutOfMemory, Seq, Word};
 use rail_io::{
-    Failed, File, FileShelf, MemoryShelf, MemorySink, OutSink, ReadWhole, Shelf, Sink, SureShelf,
-    SureSink, read_whole, write_whole,
+    Failed, File, FileShelf, GatheredSink, MemoryShelf, MemorySink, OutSink, ReadWhole, Shelf, Sink,
+    SureShelf, SureSink, read_whole, write_whole,
 };
 use std::alloc::{AllocError, Global};
 use std::fmt::Display;
@@ -178,6 +178,30 @@ fn writes_without_fault(rt: HostRuntime) {
     assert!(rt; adds(&mut sink, &LINES, Some(b"one\ntwo\nthree\n")));
     assert!(rt; adds(&mut sink, &["+2"], Some(b"one\ntwo\nthree\n+2")));
     assert!(rt; adds(&mut sink, &["!"], None));
+}
+
+/// Whether the lines are written, and finished, so by a sink that gathers six bytes, before one in memory
+/// on which this call fails, and what that one has then. The calls are two of six bytes, and one of two.
+fn gathers(
+    alloc: Global,
+    fail: u64,
+    written: Result<(), Failed>,
+    finished: Result<(), Failed>,
+    bytes: &[u8],
+) -> Result<bool, OutOfMemory> {
+    let mut sink = GatheredSink::with_room(alloc, sink_of(alloc, fail)?, 6)?;
+    let is_written = write_lines(&mut sink, &LINES) == written;
+    let is_finished = sink.finish() == finished;
+    Ok(is_written && is_finished && sink.behind().bytes() == Some(bytes))
+}
+
+#[test]
+fn gathers_what_is_written(rt: HostRuntime) {
+    let alloc = rt.alloc();
+    assert!(rt; gathers(alloc, 0, Ok(()), Ok(()), b"one\ntwo\nthree\n") == Ok(true));
+    assert!(rt; gathers(alloc, 1, Err(Failed), Ok(()), b"one\ntw") == Ok(true));
+    assert!(rt; gathers(alloc, 2, Err(Failed), Ok(()), b"one\ntwo\nthre") == Ok(true));
+    assert!(rt; gathers(alloc, 3, Ok(()), Err(Failed), b"one\ntwo\nthre") == Ok(true));
 }
 
 /// Whether the file is read with this text, is too large for a lesser limit, and is a fault when it is

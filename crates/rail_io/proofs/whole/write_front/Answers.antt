@@ -4,12 +4,12 @@ use Rattle.std.proofs.Math.Seq.{take-add}
 use Rattle.std.proofs.lemmas.List.{take_rest}
 use Rattle.std.proofs.lemmas.Grind.{common_steps}
 use Rattle.rail_io.proofs.Added.{Adds-append}
-use Rattle.rail_io.proofs.whole.write_whole.Goals as goal
+use Rattle.rail_io.proofs.whole.write_front.Goals as goal
 
 pub loop-done-preserved : goal.loop-done-preserved
 loop-done-preserved g c = record {
   within = grind (arith, common_steps);
-  added = rw take-add (Adds-append c.loop-done.invariant.added (rw take_rest at c.in_ok-done.ensures.adds));
-  untouched = λ none. absurd (omega (arith, c.in_ok-done.ensures.some));
-  faults = omega (arith, c.in_ok-done.ensures.faults_never_fall);
+  added = rw take-add (Adds-append c.loop-done.invariant.added (rw take_rest at c.in-Ok.ensures.adds));
+  untouched = λ none. absurd (omega (arith, c.in-Ok.ensures.some));
+  faults = omega (arith, c.in-Ok.ensures.faults_never_fall);
 }

@@ -1,7 +1,7 @@
 -- What was taken so far is the first part of the piece.
 use Rattle.std.proofs.Common.{length, ◌≡◌, ◌-◌, ◌≤◌, take}
 use Rattle.rail_io.specs.Writes.{Adds}
-use Rattle.rail_io.proofs.whole.write_whole.Given as goal
+use Rattle.rail_io.proofs.whole.write_front.Given as goal
 
 abbrev pub invariant-loop-done : goal.invariant-loop-done
 invariant-loop-done g l = record {
