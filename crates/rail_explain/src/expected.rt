@@ -16,7 +16,9 @@ pub fn put_range(line: &mut Line, form: Form)
         Form::Choice => line.put(b" must be plain, points, crossing or slip"),
         Form::Time => line.put(b" must be a time of at most 240:00:00"),
         Form::Joints => {
-            line.put(b" must have 2 names for plain track, 3 for points, 4 for a crossing or a slip");
+            line.put(
+                b" must have 2 names for plain track, 3 for points, 4 for a crossing or a slip",
+            );
         }
         Form::Path => line.put(b" must have 3 to 65 names, joints and sections in turn"),
         Form::Itinerary => line.put(b" must have 1 to 64 names"),

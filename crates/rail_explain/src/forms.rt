@@ -37,7 +37,8 @@ fn form_text(verb: &str) -> &'static str
         "run" => "rail run SCENE [TIMETABLE [COMMANDS]]",
         "infra" => "rail infra SCENE",
         "play" => "rail play SCENE LIST",
-        "check" => "rail check SCENE TIMETABLE COMMANDS HISTORY, with - for no timetable or no commands",
+        "check" =>
+            "rail check SCENE TIMETABLE COMMANDS HISTORY, with - for no timetable or no commands",
         "stairs" => "rail stairs SCENE [TIMETABLE [COMMANDS]]",
         "report" => "rail report SCENE [TIMETABLE [COMMANDS]]",
         "capacity" => {

@@ -22,13 +22,15 @@ pub fn meaning(refusal: &Refusal) -> &'static [u8]
             b" is in two sections already, stands twice in this one, or carries a portal"
         }
         Reason::PostPlace => post_place(refusal.part),
-        Reason::RouteBroken => b" does not lead on from where the route is, or begins or ends at another post",
+        Reason::RouteBroken =>
+            b" does not lead on from where the route is, or begins or ends at another post",
         Reason::RouteRepeat => b" is over a section that stood in the route before",
         Reason::ItineraryBroken => {
             b": the next route does not begin at the signal where this one ends, and no turn leads there"
         }
         Reason::NotPortal => b": the way must begin and end at a portal",
-        Reason::TooLong => b": the train is longer than the sections of the route on which it is to stand",
+        Reason::TooLong =>
+            b": the train is longer than the sections of the route on which it is to stand",
         Reason::SelfBlocked => b": the train would stand on a section that its next move needs",
         Reason::TooMany => too_many(refusal.part),
         Reason::TimetableForm => {
@@ -82,11 +84,13 @@ fn post_place(part: Part) -> &'static [u8]
     ensures short { length result.now ≤ 140 }
 {
     match part {
-        Part::Portal => b" must stand at a joint of one section, which has no portal and no board yet",
+        Part::Portal =>
+            b" must stand at a joint of one section, which has no portal and no board yet",
         Part::Signal => {
             b" must stand at a joint of two sections, one of them ahead of it, with no other signal that looks there"
         }
-        Part::Board => b" must stand at a joint of one or two sections, which has no portal and no board yet",
+        Part::Board =>
+            b" must stand at a joint of one or two sections, which has no portal and no board yet",
         Part::Turn => b" must arrive at no portal, leave over a signal, and have two posts",
         _ => b" does not stand as it has to",
     }
@@ -106,7 +110,8 @@ fn too_many(part: Part) -> &'static [u8]
         Part::Route => b" is one too many: there may be 1,024 routes",
         Part::Kind => b" is one too many: there may be 128 kinds",
         Part::Train => b" is one too many: there may be 128 trains",
-        Part::Line => b" is one too many: there may be 1,024 commands, 4,096 edits kept, and 8,192 trains in a list",
+        Part::Line =>
+            b" is one too many: there may be 1,024 commands, 4,096 edits kept, and 8,192 trains in a list",
         _ => b" is more than there may be",
     }
 }

@@ -1,4 +1,4 @@
-ghost use Rattle.std.specs.Prelude.{◌≡◌, ◌+◌, ◌^◌, ◌<◌, ◌≤◌, None, IfSome, length};
+ghost use Rattle.std.specs.Prelude.{◌≡◌, ◌+◌, ◌^◌, ◌<◌, ◌≤◌, None, IfSome, length, option_copied};
 ghost use Rattle.rail_io.specs.Reads.{begun_name, failed_name};
 
 use crate::reading::Reading;
@@ -38,6 +38,13 @@ impl<R: Files + Drop> FileShelf<R> {
         ensures { result ≡ ⟦<FileShelf<R> as Shelf>⟧.faults self.now }
     {
         self.reading.faults()
+    }
+
+    /// The name of the file at which a call failed, if none was begun since.
+    pub fn failed(&self) -> Option<&Word>
+        ensures { option_copied result ≡ ⟦<FileShelf<R> as Shelf>⟧.failed self.now }
+    {
+        self.reading.failed()
     }
 
     /// Moves the next bytes, as many as the count of moved bytes has room for. `None` where the

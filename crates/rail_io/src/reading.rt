@@ -1,5 +1,5 @@
 ghost use Rattle.std.specs.Prelude.{◌≡◌, ◌+◌, ◌^◌, ◌<◌, ◌≤◌, option_copied};
-ghost use Rattle.rail_io.specs.Reads.{fresh, after_begin, after_refusal, after_failure, after_move};
+ghost use Rattle.rail_io.specs.Reads.{failed_name, fresh, after_begin, after_refusal, after_failure, after_move};
 
 use rail_base::Word;
 
@@ -40,6 +40,17 @@ impl Reading {
         ensures { option_copied result ≡ self.now.name }
     {
         self.name.as_ref()
+    }
+
+    /// The name of the file at which a call failed, if none was begun since.
+    pub(crate) fn failed(&self) -> Option<&Word>
+        ensures { option_copied result ≡ failed_name self.now }
+    {
+        if self.has_failed {
+            self.name.as_ref()
+        } else {
+            None
+        }
     }
 
     /// How many bytes of the begun file were moved.

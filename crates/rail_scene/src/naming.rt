@@ -16,12 +16,7 @@ use toml::Value;
 
 /// The name that an item of a part gives, by the number of the item, which counts from 1. `None` where the file has no
 /// such item, or it gives no name. Bytes that are no TOML are refused.
-pub fn item_name(
-    alloc: Global,
-    bytes: &[u8],
-    part: Part,
-    item: u32,
-) -> Result<Option<Name>, Fault>
+pub fn item_name(alloc: Global, bytes: &[u8], part: Part, item: u32) -> Result<Option<Name>, Fault>
     ensures name { IfOk result (λ name. name ≡ item_name part item (root_of bytes.now)) }
     ensures refused { IfErr result (AnswersFirst (first_failing (toml_test bytes.now ∷ []))) }
 {

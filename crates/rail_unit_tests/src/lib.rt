@@ -17,6 +17,8 @@ mod commands;
 #[cfg(test)]
 mod events;
 #[cfg(test)]
+mod explanations;
+#[cfg(test)]
 mod ground;
 #[cfg(test)]
 mod histories;

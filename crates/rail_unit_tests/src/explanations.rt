@@ -1,0 +1,333 @@
+//! What is said of a refusal.
+
+use rail_base::{Name, Part, Reason, Refusal, Word};
+use rail_explain::{ALL_FORMS, explained, file_of, usage_of};
+use rail_words::Form;
+use std::alloc::{AllocError, Global};
+
+/// What is said of item 2 of the part, at this step.
+const TOLD: [(Reason, Part, u32, &str); 38] = [
+    (
+        Reason::NotToml,
+        Part::Bytes,
+        0,
+        "the file is no TOML in UTF-8",
+    ),
+    (
+        Reason::KeyMissing,
+        Part::Root,
+        2,
+        "the root: key 2 \"release\" is missing",
+    ),
+    (
+        Reason::WrongKind,
+        Part::Turn,
+        3,
+        "turn 2: key 3 \"time\" must be a whole number",
+    ),
+    (
+        Reason::KeyUnknown,
+        Part::Board,
+        0,
+        "board 2 has a key that is none of its keys: name joint",
+    ),
+    (
+        Reason::BadName,
+        Part::Signal,
+        3,
+        "signal 2: key 3 \"ahead\" must be a name: 1 to 16 of A-Z a-z 0-9 _ -",
+    ),
+    (
+        Reason::Repeated,
+        Part::Section,
+        1,
+        "section 2 has a name that stands before it",
+    ),
+    (
+        Reason::Unknown,
+        Part::Train,
+        2,
+        "train 2: key 2 \"kind\" names no kind",
+    ),
+    (
+        Reason::Range,
+        Part::Section,
+        3,
+        "section 2: key 3 \"length\" must be 1 to 100000",
+    ),
+    (
+        Reason::Range,
+        Part::Train,
+        5,
+        "train 2: key 5 \"routes\" must have 1 to 64 names",
+    ),
+    (
+        Reason::JointCrowded,
+        Part::Section,
+        1,
+        "section 2: joint 1 is in two sections already, stands twice in this one, or carries a portal",
+    ),
+    (
+        Reason::PostPlace,
+        Part::Portal,
+        0,
+        "portal 2 must stand at a joint of one section, which has no portal and no board yet",
+    ),
+    (
+        Reason::RouteBroken,
+        Part::Route,
+        3,
+        "route 2: step 3 does not lead on from where the route is, or begins or ends at another post",
+    ),
+    (
+        Reason::RouteRepeat,
+        Part::Route,
+        3,
+        "route 2: step 3 is over a section that stood in the route before",
+    ),
+    (
+        Reason::ItineraryBroken,
+        Part::Train,
+        1,
+        "train 2: place 1: the next route does not begin at the signal where this one ends, and no turn leads there",
+    ),
+    (
+        Reason::NotPortal,
+        Part::Train,
+        0,
+        "train 2: the way must begin and end at a portal",
+    ),
+    (
+        Reason::TooLong,
+        Part::Train,
+        1,
+        "train 2: place 1: the train is longer than the sections of the route on which it is to stand",
+    ),
+    (
+        Reason::SelfBlocked,
+        Part::Train,
+        1,
+        "train 2: place 1: the train would stand on a section that its next move needs",
+    ),
+    (
+        Reason::TooMany,
+        Part::Kind,
+        0,
+        "kind 2 is one too many: there may be 128 kinds",
+    ),
+    (
+        Reason::TimetableForm,
+        Part::Row,
+        0,
+        "record 2 must have the five fields train,place,arrival,departure,dwell; record 1 is that header",
+    ),
+    (
+        Reason::TimetableValue,
+        Part::Row,
+        0,
+        "record 2 must have a train, a place of its way without another call, times or nothing, and a dwell or pass",
+    ),
+    (
+        Reason::InUse,
+        Part::Line,
+        0,
+        "line 2 takes out what is still in use",
+    ),
+    (
+        Reason::UnknownPolicy,
+        Part::Root,
+        4,
+        "the root: key 4 \"policy\" must be priority, timetable, fcfs or rotating",
+    ),
+    (
+        Reason::CommandForm,
+        Part::Line,
+        0,
+        "line 2 must be a time and close, open, stop, go, cancel, priority, policy or retire with its words",
+    ),
+    (
+        Reason::CommandName,
+        Part::Line,
+        0,
+        "line 2 names a section or a train that is not in the scene",
+    ),
+    (
+        Reason::CommandOrder,
+        Part::Line,
+        0,
+        "line 2 has a time before that of the command above it",
+    ),
+    (
+        Reason::HistoryForm,
+        Part::Line,
+        0,
+        "line 2 is no line of a history, or has no line feed at its end",
+    ),
+    (
+        Reason::LineEmpty,
+        Part::Word,
+        0,
+        "word 2, LINE, must name one section or more",
+    ),
+    (
+        Reason::WindowEmpty,
+        Part::Word,
+        0,
+        "word 2, FROM, must be before TO",
+    ),
+    (
+        Reason::EditForm,
+        Part::Line,
+        0,
+        "line 2 must be add or remove with the words of an item, undo or redo",
+    ),
+    (
+        Reason::NothingToUndo,
+        Part::Line,
+        0,
+        "line 2 has no edit left to undo",
+    ),
+    (
+        Reason::NothingToRedo,
+        Part::Line,
+        0,
+        "line 2 has no undone edit left to make again",
+    ),
+    (
+        Reason::ListForm,
+        Part::Line,
+        0,
+        "line 2 must be at TRAIN PLACE, or behind all of these move TRAIN",
+    ),
+    (
+        Reason::ListName,
+        Part::Line,
+        0,
+        "line 2 names a train that is not in the scene",
+    ),
+    (
+        Reason::ListPlaces,
+        Part::Line,
+        0,
+        "line 2: two trains would stand on one section at these places",
+    ),
+    (
+        Reason::Range,
+        Part::Line,
+        3,
+        "line 2: value 3 is out of its range",
+    ),
+    (
+        Reason::TooMany,
+        Part::File,
+        0,
+        "the file is larger than a file may be: 1,048,576 bytes, and a history 16,777,216",
+    ),
+    (
+        Reason::Unknown,
+        Part::Word,
+        0,
+        "word 2 names what is not there",
+    ),
+    (
+        Reason::Repeated,
+        Part::Word,
+        0,
+        "word 2, LINE, names a section twice",
+    ),
+];
+
+#[test]
+fn says_what_each_reason_means(rt: HostRuntime) {
+    for (reason, part, step, text) in TOLD {
+        let refusal = Refusal {
+            reason,
+            part,
+            item: 2,
+            step,
+        };
+        let line = explained(&refusal, None);
+        assert!(rt; line.as_slice() == text.as_bytes(), "{text}");
+    }
+}
+
+#[test]
+fn names_the_item_and_its_file(rt: HostRuntime) {
+    let refusal = Refusal {
+        reason: Reason::Repeated,
+        part: Part::Train,
+        item: 2,
+        step: 1,
+    };
+    let line = explained(&refusal, Name::read(b"T02"));
+    assert!(rt; line.as_slice() == b"train 2 T02 has a name that stands before it".as_slice());
+    assert!(rt; is_in_file(rt.alloc(), "run s t c", Form::Run, &refusal, Some("s")));
+    assert!(rt;
+        is_in_file(
+            rt.alloc(),
+            "capacity l f t s",
+            Form::Capacity,
+            &refusal,
+            Some("s")
+        )
+    );
+    let row = Refusal {
+        part: Part::Row,
+        ..refusal
+    };
+    assert!(rt; is_in_file(rt.alloc(), "check s t c h", Form::Check, &row, Some("t")));
+    let line = Refusal {
+        part: Part::Line,
+        ..refusal
+    };
+    assert!(rt; is_in_file(rt.alloc(), "report s t c", Form::Report, &line, Some("c")));
+    assert!(rt; is_in_file(rt.alloc(), "edit s e", Form::Edit, &line, Some("e")));
+    let word = Refusal {
+        part: Part::Word,
+        ..refusal
+    };
+    assert!(rt; is_in_file(rt.alloc(), "capacity l f t s", Form::Capacity, &word, None));
+}
+
+/// Whether a refusal lies in this file of the command line.
+fn is_in_file(
+    alloc: Global,
+    words: &str,
+    form: Form,
+    refusal: &Refusal,
+    file: Option<&str>,
+) -> bool {
+    match words_of(alloc, words) {
+        Ok(words) => file_of(form, &words, refusal) == file,
+        Err(_) => false,
+    }
+}
+
+/// The words of a command line.
+fn words_of(alloc: Global, text: &str) -> Result<Vec<Word>, AllocError> {
+    let mut words = Vec::new(alloc);
+    for word in text.split_whitespace() {
+        words.push(Word::from_string(String::from_str(alloc, word)?))?;
+    }
+    Ok(words)
+}
+
+#[test]
+fn shows_the_form_that_begins_so(rt: HostRuntime) {
+    for (text, usage) in [
+        ("play s", "rail play SCENE LIST"),
+        ("infra", "rail infra SCENE"),
+        ("rnu s", ALL_FORMS),
+        ("", ALL_FORMS),
+    ] {
+        assert!(rt; shows(rt.alloc(), text, usage), "{text}");
+    }
+}
+
+/// Whether this is shown for the words.
+fn shows(alloc: Global, text: &str, usage: &str) -> bool {
+    match words_of(alloc, text) {
+        Ok(words) => usage_of(&words) == usage,
+        Err(_) => false,
+    }
+}
