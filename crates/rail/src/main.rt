@@ -2,9 +2,13 @@
 //! and ends with the status.
 #![tactic(auto)]
 
+ghost use Rattle.std.specs.Prelude.{◌≡◌, ◌≢◌, []};
+ghost use Rattle.rail_cli.specs.declared.status.Status.TheVariants.{WriteFault};
+ghost use Rattle.rail_io.specs.GatheredSink.{gathered_by};
+
 use rail_base::Word;
 use rail_cli::{HELP, Status, VERSION, rail};
-use rail_io::{FileShelf, OutSink};
+use rail_io::{FileShelf, GatheredSink, OutSink, Sink};
 use rail_policy::{
     FcfsPolicy, Policy, PriorityPolicy, RotatingPolicy, TimetablePolicy, deck_is_fine,
 };
@@ -16,6 +20,9 @@ use std::rt::HostRuntime;
 
 /// The exit status where a word is no text.
 const WORDS_FAULT: u8 = 7;
+
+/// How many bytes are gathered for standard output at most.
+const GATHERED: usize = 65536;
 
 fn main(rt: HostRuntime) -> ExitCode {
     match words_of(&rt) {
@@ -64,8 +71,23 @@ fn run(rt: &HostRuntime, words: &[Word]) -> Result<Status, AllocError> {
         return Ok(Status::OutOfMemory);
     }
     let mut shelf = FileShelf::new(rt);
-    let mut out = OutSink::new(rt);
-    Ok(rail(alloc, words, &mut shelf, &mut out, deck))
+    let Ok(mut out) = GatheredSink::with_room(alloc, OutSink::new(rt), GATHERED) else {
+        return Ok(Status::OutOfMemory);
+    };
+    let status = rail(alloc, words, &mut shelf, &mut out, deck);
+    Ok(finish(status, &mut out))
+}
+
+/// Hands on what is gathered, and gives the status of the program: that of the top call, or a write fault
+/// where not all was handed on.
+fn finish<S: Sink + Drop>(status: Status, out: &mut GatheredSink<S>) -> Status
+    ensures none_left { result ≢ WriteFault → gathered_by out.new ≡ [] }
+    ensures other_stays { result ≢ WriteFault → result ≡ status }
+{
+    match out.finish() {
+        Ok(()) => status,
+        Err(_) => Status::WriteFault,
+    }
 }
 
 /// Prints a text on standard output.

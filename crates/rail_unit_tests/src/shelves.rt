@@ -2,8 +2,8 @@
 //! call that fails; each call through the bound of its trait too.
 use rail_base::{OutOfMemory, Seq, Word};
 use rail_io::{
-    Failed, File, FileShelf, GatheredSink, MemoryShelf, MemorySink, OutSink, ReadWhole, Shelf, Sink,
-    SureShelf, SureSink, read_whole, write_whole,
+    Failed, File, FileShelf, GatheredSink, MemoryShelf, MemorySink, OutSink, ReadWhole, Shelf,
+    Sink, SureShelf, SureSink, read_whole, write_whole,
 };
 use std::alloc::{AllocError, Global};
 use std::fmt::Display;
