@@ -2,8 +2,8 @@
 //!
 //! This layer stands on `rail_io` for what is written to, and on the definitions of `rail_rules`, where
 //! the text of a line is defined. It adds nothing to them: `specs/` says which names a plant has. A line
-//! is put together in a room of its own and handed on whole, as one piece, or piece by piece where it
-//! names more trains than the room takes; how it is put together may be changed freely.
+//! is put together in a room that the caller keeps, and handed on whole, as one piece, or piece by piece
+//! where it names more trains than the room takes; how it is put together may be changed freely.
 //!
 //! A line is read by a guess: of bytes that are the text of a line, `likely_what` gives what the line says, and
 //! of other bytes anything; whoever reads writes the line back and compares.

@@ -38,6 +38,13 @@ impl Line {
         }
     }
 
+    /// Takes all bytes away, so that another line can be put together in the same room.
+    pub fn clear(&mut self)
+        ensures { self.new ≡ [] }
+    {
+        self.len = 0;
+    }
+
     /// The bytes so far.
     pub fn as_slice(&self) -> &[u8]
         ensures { result.now ≡ self.now }

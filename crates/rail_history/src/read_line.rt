@@ -10,6 +10,7 @@ ghost use Rattle.rail_rules.specs.Plant.{Plant};
 
 use crate::cutting::cut;
 use crate::history_lines::is_history_line;
+use crate::line::Line;
 use crate::read_time::likely_time;
 use crate::read_trains::likely_trains;
 use crate::read_what::likely_what;
@@ -135,8 +136,15 @@ fn is_text_of(
     ensures { IfOk result (λ is. (plant : Plant) → HasNames plant names.now
         → is ≡ true ↔ IsSpelled plant (line_read line.now) bytes.now) }
 {
+    let mut room = Line::new();
     let mut written = Written::new(alloc);
-    match write_entry(names, line.entry, line.trains.as_slice(), &mut written) {
+    match write_entry(
+        names,
+        line.entry,
+        line.trains.as_slice(),
+        &mut room,
+        &mut written,
+    ) {
         Ok(()) => Ok(written.as_slice() == bytes),
         Err(_) => Err(OutOfMemory),
     }

@@ -145,7 +145,7 @@ fn make_room<O: Sink>(line: &mut Line, out: &mut O) -> Result<(), Failed>
 {
     if line.as_slice().len() > FULL {
         write_whole(out, line.as_slice())?;
-        *line = Line::new();
+        line.clear();
     }
     Ok(())
 }

@@ -13,12 +13,14 @@ use rail_base::{Entry, Names, TrainNo};
 use rail_io::{Failed, Sink, write_whole};
 
 /// Writes the line of an entry. `kept` is the list of a fresh admission, or the trains that an end line
-/// names; at another entry it isn't looked at. The trains and sections are those of the names. A line
-/// that names no list is one piece. It takes no memory.
+/// names; at another entry it isn't looked at. The trains and sections are those of the names. The line is
+/// put together in `line`, whatever that has before. A line that names no list is one piece. It takes no
+/// memory.
 pub fn write_entry<O: Sink>(
     names: &Names,
     entry: Entry,
     kept: &[TrainNo],
+    line: &mut Line,
     out: &mut O,
 ) -> Result<(), Failed>
     requires { (plant : Plant) × HasNames plant names.now × IsTrue (is_writable plant (line_of entry kept.now)) }
@@ -29,10 +31,10 @@ pub fn write_entry<O: Sink>(
     ensures failed_rose { OnErr result (Rose (O.faults out.old) (O.faults out.new)) }
     ensures faults_never_fall { O.faults out.old ≤ O.faults out.new }
 {
-    let mut line = Line::new();
-    put_time(&mut line, entry.at);
-    put_what(&mut line, names, &entry);
-    put_brought(&mut line, names, &entry, kept, out)?;
+    line.clear();
+    put_time(line, entry.at);
+    put_what(line, names, &entry);
+    put_brought(line, names, &entry, kept, out)?;
     line.put(b"\n");
     write_whole(out, line.as_slice())
 }

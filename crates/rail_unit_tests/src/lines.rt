@@ -10,7 +10,7 @@ use crate::plants::trains_of;
 use crate::shelves::alone;
 use indexmap::IndexSet;
 use rail_base::{Entry, Name, Names, Note, OutOfMemory, Time, TrainNo, What};
-use rail_history::write_entry;
+use rail_history::{Line, write_entry};
 use rail_io::{Failed, MemorySink, Sink, SureSink};
 use std::alloc::{AllocError, Global};
 
@@ -85,7 +85,7 @@ fn write<O: Sink>(names: &Names, word: &str, kept: &[TrainNo], out: &mut O) -> R
         at: Time(2200),
         what: what_of(word),
     };
-    write_entry(names, entry, kept, out)
+    write_entry(names, entry, kept, &mut Line::new(), out)
 }
 
 /// Whether the case is written as it says.

@@ -11,7 +11,7 @@ ghost use Rattle.rail_rules.specs.Plant.{bound, trains};
 ghost use Rattle.rail_cli.specs.Runs.{RunsInput, RunsInputInPart};
 
 use rail_engine::Engine;
-use rail_history::write_entry;
+use rail_history::{Line, write_entry};
 use rail_io::{Failed, Sink};
 use rail_plan::Plant;
 use rail_policy::{Desk, Seen};
@@ -27,11 +27,18 @@ pub fn write_lines<O: Sink>(engine: &mut Engine, out: &mut O) -> Result<(), Fail
     ensures failed_rose { OnErr result (Rose (O.faults out.old) (O.faults out.new)) }
     ensures faults_never_fall { O.faults out.old ≤ O.faults out.new }
 {
+    let mut line = Line::new();
     for _ in 0..most_steps(engine.plant(), engine.commands().len() as u64) {
         let Some(entry) = engine.step() else {
             return Ok(());
         };
-        write_entry(engine.plant().names(), entry, engine.listed(), out)?;
+        write_entry(
+            engine.plant().names(),
+            entry,
+            engine.listed(),
+            &mut line,
+            out,
+        )?;
     }
     unreachable!()
 }
