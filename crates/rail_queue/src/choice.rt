@@ -32,7 +32,9 @@ pub(crate) fn earliest(slots: &Slots<Event>, marks: &Marks, base: u64) -> Option
     let Some(first) = slots.first(near) else {
         unreachable!()
     };
-    let sooner = slots.item(first).goes_before(&slots.item(far));
+    let near_event = slots.item(first);
+    let far_event = slots.item(far);
+    let sooner = near_event.goes_before(&far_event);
     let chain = if sooner { near } else { RING };
     Some(chain)
 }

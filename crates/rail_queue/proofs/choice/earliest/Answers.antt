@@ -50,28 +50,28 @@ near_first c =
 far_first : (c : In-Some-first) → Begins c.args.slots.now.chains 1024 c.in-Some-first.far
 far_first c = begins c.args.slots.now.chains 1024 c.in-Some-first.far (omega (arith, c.requires.ringed.long, ring_is)) (sym c.in-Some-first.ensures.first)
 
-pub item-requires : goal.item-requires
-item-requires c = stands (near_first (goal.at.item-requires c).In-Some-first-2).at
+pub item-near_event-requires : goal.item-near_event-requires
+item-near_event-requires c = stands (near_first (goal.at.item-near_event-requires c).In-Some-first-2).at
 
-pub item-requires-2 : goal.item-requires-2
-item-requires-2 c = stands (far_first (goal.at.item-requires-2 c).In-Some-first).at
+pub item-far_event-requires : goal.item-far_event-requires
+item-far_event-requires c = stands (far_first (goal.at.item-far_event-requires c).In-Some-first).at
 
 pub returns-then-sooner-clause-some : goal.returns-then-sooner-clause-some
 returns-then-sooner-clause-some c =
     let at = goal.at.returns-then-sooner-clause-some c in
     let first = near_first at.In-Some-first-2 in
     let far = far_first at.In-Some-first in
-    let x = c.item.ensures c.in-Some.near [] first.rest first.item first.at in
-    let y = c.item-2.ensures 1024 [] far.rest far.item far.at in
+    let x = c.item-near_event.ensures c.in-Some.near [] first.rest first.item first.at in
+    let y = c.item-far_event.ensures 1024 [] far.rest far.item far.at in
     choose_near c.args.base c.args.slots.now.chains c.in-Some.near (near at.In-Some) c.in-Some-first-2.first c.in-Some-first.far first.item far.item first.rest far.rest c.requires.ringed first.is far.is
-    (ap (λ e. goes_before e far.item) (sym x) ∙ ap (goes_before c.item.result) (sym y) ∙ sym c.goes_before-sooner.ensures ∙ c.if-sooner.true)
+    (ap (λ e. goes_before e far.item) (sym x) ∙ ap (goes_before c.item-near_event.result) (sym y) ∙ sym c.goes_before-sooner.ensures ∙ c.if-sooner.true)
 
 pub returns-else-sooner-clause-some : goal.returns-else-sooner-clause-some
 returns-else-sooner-clause-some c =
     let at = goal.at.returns-else-sooner-clause-some c in
     let first = near_first at.In-Some-first-2 in
     let far = far_first at.In-Some-first in
-    let x = c.item.ensures c.in-Some.near [] first.rest first.item first.at in
-    let y = c.item-2.ensures 1024 [] far.rest far.item far.at in
+    let x = c.item-near_event.ensures c.in-Some.near [] first.rest first.item first.at in
+    let y = c.item-far_event.ensures 1024 [] far.rest far.item far.at in
     choose_far c.args.base c.args.slots.now.chains c.in-Some.near (near at.In-Some) c.in-Some-first-2.first c.in-Some-first.far first.item far.item first.rest far.rest c.requires.ringed first.is far.is
-    (ap (λ e. goes_before e far.item) (sym x) ∙ ap (goes_before c.item.result) (sym y) ∙ sym c.goes_before-sooner.ensures ∙ c.if-sooner.false)
+    (ap (λ e. goes_before e far.item) (sym x) ∙ ap (goes_before c.item-near_event.result) (sym y) ∙ sym c.goes_before-sooner.ensures ∙ c.if-sooner.false)
