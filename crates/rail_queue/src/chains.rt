@@ -1,4 +1,4 @@
-//! Chains of events, each sorted: an event is put into one, and the events of a class are taken out of them.
+//! An event put into a sorted chain of events.
 
 ghost use Rattle.std.specs.Prelude.{◌≡◌, ◌+◌, ◌<◌, ◌≤◌, false, length, get_or, [], IsTrue, Some};
 ghost use Rattle.rail_queue.specs.Order.{is_sorted};
