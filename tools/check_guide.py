@@ -6,7 +6,8 @@ usage: check_guide.py PROGRAM EXAMPLES PAGE [PAGE ..]
 A page shows commands in fenced blocks of the kind `console`. A line `$ rail WORDS` is a command, also where it is
 written as the command that builds the program first, `(cd crates/rail && rt try -- WORDS)`. The lines below it are
 what it prints, standard output and then standard error; a line `...` stands for any lines. `> FILE` behind a command
-keeps what it prints. A fenced block `KIND FILE` gives a file, and `KIND FILE +` more lines of it.
+keeps what it prints. A fenced block `KIND FILE` gives a file, `KIND FILE +` more lines of it, and `diff FILE` a change:
+lines of the file that begin with `-` there give way to those that begin with `+`.
 
 The commands of a page run in order in a folder of their own, in which `examples` is the folder EXAMPLES. The status
 is 1 where a page shows something else than is printed, or no command at all.
@@ -87,6 +88,22 @@ def first_other(shown, printed):
     return "(more is printed than is shown)"
 
 
+def write_file(folder, kind, lines):
+    """Writes the file of a block, adds to it, or changes it."""
+    file = folder / kind[1]
+    text = "".join(line + "\n" for line in lines)
+    if kind[0] == "diff":
+        old = "".join(line[1:] + "\n" for line in lines if line.startswith("-"))
+        new = "".join(line[1:] + "\n" for line in lines if line.startswith("+"))
+        before = file.read_text(encoding="utf-8")
+        if before.count(old) != 1:
+            raise SystemExit(f"{kind[1]} has these lines {before.count(old)} times: {old}")
+        text = before.replace(old, new)
+    elif kind[2:] == ["+"]:
+        text = file.read_text(encoding="utf-8") + text
+    file.write_text(text, encoding="utf-8")
+
+
 def check(program, examples, page):
     """Returns how many commands of the page were run, and the differences."""
     count, other = 0, []
@@ -95,9 +112,8 @@ def check(program, examples, page):
         shutil.copytree(examples, folder / "examples")
         for info, start, lines in blocks(page.read_text(encoding="utf-8")):
             kind = info.split()
-            if len(kind) >= 2 and kind[0] != "console":
-                with open(folder / kind[1], "a" if kind[2:] == ["+"] else "w", encoding="utf-8") as file:
-                    file.write("\n".join(lines) + "\n")
+            if len(kind) >= 2:
+                write_file(folder, kind, lines)
             if kind != ["console"]:
                 continue
             for number, command, shown in commands(start, lines):
