@@ -5,13 +5,15 @@ use Rattle.rail_io.specs.Writes.{Adds, AddsPrefix}
 use Rattle.rail_scene.specs.Order.{scene_refusal}
 use Rattle.rail_scene.specs.SpelledScenes.{spelled_scene}
 use Rattle.rail_scene.specs.declared.scene.Scene.{Scene}
+use Rattle.rail_scene_text.specs.Tables.{IsSceneText}
 use Rattle.rail_words.specs.Forms.{IsNumber}
 use Rattle.rail_cli.specs.declared.status.Status.{Status}
 use Rattle.rail_cli.specs.Answers.{IsAnswer}
 
--- a text that is accepted as a scene file, and read as this scene, was added, or so much of it
+-- the text of this scene was added, or so much of it: it is accepted as a scene file, and read as the same scene
 pub record WritesScene (scene : Scene) (adds : List ℕ → Type 0) : Type 0 where
   pub text : List ℕ
+  pub laid_out : IsSceneText scene text
   pub accepted : scene_refusal text ≡ None
   pub same : spelled_scene text ≡ scene
   pub added : adds text

@@ -1,9 +1,10 @@
 -- The tables that are written for a scene, as TOML sees them. The keys of a table stand in the order of their bytes.
-use Rattle.std.specs.Prelude.{ℕ, pos, List, [], ◌∷◌, ◌++◌, map, codes, Option, Some, None}
+use Rattle.std.specs.Prelude.{ℕ, false, pos, List, [], ◌∷◌, ◌++◌, map, codes, Option, Some, None}
 use Rattle.std.specs.List.{flat_map}
 use Rattle.std.specs.Ordering.{nat_cmp, match_ordering}
 use Rattle.std.specs.Cmp.Lexicographic.{slice_cmp}
 use Rattle.toml.specs.Data.{Data, string, integer, array, table, Members, no_members, member}
+use Rattle.toml.specs.Text.{IsDocumentText}
 use Rattle.toml.specs.View.{items_of}
 use Rattle.rail_base.specs.Clock.{time_text}
 use Rattle.rail_base.specs.declared.plant.TrainKind.{TrainKind}
@@ -137,3 +138,7 @@ scene_members scene =
     member (codes "train") (array_of train_data scene.trains) (
     member (codes "turn") (array_of turn_data scene.network.turns) (
     member (codes "version") (number 1) no_members)))))))))))
+
+-- the text is the TOML document of the scene's keys and tables, as the library lays it out
+abbrev pub IsSceneText : Scene → List ℕ → Type 0
+IsSceneText scene text = IsDocumentText false (scene_members scene) text

@@ -4,7 +4,7 @@ ghost use Rattle.toml.specs.View.{table_view};
 ghost use Rattle.rail_scene.specs.Order.{scene_refusal};
 ghost use Rattle.rail_scene.specs.Scenes.{IsScene};
 ghost use Rattle.rail_scene.specs.SpelledScenes.{spelled_scene};
-ghost use Rattle.rail_scene_text.specs.Tables.{scene_members};
+ghost use Rattle.rail_scene_text.specs.Tables.{IsSceneText, scene_members};
 ghost use Rattle.rail_scene_text.specs.Typed.{IsTyped};
 
 use crate::values::{Written, array, put};
@@ -16,13 +16,15 @@ use toml::{Table, Value};
 /// The version of the scene format that is written.
 const VERSION: u32 = 1;
 
-/// A text that is read as the scene. How it is laid out may change from one release to the next.
+/// A text that is read as the scene: the TOML document of its keys and tables, as the library `toml` lays it out. How
+/// that is may change from one release to the next.
 ///
 /// The scene may be one that was read or one that was put together, as long as it keeps the limits and ranges of a
 /// scene; a network keeps its own at any time. The text of a scene near the limits may be longer than a scene file may
 /// be.
 pub fn write_scene(alloc: Global, scene: &Scene) -> Result<Vec<u8>, OutOfMemory>
     requires kept { IsScene scene.now }
+    ensures text { IfOk result (λ text. IsSceneText scene.now text.items) }
     ensures accepted { IfOk result (λ text. scene_refusal text.items ≡ None) }
     ensures same { IfOk result (λ text. spelled_scene text.items ≡ scene.now) }
 {

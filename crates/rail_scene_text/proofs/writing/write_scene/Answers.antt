@@ -19,3 +19,6 @@ returns-in-Ok-clause-same c =
     let read : parse_document (string_bytes c.in-Ok.text) ≡ Some (scene_members scene) = rw c.in_ok-root.ensures.table at c.in-Ok.ensures.reads_back (shallow scene) in
     rw c.into_bytes.ensures.value
     (same scene c.a_text_stands_for_one_time.ensures c.requires.kept c.in_ok-root.ensures.typed c.sections-sections.ensures.sound (string_bytes c.in-Ok.text) (IsUtf8-string_bytes c.in-Ok.text) read)
+
+pub returns-in-Ok-clause-text : goal.returns-in-Ok-clause-text
+returns-in-Ok-clause-text c = rw c.into_bytes.ensures.value (rw c.in_ok-root.ensures.table at c.in-Ok.ensures.text)
