@@ -5,7 +5,10 @@ use Rattle.std.specs.Option.{option_or}
 use Rattle.std.proofs.lemmas.List.{drop_more, drop_all}
 use Rattle.rail_base.specs.NameForms.{same_name}
 use Rattle.rail_base.specs.declared.plant.TrainKind.{TrainKind}
+use Rattle.rail_base.specs.declared.refusals.Fault.{Fault}
+use Rattle.rail_base.specs.declared.refusals.Fault.TheVariants.{Refused, OutOfMemory}
 use Rattle.rail_base.specs.declared.refusals.Refusal.{Refusal}
+use Rattle.rail_base.specs.Refusals.{AnswersFirst}
 use Rattle.rail_base.specs.declared.refusals.Reason.TheVariants as reason
 use Rattle.rail_base.specs.FirstRefusals.{first_failing}
 use Rattle.rail_base.proofs.CallerLemmas.{first_failing-append}
@@ -40,6 +43,13 @@ train_passed_at scene trains i train o lt is told none =
     train_ahead scene trains i train lt is
     ∙ ap (λ p. option_or p (first_failing (trains_tests scene (i + 1 + 1) (drop (i + 1) trains)))) (sym told)
     ∙ or-none o (first_failing (trains_tests scene (i + 1 + 1) (drop (i + 1) trains))) none
+
+-- the fault of a train is that of all, where no train before it is refused
+pub answers_at : (scene : Scene) (trains : List SceneTrain) (i : ℕ) (train : SceneTrain) (fault : Fault) → i < length trains → train ≡ get_or trains i train →
+    first_failing (trains_tests scene (i + 1) (drop i trains)) ≡ first_failing (trains_tests scene 1 trains) →
+    AnswersFirst (first_failing (train_tests scene (i + 1) train)) fault → AnswersFirst (first_failing (trains_tests scene 1 trains)) fault
+answers_at scene trains i train (Refused refusal) lt is passed told = sym passed ∙ train_refused_at scene trains i train (Some refusal) lt is (sym told) refl
+answers_at scene trains i train OutOfMemory lt is passed told = tt
 
 pub trains_done : (scene : Scene) (trains : List SceneTrain) (i : ℕ) → length trains ≤ i → first_failing (trains_tests scene (i + 1) (drop i trains)) ≡ None
 trains_done scene trains i past = ap (λ rest. first_failing (trains_tests scene (i + 1) rest)) (drop_all i trains past)
