@@ -1,5 +1,5 @@
 -- The tests of the trains, train by train.
-use Rattle.std.proofs.Common.{◌≡◌, ℕ, zero, suc, ◌+◌, ◌<◌, ◌≤◌, Bool, true, false, not, cond, List, [], ◌∷◌, length, get_or, drop, is_some, Option, Some, None, refl, sym, ap, ◌∙◌, subst, arith}
+use Rattle.std.proofs.Common.{◌≡◌, ℕ, zero, suc, ◌+◌, ◌<◌, ◌≤◌, Bool, true, false, not, cond, List, [], ◌∷◌, length, get_or, drop, map, is_some, Option, Some, None, refl, sym, ap, ◌∙◌, subst, arith}
 use Rattle.std.specs.List.{list_any}
 use Rattle.std.specs.Option.{option_or}
 use Rattle.std.proofs.lemmas.List.{drop_more, drop_all}
@@ -12,6 +12,7 @@ use Rattle.rail_base.specs.Refusals.{AnswersFirst}
 use Rattle.rail_base.specs.declared.refusals.Reason.TheVariants as reason
 use Rattle.rail_base.specs.FirstRefusals.{first_failing}
 use Rattle.rail_base.proofs.CallerLemmas.{first_failing-append}
+use Rattle.rail_track.proofs.CallerLemmas.{list_any-map}
 use Rattle.rail_scene.specs.declared.scene.Scene.{Scene}
 use Rattle.rail_scene.specs.declared.scene.SceneTrain.{SceneTrain}
 use Rattle.rail_compile.specs.Itineraries.{routes_of}
@@ -60,6 +61,11 @@ pub train_is : (scene : Scene) (item : ℕ) (train : SceneTrain) (kind routes : 
     first_failing (train_tests scene item train) ≡ cond (not kind) (Some (of_train reason.Unknown item 2)) (cond (not routes) (Some (of_train reason.Unknown item 5)) (first_failing (route_tests scene.network item (routes_of scene.network train.routes))))
 train_is scene item train kind routes kind_is routes_are =
     λ i. cond (not (sym kind_is i)) (Some (of_train reason.Unknown item 2)) (cond (not (sym routes_are i)) (Some (of_train reason.Unknown item 5)) (first_failing (route_tests scene.network item (routes_of scene.network train.routes))))
+
+-- a kind has a name that is among the names of the kinds
+pub kind_among : (kinds : List TrainKind) (names : List (List ℕ)) (name : List ℕ) → names ≡ map (λ (k : TrainKind). k.name) kinds →
+    list_any (same_name name) names ≡ list_any (λ (k : TrainKind). same_name name k.name) kinds
+kind_among kinds names name same = ap (list_any (same_name name)) same ∙ list_any-map (same_name name) (λ (k : TrainKind). k.name) kinds
 
 or-none-parts : (o other : Option Refusal) → option_or o other ≡ None → (o ≡ None) × (other ≡ None)
 or-none-parts None other none = (refl, none)

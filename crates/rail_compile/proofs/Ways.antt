@@ -1,5 +1,5 @@
 -- Routes by their numbers, and by their names.
-use Rattle.std.proofs.Common.{◌≡◌, ℕ, ◌+◌, ◌<◌, ◌≤◌, Bool, true, false, not, ◌&&◌, ltb, cond, List, [], ◌∷◌, length, get_or, map, is_some, unwrap_or, Option, Some, None, refl, sym, ap, ◌∙◌, arith}
+use Rattle.std.proofs.Common.{◌≡◌, ℕ, ◌<◌, ◌≤◌, true, false, not, ◌&&◌, cond, List, [], ◌∷◌, length, get_or, map, is_some, Option, Some, IfSome, Vec, Global, refl, sym, ap, ◌∙◌, subst, arith}
 use Rattle.std.specs.Prelude.{count_by, nat_lt}
 use Rattle.std.specs.List.{find, list_any, list_all, position}
 use Rattle.std.proofs.lemmas.Bool.{and_parts, and_from, lt-ltb, ltb-true, not_from_false}
@@ -34,6 +34,12 @@ routes_apart (route ∷ rest) few =
 -- a number of a list of numbers is that of a route
 pub number_within : (net : Net) (numbers : List ℕ) (i n : ℕ) → are_numbers net numbers ≡ true → i < length numbers → n ≡ get_or numbers i n → n < length net.routes
 number_within net numbers i n all lt is = ltb-true n (length net.routes) (ap (λ k. nat_lt k (length net.routes)) is ∙ all_at (λ k. nat_lt k (length net.routes)) numbers i n all lt)
+
+-- the numbers are those of the routes of these names, which are known
+pub record AreFound (net : Net) (itinerary : List (List ℕ)) (numbers : List ℕ) : Type 0 where
+  pub known : are_known net itinerary ≡ true
+  pub within : are_numbers net numbers ≡ true
+  pub routes : routes_at net numbers ≡ routes_of net itinerary
 
 -- the names are those of the routes
 module _ (net : Net) (names : List (List ℕ)) (same : names ≡ map (λ (route : Route). route.name) net.routes) where
@@ -71,3 +77,16 @@ module _ (net : Net) (names : List (List ℕ)) (same : names ≡ map (λ (route 
   routes_are (name ∷ rest) all =
       let parts = and_parts (is_among names name) (list_all (is_among names) rest) all in
       λ i. place_is name parts.0 i ∷ routes_are rest parts.1 i
+
+  -- numbers that are found by the names of an itinerary
+  pub are_found : (itinerary : List (List ℕ)) (o : Option (Vec ℕ Global)) (numbers : Vec ℕ Global) → o ≡ Some numbers →
+      is_some o ≡ list_all (is_among names) itinerary → IfSome o (λ found. found.items ≡ map (place_among names) itinerary) → AreFound net itinerary numbers.items
+  are_found itinerary o numbers is known told =
+      let all : list_all (is_among names) itinerary ≡ true = sym known ∙ ap is_some is in
+      let P : Option (Vec ℕ Global) → Type 0 = λ p. IfSome p (λ (found : Vec ℕ Global). found.items ≡ map (place_among names) itinerary) in
+      let each : numbers.items ≡ map (place_among names) itinerary = subst P is told in
+      record {
+        known = sym (are_known_by itinerary) ∙ all;
+        within = ap (are_numbers net) each ∙ numbers_are itinerary all;
+        routes = ap (routes_at net) each ∙ routes_are itinerary all;
+      }

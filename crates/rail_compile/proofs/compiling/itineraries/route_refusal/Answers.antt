@@ -1,6 +1,5 @@
 use Rattle.std.proofs.Common.{◌≡◌, ◌≤◌, ◌-◌, true, false, get_or, length, Some, sym, ap, ◌∙◌, arith}
 use Rattle.std.proofs.lemmas.List.{length-map}
-use Rattle.rail_routes.specs.declared.items.Route.{Route}
 use Rattle.rail_base.specs.declared.refusals.Reason.TheVariants as reason
 use Rattle.rail_compile.specs.Itineraries.{no_route, is_portal}
 use Rattle.rail_compile.specs.Refusals.{of_train}
