@@ -1,5 +1,6 @@
 -- Lemmas on what the plant of a scene is, and why a scene is refused when it is compiled.
 mod Finds
+mod Ways
 mod Places
 mod Routes
 mod Names

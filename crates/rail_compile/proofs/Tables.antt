@@ -1,5 +1,5 @@
 -- The tables of a scene can be planned.
-use Rattle.std.proofs.Common.{◌≡◌, ℕ, ◌-◌, ◌<◌, Bool, true, not, ◌&&◌, leb, List, [], ◌∷◌, length, get_or, map, is_some, Some, None, refl, sym, ap, ◌∙◌, subst, arith}
+use Rattle.std.proofs.Common.{◌≡◌, ℕ, ◌-◌, ◌<◌, Bool, true, not, ◌&&◌, leb, List, [], ◌∷◌, length, get_or, map, is_some, option_and_then, Option, Some, None, refl, sym, ap, ◌∙◌, subst, arith}
 use Rattle.std.specs.Prelude.{◌==◌}
 use Rattle.std.specs.List.{find, list_any, list_all}
 use Rattle.std.proofs.lemmas.Bool.{and_parts, and_from}
@@ -20,16 +20,20 @@ use Rattle.rail_base.specs.FirstRefusals.{first_failing}
 use Rattle.rail_routes.specs.declared.items.Route.{Route}
 use Rattle.rail_routes.specs.Net.{Net, is_route}
 use Rattle.rail_routes.specs.Sound.{is_sound_route, IsSoundNetwork}
-use Rattle.rail_plan.specs.PlanFaults.{IsPlannable, bare}
+use Rattle.rail_base.specs.Refusals.{AnswersFirst, refusal_in}
+use Rattle.rail_plan.specs.declared.faults.PlanFault.{PlanFault}
+use Rattle.rail_plan.specs.declared.faults.PlanFault.TheVariants.{TooLong, SelfBlocked, OutOfMemory}
+use Rattle.rail_plan.specs.PlanFaults.{IsAnswer, IsPlannable, bare, fault_of}
 use Rattle.rail_scene.specs.declared.scene.Scene.{Scene}
 use Rattle.rail_scene.specs.declared.scene.SceneTrain.{SceneTrain}
 use Rattle.rail_scene.specs.Scenes.{is_fit_kind, is_fit_train, IsScene}
 use Rattle.rail_compile.specs.Itineraries.{no_route, route_of, routes_of, kind_of, section_row, train_row, tables_of}
-use Rattle.rail_compile.specs.Refusals.{is_known, are_known, trains_tests}
+use Rattle.rail_compile.specs.Refusals.{is_known, are_known, trains_tests, fault_for, compile_refusal}
 use Rattle.rail_compile.specs.Typed.{is_named_row, is_typed_row}
 use Rattle.rail_compile.proofs.Finds.{is_some-find, found_passes, all_at, some_unwrapped}
 use Rattle.rail_compile.proofs.Names.{distinct_from_apart}
 use Rattle.rail_compile.proofs.Moves.{moves_fine, length-moves_over, last_turn}
+use Rattle.rail_compile.proofs.Places.{or-none}
 use Rattle.rail_compile.proofs.Trains.{IsUnrefused, unrefused_at}
 
 -- names as a map of a map
@@ -138,3 +142,14 @@ module _ (scene : Scene) (h : IsScene scene) (sound : IsSoundNetwork scene.netwo
     where
       no_scene_train : SceneTrain
       no_scene_train = record { name = []; kind = []; entry = 0; priority = 0; routes = [] }
+
+-- where no train is refused, the scene is refused for a fault of its tables
+told_of_plan : (scene : Scene) (first : Option PlanFault) → first_failing (trains_tests scene 1 scene.trains) ≡ None → fault_of (tables_of scene) ≡ first → compile_refusal scene ≡ option_and_then (λ why. refusal_in (fault_for why)) first
+told_of_plan scene first none is =
+    or-none (first_failing (trains_tests scene 1 scene.trains)) (option_and_then (λ why. refusal_in (fault_for why)) (fault_of (tables_of scene))) (ap is_some none)
+    ∙ ap (option_and_then (λ why. refusal_in (fault_for why))) is
+
+pub answers_plan : (scene : Scene) (fault : PlanFault) → first_failing (trains_tests scene 1 scene.trains) ≡ None → IsAnswer (fault_of (tables_of scene)) fault → AnswersFirst (compile_refusal scene) (fault_for fault)
+answers_plan scene (TooLong t place) none is = told_of_plan scene (Some (TooLong t place)) none is
+answers_plan scene (SelfBlocked t place section) none is = told_of_plan scene (Some (SelfBlocked t place section)) none is
+answers_plan scene OutOfMemory none is = tt

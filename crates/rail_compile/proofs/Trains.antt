@@ -1,14 +1,18 @@
 -- The tests of the trains, train by train.
-use Rattle.std.proofs.Common.{◌≡◌, ℕ, zero, suc, ◌+◌, ◌<◌, ◌≤◌, Bool, true, false, not, cond, List, [], ◌∷◌, length, get_or, drop, is_some, Option, Some, None, refl, sym, ap, ◌∙◌, subst, arith}
+use Rattle.std.proofs.Common.{◌≡◌, ℕ, zero, suc, ◌+◌, ◌<◌, ◌≤◌, Bool, true, false, not, cond, List, [], ◌∷◌, length, get_or, drop, map, is_some, Option, Some, None, refl, sym, ap, ◌∙◌, subst, arith}
 use Rattle.std.specs.List.{list_any}
 use Rattle.std.specs.Option.{option_or}
 use Rattle.std.proofs.lemmas.List.{drop_more, drop_all}
 use Rattle.rail_base.specs.NameForms.{same_name}
 use Rattle.rail_base.specs.declared.plant.TrainKind.{TrainKind}
+use Rattle.rail_base.specs.declared.refusals.Fault.{Fault}
+use Rattle.rail_base.specs.declared.refusals.Fault.TheVariants.{Refused, OutOfMemory}
 use Rattle.rail_base.specs.declared.refusals.Refusal.{Refusal}
+use Rattle.rail_base.specs.Refusals.{AnswersFirst}
 use Rattle.rail_base.specs.declared.refusals.Reason.TheVariants as reason
 use Rattle.rail_base.specs.FirstRefusals.{first_failing}
 use Rattle.rail_base.proofs.CallerLemmas.{first_failing-append}
+use Rattle.rail_track.proofs.CallerLemmas.{list_any-map}
 use Rattle.rail_scene.specs.declared.scene.Scene.{Scene}
 use Rattle.rail_scene.specs.declared.scene.SceneTrain.{SceneTrain}
 use Rattle.rail_compile.specs.Itineraries.{routes_of}
@@ -41,6 +45,13 @@ train_passed_at scene trains i train o lt is told none =
     ∙ ap (λ p. option_or p (first_failing (trains_tests scene (i + 1 + 1) (drop (i + 1) trains)))) (sym told)
     ∙ or-none o (first_failing (trains_tests scene (i + 1 + 1) (drop (i + 1) trains))) none
 
+-- the fault of a train is that of all, where no train before it is refused
+pub answers_at : (scene : Scene) (trains : List SceneTrain) (i : ℕ) (train : SceneTrain) (fault : Fault) → i < length trains → train ≡ get_or trains i train →
+    first_failing (trains_tests scene (i + 1) (drop i trains)) ≡ first_failing (trains_tests scene 1 trains) →
+    AnswersFirst (first_failing (train_tests scene (i + 1) train)) fault → AnswersFirst (first_failing (trains_tests scene 1 trains)) fault
+answers_at scene trains i train (Refused refusal) lt is passed told = sym passed ∙ train_refused_at scene trains i train (Some refusal) lt is (sym told) refl
+answers_at scene trains i train OutOfMemory lt is passed told = tt
+
 pub trains_done : (scene : Scene) (trains : List SceneTrain) (i : ℕ) → length trains ≤ i → first_failing (trains_tests scene (i + 1) (drop i trains)) ≡ None
 trains_done scene trains i past = ap (λ rest. first_failing (trains_tests scene (i + 1) rest)) (drop_all i trains past)
 
@@ -50,6 +61,11 @@ pub train_is : (scene : Scene) (item : ℕ) (train : SceneTrain) (kind routes : 
     first_failing (train_tests scene item train) ≡ cond (not kind) (Some (of_train reason.Unknown item 2)) (cond (not routes) (Some (of_train reason.Unknown item 5)) (first_failing (route_tests scene.network item (routes_of scene.network train.routes))))
 train_is scene item train kind routes kind_is routes_are =
     λ i. cond (not (sym kind_is i)) (Some (of_train reason.Unknown item 2)) (cond (not (sym routes_are i)) (Some (of_train reason.Unknown item 5)) (first_failing (route_tests scene.network item (routes_of scene.network train.routes))))
+
+-- a kind has a name that is among the names of the kinds
+pub kind_among : (kinds : List TrainKind) (names : List (List ℕ)) (name : List ℕ) → names ≡ map (λ (k : TrainKind). k.name) kinds →
+    list_any (same_name name) names ≡ list_any (λ (k : TrainKind). same_name name k.name) kinds
+kind_among kinds names name same = ap (list_any (same_name name)) same ∙ list_any-map (same_name name) (λ (k : TrainKind). k.name) kinds
 
 or-none-parts : (o other : Option Refusal) → option_or o other ≡ None → (o ≡ None) × (other ≡ None)
 or-none-parts None other none = (refl, none)

@@ -2,3 +2,4 @@
 pub mod Itineraries
 pub mod Refusals
 pub mod Typed
+pub mod Ways

@@ -11,7 +11,7 @@ ghost use Rattle.rail_compile.specs.Refusals.{compile_refusal, fault_for, of_tra
 use crate::compiling::itineraries::of_train;
 use crate::compiling::kinds::kind_names;
 use crate::compiling::spelling::tables_of;
-use crate::compiling::trains::trains_refusal;
+use crate::compiling::ways::ways_of;
 use rail_base::{Fault, Reason, TrainNo};
 use rail_plan::{PlanFault, Plant};
 use rail_scene::Scene;
@@ -19,8 +19,10 @@ use std::alloc::Global;
 
 mod itineraries;
 mod kinds;
+mod moves;
 mod spelling;
 mod trains;
+mod ways;
 
 /// The plant of the scene, which has no calls.
 ///
@@ -38,10 +40,8 @@ pub fn compile(alloc: Global, scene: &Scene) -> Result<Plant, Fault>
     ensures refused { IfErr result (AnswersFirst (compile_refusal scene.now)) }
 {
     let kinds = kind_names(alloc, scene.kinds.as_slice())?;
-    if let Some(refusal) = trains_refusal(scene, &kinds) {
-        return Err(Fault::Refused(refusal));
-    }
-    let tables = tables_of(alloc, scene, &kinds)?;
+    let ways = ways_of(alloc, &scene.network)?;
+    let tables = tables_of(alloc, scene, &kinds, &ways)?;
     match Plant::new(alloc, tables) {
         Ok(plant) => Ok(plant),
         Err(fault) => Err(fault_for(fault)),

@@ -1,16 +1,19 @@
 //! Whether the routes of an itinerary follow one another.
 
-ghost use Rattle.std.specs.Prelude.{◌≡◌, ◌<◌, ◌≤◌, length, get_or, position, IsTrue};
+ghost use Rattle.std.specs.Prelude.{◌≡◌, ◌<◌, ◌≤◌, get_or, length, map, is_some, position, IsTrue, IfOk, IfSome};
+ghost use Rattle.std.specs.List.{list_all};
 ghost use Rattle.rail_base.specs.declared.limits.TheConstants.{ITINERARY_ROUTES, ROUTE_SECTIONS};
 ghost use Rattle.rail_base.specs.FirstRefusals.{first_failing};
 ghost use Rattle.rail_routes.specs.Net.{guards};
-ghost use Rattle.rail_routes.specs.Sound.{is_sound_route};
-ghost use Rattle.rail_compile.specs.Itineraries.{goes_on_to, is_portal, is_signal, may_leave, no_route, routes_of, runs_on, turn_between, turn_step};
-ghost use Rattle.rail_compile.specs.Refusals.{are_known, of_train, place_tests, route_tests};
+ghost use Rattle.rail_compile.specs.Itineraries.{goes_on_to, may_leave, no_route, runs_on, turn_between, turn_step};
+ghost use Rattle.rail_compile.specs.Refusals.{of_train, place_tests, route_tests};
+ghost use Rattle.rail_compile.specs.Ways.{AreWays, are_numbers, is_among, place_among, routes_at, way_over};
 
-use rail_base::limits::SECTIONS;
+use crate::compiling::ways::{Way, Ways};
+use indexmap::IndexSet;
 use rail_base::{Name, Part, Reason, Refusal, TurnRow};
-use rail_routes::{Network, Post, Role, Route, Step};
+use rail_routes::{Network, Post, Route, Step};
+use std::alloc::{AllocError, Global};
 
 /// A refusal of a train, at a step of it.
 pub fn of_train(reason: Reason, item: u32, step: u32) -> Refusal
@@ -24,71 +27,107 @@ pub fn of_train(reason: Reason, item: u32, step: u32) -> Refusal
     }
 }
 
-/// The first refusal of an itinerary, whose routes are known: it does not begin at a portal; from a route
-/// the train can't go on to the next one; it does not end at a portal.
-pub fn route_refusal(network: &Network, item: u32, names: &[Name]) -> Option<Refusal>
-    requires known { IsTrue (are_known network.now names.now) }
-    requires some { 1 ≤ length names.now }
-    requires few { length names.now ≤ ITINERARY_ROUTES }
-    ensures { result ≡ first_failing (route_tests network.now item (routes_of network.now names.now)) }
+/// The numbers of the routes of these names: `None` where one of them is the name of none.
+pub fn route_numbers(
+    alloc: Global,
+    names: &IndexSet<Name>,
+    itinerary: &[Name],
+) -> Result<Option<Vec<usize>>, AllocError>
+    ensures known { IfOk result (λ numbers. is_some numbers ≡ list_all (is_among names.now.keys) itinerary.now) }
+    ensures numbers { IfOk result (λ numbers. IfSome numbers (λ found. found.items ≡ map (place_among names.now.keys) itinerary.now)) }
 {
-    let first = known_route(network, names, 0);
-    if !is_portal(network, first.from) {
+    let mut numbers = Vec::with_capacity(alloc, itinerary.len())?;
+    for name in itinerary {
+        let Some(number) = names.get_index_of(name) else {
+            return Ok(None);
+        };
+        numbers.push(number)?;
+    }
+    Ok(Some(numbers))
+}
+
+/// The first refusal of an itinerary, by the numbers of its routes: it does not begin at a portal; from a
+/// route the train can't go on to the next one; it does not end at a portal.
+pub fn route_refusal(
+    network: &Network,
+    ways: &Ways,
+    item: u32,
+    numbers: &[usize],
+) -> Option<Refusal>
+    requires ways { AreWays network.now ways.now }
+    requires numbers { IsTrue (are_numbers network.now numbers.now) }
+    requires some { 1 ≤ length numbers.now }
+    requires few { length numbers.now ≤ ITINERARY_ROUTES }
+    ensures { result ≡ first_failing (route_tests network.now item (routes_at network.now numbers.now)) }
+{
+    let first = way_in(network, ways, numbers, 0);
+    if !first.begins_at_portal {
         return Some(of_train(Reason::NotPortal, item, 0));
     }
-    let broken = place_refusal(network, item, names);
+    let broken = place_refusal(network, ways, item, numbers);
     if broken.is_some() {
         return broken;
     }
-    let last = known_route(network, names, names.len() - 1);
-    if !is_portal(network, last.to) {
-        return Some(of_train(Reason::NotPortal, item, names.len() as u32));
+    let last = way_in(network, ways, numbers, numbers.len() - 1);
+    if !last.ends_at_portal {
+        return Some(of_train(Reason::NotPortal, item, numbers.len() as u32));
     }
     None
 }
 
 /// The first place at which the train can't go on.
-fn place_refusal(network: &Network, item: u32, names: &[Name]) -> Option<Refusal>
-    requires known { IsTrue (are_known network.now names.now) }
-    requires few { length names.now ≤ ITINERARY_ROUTES }
-    ensures { result ≡ first_failing (place_tests network.now item 1 (routes_of network.now names.now)) }
+fn place_refusal(network: &Network, ways: &Ways, item: u32, numbers: &[usize]) -> Option<Refusal>
+    requires ways { AreWays network.now ways.now }
+    requires numbers { IsTrue (are_numbers network.now numbers.now) }
+    requires few { length numbers.now ≤ ITINERARY_ROUTES }
+    ensures { result ≡ first_failing (place_tests network.now item 1 (routes_at network.now numbers.now)) }
 {
-    for place in 1..names.len() {
-        let route = known_route(network, names, place - 1);
-        let next = known_route(network, names, place);
-        if !goes_on_to(network, route, next) {
+    for place in 1..numbers.len() {
+        let way = way_in(network, ways, numbers, place - 1);
+        let route = route_in(network, numbers, place - 1);
+        let next = route_in(network, numbers, place);
+        if !goes_on_to(network, way, route, next) {
             return Some(of_train(Reason::ItineraryBroken, item, place as u32));
         }
     }
     None
 }
 
-/// The route of the name at the index, which the network has.
-pub fn known_route<'a>(network: &'a Network, names: &[Name], index: usize) -> &'a Route
-    requires known { IsTrue (are_known network.now names.now) }
-    requires within { index < length names.now }
-    ensures route { result.now ≡ get_or (routes_of network.now names.now) index no_route }
-    ensures sound { IsTrue (is_sound_route network.now result.now) }
+/// The way over the route at the index of the itinerary.
+pub fn way_in<'a>(network: &Network, ways: &'a Ways, numbers: &[usize], index: usize) -> &'a Way
+    requires ways { AreWays network.now ways.now }
+    requires numbers { IsTrue (are_numbers network.now numbers.now) }
+    requires within { index < length numbers.now }
+    ensures { result.now ≡ way_over network.now (get_or (routes_at network.now numbers.now) index no_route) }
+{
+    &ways.items[numbers[index]]
+}
+
+/// The route at the index of the itinerary.
+pub fn route_in<'a>(network: &'a Network, numbers: &[usize], index: usize) -> &'a Route
+    requires numbers { IsTrue (are_numbers network.now numbers.now) }
+    requires within { index < length numbers.now }
+    ensures route { result.now ≡ get_or (routes_at network.now numbers.now) index no_route }
     ensures few { length result.now.steps ≤ ROUTE_SECTIONS }
 {
-    // A network is sound at any time, as its sections tell.
-    prove!(network.sections().len() <= SECTIONS);
-    network.route(names[index]).unwrap()
+    &network.routes()[numbers[index]]
 }
 
 /// Whether a train may go on from the route to the next one: straight on at a signal, or by a turn.
-fn goes_on_to(network: &Network, route: &Route, next: &Route) -> bool
-    requires { length route.now.steps ≤ ROUTE_SECTIONS }
+fn goes_on_to(network: &Network, way: &Way, route: &Route, next: &Route) -> bool
+    requires way { way.now ≡ way_over network.now route.now }
+    requires few { length route.now.steps ≤ ROUTE_SECTIONS }
     ensures { result ≡ goes_on_to network.now route.now next.now }
 {
-    runs_on(network, route, next) || turn_between(network, route, next).is_some()
+    runs_on(network, way, route, next) || turn_between(network, route, next).is_some()
 }
 
 /// Whether the route ends at the signal where the next one begins.
-fn runs_on(network: &Network, route: &Route, next: &Route) -> bool
+fn runs_on(network: &Network, way: &Way, route: &Route, next: &Route) -> bool
+    requires { way.now ≡ way_over network.now route.now }
     ensures { result ≡ runs_on network.now route.now next.now }
 {
-    route.to == next.from && is_signal(network, route.to)
+    route.to == next.from && way.ends_at_signal
 }
 
 /// The turn from the end of the route to the beginning of the next one, at the first step over which a
@@ -134,26 +173,6 @@ fn guards(post: &Post, section: Name) -> bool
 {
     match post.ahead {
         Some(ahead) => section == ahead,
-        None => false,
-    }
-}
-
-/// Whether the post of this name is a portal.
-fn is_portal(network: &Network, name: Name) -> bool
-    ensures { result ≡ is_portal network.now name }
-{
-    match network.post(name) {
-        Some(post) => matches!(post.role, Role::Portal),
-        None => false,
-    }
-}
-
-/// Whether the post of this name is a signal.
-fn is_signal(network: &Network, name: Name) -> bool
-    ensures { result ≡ is_signal network.now name }
-{
-    match network.post(name) {
-        Some(post) => matches!(post.role, Role::Signal),
         None => false,
     }
 }

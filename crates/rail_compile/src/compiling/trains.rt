@@ -1,64 +1,119 @@
-//! Which train is refused for its kind or its itinerary.
+//! The trains of the plant, or which of them is refused for its kind or its itinerary.
 
-ghost use Rattle.std.specs.Prelude.{◌≡◌, map, IsTrue};
+ghost use Rattle.std.specs.Prelude.{◌≡◌, map, None, IsTrue, IfOk, IfErr, OnOk};
+ghost use Rattle.std.specs.List.{list_all};
 ghost use Rattle.rail_base.specs.declared.plant.TrainKind.{TrainKind};
 ghost use Rattle.rail_base.specs.FirstRefusals.{first_failing};
+ghost use Rattle.rail_base.specs.Refusals.{AnswersFirst};
 ghost use Rattle.rail_scene.specs.Scenes.{IsScene, is_fit_train};
-ghost use Rattle.rail_compile.specs.Refusals.{are_known, is_known, train_tests, trains_tests};
+ghost use Rattle.rail_compile.specs.Itineraries.{routes_of, train_row};
+ghost use Rattle.rail_compile.specs.Refusals.{train_tests, trains_tests};
+ghost use Rattle.rail_compile.specs.Typed.{is_typed_row};
+ghost use Rattle.rail_compile.specs.Ways.{AreWays, are_numbers, routes_at};
 
-use crate::compiling::itineraries::{of_train, route_refusal};
+use crate::compiling::itineraries::{of_train, route_numbers, route_refusal};
+use crate::compiling::kinds::kind_of;
+use crate::compiling::moves::moves_over;
+use crate::compiling::ways::Ways;
 use indexmap::IndexSet;
-use rail_base::{Name, Reason, Refusal};
-use rail_routes::Network;
+use rail_base::{Fault, MoveRow, Name, Reason, Seq, Time, TrainKind, TrainRow};
 use rail_scene::{Scene, SceneTrain};
+use std::alloc::Global;
 
-/// The first refusal of the trains and their itineraries, train by train. The names are those of the
-/// kinds.
-pub fn trains_refusal(scene: &Scene, kinds: &IndexSet<Name>) -> Option<Refusal>
-    requires scene { IsScene scene.now }
-    requires kinds { kinds.now.keys ≡ map (λ (kind : TrainKind). kind.name) scene.now.kinds }
-    ensures { result ≡ first_failing (trains_tests scene.now 1 scene.now.trains) }
-{
-    for (index, train) in scene.trains.as_slice().iter().enumerate() {
-        let refusal = train_refusal(scene, kinds, index as u32 + 1, train);
-        if refusal.is_some() {
-            return refusal;
-        }
-    }
-    None
-}
-
-/// The first refusal of the train and its itinerary.
-fn train_refusal(
+/// The rows of the trains, or the first refusal of one, train by train. The names are those of the kinds.
+pub fn train_rows(
+    alloc: Global,
     scene: &Scene,
     kinds: &IndexSet<Name>,
+    ways: &Ways,
+) -> Result<Vec<TrainRow>, Fault>
+    requires scene { IsScene scene.now }
+    requires kinds { kinds.now.keys ≡ map (λ (kind : TrainKind). kind.name) scene.now.kinds }
+    requires ways { AreWays scene.now.network ways.now }
+    ensures accepted { OnOk result (first_failing (trains_tests scene.now 1 scene.now.trains) ≡ None) }
+    ensures rows { IfOk result (λ rows. rows.items ≡ map (train_row scene.now) scene.now.trains) }
+    ensures typed { IfOk result (λ rows. IsTrue (list_all is_typed_row rows.items)) }
+    ensures refused { IfErr result (AnswersFirst (first_failing (trains_tests scene.now 1 scene.now.trains))) }
+{
+    let mut rows = Vec::with_capacity(alloc, scene.trains.as_slice().len())?;
+    for (index, train) in scene.trains.as_slice().iter().enumerate() {
+        let row = train_row(alloc, scene, kinds, ways, index as u32 + 1, train)?;
+        if rows.push(row).is_err() {
+            return Err(Fault::OutOfMemory);
+        }
+    }
+    Ok(rows)
+}
+
+/// The row of a train, or its first refusal.
+fn train_row(
+    alloc: Global,
+    scene: &Scene,
+    kinds: &IndexSet<Name>,
+    ways: &Ways,
     item: u32,
     train: &SceneTrain,
-) -> Option<Refusal>
+) -> Result<TrainRow, Fault>
     requires kinds { kinds.now.keys ≡ map (λ (kind : TrainKind). kind.name) scene.now.kinds }
+    requires ways { AreWays scene.now.network ways.now }
     requires train { IsTrue (is_fit_train train.now) }
-    ensures { result ≡ first_failing (train_tests scene.now item train.now) }
+    ensures accepted { OnOk result (first_failing (train_tests scene.now item train.now) ≡ None) }
+    ensures row { IfOk result (λ row. row ≡ train_row scene.now train.now) }
+    ensures typed { IfOk result (λ row. IsTrue (is_typed_row row)) }
+    ensures refused { IfErr result (AnswersFirst (first_failing (train_tests scene.now item train.now))) }
+{
+    let numbers = itinerary_of(alloc, scene, kinds, ways, item, train)?;
+    let kind = kind_of(scene.kinds.as_slice(), kinds, train.kind);
+    let moves = moves_over(alloc, &scene.network, ways, &numbers)?;
+    Ok(typed_row(train.name, kind, train.entry, train.priority, moves))
+}
+
+/// The numbers of the routes of the train's itinerary, or its first refusal.
+fn itinerary_of(
+    alloc: Global,
+    scene: &Scene,
+    kinds: &IndexSet<Name>,
+    ways: &Ways,
+    item: u32,
+    train: &SceneTrain,
+) -> Result<Vec<usize>, Fault>
+    requires kinds { kinds.now.keys ≡ map (λ (kind : TrainKind). kind.name) scene.now.kinds }
+    requires ways { AreWays scene.now.network ways.now }
+    requires train { IsTrue (is_fit_train train.now) }
+    ensures accepted { OnOk result (first_failing (train_tests scene.now item train.now) ≡ None) }
+    ensures numbers { IfOk result (λ numbers. IsTrue (are_numbers scene.now.network numbers.items)) }
+    ensures routes { IfOk result (λ numbers. routes_at scene.now.network numbers.items ≡ routes_of scene.now.network train.now.routes) }
+    ensures refused { IfErr result (AnswersFirst (first_failing (train_tests scene.now item train.now))) }
 {
     if !kinds.contains(&train.kind) {
-        return Some(of_train(Reason::Unknown, item, 2));
+        return Err(Fault::Refused(of_train(Reason::Unknown, item, 2)));
     }
-    let names = train.routes.as_slice();
-    if !are_known(&scene.network, names) {
-        return Some(of_train(Reason::Unknown, item, 5));
+    let Some(numbers) = route_numbers(alloc, &ways.names, train.routes.as_slice())? else {
+        return Err(Fault::Refused(of_train(Reason::Unknown, item, 5)));
+    };
+    match route_refusal(&scene.network, ways, item, &numbers) {
+        Some(refusal) => Err(Fault::Refused(refusal)),
+        None => Ok(numbers),
     }
-    route_refusal(&scene.network, item, names)
 }
 
-/// Whether the network has a route of each name.
-fn are_known(network: &Network, names: &[Name]) -> bool
-    ensures { result ≡ are_known network.now names.now }
+/// A row of these values. Its name is a name by its type.
+fn typed_row(
+    name: Name,
+    kind: TrainKind,
+    entry: Time,
+    priority: u8,
+    moves: Vec<MoveRow>,
+) -> TrainRow
+    ensures row { result ≡ record { name = name; kind = kind; entry = entry; priority = priority; moves = moves.items } }
+    ensures typed { IsTrue (is_typed_row result) }
 {
-    names.iter().all(|name| is_known(network, *name))
-}
-
-/// Whether the network has a route of the name.
-fn is_known(network: &Network, name: Name) -> bool
-    ensures { result ≡ is_known network.now name }
-{
-    network.route(name).is_some()
+    prove!(!name.as_bytes().is_empty());
+    TrainRow {
+        name,
+        kind,
+        entry,
+        priority,
+        moves: Seq::from_vec(moves),
+    }
 }

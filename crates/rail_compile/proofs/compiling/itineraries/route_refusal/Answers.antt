@@ -1,40 +1,41 @@
 use Rattle.std.proofs.Common.{◌≡◌, ◌≤◌, ◌-◌, true, false, get_or, length, Some, sym, ap, ◌∙◌, arith}
 use Rattle.std.proofs.lemmas.List.{length-map}
-use Rattle.rail_routes.specs.declared.items.Route.{Route}
 use Rattle.rail_base.specs.declared.refusals.Reason.TheVariants as reason
-use Rattle.rail_compile.specs.Itineraries.{no_route, is_portal, routes_of, route_of}
+use Rattle.rail_compile.specs.Itineraries.{no_route, is_portal}
 use Rattle.rail_compile.specs.Refusals.{of_train}
+use Rattle.rail_compile.specs.declared.compiling.ways.Way.{Way}
+use Rattle.rail_compile.specs.Ways.{route_at, routes_at}
 use Rattle.rail_compile.proofs.Places.{refused_inside, ending_is}
 use Rattle.rail_compile.proofs.compiling.itineraries.route_refusal.Goals as goal
 
 pub returns-then-is_some : goal.returns-then-is_some
 returns-then-is_some c =
     let net = c.args.network.now in
-    let routes = routes_of net c.args.names.now in
-    let some : 1 ≤ length routes = omega (arith, c.requires.some, length-map c.args.names.now (route_of net)) in
-    let begun : is_portal net (get_or routes 0 no_route).from ≡ true = ap (λ (r : Route). is_portal net r.from) (sym c.known_route-first.ensures.route) ∙ sym c.is_portal.ensures ∙ c.if-not-is_portal.false in
+    let routes = routes_at net c.args.numbers.now in
+    let some : 1 ≤ length routes = omega (arith, c.requires.some, length-map c.args.numbers.now (route_at net)) in
+    let begun : is_portal net (get_or routes 0 no_route).from ≡ true = ap (λ (w : Way). w.begins_at_portal) (sym c.way_in-first.ensures) ∙ c.if-not-first.false in
     refused_inside net c.args.item routes some begun c.place_refusal-broken.result c.place_refusal-broken.ensures (sym c.is_some.ensures ∙ c.if-is_some.true)
 
-pub returns-then-not-is_portal-2 : goal.returns-then-not-is_portal-2
-returns-then-not-is_portal-2 c =
+pub returns-then-not-last : goal.returns-then-not-last
+returns-then-not-last c =
     let net = c.args.network.now in
-    let routes = routes_of net c.args.names.now in
-    let count : length routes ≡ length c.args.names.now = length-map c.args.names.now (route_of net) in
+    let routes = routes_at net c.args.numbers.now in
+    let count : length routes ≡ length c.args.numbers.now = length-map c.args.numbers.now (route_at net) in
     let some : 1 ≤ length routes = omega (arith, c.requires.some, count) in
-    let begun : is_portal net (get_or routes 0 no_route).from ≡ true = ap (λ (r : Route). is_portal net r.from) (sym c.known_route-first.ensures.route) ∙ sym c.is_portal.ensures ∙ c.if-not-is_portal.false in
+    let begun : is_portal net (get_or routes 0 no_route).from ≡ true = ap (λ (w : Way). w.begins_at_portal) (sym c.way_in-first.ensures) ∙ c.if-not-first.false in
     let at_end : is_portal net (get_or routes (length routes - 1) no_route).to ≡ false =
-    ap (λ k. is_portal net (get_or routes (k - 1) no_route).to) count ∙ ap (λ (r : Route). is_portal net r.to) (sym c.known_route-last.ensures.route) ∙ sym c.is_portal-2.ensures ∙ c.if-not-is_portal-2.true in
-    ap Some c.of_train-then-not-is_portal-2.ensures
+    ap (λ k. is_portal net (get_or routes (k - 1) no_route).to) count ∙ ap (λ (w : Way). w.ends_at_portal) (sym c.way_in-last.ensures) ∙ c.if-not-last.true in
+    ap Some c.of_train-then-not-last.ensures
     ∙ ap (λ k. Some (of_train reason.NotPortal c.args.item k)) (sym count)
     ∙ sym (ending_is net c.args.item routes some begun c.place_refusal-broken.result false c.place_refusal-broken.ensures (sym c.is_some.ensures ∙ c.if-is_some.false) at_end)
 
 pub returns : goal.returns
 returns c =
     let net = c.args.network.now in
-    let routes = routes_of net c.args.names.now in
-    let count : length routes ≡ length c.args.names.now = length-map c.args.names.now (route_of net) in
+    let routes = routes_at net c.args.numbers.now in
+    let count : length routes ≡ length c.args.numbers.now = length-map c.args.numbers.now (route_at net) in
     let some : 1 ≤ length routes = omega (arith, c.requires.some, count) in
-    let begun : is_portal net (get_or routes 0 no_route).from ≡ true = ap (λ (r : Route). is_portal net r.from) (sym c.known_route-first.ensures.route) ∙ sym c.is_portal.ensures ∙ c.if-not-is_portal.false in
+    let begun : is_portal net (get_or routes 0 no_route).from ≡ true = ap (λ (w : Way). w.begins_at_portal) (sym c.way_in-first.ensures) ∙ c.if-not-first.false in
     let at_end : is_portal net (get_or routes (length routes - 1) no_route).to ≡ true =
-    ap (λ k. is_portal net (get_or routes (k - 1) no_route).to) count ∙ ap (λ (r : Route). is_portal net r.to) (sym c.known_route-last.ensures.route) ∙ sym c.is_portal-2.ensures ∙ c.if-not-is_portal-2.false in
+    ap (λ k. is_portal net (get_or routes (k - 1) no_route).to) count ∙ ap (λ (w : Way). w.ends_at_portal) (sym c.way_in-last.ensures) ∙ c.if-not-last.false in
     sym (ending_is net c.args.item routes some begun c.place_refusal-broken.result true c.place_refusal-broken.ensures (sym c.is_some.ensures ∙ c.if-is_some.false) at_end)

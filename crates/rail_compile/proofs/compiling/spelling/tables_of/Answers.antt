@@ -16,6 +16,6 @@ returns-clause-plannable c =
     let spelled : Tables = record { sections = c.from_vec.result; release = scene.release; depth = scene.depth; trains = c.from_vec-2.result } in
     let same : spelled ≡ tables_of scene = λ i. record { sections = (c.from_vec.ensures ∙ sections) i; release = scene.release; depth = scene.depth; trains = (c.from_vec-2.ensures ∙ trains) i } in
     subst P (sym same)
-    (plannable scene c.requires.scene c.sections.ensures.sound c.requires.unrefused
+    (plannable scene c.requires.scene c.sections.ensures.sound c.in_ok-trains.ensures.accepted
     (ap (list_all is_named_row) (sym sections) ∙ c.in_ok-sections.ensures.named)
     (ap (list_all is_typed_row) (sym trains) ∙ c.in_ok-trains.ensures.typed))

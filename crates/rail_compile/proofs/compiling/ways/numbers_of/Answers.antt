@@ -3,7 +3,7 @@ use Rattle.std.specs.List.{list_any}
 use Rattle.rail_track.specs.Joints.{is_named}
 use Rattle.rail_compile.proofs.Finds.{position_some, all_read}
 use Rattle.rail_compile.proofs.Routes.{is_known_step, leads_from}
-use Rattle.rail_compile.proofs.compiling.spelling.numbers_of.Goals as goal
+use Rattle.rail_compile.proofs.compiling.ways.numbers_of.Goals as goal
 
 pub unwrap-index-requires : goal.unwrap-index-requires
 unwrap-index-requires c =

@@ -1,0 +1,127 @@
+//! The routes of a network, with what each gives to the itineraries over it looked up once.
+
+ghost use Rattle.std.specs.Prelude.{◌≡◌, map, None, IsTrue, IfOk};
+ghost use Rattle.rail_routes.specs.declared.items.Route.{Route};
+ghost use Rattle.rail_routes.specs.declared.items.Step.{Step};
+ghost use Rattle.rail_routes.specs.Sound.{is_sound_route};
+ghost use Rattle.rail_compile.specs.Itineraries.{is_portal, is_signal, move_over, number_of};
+ghost use Rattle.rail_compile.specs.Ways.{AreWays, way_over};
+
+use indexmap::IndexSet;
+use rail_base::limits::SECTIONS;
+use rail_base::{MoveRow, Name, SectionNo, Seq};
+use rail_routes::{Network, Role, Route};
+use std::alloc::{AllocError, Global};
+
+/// What a route gives to each itinerary over it.
+#[derive(Drop)]
+pub struct Way {
+    /// The move over the route, without a turn.
+    pub row: MoveRow,
+    pub begins_at_portal: bool,
+    pub ends_at_portal: bool,
+    pub ends_at_signal: bool,
+}
+
+/// The routes of a network by their names, each with its way, in the order of the network.
+#[derive(Drop)]
+pub struct Ways {
+    pub names: IndexSet<Name>,
+    pub items: Vec<Way>,
+}
+
+/// The ways of the network.
+pub fn ways_of(alloc: Global, network: &Network) -> Result<Ways, AllocError>
+    ensures { IfOk result (λ ways. AreWays network.now ways) }
+{
+    let names = route_names(alloc, network)?;
+    let items = way_items(alloc, network)?;
+    Ok(Ways { names, items })
+}
+
+/// The names of the routes in their order.
+fn route_names(alloc: Global, network: &Network) -> Result<IndexSet<Name>, AllocError>
+    ensures { IfOk result (λ names. names.keys ≡ map (λ (route : Route). route.name) network.now.routes) }
+{
+    let mut names = IndexSet::new(alloc);
+    for route in network.routes() {
+        names.insert(route.name)?;
+    }
+    Ok(names)
+}
+
+/// The way over each route, in their order.
+fn way_items(alloc: Global, network: &Network) -> Result<Vec<Way>, AllocError>
+    ensures { IfOk result (λ ways. ways.items ≡ map (way_over network.now) network.now.routes) }
+{
+    let mut ways = Vec::with_capacity(alloc, network.routes().len())?;
+    for route in network.routes() {
+        ways.push(way_over(alloc, network, route)?)?;
+    }
+    Ok(ways)
+}
+
+/// The way over the route.
+fn way_over(alloc: Global, network: &Network, route: &Route) -> Result<Way, AllocError>
+    requires { IsTrue (is_sound_route network.now route.now) }
+    ensures { IfOk result (λ way. way ≡ way_over network.now route.now) }
+{
+    let row = move_over(alloc, network, route)?;
+    Ok(Way {
+        row,
+        begins_at_portal: is_portal(network, route.from),
+        ends_at_portal: is_portal(network, route.to),
+        ends_at_signal: is_signal(network, route.to),
+    })
+}
+
+/// The move over a route, from the post at which it begins, without a turn.
+fn move_over(alloc: Global, network: &Network, route: &Route) -> Result<MoveRow, AllocError>
+    requires { IsTrue (is_sound_route network.now route.now) }
+    ensures { IfOk result (λ row. row ≡ move_over network.now route.now None) }
+{
+    let sections = numbers_of(alloc, network, route)?;
+    let post = network.post(route.from).unwrap();
+    Ok(MoveRow {
+        sections: Seq::from_vec(sections),
+        setting: post.setting,
+        watching: post.watching,
+        approach: post.approach,
+        turn: None,
+    })
+}
+
+/// The numbers of the sections of the route, in its order.
+fn numbers_of(alloc: Global, network: &Network, route: &Route) -> Result<Vec<SectionNo>, AllocError>
+    requires { IsTrue (is_sound_route network.now route.now) }
+    ensures { IfOk result (λ numbers. numbers.items ≡ map (λ (step : Step). number_of network.now step.section) route.now.steps) }
+{
+    // A network is sound at any time, as its sections tell.
+    prove!(network.sections().len() <= SECTIONS);
+    let mut numbers = Vec::with_capacity(alloc, route.steps.as_slice().len())?;
+    for step in route.steps.as_slice() {
+        let index = network.section_index(step.section).unwrap();
+        numbers.push(SectionNo(index as u16))?;
+    }
+    Ok(numbers)
+}
+
+/// Whether the post of this name is a portal.
+fn is_portal(network: &Network, name: Name) -> bool
+    ensures { result ≡ is_portal network.now name }
+{
+    match network.post(name) {
+        Some(post) => matches!(post.role, Role::Portal),
+        None => false,
+    }
+}
+
+/// Whether the post of this name is a signal.
+fn is_signal(network: &Network, name: Name) -> bool
+    ensures { result ≡ is_signal network.now name }
+{
+    match network.post(name) {
+        Some(post) => matches!(post.role, Role::Signal),
+        None => false,
+    }
+}
