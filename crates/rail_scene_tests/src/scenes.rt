@@ -10,10 +10,10 @@ use cases::CASES;
 use limits::LIMITS;
 pub(crate) use pieces::TRACK;
 use pieces::{OTHERS, ROOT, STATION};
-use rail_base::{Fault, Name, Time, TrainKind};
+use rail_base::{Fault, Name, Part, Time, TrainKind};
 use rail_gen::scene_of;
 use rail_routes::{Network, Route, Step};
-use rail_scene::{Scene, SceneTrain, read_scene};
+use rail_scene::{Scene, SceneTrain, item_name, read_scene};
 use rail_scene_text::write_scene;
 use rail_track::{Section, SectionKind};
 use std::alloc::{AllocError, Global};
@@ -114,6 +114,26 @@ fn refuses_bytes_that_are_no_toml(rt: HostRuntime) {
     assert!(rt; is_told(rt.alloc(), cut, "NotToml Bytes 0 0"));
     let no_text: &[u8] = b"version = 1\nrelease = 20 # \xff\n";
     assert!(rt; is_told(rt.alloc(), no_text, "NotToml Bytes 0 0"));
+}
+
+#[test]
+fn tells_the_name_of_an_item(rt: HostRuntime) {
+    let alloc = rt.alloc();
+    assert!(rt; is_named(alloc, Part::Train, 2, Some(b"B".as_slice())));
+    assert!(rt; is_named(alloc, Part::Train, 1, None));
+    assert!(rt; is_named(alloc, Part::Train, 3, None));
+    assert!(rt; is_named(alloc, Part::Kind, 2, None));
+    assert!(rt; is_named(alloc, Part::Row, 1, None));
+}
+
+/// Whether the item of a file with two trains, of which the first one has no name, has this name.
+fn is_named(alloc: Global, part: Part, item: u32, name: Option<&[u8]>) -> bool {
+    let file: &[u8] = b"[[train]]\nname = 1\n[[train]]\nname = \"B\"\n";
+    match item_name(alloc, file, part, item) {
+        Ok(Some(told)) => name == Some(told.as_bytes()),
+        Ok(None) => name.is_none(),
+        Err(_) => false,
+    }
 }
 
 #[test]
