@@ -1,8 +1,8 @@
 """Measures runs: instructions of the whole program on each scene, counted by callgrind.
 
-usage: measure_runs.py PROGRAM SCENE[=INSTRUCTIONS] ..
+usage: measure_runs.py PROGRAM SCENE[,TIMETABLE[,COMMANDS]][=INSTRUCTIONS] ..
 
-Runs `PROGRAM run SCENE` under `valgrind --tool=callgrind` for each scene file and prints a row of its name,
+Runs `PROGRAM run SCENE ..` under `valgrind --tool=callgrind` for each input and prints a row of the scene's name,
 the lines of its history, the instructions, those of a line, those of reading and compiling the scene, and the
 ones in the C library's `write`; and, behind a scene with a number of instructions to compare with, the ratio.
 What the system does in a write is not counted.
@@ -21,12 +21,12 @@ def inclusive(listing, name):
     return int(found[1].replace(",", "")) if found else 0
 
 
-def measure(program, scene):
+def measure(program, files):
     """The lines, the instructions, those of reading and compiling, and those of `write`."""
     with tempfile.TemporaryDirectory() as folder:
         counts = pathlib.Path(folder) / "counts"
         ran = subprocess.run(
-            ["valgrind", "--tool=callgrind", f"--callgrind-out-file={counts}", program, "run", scene],
+            ["valgrind", "--tool=callgrind", f"--callgrind-out-file={counts}", program, "run", *files],
             capture_output=True,
             check=True,
         )
@@ -45,11 +45,12 @@ def main(program, *scenes):
     print("| Scene | Lines | Instructions | A line | Scene | `write` | Ratio |")
     print("|---|---|---|---|---|---|---|")
     for it in scenes:
-        scene, _, mark = it.partition("=")
-        lines, whole, reading, writing = measure(program, scene)
+        names, _, mark = it.partition("=")
+        files = names.split(",")
+        lines, whole, reading, writing = measure(program, files)
         ratio = f"{whole / int(mark):.1f}" if mark else ""
         each = f"{lines:,} | {whole:,} | {whole // lines:,} | {reading:,} | {writing:,}"
-        print(f"| {pathlib.Path(scene).stem} | {each} | {ratio} |")
+        print(f"| {pathlib.Path(files[0]).stem} | {each} | {ratio} |")
 
 
 if __name__ == "__main__":

@@ -4,7 +4,7 @@
 use rail_base::limits::FILE_BYTES;
 use rail_base::{Name, Refusal, Word};
 use rail_cli::Status;
-use rail_explain::{explained, file_of, usage_of};
+use rail_explain::{explained, file_of, law_text, usage_of};
 use rail_io::{FileShelf, read_whole};
 use rail_scene::item_name;
 use rail_scene::keys::keys_in;
@@ -20,7 +20,8 @@ pub fn explain(rt: &HostRuntime, words: &[Word], status: Status, failed: Option<
         Status::Refused(refusal) => explain_refusal(rt, words, &refusal),
         Status::ReadFault => explain_read_fault(rt, failed),
         Status::WriteFault => rt.eprintln("standard output did not take all that was written"),
-        Status::Done | Status::OutOfMemory | Status::CheckedNo { .. } => Ok(()),
+        Status::CheckedNo { law, .. } => rt.eprintln(law_text(law)),
+        Status::Done | Status::OutOfMemory => Ok(()),
     };
 }
 

@@ -32,7 +32,7 @@ fn main(rt: HostRuntime) -> ExitCode {
         Ok(words) => answer(&rt, &words),
         Err(error) if error.kind() == ErrorKind::OutOfMemory => end(&rt, Status::OutOfMemory),
         Err(_) => {
-            let _ = rt.eprintln("words fault");
+            let _ = rt.eprintln("a word of the command line is no text in UTF-8\nwords fault");
             ExitCode::from(WORDS_FAULT)
         }
     }

@@ -2,7 +2,7 @@
 
 /// The answer to `rail --help`: the forms and what each prints.
 pub const HELP: &str = "\
-rail simulates the operation of railway lines and stations, and proves what it prints.
+rail simulates the operation of railway lines and stations; that it keeps its rules is proved.
 
     rail run SCENE [TIMETABLE [COMMANDS]]    the history of the scene, line by line
     rail infra SCENE                         counts, and routes with their lengths

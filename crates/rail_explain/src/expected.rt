@@ -14,7 +14,7 @@ pub fn put_range(line: &mut Line, form: Form)
     match form {
         Form::Whole(bounds) => put_bounds(line, bounds),
         Form::Choice => line.put(b" must be plain, points, crossing or slip"),
-        Form::Time => line.put(b" must be a time of at most 240:00:00"),
+        Form::Time => line.put(b" must be a time as 06:00:00, of at most 240:00:00"),
         Form::Joints => {
             line.put(
                 b" must have 2 names for plain track, 3 for points, 4 for a crossing or a slip",

@@ -14,8 +14,8 @@ rail stairs SCENE [TIMETABLE [COMMANDS]]
 rail report SCENE [TIMETABLE [COMMANDS]]
 rail capacity LINE FROM TO SCENE [TIMETABLE [COMMANDS]]
 rail edit SCENE EDITS
-rail gen NUMBER
 rail scene NUMBER
+rail gen NUMBER
 rail --help
 rail --version";
 

@@ -1,5 +1,5 @@
 //! What a refusal means, in a planner's words: one line that says in which file it lies, at which item and which key, and
-//! what was expected there.
+//! what was expected there; and which law a history breaks.
 //!
 //! This layer stands on `rail_words` for the forms of a command line, on `rail_scene` for the keys of a scene file and
 //! the names of its items, and on the room for a line of `rail_history`. The program prints such a line on standard error
@@ -13,7 +13,9 @@ mod forms;
 mod places;
 mod reasons;
 mod refusals;
+mod verdicts;
 
 pub use files::file_of;
 pub use forms::{ALL_FORMS, usage_of};
 pub use refusals::{MOST, explained};
+pub use verdicts::law_text;

@@ -77,8 +77,9 @@ pub fn put_key(line: &mut Line, refusal: &Refusal)
             line.put(key.name.text().as_bytes());
             line.put(b"\"");
         }
-        None if refusal.step > 0 => put_step(line, b"value", refusal.step),
-        None => {}
+        None if refusal.step == 0 => {}
+        None if refusal.part == Part::Word => put_step(line, b"piece", refusal.step),
+        None => put_step(line, b"value", refusal.step),
     }
 }
 

@@ -16,19 +16,21 @@ pub fn meaning(refusal: &Refusal) -> &'static [u8]
         Reason::KeyUnknown => b" has a key that is none of its keys",
         Reason::BadName => b" must be a name: 1 to 16 of A-Z a-z 0-9 _ -",
         Reason::Repeated => repeated(refusal.part),
-        Reason::Unknown => b" names what is not there",
+        Reason::Unknown => unknown(refusal.part),
         Reason::Range => b" is out of its range",
         Reason::JointCrowded => {
             b" is in two sections already, stands twice in this one, or carries a portal"
         }
         Reason::PostPlace => post_place(refusal.part),
-        Reason::RouteBroken =>
-            b" does not lead on from where the route is, or begins or ends at another post",
+        Reason::RouteBroken => {
+            b" does not lead on: no way of its section joins these joints, or the post there is another one or looks back"
+        }
         Reason::RouteRepeat => b" is over a section that stood in the route before",
         Reason::ItineraryBroken => {
             b": the next route does not begin at the signal where this one ends, and no turn leads there"
         }
-        Reason::NotPortal => b": the way must begin and end at a portal",
+        Reason::NotPortal if refusal.step == 0 => b": the way must begin at a portal",
+        Reason::NotPortal => b": the way must end at a portal",
         Reason::TooLong =>
             b": the train is longer than the sections of the route on which it is to stand",
         Reason::SelfBlocked => b": the train would stand on a section that its next move needs",
@@ -37,14 +39,16 @@ pub fn meaning(refusal: &Refusal) -> &'static [u8]
             b" must have the five fields train,place,arrival,departure,dwell; record 1 is that header"
         }
         Reason::TimetableValue => {
-            b" must have a train, a place of its way without another call, times or nothing, and a dwell or pass"
+            b" has no such train or place, a second call, no time as 01:30:00, a pass where it turns, or a departure at the end"
         }
         Reason::InUse => b" takes out what is still in use",
         Reason::UnknownPolicy => b" must be priority, timetable, fcfs or rotating",
         Reason::CommandForm => {
-            b" must be a time and close, open, stop, go, cancel, priority, policy or retire with its words"
+            b" must be a time as 01:30:00 and close, open, stop, go, cancel, priority, policy or retire with its words"
         }
-        Reason::CommandName => b" names a section or a train that is not in the scene",
+        Reason::CommandName => {
+            b" names nothing of the scene: close and open take a section, stop, go, cancel and priority a train"
+        }
         Reason::CommandOrder => b" has a time before that of the command above it",
         Reason::HistoryForm => b" is no line of a history, or has no line feed at its end",
         Reason::LineEmpty => b", LINE, must name one section or more",
@@ -61,6 +65,16 @@ pub fn meaning(refusal: &Refusal) -> &'static [u8]
         Reason::RerouteForm => b" has not the form of a rerouting",
         Reason::RerouteName => b" has a name that is not there",
         Reason::NotYet => b" asks for a form that is not built",
+    }
+}
+
+/// What is not there.
+fn unknown(part: Part) -> &'static [u8]
+    ensures short { length result.now ≤ 140 }
+{
+    match part {
+        Part::Word => b" of LINE names no section of the scene",
+        _ => b" names what is not there",
     }
 }
 

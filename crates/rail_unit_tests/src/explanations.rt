@@ -1,7 +1,7 @@
 //! What is said of a refusal.
 
 use rail_base::{Name, Part, Reason, Refusal, Word};
-use rail_explain::{ALL_FORMS, explained, file_of, usage_of};
+use rail_explain::{ALL_FORMS, explained, file_of, law_text, usage_of};
 use rail_words::Form;
 use std::alloc::{AllocError, Global};
 
@@ -77,7 +77,7 @@ const TOLD: [(Reason, Part, u32, &str); 38] = [
         Reason::RouteBroken,
         Part::Route,
         3,
-        "route 2: step 3 does not lead on from where the route is, or begins or ends at another post",
+        "route 2: step 3 does not lead on: no way of its section joins these joints, or the post there is another one or looks back",
     ),
     (
         Reason::RouteRepeat,
@@ -95,7 +95,7 @@ const TOLD: [(Reason, Part, u32, &str); 38] = [
         Reason::NotPortal,
         Part::Train,
         0,
-        "train 2: the way must begin and end at a portal",
+        "train 2: the way must begin at a portal",
     ),
     (
         Reason::TooLong,
@@ -125,7 +125,7 @@ const TOLD: [(Reason, Part, u32, &str); 38] = [
         Reason::TimetableValue,
         Part::Row,
         0,
-        "record 2 must have a train, a place of its way without another call, times or nothing, and a dwell or pass",
+        "record 2 has no such train or place, a second call, no time as 01:30:00, a pass where it turns, or a departure at the end",
     ),
     (
         Reason::InUse,
@@ -143,13 +143,13 @@ const TOLD: [(Reason, Part, u32, &str); 38] = [
         Reason::CommandForm,
         Part::Line,
         0,
-        "line 2 must be a time and close, open, stop, go, cancel, priority, policy or retire with its words",
+        "line 2 must be a time as 01:30:00 and close, open, stop, go, cancel, priority, policy or retire with its words",
     ),
     (
         Reason::CommandName,
         Part::Line,
         0,
-        "line 2 names a section or a train that is not in the scene",
+        "line 2 names nothing of the scene: close and open take a section, stop, go, cancel and priority a train",
     ),
     (
         Reason::CommandOrder,
@@ -226,8 +226,8 @@ const TOLD: [(Reason, Part, u32, &str); 38] = [
     (
         Reason::Unknown,
         Part::Word,
-        0,
-        "word 2 names what is not there",
+        1,
+        "word 2: piece 1 of LINE names no section of the scene",
     ),
     (
         Reason::Repeated,
@@ -330,4 +330,10 @@ fn shows(alloc: Global, text: &str, usage: &str) -> bool {
         Ok(words) => usage_of(&words) == usage,
         Err(_) => false,
     }
+}
+
+#[test]
+fn says_what_each_law_is(rt: HostRuntime) {
+    assert!(rt; law_text(3) == "law 3: the train is stopped, or a section that it needs is closed");
+    assert!(rt; law_text(7) == "law 7: the end line is missing");
 }
