@@ -4,24 +4,26 @@ use Rattle.std.proofs.lemmas.List.{drop-append-le, length_push}
 use Rattle.rail_rules.specs.Numbers.{are_apart}
 use Rattle.rail_rules.specs.Moves.{Moves, stand}
 use Rattle.rail_rules.specs.Places.{place_of, is_inside, after, is_valid_state}
+use Rattle.rail_rules.specs.Analysis.{moves_left}
 use Rattle.rail_rules.proofs.CallerLemmas.{state_parts}
 use Rattle.rail_place.specs.Tables.{moves_in, MoveLists}
 use Rattle.rail_place.specs.Made.{State, IsMadeFor}
 use Rattle.rail_place.specs.Plays.{IsPlayed}
 use Rattle.rail_place.proofs.CallerLemmas.{played_last, way_back, step_back}
 use Rattle.rail_consequence.specs.Needs.{Counts, IsCounted, IsMore, IsRoomFor, times}
-use Rattle.rail_consequence.specs.Workspace.{Work, IsReady}
-use Rattle.rail_consequence.proofs.Legs.{inside_listed}
-use Rattle.rail_consequence.proofs.Played.{played_valid}
+use Rattle.rail_consequence.specs.Workspace.{Work, IsPlayedFrom, IsReady}
+use Rattle.rail_consequence.proofs.Legs.{inside_listed, inside_parts}
+use Rattle.rail_consequence.proofs.Played.{left_at, played_valid}
 use Rattle.rail_consequence.proofs.Counts.{next_place, counted_before, room_before, length_after}
 use Rattle.rail_base.specs.declared.limits.TheConstants.{TRAINS}
 
+-- the moves of the list behind some of the others lead from a valid state to the places
+abbrev pub IsPlayedLast : Moves → Work → Type 0
+IsPlayedLast plan w = (n : ℕ) × (n < length w.list) × IsPlayedFrom plan n w
+
 -- the state before the last move, which the train made
 pub record IsLastMove (table : List MoveLists) (w : Work) (earlier : List ℕ) (t : ℕ) : Type 0 where
-  pub start : List ℕ
-  pub valid_start : is_valid_state (moves_in table) start ≡ true
   pub before : List ℕ
-  pub played : IsPlayed (moves_in table) start earlier before
   pub inside : is_inside (moves_in table) before t ≡ true
   pub next : after before t ≡ w.places.positions
   pub listed : t < length table
@@ -29,22 +31,27 @@ pub record IsLastMove (table : List MoveLists) (w : Work) (earlier : List ℕ) (
   pub free : (u : ℕ) → u ≢ t → are_apart (stand (moves_in table) t (place_of w.places.positions t - 1)) (stand (moves_in table) u (place_of w.places.positions u)) ≡ true
   pub back : set w.places.positions t (place_of w.places.positions t - 1) ≡ before
 
-module _ (table : List MoveLists) (w : Work) (earlier : List ℕ) (t : ℕ) (ready : IsReady table w) (list : w.list ≡ earlier ++ t ∷ []) where
+-- the list from an entry on that is not the last one
+drop_last : (earlier list : List ℕ) (t n : ℕ) → list ≡ earlier ++ t ∷ [] → n < length list → drop n list ≡ drop n earlier ++ t ∷ []
+drop_last earlier list t n is lt =
+    let le : n ≤ length earlier = omega (arith, lt, ap length is, length_push earlier t) in
+    ap (drop n) is ∙ drop-append-le n earlier (t ∷ []) le
+
+module _ (table : List MoveLists) (w : Work) (earlier : List ℕ) (t : ℕ) (ready : IsReady table w) (played : IsPlayedLast (moves_in table) w) (ends : w.list ≡ earlier ++ t ∷ []) where
   abbrev plan : Moves
   plan = moves_in table
 
   pub last_move : IsLastMove table w earlier t
   last_move =
-      let P : List ℕ → Type 0 = λ xs. IsPlayed plan ready.start xs w.places.positions in
-      let last = played_last plan ready.start earlier w.places.positions t (subst P list ready.played) in
-      let valid = played_valid plan ready.start earlier last.0 ready.made.moves.valid ready.valid last.1.played in
+      let from = played.2 in
+      let P : List ℕ → Type 0 = λ xs. IsPlayed plan from.start xs w.places.positions in
+      let xs : List ℕ = drop played.0 earlier in
+      let last = played_last plan from.start xs w.places.positions t (subst P (drop_last earlier w.list t played.0 ends played.1) from.played) in
+      let valid = played_valid plan from.start xs last.0 ready.made.moves.valid from.valid last.1.played in
       let lt = inside_listed plan last.0 t last.1.inside in
       let way = way_back plan last.0 w.places.positions t valid lt last.1.next in
       record {
-        start = ready.start;
-        valid_start = ready.valid;
         before = last.0;
-        played = last.1.played;
         inside = last.1.inside;
         next = last.1.next;
         listed = omega (arith, lt, (state_parts plan last.0 valid).long);
@@ -73,20 +80,15 @@ module _ (table : List MoveLists) (w : Work) (earlier : List ℕ) (t : ℕ) (rea
       let C : List ℕ → Type 0 = λ s. IsCounted plan s w.needs in
       let D : List ℕ → Type 0 = λ s. IsCounted plan s needs in
       let M : List ℕ → Type 0 = λ ys. IsMore w.needs needs t (λ x. times x ys) in
-      let Q : List ℕ → Type 0 = λ s. IsPlayed plan last_move.start list s in
-      let R : List ℕ → Type 0 = λ ys. IsPlayed plan last_move.start ys last_move.before in
+      let one = left_at plan last_move.before t (suc (place_of last_move.before t)) 1 (inside_listed plan last_move.before t last_move.inside) (omega arith) (omega (arith, (inside_parts plan last_move.before t last_move.inside).1)) in
       record {
-        start = last_move.start;
-        valid = last_move.valid_start;
-        played = subst Q (sym there) (subst R (sym at) last_move.played);
         made = made;
         counted = subst D (sym there) (counted_before plan last_move.before t last_move.inside w.needs needs (subst C (sym last_move.next) ready.counted) (subst M is more));
+        few = omega (arith, ready.few, ap length at, ap length ends, length_push earlier t, ap (moves_left plan) there, ap (moves_left plan) last_move.next, one);
       }
 
   pub positions_back : (s : List ℕ) (n : ℕ) (r : List ℕ) → n < length w.list → r ≡ set w.places.positions t (place_of w.places.positions t - 1) → IsPlayed plan s (drop n w.list) w.places.positions → IsPlayed plan s (drop n earlier) r
-  positions_back s n r lt at played =
-      let le : n ≤ length earlier = omega (arith, lt, ap length list, length_push earlier t) in
-      let rest : drop n w.list ≡ drop n earlier ++ t ∷ [] = ap (drop n) list ∙ drop-append-le n earlier (t ∷ []) le in
+  positions_back s n r lt at led =
       let P : List ℕ → Type 0 = λ xs. IsPlayed plan s xs w.places.positions in
       let Q : List ℕ → Type 0 = λ q. IsPlayed plan s (drop n earlier) q in
-      subst Q (sym at) (step_back plan s (drop n earlier) w.places.positions t (subst P rest played))
+      subst Q (sym at) (step_back plan s (drop n earlier) w.places.positions t (subst P (drop_last earlier w.list t n ends lt) led))

@@ -10,3 +10,4 @@ mod Clear
 mod Backward
 mod Stopping
 mod Listing
+mod Without

@@ -1,17 +1,17 @@
 -- Lists played from one state to another.
-use Rattle.std.proofs.Common.{◌≡◌, ℕ, zero, suc, ◌+◌, ◌-◌, ◌*◌, ◌<◌, ◌≤◌, true, ◌&&◌, List, [], ◌∷◌, ◌++◌, length, get_or, set, take, drop, Option, refl, sym, ap, ◌∙◌, subst, ⊎_elim, arith}
-use Rattle.std.proofs.lemmas.Bool.{and_from, cases_eq}
+use Rattle.std.proofs.Common.{◌≡◌, ◌≢◌, ℕ, zero, suc, ◌+◌, ◌-◌, ◌*◌, ◌<◌, ◌≤◌, true, ◌&&◌, List, [], ◌∷◌, ◌++◌, length, get_or, set, take, drop, Option, refl, sym, ap, ◌∙◌, subst, ⊎_elim, arith}
+use Rattle.std.proofs.lemmas.Bool.{and_from, cases_eq, cases_lt}
 use Rattle.std.proofs.lemmas.List.{get_or-set_same, get_or-set_other, length-set, append-nil, append_assoc, take_at, drop_at, length_push}
 use Rattle.rail_base.specs.declared.limits.TheConstants.{ITINERARY_ROUTES, LIST_TRAINS}
 use Rattle.rail_rules.specs.Numbers.{sum_below}
 use Rattle.rail_rules.specs.Moves.{Moves, is_valid}
 use Rattle.rail_rules.specs.Places.{place_of, is_inside, is_legal, after, is_valid_state, nobody_inside, completes}
 use Rattle.rail_rules.specs.Analysis.{moves_left}
-use Rattle.rail_rules.proofs.CallerLemmas.{sum_below-lt, state_parts, legal_move_kept}
+use Rattle.rail_rules.proofs.CallerLemmas.{sum_below-lt, sum_below_same, state_parts, legal_move_kept}
 use Rattle.rail_place.specs.Tables.{moves_in, IsTable, MoveLists}
 use Rattle.rail_place.specs.Made.{State, IsMadeFor}
 use Rattle.rail_place.specs.Plays.{IsPlayed}
-use Rattle.rail_consequence.specs.Workspace.{Work, IsReady, GoesOn, IsBack}
+use Rattle.rail_consequence.specs.Workspace.{Work, IsPlayedFrom, IsReady, GoesOn, IsBack}
 use Rattle.rail_consequence.specs.Needs.{Counts, IsCounted, IsMore, times}
 use Rattle.rail_consequence.proofs.Legs.{inside_parts, inside_listed}
 use Rattle.rail_consequence.proofs.Counts.{counted_next}
@@ -47,6 +47,29 @@ played_completes plan s (t ∷ rest) r played nobody =
     and_from (is_inside plan s t && is_legal plan s t) (completes plan (after s t) rest) (and_from (is_inside plan s t) (is_legal plan s t) played.0 played.1)
     (played_completes plan (after s t) rest r played.2 nobody)
 
+-- a place further on leaves so many moves less
+sum_more : (f g : ℕ → ℕ) (n t d : ℕ) → t < n → ((u : ℕ) → u ≢ t → f u ≡ g u) → f t + d ≡ g t → sum_below f n + d ≡ sum_below g n
+sum_more f g zero t d lt same here = absurd (omega arith)
+sum_more f g (suc n) t d lt same here =
+    ⊎_elim
+    (λ below. omega (arith, sum_more f g n t d below same here, same n (λ e. absurd (omega (arith, e, below)))))
+    (λ last.
+    let is : n ≡ t = omega arith in
+    let P : ℕ → Type 0 = λ k. f k + d ≡ g k in
+    let equal : sum_below f n ≡ sum_below g n = sum_below_same f g n (λ u under. same u (λ e. absurd (omega (arith, e, under)))) in
+    omega (arith, subst P (sym is) here, equal))
+    (cases_lt t n)
+
+pub left_at : (plan : Moves) (s : List ℕ) (t p d : ℕ) → t < length s → place_of s t + d ≡ p → p ≤ plan.moves t → moves_left plan (set s t p) + d ≡ moves_left plan s
+left_at plan s t p d lt at within =
+    let left : List ℕ → ℕ → ℕ = λ r u. plan.moves u - place_of r u in
+    let here : place_of (set s t p) t ≡ p = get_or-set_same s t p 0 lt in
+    let P : ℕ → Type 0 = λ n. sum_below (left (set s t p)) n + d ≡ sum_below (left s) (length s) in
+    subst P (sym (length-set s t p))
+    (sum_more (left (set s t p)) (left s) (length s) t d lt
+    (λ u ne. ap (λ k. plan.moves u - k) (get_or-set_other s t u p 0 ne))
+    (omega (arith, here)))
+
 -- going on to a place leaves fewer moves
 pub fewer_at : (plan : Moves) (s : List ℕ) (t p : ℕ) → t < length s → place_of s t < p → p ≤ plan.moves t → moves_left plan (set s t p) < moves_left plan s
 fewer_at plan s t p lt ahead within =
@@ -64,28 +87,17 @@ fewer_at plan s t p lt ahead within =
 pub fewer_left : (plan : Moves) (s : List ℕ) (t : ℕ) → is_inside plan s t ≡ true → moves_left plan (after s t) < moves_left plan s
 fewer_left plan s t inside = fewer_at plan s t (suc (place_of s t)) (inside_listed plan s t inside) (omega arith) (omega (arith, (inside_parts plan s t inside).1))
 
-pub played_left : (plan : Moves) (s xs r : List ℕ) → IsPlayed plan s xs r → length xs + moves_left plan r ≤ moves_left plan s
-played_left plan s [] r same = omega (arith, ap (moves_left plan) same)
-played_left plan s (t ∷ rest) r played = omega (arith, played_left plan (after s t) rest r played.2, fewer_left plan s t played.0)
-
 sum_bound : (f : ℕ → ℕ) (n k : ℕ) → ((i : ℕ) → f i ≤ k) → sum_below f n ≤ n * k
 sum_bound f zero k h = omega arith
 sum_bound f (suc n) k h = omega (arith, sum_bound f n k h, h n)
 
--- a list that is played is within the limits
-pub played_few : (table : List MoveLists) (s xs r : List ℕ) → IsTable table → is_valid_state (moves_in table) s ≡ true → IsPlayed (moves_in table) s xs r → length xs ≤ LIST_TRAINS
-played_few table s xs r h valid played =
+-- the moves that are left are within the limits
+pub left_few : (table : List MoveLists) (s : List ℕ) → IsTable table → is_valid_state (moves_in table) s ≡ true → moves_left (moves_in table) s ≤ LIST_TRAINS
+left_few table s h valid =
     let plan : Moves = moves_in table in
     let long : length s ≡ length table = (state_parts plan s valid).long in
     let bound : moves_left plan s ≤ length s * ITINERARY_ROUTES = sum_bound (λ t. plan.moves t - place_of s t) (length s) ITINERARY_ROUTES (λ t. omega (arith, h.short t)) in
-    let most : length s * ITINERARY_ROUTES ≤ LIST_TRAINS = omega (arith, long, h.few) in
-    omega (arith, played_left plan s xs r played, bound, most)
-
--- each train named is one of the trains
-pub played_trains : (plan : Moves) (s xs r : List ℕ) (n : ℕ) → IsPlayed plan s xs r → length s ≡ n → (k d : ℕ) → k < length xs → get_or xs k d < n
-played_trains plan s [] r n played long k d lt = absurd (omega arith)
-played_trains plan s (t ∷ rest) r n played long zero d lt = omega (arith, long, inside_listed plan s t played.0)
-played_trains plan s (t ∷ rest) r n played long (suc k) d lt = played_trains plan (after s t) rest r n played.2 (length-set s t (suc (place_of s t)) ∙ long) k d (omega arith)
+    omega (arith, long, h.few, bound)
 
 pub goes_nowhere : (plan : Moves) (w : Work) → GoesOn plan w w
 goes_nowhere plan w = record { more = []; list = sym (append-nil w.list); played = refl }
@@ -110,6 +122,13 @@ back_by plan a b c mark goes at list positions =
       positions = positions a.places.positions (subst P (sym rest) goes.played);
     }
 
+-- and it can be taken back
+pub goes_played : (table : List MoveLists) (a b : Work) (mark : ℕ) → IsReady table a → GoesOn (moves_in table) a b → mark ≡ length a.list → IsPlayedFrom (moves_in table) mark b
+goes_played table a b mark ready goes at =
+    let rest : drop mark b.list ≡ goes.more = ap (drop mark) goes.list ∙ drop_at a.list goes.more mark (sym at) in
+    let P : List ℕ → Type 0 = λ xs. IsPlayed (moves_in table) a.places.positions xs b.places.positions in
+    record { start = a.places.positions; valid = ready.made.valid; played = subst P (sym rest) goes.played }
+
 -- one move more
 pub ready_step :
     (table : List MoveLists)
@@ -120,28 +139,20 @@ pub ready_step :
     (stops : List (Option ℕ))
     (list : List ℕ)
     → IsReady table w → is_inside (moves_in table) w.places.positions t ≡ true
-    → is_legal (moves_in table) w.places.positions t ≡ true → IsMadeFor table places
+    → IsMadeFor table places
     → places.positions ≡ after w.places.positions t
     → IsMore needs w.needs t (λ x. times x ((moves_in table).claim t (place_of w.places.positions t))) → list ≡ w.list ++ t ∷ [] → IsReady table (record { places = places; needs = needs; stops = stops; list = list })
-ready_step table w t places needs stops list ready inside legal made next more at =
+ready_step table w t places needs stops list ready inside made next more at =
     let plan : Moves = moves_in table in
-    let pushed = played_push plan ready.start w.list w.places.positions t ready.played inside legal in
-    let P : List ℕ → Type 0 = λ xs. IsPlayed plan ready.start xs (after w.places.positions t) in
-    let Q : List ℕ → Type 0 = λ s. IsPlayed plan ready.start list s in
     let C : List ℕ → Type 0 = λ s. IsCounted plan s needs in
     record {
-      start = ready.start;
-      valid = ready.valid;
-      played = subst Q (sym next) (subst P (sym at) pushed);
       made = made;
       counted = subst C (sym next) (counted_next plan w.places.positions t inside w.needs needs ready.counted more);
+      few = omega (arith, ready.few, ap length at, length_push w.list t, ap (moves_left plan) next, fewer_left plan w.places.positions t inside);
     }
 
-pub ready_few : (table : List MoveLists) (w : Work) (t : ℕ) → IsReady table w → is_inside (moves_in table) w.places.positions t ≡ true → is_legal (moves_in table) w.places.positions t ≡ true → length w.list < LIST_TRAINS
-ready_few table w t ready inside legal =
-    let plan : Moves = moves_in table in
-    let few = played_few table ready.start (w.list ++ t ∷ []) (after w.places.positions t) ready.made.moves ready.valid (played_push plan ready.start w.list w.places.positions t ready.played inside legal) in
-    omega (arith, few, length_push w.list t)
+pub ready_few : (table : List MoveLists) (w : Work) (t : ℕ) → IsReady table w → is_inside (moves_in table) w.places.positions t ≡ true → length w.list < LIST_TRAINS
+ready_few table w t ready inside = omega (arith, ready.few, fewer_left (moves_in table) w.places.positions t inside)
 
 pub ready_as : (table : List MoveLists) (a b : Work) → a ≡ b → IsReady table b → IsReady table a
 ready_as table a b same ready = let P : Work → Type 0 = λ w. IsReady table w in subst P (sym same) ready

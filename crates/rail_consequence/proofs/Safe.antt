@@ -1,7 +1,7 @@
 -- A safe leg keeps what can be found: the legs that bring every train out do so after it, without the moves that it made.
 use Rattle.std.proofs.Common.{◌≡◌, ◌≢◌, ℕ, zero, suc, ◌+◌, ◌<◌, ◌≤◌, max, Bool, true, false, not, ◌&&◌, cond, eqb, ltb, List, [], ◌∷◌, length, set, refl, sym, ap, ◌∙◌, subst, inl, inr, ◌⊎◌, ⊎_elim, arith}
 use Rattle.std.proofs.lemmas.Bool.{and_parts, and_from, or_cases, or_right, cases_lt, cases_eq, cases_Bool, false≢true, eqb-true, not-true, not_from_false, cond-true, cond-false, le-ltb}
-use Rattle.std.proofs.lemmas.List.{get_or-set_same, get_or-set_other, length-set}
+use Rattle.std.proofs.lemmas.List.{get_or-set_same, get_or-set_other, length-set, set-set}
 use Rattle.rail_rules.specs.Numbers.{any_below, is_in, are_apart}
 use Rattle.rail_rules.specs.Moves.{Moves, stand}
 use Rattle.rail_rules.specs.Places.{place_of, is_inside, holds}
@@ -295,3 +295,36 @@ leads_start plan s leg is safe =
 pub safe_leg_keeps : (plan : Moves) (k : ℕ) (s : List ℕ) (leg : Leg) → is_leg plan s leg ≡ true → is_safe plan s leg ≡ true → Finds plan k s → Finds plan k (after_leg s leg)
 safe_leg_keeps plan k s leg is safe found =
     follow plan leg.train leg.place k s (after_leg s leg) found.0 (leads_start plan s leg is safe) found.1 found.2
+
+-- a train that is taken out where it stands
+leads_out : (plan : Moves) (s : List ℕ) (t : ℕ) → is_inside plan s t ≡ true → Leads plan t (plan.moves t) s (set s t (plan.moves t))
+leads_out plan s t inside =
+    let parts = inside_parts plan s t inside in
+    let lt : t < length s = inside_listed plan s t inside in
+    let here : place_of (set s t (plan.moves t)) t ≡ plan.moves t = get_or-set_same s t (plan.moves t) 0 lt in
+    let none : stand plan t (plan.moves t) ≡ [] = stand_out plan t (plan.moves t) (omega arith) in
+    record {
+      long = length-set s t (plan.moves t);
+      listed = lt;
+      started = parts.0;
+      reached = omega (arith, here, parts.1);
+      others = λ u ne. get_or-set_other s t u (plan.moves t) 0 ne;
+      clear = λ u i ne is from below. ap (are_apart (plan.claim u i)) none ∙ apart_none (plan.claim u i);
+    }
+
+pub found_without : (plan : Moves) (k : ℕ) (s : List ℕ) (t : ℕ) → is_inside plan s t ≡ true → Finds plan k s → Finds plan k (set s t (plan.moves t))
+found_without plan k s t inside found =
+    follow plan t (plan.moves t) k s (set s t (plan.moves t)) found.0 (leads_out plan s t inside) found.1 found.2
+
+-- so where nothing is found without the train, nothing is found after a leg of it
+pub found_past_leg : (plan : Moves) (k : ℕ) (s : List ℕ) (t p : ℕ) → is_leg plan s (record { train = t; place = p }) ≡ true → Finds plan k (set s t p) → Finds plan k (set s t (plan.moves t))
+found_past_leg plan k s t p is found =
+    let goes = goes_parts plan s (record { train = t; place = p }) is in
+    let lt : t < length s = inside_listed plan s t goes.inside in
+    let here : place_of (set s t p) t ≡ p = get_or-set_same s t p 0 lt in
+    let low : 0 < place_of s t = (inside_parts plan s t goes.inside).0 in
+    let P : List ℕ → Type 0 = λ r. Finds plan k r in
+    ⊎_elim
+    (λ still. subst P (set-set s t p (plan.moves t)) (found_without plan k (set s t p) t (inside_from plan (set s t p) t (omega (arith, here, low, goes.ahead)) (omega (arith, here, still))) found))
+    (λ out. let same : p ≡ plan.moves t = omega (arith, goes.within) in subst P (ap (set s t) same) found)
+    (cases_lt p (plan.moves t))

@@ -6,7 +6,7 @@ use Rattle.std.specs.List.{list_any}
 use Rattle.rail_base.specs.declared.limits.TheConstants.{SECTIONS}
 use Rattle.rail_rules.specs.Numbers.{is_in, are_apart}
 use Rattle.rail_rules.specs.Moves.{Moves, stand, is_valid}
-use Rattle.rail_rules.specs.Places.{place_of, is_legal, is_held, holds, is_valid_state}
+use Rattle.rail_rules.specs.Places.{place_of, is_inside, is_legal, is_held, holds, is_valid_state}
 use Rattle.rail_rules.specs.Analysis.{Leg, is_leg, is_safe}
 use Rattle.rail_rules.proofs.CallerLemmas.{any_below_at, any_below_none, list_any_at, list_any_none, apart_at, apart_from, state_parts, stand_needed}
 use Rattle.rail_place.specs.Tables.{moves_in, MoveLists}
@@ -81,17 +81,17 @@ tried_leads plan s t made valid known listed low from below tried free =
           (cases_lt i made));
     })
 
--- a leg of another train: what is needed by a stop of u and was by the train that moved is needed by a third
+-- another train went on: what is needed by a stop of u and was by the train that moved is needed by a third
 pub record IsPassed (plan : Moves) (r : List ℕ) (counts : Counts) (t u from : ℕ) : Type 0 where
   pub counted : IsCounted plan r counts
   pub freed : (i x : ℕ) → from ≤ i → i < place_of r t → is_in x (plan.claim t i) ≡ true → own_of counts t x ≡ 0 → trains_of counts x ≡ 1 → own_of counts u x ≡ 0
 
-module _ (plan : Moves) (s : List ℕ) (t to u : ℕ) (valid : is_valid plan ≡ true) (state : is_valid_state plan s ≡ true) (goes : Goes plan s t to) (ne : u ≢ t) where
+module _ (plan : Moves) (s : List ℕ) (t to u : ℕ) (valid : is_valid plan ≡ true) (state : is_valid_state plan s ≡ true) (was_inside : is_inside plan s t ≡ true) (gone : place_of s t < to) (ne : u ≢ t) where
   abbrev next : List ℕ
   next = set s t to
 
   listed : t < length s
-  listed = inside_listed plan s t goes.inside
+  listed = inside_listed plan s t was_inside
 
   here : place_of next t ≡ to
   here = get_or-set_same s t to 0 listed
@@ -131,7 +131,7 @@ module _ (plan : Moves) (s : List ℕ) (t to u : ℕ) (valid : is_valid plan ≡
         (λ out. out)
         (cases_Bool (is_in x (stand plan u p)))))
         (λ left.
-        clear t i (λ e. ne (sym e)) (inside_from plan next t (omega (arith, here, goes.ahead)) (omega (arith, here))) (omega (arith, here)) below_t)
+        clear t i (λ e. ne (sym e)) (inside_from plan next t (omega (arith, here, gone)) (omega (arith, here))) (omega (arith, here)) below_t)
         (cases_lt i to) in
         ap (λ w. are_apart (plan.claim w i) (stand plan u p)) same ∙ apart)
         (λ third.
@@ -170,20 +170,19 @@ module _ (plan : Moves) (s : List ℕ) (t to u : ℕ) (valid : is_valid plan ≡
 
 -- what is noted of a train after a leg of another one
 pub settled_one : (table : List MoveLists) (state : State) (counts : Counts) (s : List ℕ) (t to u x : ℕ) → IsMadeFor table state → IsCounted (moves_in table) state.positions counts
-    → is_valid_state (moves_in table) s ≡ true → is_leg (moves_in table) s (record { train = t; place = to }) ≡ true → set s t to ≡ state.positions → u ≢ t → u < length s → IsStopped (moves_in table) s u x
+    → is_valid_state (moves_in table) s ≡ true → is_inside (moves_in table) s t ≡ true → place_of s t < to → set s t to ≡ state.positions → u ≢ t → u < length s → IsStopped (moves_in table) s u x
     → (get_or state.owners x None ≡ None → ⊥)
     → ((i y : ℕ) → place_of s t ≤ i → i < to → is_in y ((moves_in table).claim t i) ≡ true → own_of counts t y ≡ 0 → trains_of counts y ≡ 1 → own_of counts u y ≡ 0)
     → IsStopped (moves_in table) state.positions u x
-settled_one table state counts s t to u x made counted valid leg same ne known stop held freed = by (get_or state.owners x None) refl
+settled_one table state counts s t to u x made counted valid inside ahead same ne known stop held freed = by (get_or state.owners x None) refl
   where
     still : (v : ℕ) → get_or state.owners x None ≡ Some v → IsStopped (moves_in table) state.positions u x
     still v is =
-        let goes = goes_parts (moves_in table) s (record { train = t; place = to }) leg in
         let P : List ℕ → Type 0 = λ q. IsStopped (moves_in table) q u x in
         let C : List ℕ → Type 0 = λ q. IsCounted (moves_in table) q counts in
-        let at : place_of (set s t to) t ≡ to = get_or-set_same s t to 0 (inside_listed (moves_in table) s t goes.inside) in
+        let at : place_of (set s t to) t ≡ to = get_or-set_same s t to 0 (inside_listed (moves_in table) s t inside) in
         subst P same
-        (stopped_still (moves_in table) s t to u made.moves.valid valid goes ne counts
+        (stopped_still (moves_in table) s t to u made.moves.valid valid inside ahead ne counts
         (record { counted = subst C (sym same) counted; freed = λ i y from below. freed i y from (omega (arith, below, at)) })
         (λ w i y is_needed. made.moves.in_range w i y is_needed) x v known stop (ap (λ q. holds (moves_in table) q v x) same ∙ (made.told x v).0 is))
 

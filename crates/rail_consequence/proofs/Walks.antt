@@ -22,6 +22,15 @@ pub record IsWalk (plan : Moves) (t : ℕ) (a b : Work) : Type 0 where
   pub inside : place_of a.places.positions t < place_of b.places.positions t → is_inside plan a.places.positions t ≡ true
   pub legal : (i : ℕ) → place_of a.places.positions t ≤ i → i < place_of b.places.positions t → is_legal plan (set a.places.positions t i) t ≡ true
 
+pub walk_nowhere : (plan : Moves) (t : ℕ) (a : Work) → IsWalk plan t a a
+walk_nowhere plan t a = record {
+  goes = goes_nowhere plan a;
+  same = sym (set-get_or a.places.positions t 0);
+  ahead = omega arith;
+  inside = λ lt. absurd (omega (arith, lt));
+  legal = λ i from below. absurd (omega (arith, from, below));
+}
+
 pub walk_step : (plan : Moves) (t : ℕ) (a b c : Work) → IsWalk plan t a b → is_inside plan b.places.positions t ≡ true → is_legal plan b.places.positions t ≡ true → c.places.positions ≡ after b.places.positions t → c.list ≡ b.list ++ t ∷ [] → IsWalk plan t a c
 walk_step plan t a b c walk inside legal next list =
     let s : List ℕ = a.places.positions in

@@ -1,5 +1,7 @@
 -- What the analyst works on: places of its own, and the moves that it has made on them.
-use Rattle.std.specs.Prelude.{◌≡◌, ℕ, ◌<◌, List, ◌++◌, IsTrue, Option}
+use Rattle.std.specs.Prelude.{◌≡◌, ℕ, ◌+◌, ◌<◌, ◌≤◌, List, length, drop, ◌++◌, IsTrue, Option}
+use Rattle.rail_base.specs.declared.limits.TheConstants.{LIST_TRAINS}
+use Rattle.rail_rules.specs.Analysis.{moves_left}
 use Rattle.rail_rules.specs.Moves.{Moves}
 use Rattle.rail_rules.specs.Numbers.{is_in}
 use Rattle.rail_rules.specs.Places.{is_inside, is_valid_state}
@@ -15,13 +17,17 @@ pub record Work : Type 0 where
   pub stops : List (Option ℕ)
   pub list : List ℕ
 
--- the list leads from some valid state to the places, which were made for the moves, and for these the moves that are left are counted
+-- the places were made for the moves, for these the moves that are left are counted, and the list has room for them
 pub record IsReady (table : List MoveLists) (work : Work) : Type 0 where
-  pub start : List ℕ
-  pub valid : IsTrue (is_valid_state (moves_in table) start)
-  pub played : IsPlayed (moves_in table) start work.list work.places.positions
   pub made : IsMadeFor table work.places
   pub counted : IsCounted (moves_in table) work.places.positions work.needs
+  pub few : length work.list + moves_left (moves_in table) work.places.positions ≤ LIST_TRAINS
+
+-- the moves of the list behind the first so many lead from some valid state to the places
+pub record IsPlayedFrom (plan : Moves) (n : ℕ) (work : Work) : Type 0 where
+  pub start : List ℕ
+  pub valid : IsTrue (is_valid_state plan start)
+  pub played : IsPlayed plan start (drop n work.list) work.places.positions
 
 -- more moves were made, and added to the list
 pub record GoesOn (plan : Moves) (old new : Work) : Type 0 where

@@ -4,11 +4,12 @@ ghost use Rattle.rail_rules.specs.Places.{after, completes, is_inside, is_legal,
 ghost use Rattle.rail_place.specs.Made.{IsMadeFor};
 ghost use Rattle.rail_place.specs.Plays.{IsPlayed};
 ghost use Rattle.rail_place.specs.Tables.{moves_in};
-ghost use Rattle.rail_rules.specs.Numbers.{is_in};
+ghost use Rattle.rail_rules.specs.Moves.{stand};
+ghost use Rattle.rail_rules.specs.Numbers.{are_apart, is_in};
 ghost use Rattle.rail_consequence.specs.Needs.{own_of, trains_of};
 ghost use Rattle.rail_consequence.specs.Searches.{FindsByNoLeg, FindsByNoLegOf, FindsSame, HasNoSafeLeg, HasNoSafeLegOf, IsCleared, leg_to};
 ghost use Rattle.rail_consequence.specs.Stops.{AddsNoStops, IsHeldByOther, IsSettled, KeepsLevelsAbove, KeepsOtherLevels, KeepsOtherStops, Shows, StillStops, stop_at};
-ghost use Rattle.rail_consequence.specs.Workspace.{GoesOn, IsBack, IsListing, IsReady, Work};
+ghost use Rattle.rail_consequence.specs.Workspace.{GoesOn, IsBack, IsListing, IsPlayedFrom, IsReady, Work};
 
 use crate::needs::Needs;
 use crate::stops::Stops;
@@ -133,6 +134,12 @@ fn list_inside(inside: &mut Vec<TrainNo>, moves: &Moves, places: &Places)
     }
 }
 
+/// How many places a train must be able to go on to that a search without it costs less than trying them,
+/// where so many free legs may be left.
+fn ends_for(depth: u8) -> u16 {
+    if depth == 0 { 3 } else { 2 }
+}
+
 /// The train is inside.
 fn stands_inside(moves: &Moves, places: &Places, train: TrainNo) -> bool
     requires made { IsMadeFor moves.now places.now }
@@ -225,7 +232,8 @@ impl Worksheet {
         false
     }
 
-    /// As `search`, with a first leg of this train: each place that it can go on to is tried.
+    /// As `search`, with a first leg of this train: each place that it can go on to is tried. Where there are
+    /// several, none is where nothing is found without the train.
     #[cycle(search)]
     fn try_legs_of(&mut self, moves: &Moves, inside: &[TrainNo], train: TrainNo, depth: u8) -> bool
         requires ready { IsReady moves.now self.old }
@@ -239,6 +247,11 @@ impl Worksheet {
         ensures none { result ≡ false
             → IsBack self.old self.new × FindsByNoLegOf (moves_in moves.now) depth self.old.places.positions train }
     {
+        if self.has_ends(moves, train, ends_for(depth))
+            && !self.is_found_without(moves, inside, train, depth)
+        {
+            return false;
+        }
         let mark = self.list.len();
         let from = self.places.position(train);
         while self.can_go_on(moves, train) {
@@ -249,6 +262,98 @@ impl Worksheet {
         }
         self.go_back(moves, mark);
         false
+    }
+
+    /// Whether, with the train out of the way, nobody is left inside after legs of which at most `depth`
+    /// are free. What can be found can be found without a train that is inside.
+    #[cycle(search)]
+    fn is_found_without(
+        &mut self,
+        moves: &Moves,
+        inside: &[TrainNo],
+        train: TrainNo,
+        depth: u8,
+    ) -> bool
+        requires ready { IsReady moves.now self.old }
+        requires listed { IsListing (moves_in moves.now) self.old.places.positions inside.now }
+        requires train { train < length moves.now }
+        requires room { depth < 255 }
+        requires inside { IsTrue (is_inside (moves_in moves.now) self.old.places.positions train) }
+        requires settled { IsSettled (moves_in moves.now) self.old.places.positions self.old.stops (depth + 1) }
+        ensures ready { IsReady moves.now self.new }
+        ensures kept { KeepsLevelsAbove depth self.old.stops self.new.stops }
+        ensures back { IsBack self.old self.new }
+        ensures none { result ≡ false
+            → Finds (moves_in moves.now) depth (set self.old.places.positions train ((moves_in moves.now).moves train)) → ⊥ }
+    {
+        let mark = self.list.len();
+        let place = self.places.position(train);
+        self.take_out(moves, inside, train, depth);
+        let found = self.search(moves, inside, depth);
+        self.go_back(moves, mark);
+        self.put(moves, train, place);
+        found
+    }
+
+    /// Takes the train out, as if it had made its moves, after which `depth` free legs may be left, and notes
+    /// what stops the other trains still.
+    fn take_out(&mut self, moves: &Moves, inside: &[TrainNo], train: TrainNo, depth: u8)
+        requires ready { IsReady moves.now self.old }
+        requires listed { IsListing (moves_in moves.now) self.old.places.positions inside.now }
+        requires train { train < length moves.now }
+        requires room { depth < 255 }
+        requires inside { IsTrue (is_inside (moves_in moves.now) self.old.places.positions train) }
+        requires settled { IsSettled (moves_in moves.now) self.old.places.positions self.old.stops (depth + 1) }
+        ensures ready { IsReady moves.now self.new }
+        ensures positions { self.new.places.positions
+            ≡ set self.old.places.positions train ((moves_in moves.now).moves train) }
+        ensures list { self.new.list ≡ self.old.list }
+        ensures settled { IsSettled (moves_in moves.now) self.new.places.positions self.new.stops depth }
+        ensures kept { KeepsOtherLevels depth self.old.stops self.new.stops }
+    {
+        let from = self.places.position(train);
+        self.put(moves, train, moves.places(train));
+        self.settle(moves, inside, depth + 1, depth, train, from);
+    }
+
+    /// Puts the train at the place, which is no move of the list. No other train holds a section of its
+    /// standing set there.
+    fn put(&mut self, moves: &Moves, train: TrainNo, place: u16)
+        requires ready { IsReady moves.now self.old }
+        requires train { train < length moves.now }
+        requires entered { 0 < place_of self.old.places.positions train }
+        requires within { place ≤ (moves_in moves.now).moves train }
+        requires later { 0 < place }
+        requires free { (u : ℕ) → u ≢ train → IsTrue (are_apart
+            (stand (moves_in moves.now) train place)
+            (stand (moves_in moves.now) u (place_of self.old.places.positions u))) }
+        requires few { length self.old.list + moves_left (moves_in moves.now) (set self.old.places.positions train place) ≤ LIST_TRAINS }
+        ensures ready { IsReady moves.now self.new }
+        ensures positions { self.new.places.positions ≡ set self.old.places.positions train place }
+        ensures list { self.new.list ≡ self.old.list }
+        ensures stops { self.new.stops ≡ self.old.stops }
+    {
+        self.needs.put(moves, &self.places, train, place);
+        self.places.put(moves, train, place);
+    }
+
+    /// Whether the train is inside and can go on to at least so many places while all others stand.
+    fn has_ends(&self, moves: &Moves, train: TrainNo, count: u16) -> bool
+        requires ready { IsReady moves.now self.now }
+        requires train { train < length moves.now }
+        ensures { IsTrue result → IsTrue (is_inside (moves_in moves.now) self.now.places.positions train) }
+    {
+        let place = self.places.position(train);
+        let last = moves.places(train);
+        if place == 0 || last <= place || last - place < count {
+            return false;
+        }
+        for made in place..place + count {
+            if self.stop_of(moves, train, made).is_some() {
+                return false;
+            }
+        }
+        true
     }
 
     /// Makes the next move of a free leg from this place, after which `depth` free legs may be left, and
@@ -432,9 +537,9 @@ impl Worksheet {
         }
     }
 
-    /// After a leg of the train from this place, notes for the one level what still stops the trains of
-    /// which it was noted for the other: the section is still held, and each section that the train needs
-    /// no more is needed by two others, so that none of them got a safe leg.
+    /// After the train went on from this place, by a leg or taken out, notes for the one level what still
+    /// stops the trains of which it was noted for the other: the section is still held, and each section
+    /// that the train needs no more is needed by two others, so that none of them got a safe leg.
     fn settle(
         &mut self,
         moves: &Moves,
@@ -448,8 +553,8 @@ impl Worksheet {
         requires listed { IsListing (moves_in moves.now) self.old.places.positions inside.now }
         requires train { train < length moves.now }
         requires valid { IsTrue (is_valid_state (moves_in moves.now) (set self.old.places.positions train from)) }
-        requires leg { IsTrue (is_leg (moves_in moves.now) (set self.old.places.positions train from)
-            (leg_to train (place_of self.old.places.positions train))) }
+        requires inside { IsTrue (is_inside (moves_in moves.now) (set self.old.places.positions train from) train) }
+        requires ahead { from < place_of self.old.places.positions train }
         requires settled { IsSettled (moves_in moves.now) (set self.old.places.positions train from) self.old.stops above }
         ensures settled { IsSettled (moves_in moves.now) self.new.places.positions self.new.stops level }
         ensures kept { KeepsOtherLevels level self.old.stops self.new.stops }
@@ -614,6 +719,7 @@ impl Worksheet {
     fn go_back(&mut self, moves: &Moves, mark: usize)
         requires ready { IsReady moves.now self.old }
         requires mark { mark ≤ length self.old.list }
+        requires played { IsPlayedFrom (moves_in moves.now) mark self.old }
         ensures ready { IsReady moves.now self.new }
         ensures list { self.new.list ≡ take mark self.old.list }
         ensures stops { self.new.stops ≡ self.old.stops }
@@ -628,7 +734,8 @@ impl Worksheet {
 
     /// Takes the last move of the list back.
     fn step_back(&mut self, moves: &Moves)
-        requires { IsReady moves.now self.old }
+        requires ready { IsReady moves.now self.old }
+        requires played { (n : ℕ) × (n < length self.old.list) × IsPlayedFrom (moves_in moves.now) n self.old }
         ensures ready { IsReady moves.now self.new }
         ensures list { self.new.list ≡ take (length self.old.list - 1) self.old.list }
         ensures stops { self.new.stops ≡ self.old.stops }

@@ -18,4 +18,6 @@ mod needs;
 mod stops;
 
 pub use analyst::Analyst;
-pub use laws::a_safe_leg_keeps_what_can_be_found;
+pub use laws::{
+    a_safe_leg_keeps_what_can_be_found, what_can_be_found_can_be_found_without_a_train,
+};

@@ -3,6 +3,7 @@
 ghost use Rattle.std.specs.Prelude.{◌≡◌, ◌≢◌, ℕ, ◌+◌, ◌-◌, ◌*◌, ◌<◌, ◌≤◌, ◌^◌, ◌==◌, [], ◌∷◌, nat_lt, length, get_or, set, IsTrue};
 ghost use Rattle.std.specs.List.{list_all};
 ghost use Rattle.rail_rules.specs.Numbers.{is_in};
+ghost use Rattle.rail_rules.specs.Places.{place_of};
 ghost use Rattle.rail_place.specs.Made.{IsMadeFor};
 ghost use Rattle.rail_place.specs.Tables.{IsTable, moves_in};
 ghost use Rattle.rail_consequence.specs.Needs.{IsCounted, IsMore, IsRoomFor, needs_left, own_of, present, times, trains_of};
@@ -53,6 +54,26 @@ impl Needs {
         for number in 0..moves.trains() {
             let train = TrainNo(number);
             self.count_train(moves, train, places.position(train));
+        }
+    }
+
+    /// Counts the moves that the train has left at the place, where those that it has left at its own were
+    /// counted. It has entered at both.
+    pub fn put(&mut self, moves: &Moves, places: &Places, train: TrainNo, place: u16)
+        requires made { IsMadeFor moves.now places.now }
+        requires train { train < length moves.now }
+        requires entered { 0 < place_of places.now.positions train }
+        requires later { 0 < place }
+        requires within { place ≤ (moves_in moves.now).moves train }
+        requires counted { IsCounted (moves_in moves.now) places.now.positions self.old }
+        ensures { IsCounted (moves_in moves.now) (set places.now.positions train place) self.new }
+    {
+        let from = places.position(train);
+        for made in from..place {
+            self.subtract(train, moves.need(train, made + 1));
+        }
+        for made in place..from {
+            self.add(train, moves.need(train, made + 1));
         }
     }
 

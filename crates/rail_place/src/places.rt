@@ -158,10 +158,27 @@ impl Places {
         ensures positions { self.new.positions ≡ set self.old.positions train (place_of self.old.positions train - 1) }
         ensures played { self.new.played ≡ self.old.played }
     {
-        let place = self.positions[usize::from(train.0)];
-        release(&mut self.owners, moves.stand(train, place));
-        hold(&mut self.owners, moves.stand(train, place - 1), train);
-        self.positions[usize::from(train.0)] = place - 1;
+        let place = self.position(train);
+        self.put(moves, train, place - 1);
+    }
+
+    /// Puts the train at the place, wherever it was before, which counts as no move. No other train holds
+    /// a section of its standing set there.
+    pub fn put(&mut self, moves: &Moves, train: TrainNo, place: u16)
+        requires made { IsMadeFor moves.now self.old }
+        requires train { train < length moves.now }
+        requires within { place ≤ (moves_in moves.now).moves train }
+        requires free { (u : ℕ) → u ≢ train → IsTrue (are_apart
+            (stand (moves_in moves.now) train place)
+            (stand (moves_in moves.now) u (place_of self.old.positions u))) }
+        ensures made { IsMadeFor moves.now self.new }
+        ensures positions { self.new.positions ≡ set self.old.positions train place }
+        ensures played { self.new.played ≡ self.old.played }
+    {
+        let before = self.positions[usize::from(train.0)];
+        release(&mut self.owners, moves.stand(train, before));
+        hold(&mut self.owners, moves.stand(train, place), train);
+        self.positions[usize::from(train.0)] = place;
     }
 
     /// Takes over the positions of the other places, so that these are made for the moves for which

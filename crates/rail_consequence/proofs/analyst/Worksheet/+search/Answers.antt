@@ -1,5 +1,5 @@
-use Rattle.std.proofs.Common.{◌≡◌, ℕ, ◌+◌, ◌-◌, ◌<◌, List, false, ◌&&◌, length, set, sym, ap, ◌∙◌, subst, ⊎_elim, arith}
-use Rattle.std.proofs.lemmas.Bool.{and_parts, cases_lt}
+use Rattle.std.proofs.Common.{◌≡◌, ℕ, ◌+◌, ◌-◌, ◌<◌, Bool, List, true, false, ◌&&◌, length, set, refl, sym, ap, ◌∙◌, subst, ⊎_elim, arith}
+use Rattle.std.proofs.lemmas.Bool.{and_parts, cases_Bool, cases_lt}
 use Rattle.rail_rules.specs.Moves.{Moves}
 use Rattle.rail_rules.specs.Places.{place_of, is_inside, is_legal, nobody_inside}
 use Rattle.rail_rules.specs.Analysis.{Finds, is_leg, moves_left}
@@ -8,13 +8,17 @@ use Rattle.rail_rules.specs.Places.{is_valid_state}
 use Rattle.rail_rules.proofs.CallerLemmas.{state_parts}
 use Rattle.rail_base.specs.declared.limits.TheConstants.{TRAINS}
 use Rattle.rail_consequence.specs.Stops.{IsSettled, stop_at}
-use Rattle.rail_consequence.specs.Workspace.{Work}
+use Rattle.rail_consequence.specs.Searches.{IsCleared}
+use Rattle.rail_consequence.specs.Workspace.{Work, GoesOn, IsBack, IsReady}
 use Rattle.rail_consequence.proofs.Counts.{in_at, in_take_all}
 use Rattle.rail_consequence.proofs.Legs.{goes_parts, inside_listed}
 use Rattle.rail_consequence.proofs.Listing.{listed_at, listed_on}
-use Rattle.rail_consequence.proofs.Played.{back_by, fewer_left, goes_further}
-use Rattle.rail_consequence.proofs.Walks.{walk_next, walk_back, walk_found, within_at, goes_back, leg_tried, false_both, finds_at, found_by_free, found_nobody, left_back, back_twice, tried_more, walk_home, next_leg}
+use Rattle.rail_consequence.proofs.Played.{back_by, fewer_left, goes_further, goes_played}
+use Rattle.rail_consequence.proofs.Walks.{walk_next, walk_back, walk_found, within_at, goes_back, leg_tried, false_both, finds_at, found_by_free, found_nobody, left_back, back_twice, tried_more, walk_home, walk_nowhere, next_leg}
+use Rattle.rail_consequence.proofs.Safe.{found_past_leg}
+use Rattle.rail_consequence.proofs.Without.{IsOut, out_back, out_entered, out_few, out_free}
 use Rattle.rail_consequence.proofs.analyst.Worksheet.+search.Goals as goal
+use Rattle.rail_consequence.proofs.analyst.Worksheet.+search.Goals.{try_legs_of-else-has_ends-via-then-has_ends+else-not-is_found_without, try_legs_of-else-has_ends-via-else-has_ends}
 
 pub search-returns-then-is_done-clause-found : goal.search-returns-then-is_done-clause-found
 search-returns-then-is_done-clause-found t c =
@@ -231,3 +235,109 @@ try_legs_of-make_free_move-requires-clause-settled t c =
     let listed : u < TRAINS = omega (arith, inside_listed plan (set b.places.positions c.args.train c.position-from.result) u lt, ap length home, state.long, c.requires.ready.made.moves.few) in
     let P : List ℕ → Type 0 = λ q. IsSettled plan q a.stops (c.args.depth + 1) in
     subst P (sym home) c.requires.settled u x lt (sym (c.loop-train.invariant.kept (c.args.depth + 1) u (omega arith) listed) ∙ stop)
+
+-- a search goes on, whether it finds a list or not
+pub goes_searched : (plan : Moves) (depth : ℕ) (b d : Work) (found : Bool) → (found ≡ true → IsCleared plan depth b d) → (found ≡ false → IsBack b d × (Finds plan depth b.places.positions → ⊥)) → GoesOn plan b d
+goes_searched plan depth b d found cleared none = ⊎_elim (λ yes. (cleared yes).0) (λ no. goes_back plan b d (none no).0) (cases_Bool found)
+
+pub is_found_without-go_back-requires-clause-played : goal.is_found_without-go_back-requires-clause-played
+is_found_without-go_back-requires-clause-played t c =
+    let table = c.args.moves.now in
+    let plan : Moves = moves_in table in
+    let a = c.args.self.now in
+    let b = c.take_out.new.self in
+    let d = c.search-found.new.self in
+    let mark : c.len-mark.result ≡ length b.list = omega (arith, c.len-mark.ensures, c.self.inside.list.ok, ap (λ (w : Work). length w.list) c.self.view_is, ap length c.take_out.ensures.list) in
+    let goes : GoesOn plan b d = goes_searched plan c.args.depth b d c.search-found.result c.search-found.ensures.found c.search-found.ensures.none in
+    goes_played table b d c.len-mark.result c.take_out.ensures.ready goes mark
+
+pub is_found_without-put-requires-clause-entered : goal.is_found_without-put-requires-clause-entered
+is_found_without-put-requires-clause-entered t c =
+    let table = c.args.moves.now in
+    let plan : Moves = moves_in table in
+    let a = c.args.self.now in
+    let b = c.take_out.new.self in
+    let d = c.search-found.new.self in
+    let mark : c.len-mark.result ≡ length b.list = omega (arith, c.len-mark.ensures, c.self.inside.list.ok, ap (λ (w : Work). length w.list) c.self.view_is, ap length c.take_out.ensures.list) in
+    let goes : GoesOn plan b d = goes_searched plan c.args.depth b d c.search-found.result c.search-found.ensures.found c.search-found.ensures.none in
+    let e = c.go_back.new.self in
+    let back : IsBack b e = back_by plan b d e c.len-mark.result goes mark c.go_back.ensures.list c.go_back.ensures.positions in
+    let out : IsOut plan c.args.train a e = record { list = back.list ∙ c.take_out.ensures.list; positions = back.positions ∙ c.take_out.ensures.positions } in
+    let at : c.position-place.result ≡ place_of a.places.positions c.args.train = c.position-place.ensures ∙ ap (λ (w : Work). place_of w.places.positions c.args.train) c.self.view_is in
+    out_entered table c.args.train c.position-place.result a e c.requires.ready c.requires.inside at out
+
+pub is_found_without-put-requires-clause-free : goal.is_found_without-put-requires-clause-free
+is_found_without-put-requires-clause-free t c =
+    let table = c.args.moves.now in
+    let plan : Moves = moves_in table in
+    let a = c.args.self.now in
+    let b = c.take_out.new.self in
+    let d = c.search-found.new.self in
+    let mark : c.len-mark.result ≡ length b.list = omega (arith, c.len-mark.ensures, c.self.inside.list.ok, ap (λ (w : Work). length w.list) c.self.view_is, ap length c.take_out.ensures.list) in
+    let goes : GoesOn plan b d = goes_searched plan c.args.depth b d c.search-found.result c.search-found.ensures.found c.search-found.ensures.none in
+    let e = c.go_back.new.self in
+    let back : IsBack b e = back_by plan b d e c.len-mark.result goes mark c.go_back.ensures.list c.go_back.ensures.positions in
+    let out : IsOut plan c.args.train a e = record { list = back.list ∙ c.take_out.ensures.list; positions = back.positions ∙ c.take_out.ensures.positions } in
+    let at : c.position-place.result ≡ place_of a.places.positions c.args.train = c.position-place.ensures ∙ ap (λ (w : Work). place_of w.places.positions c.args.train) c.self.view_is in
+    out_free table c.args.train c.position-place.result a e c.requires.ready c.requires.inside at out
+
+pub is_found_without-put-requires-clause-few : goal.is_found_without-put-requires-clause-few
+is_found_without-put-requires-clause-few t c =
+    let table = c.args.moves.now in
+    let plan : Moves = moves_in table in
+    let a = c.args.self.now in
+    let b = c.take_out.new.self in
+    let d = c.search-found.new.self in
+    let mark : c.len-mark.result ≡ length b.list = omega (arith, c.len-mark.ensures, c.self.inside.list.ok, ap (λ (w : Work). length w.list) c.self.view_is, ap length c.take_out.ensures.list) in
+    let goes : GoesOn plan b d = goes_searched plan c.args.depth b d c.search-found.result c.search-found.ensures.found c.search-found.ensures.none in
+    let e = c.go_back.new.self in
+    let back : IsBack b e = back_by plan b d e c.len-mark.result goes mark c.go_back.ensures.list c.go_back.ensures.positions in
+    let out : IsOut plan c.args.train a e = record { list = back.list ∙ c.take_out.ensures.list; positions = back.positions ∙ c.take_out.ensures.positions } in
+    let at : c.position-place.result ≡ place_of a.places.positions c.args.train = c.position-place.ensures ∙ ap (λ (w : Work). place_of w.places.positions c.args.train) c.self.view_is in
+    out_few table c.args.train c.position-place.result a e c.requires.ready c.requires.inside at out
+
+pub is_found_without-returns-clause-back : goal.is_found_without-returns-clause-back
+is_found_without-returns-clause-back t c =
+    let table = c.args.moves.now in
+    let plan : Moves = moves_in table in
+    let a = c.args.self.now in
+    let b = c.take_out.new.self in
+    let d = c.search-found.new.self in
+    let mark : c.len-mark.result ≡ length b.list = omega (arith, c.len-mark.ensures, c.self.inside.list.ok, ap (λ (w : Work). length w.list) c.self.view_is, ap length c.take_out.ensures.list) in
+    let goes : GoesOn plan b d = goes_searched plan c.args.depth b d c.search-found.result c.search-found.ensures.found c.search-found.ensures.none in
+    let e = c.go_back.new.self in
+    let back : IsBack b e = back_by plan b d e c.len-mark.result goes mark c.go_back.ensures.list c.go_back.ensures.positions in
+    let out : IsOut plan c.args.train a e = record { list = back.list ∙ c.take_out.ensures.list; positions = back.positions ∙ c.take_out.ensures.positions } in
+    let at : c.position-place.result ≡ place_of a.places.positions c.args.train = c.position-place.ensures ∙ ap (λ (w : Work). place_of w.places.positions c.args.train) c.self.view_is in
+    record {
+      list = c.put.ensures.list ∙ out.list;
+      positions = c.put.ensures.positions ∙ out_back table c.args.train c.position-place.result a e c.requires.ready c.requires.inside at out;
+    }
+
+pub try_legs_of-returns-then-not-is_found_without-clause-none : goal.try_legs_of-returns-then-not-is_found_without-clause-none
+try_legs_of-returns-then-not-is_found_without-clause-none t c =
+    let plan : Moves = moves_in c.args.moves.now in
+    let none = c.is_found_without.ensures.none c.if-not-is_found_without.true in
+    λ _. (c.is_found_without.ensures.back, λ p is found. none (found_past_leg plan c.args.depth c.args.self.now.places.positions c.args.train p is found))
+
+pub try_legs_of-loop-train-init : goal.try_legs_of-loop-train-init
+try_legs_of-loop-train-init t c =
+    let table = c.args.moves.now in
+    let plan : Moves = moves_in table in
+    let u = c.args.train in
+    let a = c.args.self.now in
+    let b = c.else-has_ends.self in
+    let P : Work → Type 0 = λ w. IsReady table w × ((m v : ℕ) → c.args.depth < m → v < TRAINS → stop_at w.stops m v ≡ stop_at a.stops m v) × IsBack a w in
+    let kept : P b = elim c.else-has_ends.branch [
+      try_legs_of-else-has_ends-via-then-has_ends+else-not-is_found_without w ↦ subst P (sym w.self-is) (w.is_found_without.ensures.ready, w.is_found_without.ensures.kept, w.is_found_without.ensures.back)
+      | try_legs_of-else-has_ends-via-else-has_ends w ↦ subst P (sym w.self-is) (c.requires.ready, (λ m v lt few. refl), record { list = refl; positions = refl })
+    ] in
+    let same : place_of b.places.positions u ≡ place_of a.places.positions u = ap (λ s. place_of s u) kept.2.positions in
+    record {
+      ready = kept.0;
+      kept = kept.1;
+      from = c.position-from.ensures ∙ ap (λ (w : Work). place_of w.places.positions u) c.self-2.view_is ∙ same;
+      walk = walk_back plan u a a b (walk_nowhere plan u a) kept.2;
+      tried = λ p low high found. omega (arith, low, high, same);
+      mark = omega (arith, c.len-mark.ensures, c.self-2.inside.list.ok, ap (λ (w : Work). length w.list) c.self-2.view_is, ap length kept.2.list);
+    }

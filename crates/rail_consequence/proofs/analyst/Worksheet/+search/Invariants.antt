@@ -10,13 +10,16 @@ use Rattle.rail_consequence.proofs.Walks.{IsWalk}
 use Rattle.rail_consequence.proofs.analyst.Worksheet.+search.Given as goal
 
 abbrev pub decreases-search : goal.decreases-search
-decreases-search l = 3 * l.depth
+decreases-search l = 4 * l.depth
 
 abbrev pub decreases-try_free_legs : goal.decreases-try_free_legs
-decreases-try_free_legs l = 3 * l.depth + 2
+decreases-try_free_legs l = 4 * l.depth + 3
 
 abbrev pub decreases-try_legs_of : goal.decreases-try_legs_of
-decreases-try_legs_of l = 3 * l.depth + 1
+decreases-try_legs_of l = 4 * l.depth + 2
+
+abbrev pub decreases-is_found_without : goal.decreases-is_found_without
+decreases-is_found_without l = 4 * l.depth + 1
 
 abbrev pub invariant-try_free_legs-loop-train : goal.invariant-try_free_legs-loop-train
 invariant-try_free_legs-loop-train l = record {

@@ -1,8 +1,11 @@
-use Rattle.std.proofs.Common.{◌≡◌, true, sym, ap, ◌∙◌}
+use Rattle.std.proofs.Common.{◌≡◌, ℕ, List, true, length, sym, ap, ◌∙◌, subst, arith}
 use Rattle.std.proofs.lemmas.Option.{none-some}
 use Rattle.rail_rules.specs.Moves.{Moves}
 use Rattle.rail_rules.specs.Places.{is_inside}
 use Rattle.rail_place.specs.Tables.{moves_in}
+use Rattle.rail_place.specs.Made.{State, IsMadeFor}
+use Rattle.rail_consequence.specs.Needs.{IsCounted}
+use Rattle.rail_consequence.proofs.Played.{left_few}
 use Rattle.rail_consequence.proofs.Listing.{listed_few}
 use Rattle.rail_consequence.proofs.analyst.Worksheet.begin.Goals as goal
 
@@ -14,3 +17,15 @@ returns-clause-settled c = λ u x inside stop.
     let plan : Moves = moves_in c.args.moves.now in
     let was : is_inside plan c.args.places.now.positions u ≡ true = ap (λ s. is_inside plan s u) (sym c.copy_from.ensures.positions) ∙ inside in
     absurd (none-some x (sym (c.clear-2.ensures.none u (c.requires.listed.all u was)) ∙ stop))
+
+pub returns-clause-ready : goal.returns-clause-ready
+returns-clause-ready c =
+    let table = c.args.moves.now in
+    let places : State = c.copy_from.new.self in
+    let made : IsMadeFor table places = c.copy_from.ensures.made table c.requires.made in
+    let C : List ℕ → Type 0 = λ s. IsCounted (moves_in table) s c.set_up.new.self in
+    record {
+      made = made;
+      counted = subst C (sym c.copy_from.ensures.positions) c.set_up.ensures;
+      few = omega (arith, ap length c.clear.ensures.items, left_few table places.positions made.moves made.valid);
+    }

@@ -1,7 +1,7 @@
 use Rattle.std.proofs.Common.{◌≡◌, ℕ, ◌≤◌, List, length, take, drop}
 use Rattle.rail_place.specs.Tables.{moves_in}
 use Rattle.rail_place.specs.Plays.{IsPlayed}
-use Rattle.rail_consequence.specs.Workspace.{IsReady}
+use Rattle.rail_consequence.specs.Workspace.{IsPlayedFrom, IsReady}
 use Rattle.rail_consequence.proofs.analyst.Worksheet.go_back.Given as goal
 
 abbrev pub invariant-loop-self : goal.invariant-loop-self
@@ -10,6 +10,7 @@ invariant-loop-self l = record {
   stops : l.self.stops ≡ l.fn.self.stops;
   above : l.mark ≤ length l.self.list;
   list : l.self.list ≡ take (length l.self.list) l.fn.self.list;
+  played : IsPlayedFrom (moves_in l.moves) l.mark l.self;
   positions : (s : List ℕ) → IsPlayed (moves_in l.moves) s (drop l.mark l.fn.self.list) l.fn.self.places.positions → IsPlayed (moves_in l.moves) s (drop l.mark l.self.list) l.self.places.positions;
 }
 

@@ -1,11 +1,10 @@
-use Rattle.std.proofs.Common.{◌≡◌, ℕ, suc, ◌+◌, List, set, sym, ap, ◌∙◌, subst, arith}
+use Rattle.std.proofs.Common.{◌≡◌, ℕ, suc, ◌+◌, ◌<◌, List, length, set, sym, ap, ◌∙◌, subst, arith}
 use Rattle.std.proofs.lemmas.List.{get_or-set_same, set-set}
 use Rattle.rail_rules.specs.Moves.{Moves}
-use Rattle.rail_rules.specs.Places.{place_of, is_valid_state}
-use Rattle.rail_rules.specs.Analysis.{is_leg}
+use Rattle.rail_rules.specs.Places.{place_of, is_inside, is_valid_state}
 use Rattle.rail_place.specs.Tables.{moves_in}
 use Rattle.rail_consequence.specs.Stops.{IsSettled, stop_at}
-use Rattle.rail_consequence.proofs.Legs.{inside_listed}
+use Rattle.rail_consequence.proofs.Legs.{goes_parts, inside_listed}
 use Rattle.rail_consequence.proofs.Played.{goes_step}
 use Rattle.rail_consequence.proofs.Listing.{listed_on}
 use Rattle.rail_consequence.proofs.analyst.Worksheet.make_free_move.Goals as goal
@@ -25,15 +24,23 @@ settle-requires-clause-valid c =
     let same : set c.step.new.self.places.positions t c.args.from ≡ set r t c.args.from = ap (λ q. set q t c.args.from) c.step.ensures.positions ∙ set-set r t (suc (place_of r t)) c.args.from in
     ap (is_valid_state plan) same ∙ c.requires.valid
 
-pub settle-requires-clause-leg : goal.settle-requires-clause-leg
-settle-requires-clause-leg c =
+pub settle-requires-clause-inside : goal.settle-requires-clause-inside
+settle-requires-clause-inside c =
     let plan : Moves = moves_in c.args.moves.now in
     let r = c.args.self.now.places.positions in
     let t = c.args.train in
     let same : set c.step.new.self.places.positions t c.args.from ≡ set r t c.args.from = ap (λ q. set q t c.args.from) c.step.ensures.positions ∙ set-set r t (suc (place_of r t)) c.args.from in
-    let one : suc (place_of r t) ≡ place_of r t + 1 = omega arith in
-    let there : place_of c.step.new.self.places.positions t ≡ place_of r t + 1 = ap (λ q. place_of q t) c.step.ensures.positions ∙ get_or-set_same r t (suc (place_of r t)) 0 (inside_listed plan r t c.requires.inside) ∙ one in
-    (λ i. is_leg plan (same i) (record { train = t; place = there i })) ∙ c.requires.leg
+    ap (λ q. is_inside plan q t) same ∙ (goes_parts plan (set r t c.args.from) (record { train = t; place = place_of r t + 1 }) c.requires.leg).inside
+
+pub settle-requires-clause-ahead : goal.settle-requires-clause-ahead
+settle-requires-clause-ahead c =
+    let plan : Moves = moves_in c.args.moves.now in
+    let r = c.args.self.now.places.positions in
+    let t = c.args.train in
+    let goes = goes_parts plan (set r t c.args.from) (record { train = t; place = place_of r t + 1 }) c.requires.leg in
+    let lt : t < length r = inside_listed plan r t c.requires.inside in
+    let there : place_of c.step.new.self.places.positions t ≡ suc (place_of r t) = ap (λ q. place_of q t) c.step.ensures.positions ∙ get_or-set_same r t (suc (place_of r t)) 0 lt in
+    omega (arith, goes.ahead, get_or-set_same r t c.args.from 0 lt, there)
 
 pub settle-requires-clause-settled : goal.settle-requires-clause-settled
 settle-requires-clause-settled c =

@@ -4,7 +4,7 @@ use Rattle.std.proofs.lemmas.List.{append-nil, get_or-set_same, set-set, set-get
 use Rattle.std.proofs.lemmas.Option.{same_Some}
 use Rattle.rail_rules.specs.Moves.{Moves}
 use Rattle.rail_rules.specs.Places.{place_of, is_inside, is_valid_state}
-use Rattle.rail_rules.specs.Analysis.{Leg, is_leg, moves_left}
+use Rattle.rail_rules.specs.Analysis.{Leg, moves_left}
 use Rattle.rail_rules.proofs.CallerLemmas.{state_parts}
 use Rattle.rail_place.specs.Tables.{moves_in}
 use Rattle.rail_consequence.specs.Stops.{IsSettled, IsStopped, stop_at}
@@ -43,16 +43,25 @@ settle-requires-clause-valid c =
     let back : set c.go_to.new.self.places.positions t c.position-from.result ≡ s = ap (λ q. set q t c.position-from.result) c.go_to.ensures.positions ∙ set-set s t c.in-Leads.place c.position-from.result ∙ ap (set s t) from ∙ set-get_or s t 0 in
     ap (is_valid_state plan) back ∙ c.requires.ready.made.valid
 
-pub settle-requires-clause-leg : goal.settle-requires-clause-leg
-settle-requires-clause-leg c =
+pub settle-requires-clause-inside : goal.settle-requires-clause-inside
+settle-requires-clause-inside c =
     let plan : Moves = moves_in c.args.moves.now in
     let s = c.args.self.now.places.positions in
     let t = c.args.train in
     let listed : t < length s = omega (arith, c.requires.train, (state_parts plan s c.requires.ready.made.valid).long) in
     let from : c.position-from.result ≡ place_of s t = c.position-from.ensures ∙ ap (λ (w : Work). place_of w.places.positions t) c.self.view_is in
     let back : set c.go_to.new.self.places.positions t c.position-from.result ≡ s = ap (λ q. set q t c.position-from.result) c.go_to.ensures.positions ∙ set-set s t c.in-Leads.place c.position-from.result ∙ ap (set s t) from ∙ set-get_or s t 0 in
+    ap (λ q. is_inside plan q t) back ∙ (goes_parts plan s (record { train = t; place = c.in-Leads.place }) c.in-Leads.ensures.0).inside
+
+pub settle-requires-clause-ahead : goal.settle-requires-clause-ahead
+settle-requires-clause-ahead c =
+    let plan : Moves = moves_in c.args.moves.now in
+    let s = c.args.self.now.places.positions in
+    let t = c.args.train in
+    let listed : t < length s = omega (arith, c.requires.train, (state_parts plan s c.requires.ready.made.valid).long) in
+    let from : c.position-from.result ≡ place_of s t = c.position-from.ensures ∙ ap (λ (w : Work). place_of w.places.positions t) c.self.view_is in
     let there : place_of c.go_to.new.self.places.positions t ≡ c.in-Leads.place = ap (λ q. place_of q t) c.go_to.ensures.positions ∙ get_or-set_same s t c.in-Leads.place 0 listed in
-    (λ i. is_leg plan (back i) (record { train = t; place = there i })) ∙ c.in-Leads.ensures.0
+    omega (arith, from, there, (goes_parts plan s (record { train = t; place = c.in-Leads.place }) c.in-Leads.ensures.0).ahead)
 
 pub settle-requires-clause-settled : goal.settle-requires-clause-settled
 settle-requires-clause-settled c =

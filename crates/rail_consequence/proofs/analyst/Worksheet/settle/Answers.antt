@@ -12,6 +12,7 @@ use Rattle.rail_consequence.specs.Workspace.{Work}
 use Rattle.rail_consequence.proofs.Legs.{inside_same, inside_listed}
 use Rattle.rail_consequence.proofs.Listing.{listed_few}
 use Rattle.rail_consequence.proofs.Stopping.{settled_one}
+use Rattle.rail_consequence.proofs.Walks.{within_at}
 use Rattle.rail_consequence.proofs.analyst.Worksheet.settle.Goals as goal
 
 pub keep_stops-requires : goal.keep_stops-requires
@@ -22,6 +23,11 @@ free_needers-requires-clause-listed c = listed_few c.args.moves.now c.args.self.
 
 pub free_needers-requires-clause-train : goal.free_needers-requires-clause-train
 free_needers-requires-clause-train c = omega (arith, c.requires.train, c.requires.ready.made.moves.few)
+
+pub need-requires-clause-last : goal.need-requires-clause-last
+need-requires-clause-last c =
+    let at : c.position-place.result ≡ place_of c.args.self.now.places.positions c.args.train = c.position-place.ensures ∙ ap (λ (w : Work). place_of w.places.positions c.args.train) (c.self.view_is ∙ c.keep_stops.ensures.rest) in
+    omega (arith, c.loop-made-test.true, at, within_at c.args.moves.now c.args.self.now c.args.train c.requires.ready)
 
 pub loop-made-preserved : goal.loop-made-preserved
 loop-made-preserved c =
@@ -67,6 +73,6 @@ returns-clause-settled c =
     let known = c.requires.listed.all u lt in
     let told = inv.held u x known stop in
     let was : is_inside plan s u ≡ true = inside_same plan r s u (get_or-set_other r t u from 0 told.0) lt in
-    settled_one table a.places a.needs s t (place_of r t) u x c.requires.ready.made c.requires.ready.counted c.requires.valid c.requires.leg same told.0 (inside_listed plan s u was) (c.requires.settled u x was told.1) told.2
+    settled_one table a.places a.needs s t (place_of r t) u x c.requires.ready.made c.requires.ready.counted c.requires.valid c.requires.inside (omega (arith, before, c.requires.ahead)) same told.0 (inside_listed plan s u was) (c.requires.settled u x was told.1) told.2
     (λ i y low high needed own one. inv.freed i y u x (omega (arith, before, low)) (omega (arith, high, at, c.loop-made-test.false)) needed own one known stop) in
     subst P (sym (ap (λ (w : Work). w.places.positions) inv.rest)) settled

@@ -1,6 +1,6 @@
 use Rattle.std.proofs.Common.{◌≡◌, ℕ, ◌+◌, ◌-◌, List, true, length, ap, subst, ◌∙◌, arith}
 use Rattle.rail_rules.specs.Moves.{Moves}
-use Rattle.rail_rules.specs.Places.{place_of, is_inside, is_legal}
+use Rattle.rail_rules.specs.Places.{place_of, is_inside}
 use Rattle.rail_place.specs.Tables.{moves_in}
 use Rattle.rail_consequence.specs.Needs.{IsMore, times}
 use Rattle.rail_consequence.specs.Workspace.{Work}
@@ -35,7 +35,7 @@ subtract-requires-clause-trains c = λ x within.
 
 pub push_reserved-requires : goal.push_reserved-requires
 push_reserved-requires c =
-    let few = ready_few c.args.moves.now c.args.self.now c.args.train c.requires.ready c.requires.inside c.requires.legal in
+    let few = ready_few c.args.moves.now c.args.self.now c.args.train c.requires.ready c.requires.inside in
     omega (arith, few, ap (λ (w : Work). length w.list) c.self.view_is, c.self.inside.list.ok, c.self.invariant)
 
 pub returns-clause-ready : goal.returns-clause-ready
@@ -46,11 +46,10 @@ returns-clause-ready c =
     let own : Work = record { places = c.self.inside.places; needs = c.self.inside.needs; stops = c.self.inside.stops; list = c.self.inside.list.items } in
     let same : own ≡ c.args.self.now = c.self.view_is in
     let inside : is_inside plan own.places.positions t ≡ true = ap (λ (w : Work). is_inside plan w.places.positions t) same ∙ c.requires.inside in
-    let legal : is_legal plan own.places.positions t ≡ true = ap (λ (w : Work). is_legal plan w.places.positions t) same ∙ c.requires.legal in
     let needed = next_is (plan.claim t) c.need.result.now c.position-place.result (place_of own.places.positions t) c.need.ensures.sections c.position-place.ensures in
     let P : List ℕ → Type 0 = λ xs. IsMore c.subtract.new.self own.needs t (λ x. times x xs) in
     ready_step table own t c.advance.new.self c.subtract.new.self c.self.inside.stops c.push_reserved.new.self.items
     (ready_as table own c.args.self.now same c.requires.ready)
-    inside legal c.advance.ensures.made c.advance.ensures.positions
+    inside c.advance.ensures.made c.advance.ensures.positions
     (subst P needed c.subtract.ensures)
     c.push_reserved.ensures.items
