@@ -11,3 +11,4 @@ mod Backward
 mod Stopping
 mod Listing
 mod Without
+mod Freeing

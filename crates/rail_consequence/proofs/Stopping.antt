@@ -19,22 +19,26 @@ use Rattle.rail_consequence.proofs.Safe.{safe_from_clear, clear_from_safe}
 use Rattle.rail_consequence.proofs.Counts.{present_some, left_entered, times_present, needs_within}
 use Rattle.rail_consequence.proofs.Clear.{none_from_clear, sum_alone}
 
+-- no leg leads over a move that needs a section which another train holds
+pub leg_short : (plan : Moves) (s : List ℕ) (t x q p : ℕ) → place_of s t ≤ q → is_in x (plan.claim t q) ≡ true → IsHeldByOther plan s t x → is_leg plan s (record { train = t; place = p }) ≡ true → p ≤ q
+leg_short plan s t x q p from needed held is =
+    let goes = goes_parts plan s (record { train = t; place = p }) is in
+    let r : List ℕ = set s t q in
+    ⊎_elim
+    (λ further.
+    let at : place_of r t ≡ q = get_or-set_same s t q 0 (inside_listed plan s t goes.inside) in
+    let free = not-true (list_any (is_held plan r) (plan.claim t (place_of r t))) (and_parts (ltb (place_of r t) (plan.moves t)) (not (list_any (is_held plan r) (plan.claim t (place_of r t)))) (goes.legal q from further)).1 in
+    let here : is_held plan r x ≡ false = list_any_at (is_held plan r) (plan.claim t q) x (ap (λ k. list_any (is_held plan r) (plan.claim t k)) (sym at) ∙ free) needed in
+    let v : ℕ = held.holder in
+    let same : holds plan r v x ≡ true = ap (λ k. is_in x (stand plan v k)) (get_or-set_other s t v q 0 held.other) ∙ held.held in
+    absurd (false≢true (sym (any_below_at (λ w. holds plan r w x) (length r) v here (holder_listed plan r v x same)) ∙ same)))
+    (λ within. within)
+    (cases_lt q p)
+
 -- a stopped train has no safe leg
 pub stopped_unsafe : (plan : Moves) (s : List ℕ) (u x p : ℕ) → IsStopped plan s u x → is_leg plan s (record { train = u; place = p }) ≡ true → is_safe plan s (record { train = u; place = p }) ≡ false
 stopped_unsafe plan s u x p stop is =
-    let goes = goes_parts plan s (record { train = u; place = p }) is in
-    let q : ℕ = stop.place in
-    let r : List ℕ = set s u q in
-    ⊎_elim
-    (λ further.
-    let at : place_of r u ≡ q = get_or-set_same s u q 0 (inside_listed plan s u goes.inside) in
-    let free = not-true (list_any (is_held plan r) (plan.claim u (place_of r u))) (and_parts (ltb (place_of r u) (plan.moves u)) (not (list_any (is_held plan r) (plan.claim u (place_of r u)))) (goes.legal q stop.from further)).1 in
-    let here : is_held plan r x ≡ false = list_any_at (is_held plan r) (plan.claim u q) x (ap (λ k. list_any (is_held plan r) (plan.claim u k)) (sym at) ∙ free) stop.needed in
-    let v : ℕ = stop.held.holder in
-    let same : holds plan r v x ≡ true = ap (λ k. is_in x (stand plan v k)) (get_or-set_other s u v q 0 stop.held.other) ∙ stop.held.held in
-    absurd (false≢true (sym (any_below_at (λ w. holds plan r w x) (length r) v here (holder_listed plan r v x same)) ∙ same)))
-    (λ within. stop.unsafe p goes.ahead within)
-    (cases_lt q p)
+    stop.unsafe p (goes_parts plan s (record { train = u; place = p }) is).ahead (leg_short plan s u x stop.place p stop.from stop.needed stop.held is)
 
 -- a move is legal, with the train there and all others standing, where no other train holds a section that it needs
 pub free_legal : (plan : Moves) (s : List ℕ) (t i : ℕ) → is_valid plan ≡ true → t < plan.trains → t < length s → 0 < i → i < plan.moves t → ((x : ℕ) → is_in x (plan.claim t i) ≡ true → IsHeldByOther plan s t x → ⊥) → is_legal plan (set s t i) t ≡ true
@@ -63,23 +67,36 @@ pub record IsTried (plan : Moves) (s : List ℕ) (t made : ℕ) : Type 0 where
   pub free : (i : ℕ) → place_of s t ≤ i → i < made → (x : ℕ) → is_in x (plan.claim t i) ≡ true → IsHeldByOther plan s t x → ⊥
   pub unsafe : (p : ℕ) → place_of s t < p → p ≤ made → is_safe plan s (record { train = t; place = p }) ≡ false
 
+-- the moves of the train up to the place are free: no other train holds a section that they need
+abbrev pub IsOpen : Moves → List ℕ → ℕ → ℕ → Type 0
+IsOpen plan s t made = (i : ℕ) → place_of s t ≤ i → i < made → (x : ℕ) → is_in x (plan.claim t i) ≡ true → IsHeldByOther plan s t x → ⊥
+
+-- one more move that is free
+pub open_more : (plan : Moves) (s : List ℕ) (t made : ℕ) → IsOpen plan s t made → ((x : ℕ) → is_in x (plan.claim t made) ≡ true → IsHeldByOther plan s t x → ⊥) → IsOpen plan s t (made + 1)
+open_more plan s t made before free = λ i at lt.
+    ⊎_elim
+    (λ earlier. before i at earlier)
+    (λ ge. let last : i ≡ made = omega arith in let P : ℕ → Type 0 = λ k. (x : ℕ) → is_in x (plan.claim t k) ≡ true → IsHeldByOther plan s t x → ⊥ in subst P (sym last) free)
+    (cases_lt i made)
+
 -- a leg over moves that are free
+pub open_leads : (plan : Moves) (s : List ℕ) (t made : ℕ) → is_valid plan ≡ true → t < plan.trains
+    → t < length s → 0 < place_of s t → place_of s t ≤ made → made < plan.moves t → IsOpen plan s t (made + 1)
+    → is_leg plan s (record { train = t; place = made + 1 }) ≡ true
+open_leads plan s t made valid known listed low from below free =
+    leg_from plan s (record { train = t; place = made + 1 }) (record {
+      inside = inside_from plan s t low (omega arith);
+      ahead = omega arith;
+      within = omega arith;
+      legal = λ i at lt. free_legal plan s t i valid known listed (omega arith) (omega arith) (free i at (omega arith));
+    })
+
 pub tried_leads : (plan : Moves) (s : List ℕ) (t made : ℕ) → is_valid plan ≡ true → t < plan.trains
     → t < length s → 0 < place_of s t → place_of s t ≤ made → made < plan.moves t → IsTried plan s t made
     → ((x : ℕ) → is_in x (plan.claim t made) ≡ true → IsHeldByOther plan s t x → ⊥)
     → is_leg plan s (record { train = t; place = made + 1 }) ≡ true
 tried_leads plan s t made valid known listed low from below tried free =
-    leg_from plan s (record { train = t; place = made + 1 }) (record {
-      inside = inside_from plan s t low (omega arith);
-      ahead = omega arith;
-      within = omega arith;
-      legal = λ i at lt.
-          free_legal plan s t i valid known listed (omega arith) (omega arith)
-          (⊎_elim
-          (λ before. tried.free i at before)
-          (λ ge. let last : i ≡ made = omega arith in let P : ℕ → Type 0 = λ k. (x : ℕ) → is_in x (plan.claim t k) ≡ true → IsHeldByOther plan s t x → ⊥ in subst P (sym last) free)
-          (cases_lt i made));
-    })
+    open_leads plan s t made valid known listed low from below (open_more plan s t made tried.free free)
 
 -- another train went on: what is needed by a stop of u and was by the train that moved is needed by a third
 pub record IsPassed (plan : Moves) (r : List ℕ) (counts : Counts) (t u from : ℕ) : Type 0 where

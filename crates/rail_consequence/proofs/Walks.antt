@@ -86,7 +86,7 @@ leg_finds plan k s r leg is safe at = (
   λ found. found_front plan k k s leg is (omega (arith, cost-safe plan s leg safe)) (finds_at plan k r (after_leg s leg) at found),
 )
 
-cost_most : (plan : Moves) (s : List ℕ) (leg : Leg) → cost plan s leg ≤ 1
+pub cost_most : (plan : Moves) (s : List ℕ) (leg : Leg) → cost plan s leg ≤ 1
 cost_most plan s leg =
     ⊎_elim
     (λ safe. omega (arith, cost-safe plan s leg safe))

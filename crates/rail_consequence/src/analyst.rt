@@ -8,6 +8,7 @@ ghost use Rattle.rail_rules.specs.Moves.{stand};
 ghost use Rattle.rail_rules.specs.Numbers.{are_apart, is_in};
 ghost use Rattle.rail_consequence.specs.Needs.{own_of, trains_of};
 ghost use Rattle.rail_consequence.specs.Searches.{FindsByNoLeg, FindsByNoLegOf, FindsSame, HasNoSafeLeg, HasNoSafeLegOf, IsCleared, leg_to};
+ghost use Rattle.rail_consequence.specs.Freeing.{FreesNobody};
 ghost use Rattle.rail_consequence.specs.Stops.{AddsNoStops, IsHeldByOther, IsSettled, KeepsLevelsAbove, KeepsOtherLevels, KeepsOtherStops, Shows, StillStops, stop_at};
 ghost use Rattle.rail_consequence.specs.Workspace.{GoesOn, IsBack, IsListing, IsPlayedFrom, IsReady, Work};
 
@@ -218,6 +219,7 @@ impl Worksheet {
         requires ready { IsReady moves.now self.old }
         requires listed { IsListing (moves_in moves.now) self.old.places.positions inside.now }
         requires room { depth < 255 }
+        requires none { HasNoSafeLeg (moves_in moves.now) self.old.places.positions }
         requires settled { IsSettled (moves_in moves.now) self.old.places.positions self.old.stops (depth + 1) }
         ensures ready { IsReady moves.now self.new }
         ensures kept { KeepsLevelsAbove depth self.old.stops self.new.stops }
@@ -232,14 +234,15 @@ impl Worksheet {
         false
     }
 
-    /// As `search`, with a first leg of this train: each place that it can go on to is tried. Where there are
-    /// several, none is where nothing is found without the train.
+    /// As `search`, with a first leg of this train: each place that it can go on to is tried, but where it
+    /// shows before that none helps.
     #[cycle(search)]
     fn try_legs_of(&mut self, moves: &Moves, inside: &[TrainNo], train: TrainNo, depth: u8) -> bool
         requires ready { IsReady moves.now self.old }
         requires listed { IsListing (moves_in moves.now) self.old.places.positions inside.now }
         requires train { train < length moves.now }
         requires room { depth < 255 }
+        requires none { HasNoSafeLeg (moves_in moves.now) self.old.places.positions }
         requires settled { IsSettled (moves_in moves.now) self.old.places.positions self.old.stops (depth + 1) }
         ensures ready { IsReady moves.now self.new }
         ensures kept { KeepsLevelsAbove depth self.old.stops self.new.stops }
@@ -247,21 +250,84 @@ impl Worksheet {
         ensures none { result ≡ false
             → IsBack self.old self.new × FindsByNoLegOf (moves_in moves.now) depth self.old.places.positions train }
     {
-        if self.has_ends(moves, train, ends_for(depth))
-            && !self.is_found_without(moves, inside, train, depth)
-        {
+        if self.is_hopeless(moves, inside, train, depth) {
             return false;
         }
-        let mark = self.list.len();
         let from = self.places.position(train);
-        while self.can_go_on(moves, train) {
-            self.make_free_move(moves, inside, train, depth, from);
-            if self.search(moves, inside, depth) {
+        let last = moves.places(train);
+        for made in from..last {
+            if self.stop_of(moves, train, made).is_some() {
+                return false;
+            }
+            if self.try_leg(moves, inside, train, made + 1, depth) {
                 return true;
             }
         }
+        false
+    }
+
+    /// As `search`, with this leg first.
+    #[cycle(search)]
+    fn try_leg(
+        &mut self,
+        moves: &Moves,
+        inside: &[TrainNo],
+        train: TrainNo,
+        place: u16,
+        depth: u8,
+    ) -> bool
+        requires ready { IsReady moves.now self.old }
+        requires listed { IsListing (moves_in moves.now) self.old.places.positions inside.now }
+        requires train { train < length moves.now }
+        requires room { depth < 255 }
+        requires none { HasNoSafeLeg (moves_in moves.now) self.old.places.positions }
+        requires settled { IsSettled (moves_in moves.now) self.old.places.positions self.old.stops (depth + 1) }
+        requires leg { IsTrue (is_leg (moves_in moves.now) self.old.places.positions (leg_to train place)) }
+        ensures ready { IsReady moves.now self.new }
+        ensures kept { KeepsLevelsAbove depth self.old.stops self.new.stops }
+        ensures found { IsTrue result → IsCleared (moves_in moves.now) (depth + 1) self.old self.new }
+        ensures none { result ≡ false
+            → IsBack self.old self.new × (Finds (moves_in moves.now) depth (set self.old.places.positions train place) → ⊥) }
+    {
+        if depth == 0 && self.frees_nobody(moves, inside, train, place, depth + 1) {
+            return false;
+        }
+        let mark = self.list.len();
+        self.make_leg(moves, inside, train, place, depth + 1, depth);
+        if self.search(moves, inside, depth) {
+            return true;
+        }
         self.go_back(moves, mark);
         false
+    }
+
+    /// Whether it shows before they are tried that none of the train's legs helps: it can't go on; or nothing
+    /// is found with the train out of the way, since what can be found can be found without a train. For the
+    /// last free leg, and where the train has few legs, a look at what that would free is all that pays.
+    #[cycle(search)]
+    fn is_hopeless(&mut self, moves: &Moves, inside: &[TrainNo], train: TrainNo, depth: u8) -> bool
+        requires ready { IsReady moves.now self.old }
+        requires listed { IsListing (moves_in moves.now) self.old.places.positions inside.now }
+        requires train { train < length moves.now }
+        requires room { depth < 255 }
+        requires settled { IsSettled (moves_in moves.now) self.old.places.positions self.old.stops (depth + 1) }
+        ensures ready { IsReady moves.now self.new }
+        ensures kept { KeepsLevelsAbove depth self.old.stops self.new.stops }
+        ensures back { IsBack self.old self.new }
+        ensures inside { result ≡ false → IsTrue (is_inside (moves_in moves.now) self.old.places.positions train) }
+        ensures none { IsTrue result → FindsByNoLegOf (moves_in moves.now) depth self.old.places.positions train }
+    {
+        if !self.can_go_on(moves, train) {
+            return true;
+        }
+        let last = moves.places(train);
+        if depth == 0 && self.frees_nobody(moves, inside, train, last, depth + 1) {
+            return true;
+        }
+        if !self.has_ends(moves, train, ends_for(depth)) {
+            return false;
+        }
+        !self.is_found_without(moves, inside, train, depth)
     }
 
     /// Whether, with the train out of the way, nobody is left inside after legs of which at most `depth`
@@ -337,6 +403,29 @@ impl Worksheet {
         self.places.put(moves, train, place);
     }
 
+    /// Whether no other train inside gets a safe leg where the train goes on to the place, as the notes for
+    /// the level tell: there is another, the section that stops each is still held, and no section is left
+    /// to one of them alone.
+    fn frees_nobody(
+        &self,
+        moves: &Moves,
+        inside: &[TrainNo],
+        train: TrainNo,
+        place: u16,
+        level: u8,
+    ) -> bool
+        requires ready { IsReady moves.now self.now }
+        requires listed { IsListing (moves_in moves.now) self.now.places.positions inside.now }
+        requires train { train < length moves.now }
+        requires settled { IsSettled (moves_in moves.now) self.now.places.positions self.now.stops level }
+        requires inside { IsTrue (is_inside (moves_in moves.now) self.now.places.positions train) }
+        requires ahead { place_of self.now.places.positions train < place }
+        requires within { place ≤ (moves_in moves.now).moves train }
+        ensures { IsTrue result → FreesNobody (moves_in moves.now) self.now.places.positions train place }
+    {
+        false
+    }
+
     /// Whether the train is inside and can go on to at least so many places while all others stand.
     fn has_ends(&self, moves: &Moves, train: TrainNo, count: u16) -> bool
         requires ready { IsReady moves.now self.now }
@@ -356,34 +445,31 @@ impl Worksheet {
         true
     }
 
-    /// Makes the next move of a free leg from this place, after which `depth` free legs may be left, and
-    /// notes what stops the other trains still.
-    fn make_free_move(
+    /// Makes the leg, and notes for the one level what still stops the trains of which it was noted for the
+    /// other.
+    fn make_leg(
         &mut self,
         moves: &Moves,
         inside: &[TrainNo],
         train: TrainNo,
-        depth: u8,
-        from: u16,
+        place: u16,
+        above: u8,
+        level: u8,
     )
         requires ready { IsReady moves.now self.old }
         requires listed { IsListing (moves_in moves.now) self.old.places.positions inside.now }
         requires train { train < length moves.now }
-        requires room { depth < 255 }
-        requires inside { IsTrue (is_inside (moves_in moves.now) self.old.places.positions train) }
-        requires legal { IsTrue (is_legal (moves_in moves.now) self.old.places.positions train) }
-        requires valid { IsTrue (is_valid_state (moves_in moves.now) (set self.old.places.positions train from)) }
-        requires leg { IsTrue (is_leg (moves_in moves.now) (set self.old.places.positions train from)
-            (leg_to train (place_of self.old.places.positions train + 1))) }
-        requires settled { IsSettled (moves_in moves.now) (set self.old.places.positions train from) self.old.stops (depth + 1) }
+        requires leg { IsTrue (is_leg (moves_in moves.now) self.old.places.positions (leg_to train place)) }
+        requires settled { IsSettled (moves_in moves.now) self.old.places.positions self.old.stops above }
         ensures ready { IsReady moves.now self.new }
-        ensures positions { self.new.places.positions ≡ after self.old.places.positions train }
-        ensures list { self.new.list ≡ self.old.list ++ train ∷ [] }
-        ensures settled { IsSettled (moves_in moves.now) self.new.places.positions self.new.stops depth }
-        ensures kept { KeepsOtherLevels depth self.old.stops self.new.stops }
+        ensures moves { GoesOn (moves_in moves.now) self.old self.new }
+        ensures positions { self.new.places.positions ≡ set self.old.places.positions train place }
+        ensures settled { IsSettled (moves_in moves.now) self.new.places.positions self.new.stops level }
+        ensures kept { KeepsOtherLevels level self.old.stops self.new.stops }
     {
-        self.step(moves, train);
-        self.settle(moves, inside, depth + 1, depth, train, from);
+        let from = self.places.position(train);
+        self.go_to(moves, train, place);
+        self.settle(moves, inside, above, level, train, from);
     }
 
     /// Makes safe legs until there is none.
@@ -457,9 +543,7 @@ impl Worksheet {
                 false
             }
             Look::Leads(place) => {
-                let from = self.places.position(train);
-                self.go_to(moves, train, place);
-                self.settle(moves, inside, level, level, train, from);
+                self.make_leg(moves, inside, train, place, level, level);
                 true
             }
         }

@@ -1,24 +1,28 @@
-use Rattle.std.proofs.Common.{◌≡◌, ℕ, ◌+◌, ◌-◌, ◌<◌, Bool, List, true, false, ◌&&◌, length, set, refl, sym, ap, ◌∙◌, subst, ⊎_elim, arith}
-use Rattle.std.proofs.lemmas.Bool.{and_parts, cases_Bool, cases_lt}
+use Rattle.std.proofs.Common.{◌≡◌, ℕ, ◌+◌, ◌-◌, ◌<◌, ◌≤◌, Bool, List, Option, None, Some, is_some, true, false, ◌&&◌, not, length, set, refl, sym, ap, ◌∙◌, subst, ⊎_elim, arith}
+use Rattle.std.specs.Prelude.{MatchOption}
+use Rattle.std.proofs.lemmas.Bool.{and_from, cases_Bool, cases_lt, false≢true, not-true}
+use Rattle.rail_rules.specs.Numbers.{is_in}
+use Rattle.std.proofs.lemmas.List.{set-get_or}
 use Rattle.rail_rules.specs.Moves.{Moves}
 use Rattle.rail_rules.specs.Places.{place_of, is_inside, is_legal, nobody_inside}
-use Rattle.rail_rules.specs.Analysis.{Finds, is_leg, moves_left}
-use Rattle.rail_place.specs.Tables.{moves_in}
-use Rattle.rail_rules.specs.Places.{is_valid_state}
+use Rattle.rail_rules.specs.Analysis.{Finds, Leg, after_leg, is_leg}
+use Rattle.rail_place.specs.Tables.{moves_in, MoveLists}
 use Rattle.rail_rules.proofs.CallerLemmas.{state_parts}
 use Rattle.rail_base.specs.declared.limits.TheConstants.{TRAINS}
-use Rattle.rail_consequence.specs.Stops.{IsSettled, stop_at}
-use Rattle.rail_consequence.specs.Searches.{IsCleared}
-use Rattle.rail_consequence.specs.Workspace.{Work, GoesOn, IsBack, IsReady}
+use Rattle.rail_consequence.specs.Freeing.{FreesNobody}
+use Rattle.rail_consequence.specs.Searches.{HasNoSafeLeg, IsCleared}
+use Rattle.rail_consequence.specs.Stops.{IsHeldByOther, IsSettled, stop_at}
+use Rattle.rail_consequence.specs.Workspace.{Work, GoesOn, IsBack, IsListing, IsReady}
 use Rattle.rail_consequence.proofs.Counts.{in_at, in_take_all}
-use Rattle.rail_consequence.proofs.Legs.{goes_parts, inside_listed}
+use Rattle.rail_consequence.proofs.Freeing.{leg_finds_none, no_leg_helps}
+use Rattle.rail_consequence.proofs.Legs.{goes_parts, inside_listed, inside_parts}
 use Rattle.rail_consequence.proofs.Listing.{listed_at, listed_on}
-use Rattle.rail_consequence.proofs.Played.{back_by, fewer_left, goes_further, goes_played}
-use Rattle.rail_consequence.proofs.Walks.{walk_next, walk_back, walk_found, within_at, goes_back, leg_tried, false_both, finds_at, found_by_free, found_nobody, left_back, back_twice, tried_more, walk_home, walk_nowhere, next_leg}
-use Rattle.rail_consequence.proofs.Safe.{found_past_leg}
+use Rattle.rail_consequence.proofs.Played.{back_by, goes_further, goes_played}
+use Rattle.rail_consequence.proofs.Safe.{found_front, found_past_leg}
+use Rattle.rail_consequence.proofs.Stopping.{leg_short, open_leads, open_more}
+use Rattle.rail_consequence.proofs.Walks.{back_twice, cost_most, false_both, finds_at, found_by_free, found_nobody, goes_back, tried_more}
 use Rattle.rail_consequence.proofs.Without.{IsOut, out_back, out_entered, out_few, out_free}
 use Rattle.rail_consequence.proofs.analyst.Worksheet.+search.Goals as goal
-use Rattle.rail_consequence.proofs.analyst.Worksheet.+search.Goals.{try_legs_of-else-has_ends-via-then-has_ends+else-not-is_found_without, try_legs_of-else-has_ends-via-else-has_ends}
 
 pub search-returns-then-is_done-clause-found : goal.search-returns-then-is_done-clause-found
 search-returns-then-is_done-clause-found t c =
@@ -93,65 +97,6 @@ try_free_legs-returns-clause-none t c =
       λ leg is found. c.loop-train.invariant.none leg.train leg.place (in_take_all leg.train c.args.inside.now c.loop-train.train-index c.loop-train-test.false (c.requires.listed.all leg.train (goes_parts plan a.places.positions leg is).inside)) is found,
     )
 
-pub try_legs_of-returns-then-search-clause-found : goal.try_legs_of-returns-then-search-clause-found
-try_legs_of-returns-then-search-clause-found t c =
-    let plan : Moves = moves_in c.args.moves.now in
-    let a = c.args.self.now in
-    let n = c.make_free_move.new.self in
-    let next = walk_next plan c.args.train a c.loop-train.self n c.loop-train.invariant.walk (c.can_go_on.ensures.0 c.loop-train-test.true) c.make_free_move.ensures.positions c.make_free_move.ensures.list in
-    let found = c.search.ensures.found c.if-search.true in
-    λ _. (
-      goes_further plan a n c.search.new.self next.walk.goes found.0,
-      found.1,
-      walk_found plan c.args.train c.args.depth a n next.walk next.ahead (within_at c.args.moves.now n c.args.train c.make_free_move.ensures.ready) found.2,
-    )
-
-pub try_legs_of-loop-train-smaller : goal.try_legs_of-loop-train-smaller
-try_legs_of-loop-train-smaller t c =
-    let plan : Moves = moves_in c.args.moves.now in
-    let s = c.loop-train.self.places.positions in
-    let both = and_parts (is_inside plan s c.args.train) (is_legal plan s c.args.train) (c.can_go_on.ensures.0 c.loop-train-test.true) in
-    let none = c.search.ensures.none c.if-search.false in
-    let less : moves_left plan c.search.new.self.places.positions < moves_left plan s = omega (arith, left_back plan c.make_free_move.new.self c.search.new.self none.0, ap (moves_left plan) c.make_free_move.ensures.positions, fewer_left plan s c.args.train both.0) in
-    less
-
-pub try_legs_of-loop-train-preserved : goal.try_legs_of-loop-train-preserved
-try_legs_of-loop-train-preserved t c =
-    let plan : Moves = moves_in c.args.moves.now in
-    let u = c.args.train in
-    let a = c.args.self.now in
-    let n = c.make_free_move.new.self in
-    let d = c.search.new.self in
-    let next = walk_next plan u a c.loop-train.self n c.loop-train.invariant.walk (c.can_go_on.ensures.0 c.loop-train-test.true) c.make_free_move.ensures.positions c.make_free_move.ensures.list in
-    let none = c.search.ensures.none c.if-search.false in
-    let at : place_of d.places.positions u ≡ place_of n.places.positions u = ap (λ s. place_of s u) none.0.positions in
-    record {
-      ready = c.search.ensures.ready;
-      kept = λ m v lt few. c.search.ensures.kept m v lt few ∙ c.make_free_move.ensures.kept m v (λ same. absurd (omega (arith, same, lt))) few ∙ c.loop-train.invariant.kept m v lt few;
-      from = c.loop-train.invariant.from;
-      walk = walk_back plan u a n d next.walk none.0;
-      tried = λ p low high found.
-          ⊎_elim
-          (λ earlier. c.loop-train.invariant.tried p low (omega (arith, next.place)) found)
-          (λ here.
-          let now : p ≡ place_of n.places.positions u = omega (arith, at) in
-          none.1 (finds_at plan c.args.depth (set a.places.positions u p) n.places.positions (ap (set a.places.positions u) now ∙ sym next.walk.same) found))
-          (cases_lt p (place_of n.places.positions u));
-      mark = c.loop-train.invariant.mark;
-    }
-
-pub try_legs_of-returns-clause-none : goal.try_legs_of-returns-clause-none
-try_legs_of-returns-clause-none t c =
-    let plan : Moves = moves_in c.args.moves.now in
-    let u = c.args.train in
-    let a = c.args.self.now in
-    let b = c.loop-train.self in
-    let stuck : (is_inside plan b.places.positions u && is_legal plan b.places.positions u) ≡ false = false_both c.can_go_on.result (is_inside plan b.places.positions u && is_legal plan b.places.positions u) c.can_go_on.ensures c.loop-train-test.false in
-    λ _. (
-      back_by plan a b c.go_back.new.self c.len-mark.result c.loop-train.invariant.walk.goes c.loop-train.invariant.mark c.go_back.ensures.list c.go_back.ensures.positions,
-      λ p is found. let on_way = leg_tried plan u a b p c.loop-train.invariant.walk stuck is in c.loop-train.invariant.tried p on_way.0 on_way.1 found,
-    )
-
 pub search-is_done-requires-clause-listed : goal.search-is_done-requires-clause-listed
 search-is_done-requires-clause-listed t c = listed_on (moves_in c.args.moves.now) c.args.self.now c.close.new.self c.args.inside.now c.close.ensures.moves c.requires.listed
 
@@ -167,74 +112,54 @@ search-try_free_legs-requires t c =
           listed_on plan c.args.self.now b c.args.inside.now c.close.ensures.moves c.requires.listed,
           (
             omega (arith, c.if-depth-eq0.false, c.ranges.depth.fits),
-            λ u x lt stop. c.close.ensures.settled u x lt ((λ i. stop_at b.stops (sym more i) u) ∙ stop),
+            (c.close.ensures.none, λ u x lt stop. c.close.ensures.settled u x lt ((λ i. stop_at b.stops (sym more i) u) ∙ stop)),
           ),
         ),
       ),
     )
 
+-- what a call needs to know at places that are as before
+module _ (table : List MoveLists) (depth : ℕ) (inside : List ℕ) (a b : Work) (ready : IsReady table b) (back : IsBack a b) (kept : (m u : ℕ) → depth < m → u < TRAINS → stop_at b.stops m u ≡ stop_at a.stops m u) where
+  abbrev plan : Moves
+  plan = moves_in table
+
+  pub none_still : HasNoSafeLeg plan a.places.positions → HasNoSafeLeg plan b.places.positions
+  none_still none = let P : List ℕ → Type 0 = λ q. HasNoSafeLeg plan q in subst P (sym back.positions) none
+
+  pub settled_back : IsSettled plan a.places.positions a.stops (depth + 1) → IsSettled plan b.places.positions b.stops (depth + 1)
+  settled_back settled =
+      let P : List ℕ → Type 0 = λ q. IsSettled plan q a.stops (depth + 1) in
+      let at = subst P (sym back.positions) settled in
+      let state = state_parts plan b.places.positions ready.made.valid in
+      λ u x lt stop. at u x lt (sym (kept (depth + 1) u (omega arith) (omega (arith, inside_listed plan b.places.positions u lt, state.long, ready.made.moves.few))) ∙ stop)
+
+  pub listed_still : IsListing plan a.places.positions inside → IsListing plan b.places.positions inside
+  listed_still listed = listed_at plan a.places.positions b.places.positions inside (sym back.positions) listed
+
 pub try_free_legs-try_legs_of-requires : goal.try_free_legs-try_legs_of-requires
 try_free_legs-try_legs_of-requires t c =
-    let plan : Moves = moves_in c.args.moves.now in
+    let table = c.args.moves.now in
     let a = c.args.self.now in
     let b = c.loop-train.self in
-    let P : List ℕ → Type 0 = λ q. IsSettled plan q a.stops (c.args.depth + 1) in
-    let settled = subst P (sym c.loop-train.invariant.back.positions) c.requires.settled in
-    let state = state_parts plan b.places.positions c.loop-train.invariant.ready.made.valid in (
+    let inv = c.loop-train.invariant in (
       omega arith,
       (
-        c.loop-train.invariant.ready,
+        inv.ready,
         (
-          listed_at plan a.places.positions b.places.positions c.args.inside.now (sym c.loop-train.invariant.back.positions) c.requires.listed,
+          listed_still table c.args.depth c.args.inside.now a b inv.ready inv.back inv.kept c.requires.listed,
           (
             c.requires.listed.trains c.train-item.result (in_at c.train-item.result c.args.inside.now c.loop-train.train-index c.loop-train-test.true c.train-item.is),
             (
               c.requires.room,
-              λ u x lt stop.
-                  settled u x lt (sym (c.loop-train.invariant.kept (c.args.depth + 1) u (omega arith) (omega (arith, inside_listed plan b.places.positions u lt, state.long, c.loop-train.invariant.ready.made.moves.few))) ∙ stop),
+              (
+                none_still table c.args.depth c.args.inside.now a b inv.ready inv.back inv.kept c.requires.none,
+                settled_back table c.args.depth c.args.inside.now a b inv.ready inv.back inv.kept c.requires.settled,
+              ),
             ),
           ),
         ),
       ),
     )
-
-pub try_legs_of-make_free_move-requires-clause-listed : goal.try_legs_of-make_free_move-requires-clause-listed
-try_legs_of-make_free_move-requires-clause-listed t c = listed_on (moves_in c.args.moves.now) c.args.self.now c.loop-train.self c.args.inside.now c.loop-train.invariant.walk.goes c.requires.listed
-
-pub try_legs_of-search-requires : goal.try_legs_of-search-requires
-try_legs_of-search-requires t c =
-    let plan : Moves = moves_in c.args.moves.now in
-    let a = c.args.self.now in
-    let n = c.make_free_move.new.self in
-    let next = walk_next plan c.args.train a c.loop-train.self n c.loop-train.invariant.walk (c.can_go_on.ensures.0 c.loop-train-test.true) c.make_free_move.ensures.positions c.make_free_move.ensures.list in (
-      omega arith,
-      (c.make_free_move.ensures.ready, (listed_on plan a n c.args.inside.now next.walk.goes c.requires.listed, c.make_free_move.ensures.settled)),
-    )
-
-pub try_legs_of-make_free_move-requires-clause-valid : goal.try_legs_of-make_free_move-requires-clause-valid
-try_legs_of-make_free_move-requires-clause-valid t c =
-    let plan : Moves = moves_in c.args.moves.now in
-    ap (is_valid_state plan) (walk_home plan c.args.train c.position-from.result c.args.self.now c.loop-train.self c.loop-train.invariant.walk c.loop-train.invariant.from) ∙ c.requires.ready.made.valid
-
-pub try_legs_of-make_free_move-requires-clause-leg : goal.try_legs_of-make_free_move-requires-clause-leg
-try_legs_of-make_free_move-requires-clause-leg t c =
-    let plan : Moves = moves_in c.args.moves.now in
-    let u = c.args.train in
-    let b = c.loop-train.self in
-    ap (λ q. is_leg plan q (record { train = u; place = place_of b.places.positions u + 1 })) (walk_home plan u c.position-from.result c.args.self.now b c.loop-train.invariant.walk c.loop-train.invariant.from)
-    ∙ next_leg plan u c.args.self.now b c.loop-train.invariant.walk (c.can_go_on.ensures.0 c.loop-train-test.true)
-
-pub try_legs_of-make_free_move-requires-clause-settled : goal.try_legs_of-make_free_move-requires-clause-settled
-try_legs_of-make_free_move-requires-clause-settled t c =
-    let plan : Moves = moves_in c.args.moves.now in
-    let a = c.args.self.now in
-    let b = c.loop-train.self in
-    let home = walk_home plan c.args.train c.position-from.result a b c.loop-train.invariant.walk c.loop-train.invariant.from in
-    let state = state_parts plan a.places.positions c.requires.ready.made.valid in
-    λ u x lt stop.
-    let listed : u < TRAINS = omega (arith, inside_listed plan (set b.places.positions c.args.train c.position-from.result) u lt, ap length home, state.long, c.requires.ready.made.moves.few) in
-    let P : List ℕ → Type 0 = λ q. IsSettled plan q a.stops (c.args.depth + 1) in
-    subst P (sym home) c.requires.settled u x lt (sym (c.loop-train.invariant.kept (c.args.depth + 1) u (omega arith) listed) ∙ stop)
 
 -- a search goes on, whether it finds a list or not
 pub goes_searched : (plan : Moves) (depth : ℕ) (b d : Work) (found : Bool) → (found ≡ true → IsCleared plan depth b d) → (found ≡ false → IsBack b d × (Finds plan depth b.places.positions → ⊥)) → GoesOn plan b d
@@ -314,30 +239,151 @@ is_found_without-returns-clause-back t c =
       positions = c.put.ensures.positions ∙ out_back table c.args.train c.position-place.result a e c.requires.ready c.requires.inside at out;
     }
 
-pub try_legs_of-returns-then-not-is_found_without-clause-none : goal.try_legs_of-returns-then-not-is_found_without-clause-none
-try_legs_of-returns-then-not-is_found_without-clause-none t c =
-    let plan : Moves = moves_in c.args.moves.now in
-    let none = c.is_found_without.ensures.none c.if-not-is_found_without.true in
-    λ _. (c.is_found_without.ensures.back, λ p is found. none (found_past_leg plan c.args.depth c.args.self.now.places.positions c.args.train p is found))
+-- what an option tells that is one, and one that is not
+shown : (A : Type 0) (B : ℕ → Type 0) (o : Option ℕ) → is_some o ≡ true → MatchOption o A B → (x : ℕ) × B x
+shown A B None is told = absurd (false≢true is)
+shown A B (Some x) is told = (x, told)
 
-pub try_legs_of-loop-train-init : goal.try_legs_of-loop-train-init
-try_legs_of-loop-train-init t c =
+unshown : (A : Type 0) (B : ℕ → Type 0) (o : Option ℕ) → is_some o ≡ false → MatchOption o A B → A
+unshown A B None is told = told
+unshown A B (Some x) is told = absurd (false≢true (sym is))
+
+pub is_hopeless-returns-then-not-can_go_on-clause-none : goal.is_hopeless-returns-then-not-can_go_on-clause-none
+is_hopeless-returns-then-not-can_go_on-clause-none t c =
+    let plan : Moves = moves_in c.args.moves.now in
+    let s = c.args.self.now.places.positions in
+    let u = c.args.train in
+    let stuck : (is_inside plan s u && is_legal plan s u) ≡ false = false_both c.can_go_on.result (is_inside plan s u && is_legal plan s u) c.can_go_on.ensures c.if-not-can_go_on.true in
+    λ _ p is found.
+    let goes = goes_parts plan s (record { train = u; place = p }) is in
+    let legal : is_legal plan s u ≡ true = ap (λ q. is_legal plan q u) (sym (set-get_or s u 0)) ∙ goes.legal (place_of s u) (omega arith) goes.ahead in
+    false≢true (sym stuck ∙ and_from (is_inside plan s u) (is_legal plan s u) goes.inside legal)
+
+pub is_hopeless-returns-then-frees_nobody-clause-none : goal.is_hopeless-returns-then-frees_nobody-clause-none
+is_hopeless-returns-then-frees_nobody-clause-none t c =
+    let plan : Moves = moves_in c.args.moves.now in
+    let s = c.args.self.now.places.positions in
+    let P : ℕ → Type 0 = λ p. FreesNobody plan s c.args.train p in
+    let frees = subst P c.places-last.ensures (c.frees_nobody.ensures c.if-frees_nobody.true) in
+    λ _ p is found. no_leg_helps plan s c.args.train c.args.depth p c.if-depth-eq0.true frees is found
+
+pub is_hopeless-returns-clause-none : goal.is_hopeless-returns-clause-none
+is_hopeless-returns-clause-none t c =
+    let plan : Moves = moves_in c.args.moves.now in
+    λ yes p is found.
+    c.is_found_without.ensures.none (not-true c.is_found_without.result yes) (found_past_leg plan c.args.depth c.args.self.now.places.positions c.args.train p is found)
+
+pub try_leg-returns-then-frees_nobody-clause-none : goal.try_leg-returns-then-frees_nobody-clause-none
+try_leg-returns-then-frees_nobody-clause-none t c =
+    let plan : Moves = moves_in c.args.moves.now in
+    let s = c.args.self.now.places.positions in
+    let P : ℕ → Type 0 = λ k. Finds plan k (set s c.args.train c.args.place) in
+    λ _. (record { list = refl; positions = refl }, λ found. leg_finds_none plan s c.args.train c.args.place (c.frees_nobody.ensures c.if-frees_nobody.true) c.requires.none c.requires.leg (subst P c.if-depth-eq0.true found))
+
+pub try_leg-returns-then-search-clause-found : goal.try_leg-returns-then-search-clause-found
+try_leg-returns-then-search-clause-found t c =
+    let plan : Moves = moves_in c.args.moves.now in
+    let a = c.args.self.now in
+    let n = c.make_leg.new.self in
+    let leg : Leg = record { train = c.args.train; place = c.args.place } in
+    let found = c.search.ensures.found c.if-search.true in
+    λ _. (
+      goes_further plan a n c.search.new.self c.make_leg.ensures.moves found.0,
+      found.1,
+      found_front plan (c.args.depth + 1) c.args.depth a.places.positions leg c.requires.leg (omega (arith, cost_most plan a.places.positions leg)) (finds_at plan c.args.depth n.places.positions (after_leg a.places.positions leg) c.make_leg.ensures.positions found.2),
+    )
+
+pub try_leg-returns-clause-none : goal.try_leg-returns-clause-none
+try_leg-returns-clause-none t c =
+    let plan : Moves = moves_in c.args.moves.now in
+    let a = c.args.self.now in
+    let n = c.make_leg.new.self in
+    let d = c.search.new.self in
+    let none = c.search.ensures.none c.if-search.false in
+    λ _. (
+      back_by plan a d c.go_back.new.self c.len-mark.result (goes_further plan a n d c.make_leg.ensures.moves (goes_back plan n d none.0)) (omega (arith, c.len-mark.ensures, c.self-2.inside.list.ok, ap (λ (w : Work). length w.list) c.self-2.view_is)) c.go_back.ensures.list c.go_back.ensures.positions,
+      λ found. none.1 (finds_at plan c.args.depth (set a.places.positions c.args.train c.args.place) n.places.positions (sym c.make_leg.ensures.positions) found),
+    )
+
+pub try_legs_of-returns-then-is_some-clause-none : goal.try_legs_of-returns-then-is_some-clause-none
+try_legs_of-returns-then-is_some-clause-none t c =
+    let plan : Moves = moves_in c.args.moves.now in
+    let s = c.args.self.now.places.positions in
+    let u = c.args.train in
+    let b = c.loop-made.self in
+    let inv = c.loop-made.invariant in
+    let at : c.position-from.result ≡ place_of s u = c.position-from.ensures ∙ ap (λ (w : Work). place_of w.places.positions u) c.self.view_is ∙ ap (λ q. place_of q u) c.is_hopeless.ensures.back.positions in
+    let stop = shown _ _ c.stop_of.result (sym c.is_some.ensures ∙ c.if-is_some.true) c.stop_of.ensures in
+    let H : List ℕ → Type 0 = λ q. IsHeldByOther plan q u stop.0 in
+    λ _. (
+      inv.back,
+      λ p is found.
+          let goes = goes_parts plan s (record { train = u; place = p }) is in
+          inv.tried p goes.ahead (leg_short plan s u stop.0 c.loop-made.made p (omega (arith, at, c.loop-made.auto.made)) stop.1.0 (subst H inv.back.positions stop.1.1) is) found,
+    )
+
+pub try_legs_of-try_leg-requires : goal.try_legs_of-try_leg-requires
+try_legs_of-try_leg-requires t c =
     let table = c.args.moves.now in
     let plan : Moves = moves_in table in
-    let u = c.args.train in
     let a = c.args.self.now in
-    let b = c.else-has_ends.self in
-    let P : Work → Type 0 = λ w. IsReady table w × ((m v : ℕ) → c.args.depth < m → v < TRAINS → stop_at w.stops m v ≡ stop_at a.stops m v) × IsBack a w in
-    let kept : P b = elim c.else-has_ends.branch [
-      try_legs_of-else-has_ends-via-then-has_ends+else-not-is_found_without w ↦ subst P (sym w.self-is) (w.is_found_without.ensures.ready, w.is_found_without.ensures.kept, w.is_found_without.ensures.back)
-      | try_legs_of-else-has_ends-via-else-has_ends w ↦ subst P (sym w.self-is) (c.requires.ready, (λ m v lt few. refl), record { list = refl; positions = refl })
-    ] in
-    let same : place_of b.places.positions u ≡ place_of a.places.positions u = ap (λ s. place_of s u) kept.2.positions in
+    let b = c.loop-made.self in
+    let u = c.args.train in
+    let inv = c.loop-made.invariant in
+    let inside = c.is_hopeless.ensures.inside c.if-is_hopeless.false in
+    let parts = inside_parts plan a.places.positions u inside in
+    let at : c.position-from.result ≡ place_of a.places.positions u = c.position-from.ensures ∙ ap (λ (w : Work). place_of w.places.positions u) c.self.view_is ∙ ap (λ q. place_of q u) c.is_hopeless.ensures.back.positions in
+    let F : List ℕ → Type 0 = λ q. (x : ℕ) → is_in x (plan.claim u c.loop-made.made) ≡ true → IsHeldByOther plan q u x → ⊥ in
+    let free : F a.places.positions = subst F inv.back.positions (unshown _ _ c.stop_of.result (sym c.is_some.ensures ∙ c.if-is_some.false) c.stop_of.ensures) in
+    let L : List ℕ → Type 0 = λ q. is_leg plan q (record { train = u; place = c.loop-made.made + 1 }) ≡ true in
+    let leg = open_leads plan a.places.positions u c.loop-made.made c.requires.ready.made.moves.valid c.requires.train (inside_listed plan a.places.positions u inside) parts.0 (omega (arith, at, c.loop-made.auto.made)) (omega (arith, c.loop-made-test.true, c.places-last.ensures)) (open_more plan a.places.positions u c.loop-made.made inv.free free) in (
+      omega arith,
+      (
+        inv.ready,
+        (
+          listed_still table c.args.depth c.args.inside.now a b inv.ready inv.back inv.kept c.requires.listed,
+          (
+            c.requires.train,
+            (
+              c.requires.room,
+              (
+                none_still table c.args.depth c.args.inside.now a b inv.ready inv.back inv.kept c.requires.none,
+                (settled_back table c.args.depth c.args.inside.now a b inv.ready inv.back inv.kept c.requires.settled, subst L (sym inv.back.positions) leg),
+              ),
+            ),
+          ),
+        ),
+      ),
+    )
+
+pub try_legs_of-loop-made-preserved : goal.try_legs_of-loop-made-preserved
+try_legs_of-loop-made-preserved t c =
+    let plan : Moves = moves_in c.args.moves.now in
+    let s = c.args.self.now.places.positions in
+    let u = c.args.train in
+    let inv = c.loop-made.invariant in
+    let none = c.try_leg.ensures.none c.if-try_leg.false in
+    let F : List ℕ → Type 0 = λ q. (x : ℕ) → is_in x (plan.claim u c.loop-made.made) ≡ true → IsHeldByOther plan q u x → ⊥ in
+    let free : F s = subst F inv.back.positions (unshown _ _ c.stop_of.result (sym c.is_some.ensures ∙ c.if-is_some.false) c.stop_of.ensures) in
     record {
-      ready = kept.0;
-      kept = kept.1;
-      from = c.position-from.ensures ∙ ap (λ (w : Work). place_of w.places.positions u) c.self-2.view_is ∙ same;
-      walk = walk_back plan u a a b (walk_nowhere plan u a) kept.2;
-      tried = λ p low high found. omega (arith, low, high, same);
-      mark = omega (arith, c.len-mark.ensures, c.self-2.inside.list.ok, ap (λ (w : Work). length w.list) c.self-2.view_is, ap length kept.2.list);
+      ready = c.try_leg.ensures.ready;
+      back = back_twice c.args.self.now c.loop-made.self c.try_leg.new.self inv.back none.0;
+      kept = λ m v lt few. c.try_leg.ensures.kept m v lt few ∙ inv.kept m v lt few;
+      free = open_more plan s u c.loop-made.made inv.free free;
+      tried = λ p low high found.
+          ⊎_elim
+          (λ earlier. inv.tried p low (omega (arith, earlier)) found)
+          (λ here.
+          let last : p ≡ c.loop-made.made + 1 = omega arith in
+          none.1 (finds_at plan c.args.depth (set s u p) (set c.loop-made.self.places.positions u (c.loop-made.made + 1)) (ap (set s u) last ∙ ap (λ q. set q u (c.loop-made.made + 1)) (sym inv.back.positions)) found))
+          (cases_lt p (c.loop-made.made + 1));
     }
+
+pub try_legs_of-returns-clause-none : goal.try_legs_of-returns-clause-none
+try_legs_of-returns-clause-none t c =
+    let plan : Moves = moves_in c.args.moves.now in
+    let s = c.args.self.now.places.positions in
+    λ _. (
+      c.loop-made.invariant.back,
+      λ p is found. let goes = goes_parts plan s (record { train = c.args.train; place = p }) is in c.loop-made.invariant.tried p goes.ahead (omega (arith, goes.within, c.places-last.ensures, c.loop-made-test.false)) found,
+    )

@@ -1,25 +1,31 @@
-use Rattle.std.proofs.Common.{◌≡◌, ℕ, ◌+◌, ◌*◌, ◌<◌, ◌≤◌, true, length, set, take}
+use Rattle.std.proofs.Common.{◌≡◌, ℕ, ◌+◌, ◌*◌, ◌<◌, ◌≤◌, true, set, take}
 use Rattle.rail_rules.specs.Numbers.{is_in}
 use Rattle.rail_rules.specs.Places.{place_of}
-use Rattle.rail_rules.specs.Analysis.{Finds, is_leg, moves_left}
+use Rattle.rail_rules.specs.Analysis.{Finds, is_leg}
 use Rattle.rail_place.specs.Tables.{moves_in}
 use Rattle.rail_base.specs.declared.limits.TheConstants.{TRAINS}
 use Rattle.rail_consequence.specs.Stops.{stop_at}
 use Rattle.rail_consequence.specs.Workspace.{IsBack, IsReady}
-use Rattle.rail_consequence.proofs.Walks.{IsWalk}
+use Rattle.rail_consequence.proofs.Stopping.{IsOpen}
 use Rattle.rail_consequence.proofs.analyst.Worksheet.+search.Given as goal
 
 abbrev pub decreases-search : goal.decreases-search
-decreases-search l = 4 * l.depth
+decreases-search l = 5 * l.depth
 
 abbrev pub decreases-try_free_legs : goal.decreases-try_free_legs
-decreases-try_free_legs l = 4 * l.depth + 3
+decreases-try_free_legs l = 5 * l.depth + 4
 
 abbrev pub decreases-try_legs_of : goal.decreases-try_legs_of
-decreases-try_legs_of l = 4 * l.depth + 2
+decreases-try_legs_of l = 5 * l.depth + 3
+
+abbrev pub decreases-try_leg : goal.decreases-try_leg
+decreases-try_leg l = 5 * l.depth + 2
+
+abbrev pub decreases-is_hopeless : goal.decreases-is_hopeless
+decreases-is_hopeless l = 5 * l.depth + 2
 
 abbrev pub decreases-is_found_without : goal.decreases-is_found_without
-decreases-is_found_without l = 4 * l.depth + 1
+decreases-is_found_without l = 5 * l.depth + 1
 
 abbrev pub invariant-try_free_legs-loop-train : goal.invariant-try_free_legs-loop-train
 invariant-try_free_legs-loop-train l = record {
@@ -29,15 +35,11 @@ invariant-try_free_legs-loop-train l = record {
   none : (u p : ℕ) → is_in u (take l.train-index l.inside) ≡ true → is_leg (moves_in l.moves) l.fn.self.places.positions (record { train = u; place = p }) ≡ true → Finds (moves_in l.moves) l.depth (set l.fn.self.places.positions u p) → ⊥;
 }
 
-abbrev pub invariant-try_legs_of-loop-train : goal.invariant-try_legs_of-loop-train
-invariant-try_legs_of-loop-train l = record {
+abbrev pub invariant-try_legs_of-loop-made : goal.invariant-try_legs_of-loop-made
+invariant-try_legs_of-loop-made l = record {
   ready : IsReady l.moves l.self;
+  back : IsBack l.fn.self l.self;
   kept : (m u : ℕ) → l.depth < m → u < TRAINS → stop_at l.self.stops m u ≡ stop_at l.fn.self.stops m u;
-  from : l.from ≡ place_of l.fn.self.places.positions l.train;
-  walk : IsWalk (moves_in l.moves) l.train l.fn.self l.self;
-  tried : (p : ℕ) → place_of l.fn.self.places.positions l.train < p → p ≤ place_of l.self.places.positions l.train → Finds (moves_in l.moves) l.depth (set l.fn.self.places.positions l.train p) → ⊥;
-  mark : l.mark ≡ length l.fn.self.list;
+  free : IsOpen (moves_in l.moves) l.fn.self.places.positions l.train l.made;
+  tried : (p : ℕ) → place_of l.fn.self.places.positions l.train < p → p ≤ l.made → Finds (moves_in l.moves) l.depth (set l.fn.self.places.positions l.train p) → ⊥;
 }
-
-abbrev pub decreases-try_legs_of-loop-train : goal.decreases-try_legs_of-loop-train
-decreases-try_legs_of-loop-train l = moves_left (moves_in l.moves) l.self.places.positions

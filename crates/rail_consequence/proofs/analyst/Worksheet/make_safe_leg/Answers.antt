@@ -30,51 +30,6 @@ returns-then-is_some-clause-none c =
     let known : stop_at c.args.self.now.stops c.args.level t ≡ Some stop.0 = sym (c.get.ensures ∙ ap (λ (w : Work). stop_at w.stops c.args.level t) c.self.view_is) ∙ stop.1 in
     λ _. (record { list = refl; positions = refl }, λ p is. stopped_unsafe plan s t stop.0 p (c.requires.settled t stop.0 (goes_parts plan s (record { train = t; place = p }) is).inside known) is)
 
-pub settle-requires-clause-listed : goal.settle-requires-clause-listed
-settle-requires-clause-listed c = listed_on (moves_in c.args.moves.now) c.args.self.now c.go_to.new.self c.args.inside.now c.go_to.ensures.moves c.requires.listed
-
-pub settle-requires-clause-valid : goal.settle-requires-clause-valid
-settle-requires-clause-valid c =
-    let plan : Moves = moves_in c.args.moves.now in
-    let s = c.args.self.now.places.positions in
-    let t = c.args.train in
-    let listed : t < length s = omega (arith, c.requires.train, (state_parts plan s c.requires.ready.made.valid).long) in
-    let from : c.position-from.result ≡ place_of s t = c.position-from.ensures ∙ ap (λ (w : Work). place_of w.places.positions t) c.self.view_is in
-    let back : set c.go_to.new.self.places.positions t c.position-from.result ≡ s = ap (λ q. set q t c.position-from.result) c.go_to.ensures.positions ∙ set-set s t c.in-Leads.place c.position-from.result ∙ ap (set s t) from ∙ set-get_or s t 0 in
-    ap (is_valid_state plan) back ∙ c.requires.ready.made.valid
-
-pub settle-requires-clause-inside : goal.settle-requires-clause-inside
-settle-requires-clause-inside c =
-    let plan : Moves = moves_in c.args.moves.now in
-    let s = c.args.self.now.places.positions in
-    let t = c.args.train in
-    let listed : t < length s = omega (arith, c.requires.train, (state_parts plan s c.requires.ready.made.valid).long) in
-    let from : c.position-from.result ≡ place_of s t = c.position-from.ensures ∙ ap (λ (w : Work). place_of w.places.positions t) c.self.view_is in
-    let back : set c.go_to.new.self.places.positions t c.position-from.result ≡ s = ap (λ q. set q t c.position-from.result) c.go_to.ensures.positions ∙ set-set s t c.in-Leads.place c.position-from.result ∙ ap (set s t) from ∙ set-get_or s t 0 in
-    ap (λ q. is_inside plan q t) back ∙ (goes_parts plan s (record { train = t; place = c.in-Leads.place }) c.in-Leads.ensures.0).inside
-
-pub settle-requires-clause-ahead : goal.settle-requires-clause-ahead
-settle-requires-clause-ahead c =
-    let plan : Moves = moves_in c.args.moves.now in
-    let s = c.args.self.now.places.positions in
-    let t = c.args.train in
-    let listed : t < length s = omega (arith, c.requires.train, (state_parts plan s c.requires.ready.made.valid).long) in
-    let from : c.position-from.result ≡ place_of s t = c.position-from.ensures ∙ ap (λ (w : Work). place_of w.places.positions t) c.self.view_is in
-    let there : place_of c.go_to.new.self.places.positions t ≡ c.in-Leads.place = ap (λ q. place_of q t) c.go_to.ensures.positions ∙ get_or-set_same s t c.in-Leads.place 0 listed in
-    omega (arith, from, there, (goes_parts plan s (record { train = t; place = c.in-Leads.place }) c.in-Leads.ensures.0).ahead)
-
-pub settle-requires-clause-settled : goal.settle-requires-clause-settled
-settle-requires-clause-settled c =
-    let plan : Moves = moves_in c.args.moves.now in
-    let s = c.args.self.now.places.positions in
-    let t = c.args.train in
-    let listed : t < length s = omega (arith, c.requires.train, (state_parts plan s c.requires.ready.made.valid).long) in
-    let from : c.position-from.result ≡ place_of s t = c.position-from.ensures ∙ ap (λ (w : Work). place_of w.places.positions t) c.self.view_is in
-    let back : set c.go_to.new.self.places.positions t c.position-from.result ≡ s = ap (λ q. set q t c.position-from.result) c.go_to.ensures.positions ∙ set-set s t c.in-Leads.place c.position-from.result ∙ ap (set s t) from ∙ set-get_or s t 0 in
-    let P : List ℕ → Type 0 = λ q. IsSettled plan q c.args.self.now.stops c.args.level in
-    let at = subst P (sym back) c.requires.settled in
-    λ u x lt stop. at u x lt (sym (ap (λ stops. stop_at stops c.args.level u) c.go_to.ensures.stops) ∙ stop)
-
 pub returns-in-Stopped-clause-none : goal.returns-in-Stopped-clause-none
 returns-in-Stopped-clause-none c =
     let plan : Moves = moves_in c.args.moves.now in
@@ -118,7 +73,7 @@ returns-in-Leads-clause-same c =
     let t = c.args.train in
     let listed : t < length s = omega (arith, c.requires.train, (state_parts plan s c.requires.ready.made.valid).long) in
     let leg : Leg = record { train = t; place = c.in-Leads.place } in
-    λ k. leg_finds plan k s c.settle.new.self.places.positions leg c.in-Leads.ensures.0 c.in-Leads.ensures.1 (ap (λ (w : Work). w.places.positions) c.settle.ensures.rest ∙ c.go_to.ensures.positions)
+    λ k. leg_finds plan k s c.make_leg.new.self.places.positions leg c.in-Leads.ensures.0 c.in-Leads.ensures.1 c.make_leg.ensures.positions
 
 pub returns-in-Leads-clause-fewer : goal.returns-in-Leads-clause-fewer
 returns-in-Leads-clause-fewer c =
@@ -127,4 +82,4 @@ returns-in-Leads-clause-fewer c =
     let t = c.args.train in
     let listed : t < length s = omega (arith, c.requires.train, (state_parts plan s c.requires.ready.made.valid).long) in
     let goes = goes_parts plan s (record { train = t; place = c.in-Leads.place }) c.in-Leads.ensures.0 in
-    λ _. omega (arith, ap (λ (w : Work). moves_left plan w.places.positions) c.settle.ensures.rest, ap (moves_left plan) c.go_to.ensures.positions, fewer_at plan s t c.in-Leads.place listed goes.ahead goes.within)
+    λ _. omega (arith, ap (moves_left plan) c.make_leg.ensures.positions, fewer_at plan s t c.in-Leads.place listed goes.ahead goes.within)
