@@ -12,9 +12,8 @@ use Rattle.rail_place.specs.Tables.{moves_in, IsTable, MoveLists}
 use Rattle.rail_place.specs.Made.{State, IsMadeFor}
 use Rattle.rail_place.specs.Plays.{IsPlayed}
 use Rattle.rail_consequence.specs.Workspace.{Work, IsReady, GoesOn, IsBack}
-use Rattle.rail_consequence.specs.Needs.{Counts, IsCounted, IsMore, times}
+use Rattle.rail_consequence.specs.Needs.{IsCounted}
 use Rattle.rail_consequence.proofs.Legs.{inside_parts, inside_listed}
-use Rattle.rail_consequence.proofs.Counts.{counted_next}
 
 pub played_push : (plan : Moves) (s xs r : List ℕ) (t : ℕ) → IsPlayed plan s xs r → is_inside plan r t ≡ true → is_legal plan r t ≡ true → IsPlayed plan s (xs ++ t ∷ []) (after r t)
 played_push plan s [] r t same inside legal = (
@@ -116,14 +115,14 @@ pub ready_step :
     (w : Work)
     (t : ℕ)
     (places : State)
-    (needs : Counts)
+    (needs : List ℕ)
     (stops : List (Option ℕ))
     (list : List ℕ)
     → IsReady table w → is_inside (moves_in table) w.places.positions t ≡ true
     → is_legal (moves_in table) w.places.positions t ≡ true → IsMadeFor table places
     → places.positions ≡ after w.places.positions t
-    → IsMore needs w.needs t (λ x. times x ((moves_in table).claim t (place_of w.places.positions t))) → list ≡ w.list ++ t ∷ [] → IsReady table (record { places = places; needs = needs; stops = stops; list = list })
-ready_step table w t places needs stops list ready inside legal made next more at =
+    → IsCounted (moves_in table) (after w.places.positions t) needs → list ≡ w.list ++ t ∷ [] → IsReady table (record { places = places; needs = needs; stops = stops; list = list })
+ready_step table w t places needs stops list ready inside legal made next counted at =
     let plan : Moves = moves_in table in
     let pushed = played_push plan ready.start w.list w.places.positions t ready.played inside legal in
     let P : List ℕ → Type 0 = λ xs. IsPlayed plan ready.start xs (after w.places.positions t) in
@@ -134,7 +133,7 @@ ready_step table w t places needs stops list ready inside legal made next more a
       valid = ready.valid;
       played = subst Q (sym next) (subst P (sym at) pushed);
       made = made;
-      counted = subst C (sym next) (counted_next plan w.places.positions t inside w.needs needs ready.counted more);
+      counted = subst C (sym next) counted;
     }
 
 pub ready_few : (table : List MoveLists) (w : Work) (t : ℕ) → IsReady table w → is_inside (moves_in table) w.places.positions t ≡ true → is_legal (moves_in table) w.places.positions t ≡ true → length w.list < LIST_TRAINS

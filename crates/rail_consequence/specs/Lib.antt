@@ -3,3 +3,4 @@ pub mod Workspace
 pub mod Searches
 pub mod Needs
 pub mod Stops
+pub mod Analysts
