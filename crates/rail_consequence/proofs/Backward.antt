@@ -10,12 +10,11 @@ use Rattle.rail_place.specs.Tables.{moves_in, MoveLists}
 use Rattle.rail_place.specs.Made.{State, IsMadeFor}
 use Rattle.rail_place.specs.Plays.{IsPlayed}
 use Rattle.rail_place.proofs.CallerLemmas.{played_last, way_back, step_back}
-use Rattle.rail_consequence.specs.Needs.{Counts, IsCounted, IsMore, IsRoomFor, times}
+use Rattle.rail_consequence.specs.Needs.{IsCounted}
 use Rattle.rail_consequence.specs.Workspace.{Work, IsPlayedFrom, IsReady}
 use Rattle.rail_consequence.proofs.Legs.{inside_listed, inside_parts}
-use Rattle.rail_consequence.proofs.Played.{left_at, played_valid}
-use Rattle.rail_consequence.proofs.Counts.{next_place, counted_before, room_before, length_after}
-use Rattle.rail_base.specs.declared.limits.TheConstants.{TRAINS}
+use Rattle.rail_consequence.proofs.Played.{moves_left_at, played_valid}
+use Rattle.rail_consequence.proofs.Counts.{next_place}
 
 -- the moves of the list behind some of the others lead from a valid state to the places
 abbrev pub IsPlayedLast : Moves → Work → Type 0
@@ -60,30 +59,15 @@ module _ (table : List MoveLists) (w : Work) (earlier : List ℕ) (t : ℕ) (rea
         back = way.back;
       }
 
-  -- the needs of the move that is taken back
-  pub needed_back : (xs : List ℕ) (place : ℕ) → xs ≡ plan.claim t (place - 1) → place ≡ place_of w.places.positions t → xs ≡ plan.claim t (place_of last_move.before t)
-  needed_back xs place is at = let same : place - 1 ≡ place_of last_move.before t = omega (arith, at, last_move.place) in is ∙ ap (plan.claim t) same
-
-  pub room_back : (xs : List ℕ) → xs ≡ plan.claim t (place_of last_move.before t) → IsRoomFor w.needs t (λ x. times x xs)
-  room_back xs is =
-      let C : List ℕ → Type 0 = λ s. IsCounted plan s w.needs in
-      let P : List ℕ → Type 0 = λ ys. IsRoomFor w.needs t (λ x. times x ys) in
-      subst P (sym is) (room_before table last_move.before t last_move.inside w.needs ready.made.moves (few last_move.next) (subst C (sym last_move.next) ready.counted))
-    where
-      few : (next : after last_move.before t ≡ w.places.positions) → length last_move.before ≤ TRAINS
-      few next = omega (arith, (state_parts plan w.places.positions ready.made.valid).long, ready.made.moves.few, ap length next, length_after last_move.before t)
-
-  pub ready_back : (places : State) (needs : Counts) (stops : List (Option ℕ)) (list : List ℕ) (xs : List ℕ) → IsMadeFor table places → places.positions ≡ set w.places.positions t (place_of w.places.positions t - 1) → xs ≡ plan.claim t (place_of last_move.before t)
-      → IsMore w.needs needs t (λ x. times x xs) → list ≡ earlier → IsReady table (record { places = places; needs = needs; stops = stops; list = list })
-  ready_back places needs stops list xs made positions is more at =
+  pub ready_back : (places : State) (needs : List ℕ) (stops : List (Option ℕ)) (list : List ℕ) → IsMadeFor table places → places.positions ≡ set w.places.positions t (place_of w.places.positions t - 1)
+      → IsCounted plan (set w.places.positions t (place_of w.places.positions t - 1)) needs → list ≡ earlier → IsReady table (record { places = places; needs = needs; stops = stops; list = list })
+  ready_back places needs stops list made positions counted at =
       let there : places.positions ≡ last_move.before = positions ∙ last_move.back in
-      let C : List ℕ → Type 0 = λ s. IsCounted plan s w.needs in
       let D : List ℕ → Type 0 = λ s. IsCounted plan s needs in
-      let M : List ℕ → Type 0 = λ ys. IsMore w.needs needs t (λ x. times x ys) in
-      let one = left_at plan last_move.before t (suc (place_of last_move.before t)) 1 (inside_listed plan last_move.before t last_move.inside) (omega arith) (omega (arith, (inside_parts plan last_move.before t last_move.inside).1)) in
+      let one = moves_left_at plan last_move.before t (suc (place_of last_move.before t)) 1 (inside_listed plan last_move.before t last_move.inside) (omega arith) (omega (arith, (inside_parts plan last_move.before t last_move.inside).1)) in
       record {
         made = made;
-        counted = subst D (sym there) (counted_before plan last_move.before t last_move.inside w.needs needs (subst C (sym last_move.next) ready.counted) (subst M is more));
+        counted = subst D (sym positions) counted;
         few = omega (arith, ready.few, ap length at, ap length ends, length_push earlier t, ap (moves_left plan) there, ap (moves_left plan) last_move.next, one);
       }
 

@@ -1,6 +1,6 @@
 -- A standing set is clear where no train but its own is counted for a section of it.
-use Rattle.std.proofs.Common.{◌≡◌, ◌≢◌, ℕ, ◌+◌, ◌<◌, ◌≤◌, Bool, true, false, cond, not, ◌&&◌, ◌||◌, eqb, leb, ltb, List, [], ◌∷◌, length, refl, sym, ap, ◌∙◌, ⊎_elim, arith}
-use Rattle.std.proofs.lemmas.Bool.{and_from, cases_Bool, cases_eq, cases_lt, false≢true, cond-true, cond-false, eq-eqb, ne_eqb, eqb-true, le-leb, lt-leb, le-ltb, not_from_false, not_from_true, or_right}
+use Rattle.std.proofs.Common.{◌≡◌, ◌≢◌, ℕ, ◌+◌, ◌<◌, Bool, true, false, cond, not, ◌&&◌, ◌||◌, eqb, List, [], ◌∷◌, length, refl, sym, ap, ◌∙◌, ⊎_elim, arith}
+use Rattle.std.proofs.lemmas.Bool.{and_from, and_parts, cases_Bool, cases_eq, false≢true, cond-true, cond-false, eq-eqb, ne_eqb, eqb-true, not_from_false, not_from_true, or_cases, or_left, or_right}
 use Rattle.std.specs.List.{list_all}
 use Rattle.rail_base.specs.declared.limits.TheConstants.{SECTIONS}
 use Rattle.rail_rules.specs.Numbers.{any_below, sum_below, is_in}
@@ -8,9 +8,9 @@ use Rattle.rail_rules.specs.Moves.{Moves, stand}
 use Rattle.rail_rules.specs.Places.{place_of, is_inside}
 use Rattle.rail_rules.specs.Analysis.{needs_later, is_safe}
 use Rattle.rail_rules.proofs.CallerLemmas.{is_in-head, list_all_at, apart_at, apart_from, apart_sym}
-use Rattle.rail_consequence.specs.Needs.{Counts, own_of, trains_of, present, times, needs_between, needs_left, IsCounted}
+use Rattle.rail_consequence.specs.Needs.{count_of, needs_left, one_if, IsCounted}
 use Rattle.rail_consequence.proofs.Legs.{IsClear, clear_from, clear_to, inside_parts, inside_from, inside_listed}
-use Rattle.rail_consequence.proofs.Counts.{times_absent, times_present, sum_zero, zero_at, sum_shift, present_none, left_entered}
+use Rattle.rail_consequence.proofs.Counts.{left_none, left_not, one_false, one_none, one_true, sum_shift, sum_zero, zero_at}
 
 module _ (f : ℕ → ℕ) (n t : ℕ) (lt : t < n) where
   abbrev others : ℕ → ℕ
@@ -31,33 +31,10 @@ module _ (f : ℕ → ℕ) (n t : ℕ) (lt : t < n) where
   pub sum_alone : ((u : ℕ) → u < n → u ≢ t → f u ≡ 0) → sum_below f n ≡ f t
   sum_alone none = omega (arith, split, sum_zero others n (λ i below. ⊎_elim (λ same. cond-true (eqb i t) 0 (f i) (eq-eqb i t same)) (λ ne. cond-false (eqb i t) 0 (f i) (ne_eqb i t ne) ∙ none i below ne) (cases_eq i t)))
 
--- a train inside that is not counted for a section needs it no more
-left_apart : (plan : Moves) (s : List ℕ) (u i x : ℕ) → needs_left plan u (place_of s u) x ≡ 0 → is_inside plan s u ≡ true → place_of s u ≤ i → i < plan.moves u → is_in x (plan.claim u i) ≡ false
-left_apart plan s u i x none inside from below =
-    let p : ℕ = place_of s u in
-    let f : ℕ → ℕ = λ j. cond (leb p j) (times x (plan.claim u j)) 0 in
-    let between : sum_below f (plan.moves u) ≡ 0 = omega (arith, left_entered plan u p x (inside_parts plan s u inside).0, none) in
-    let here : times x (plan.claim u i) ≡ 0 = sym (cond-true (leb p i) (times x (plan.claim u i)) 0 (le-leb p i from)) ∙ zero_at f (plan.moves u) i between below in
-    ⊎_elim (λ is. absurd (omega (arith, times_present x (plan.claim u i) is, here))) (λ out. out) (cases_Bool (is_in x (plan.claim u i)))
-
-left_none : (plan : Moves) (u p x : ℕ) → ((i : ℕ) → 0 < p → p ≤ i → i < plan.moves u → is_in x (plan.claim u i) ≡ false) → needs_left plan u p x ≡ 0
-left_none plan u p x out =
-    ⊎_elim
-    (λ low.
-    let f : ℕ → ℕ = λ j. cond (leb p j) (times x (plan.claim u j)) 0 in
-    left_entered plan u p x low
-    ∙ sum_zero f (plan.moves u) (λ i below.
-    ⊎_elim
-    (λ before. cond-false (leb p i) (times x (plan.claim u i)) 0 (lt-leb p i before))
-    (λ from. cond-true (leb p i) (times x (plan.claim u i)) 0 (le-leb p i from) ∙ times_absent x (plan.claim u i) (out i low from below))
-    (cases_lt i p)))
-    (λ zero. cond-false (ltb 0 p) (needs_between plan u p (plan.moves u) x) 0 (le-ltb 0 p zero))
-    (cases_lt 0 p)
-
 module _ (plan : Moves) (s : List ℕ) (t : ℕ) (sections : List ℕ) where
-  -- no train but this one is counted for one of the sections
+  -- no train but this one needs one of the sections for a move that it has left
   abbrev OthersNone : Type 0
-  OthersNone = (x u : ℕ) → is_in x sections ≡ true → u < length s → u ≢ t → needs_left plan u (place_of s u) x ≡ 0
+  OthersNone = (x u : ℕ) → is_in x sections ≡ true → u < length s → u ≢ t → needs_left plan u (place_of s u) x ≡ false
 
   pub none_from_clear : IsClear plan s t sections → OthersNone
   none_from_clear clear x u is below ne =
@@ -69,7 +46,8 @@ module _ (plan : Moves) (s : List ℕ) (t : ℕ) (sections : List ℕ) where
   clear_from_none none listed u i ne inside from below =
       apart_from (plan.claim u i) sections (λ x needed.
       ⊎_elim
-      (λ is. absurd (false≢true (sym (left_apart plan s u i x (none x u is (listed u inside) ne) inside from below) ∙ needed)))
+      (λ is.
+      absurd (false≢true (sym (left_not plan u (place_of s u) x i (none x u is (listed u inside) ne) (inside_parts plan s u inside).0 from below) ∙ needed)))
       (λ out. out)
       (cases_Bool (is_in x sections)))
 
@@ -77,26 +55,38 @@ all_from : (p : ℕ → Bool) (xs : List ℕ) → ((x : ℕ) → is_in x xs ≡ 
 all_from p [] each = refl
 all_from p (x ∷ xs) each = and_from (p x) (list_all p xs) (each x (is_in-head x xs)) (all_from p xs (λ y is. each y (or_right (eqb x y) (is_in y xs) is)))
 
-module _ (plan : Moves) (s : List ℕ) (counts : Counts) (t : ℕ) (sections : List ℕ) (counted : IsCounted plan s counts) (listed : t < length s) (in_range : (x : ℕ) → is_in x sections ≡ true → x < SECTIONS) where
+module _ (plan : Moves) (s : List ℕ) (counts : List ℕ) (t : ℕ) (sections : List ℕ) (counted : IsCounted plan s counts) (listed : t < length s) (in_range : (x : ℕ) → is_in x sections ≡ true → x < SECTIONS) where
   abbrev is_own : ℕ → Bool
-  is_own x = eqb (trains_of counts x) (present (own_of counts t x))
+  is_own x = eqb (count_of counts x) 0 || (eqb (count_of counts x) 1 && needs_left plan t (place_of s t) x)
 
   abbrev is_needed : Bool
   is_needed = any_below (λ u. not (eqb u t) && needs_later plan s sections u) (length s)
 
+  abbrev needy : ℕ → ℕ → ℕ
+  needy x u = one_if (needs_left plan u (place_of s u) x)
+
   own_none : list_all is_own sections ≡ true → OthersNone plan s t sections
   own_none all x u is below ne =
-      let within = in_range x is in
-      let same : trains_of counts x ≡ present (own_of counts t x) = eqb-true (trains_of counts x) (present (own_of counts t x)) (list_all_at is_own sections x all is) in
-      present_none (needs_left plan u (place_of s u) x)
-      (sum_own (λ v. present (needs_left plan v (place_of s v) x)) (length s) t listed (omega (arith, counted.trains x within, ap present (counted.own t x listed within), same)) u below ne)
+      let counts_are = counted x (in_range x is) in
+      one_none (needs_left plan u (place_of s u) x)
+      (⊎_elim
+      (λ zero. zero_at (needy x) (length s) u (sym counts_are ∙ eqb-true (count_of counts x) 0 zero) below)
+      (λ one.
+      let parts = and_parts (eqb (count_of counts x) 1) (needs_left plan t (place_of s t) x) one in
+      sum_own (needy x) (length s) t listed (omega (arith, counts_are, eqb-true (count_of counts x) 1 parts.0, one_true (needs_left plan t (place_of s t) x) parts.1)) u below ne)
+      (or_cases (eqb (count_of counts x) 0) (eqb (count_of counts x) 1 && needs_left plan t (place_of s t) x) (list_all_at is_own sections x all is)))
 
   none_own : OthersNone plan s t sections → list_all is_own sections ≡ true
   none_own none =
       all_from is_own sections (λ x is.
-      let within = in_range x is in
-      let alone = sum_alone (λ v. present (needs_left plan v (place_of s v) x)) (length s) t listed (λ u below ne. ap present (none x u is below ne)) in
-      eq-eqb (trains_of counts x) (present (own_of counts t x)) (omega (arith, counted.trains x within, ap present (counted.own t x listed within), alone)))
+      let alone = sum_alone (needy x) (length s) t listed (λ u below ne. one_false (needs_left plan u (place_of s u) x) (none x u is below ne)) in
+      let counts_are : count_of counts x ≡ one_if (needs_left plan t (place_of s t) x) = counted x (in_range x is) ∙ alone in
+      ⊎_elim
+      (λ needs.
+      or_right (eqb (count_of counts x) 0) (eqb (count_of counts x) 1 && needs_left plan t (place_of s t) x)
+      (and_from (eqb (count_of counts x) 1) (needs_left plan t (place_of s t) x) (eq-eqb (count_of counts x) 1 (counts_are ∙ one_true (needs_left plan t (place_of s t) x) needs)) needs))
+      (λ out. or_left (eqb (count_of counts x) 0) (eqb (count_of counts x) 1 && needs_left plan t (place_of s t) x) (eq-eqb (count_of counts x) 0 (counts_are ∙ one_false (needs_left plan t (place_of s t) x) out)))
+      (cases_Bool (needs_left plan t (place_of s t) x)))
 
   -- the counts tell whether another train inside needs one of the sections later
   pub own_clear : list_all is_own sections ≡ not is_needed

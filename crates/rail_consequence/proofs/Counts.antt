@@ -1,41 +1,22 @@
--- Counting the needs of the moves that are left.
-use Rattle.std.proofs.Common.{◌≡◌, ◌≢◌, ℕ, zero, suc, ◌+◌, ◌*◌, ◌<◌, ◌≤◌, Bool, true, false, cond, ◌||◌, eqb, ltb, leb, List, [], ◌∷◌, length, get_or, take, replicate, refl, sym, ap, ◌∙◌, subst, ◌⊎◌, inl, inr, ⊎_elim, arith}
-use Rattle.std.proofs.lemmas.Bool.{cases_lt, cases_eq, false≢true, eqb-true, eq-eqb, ne_eqb, le-leb, lt-leb, lt-ltb, cond-true, cond-false, or_parts, or_cases}
+-- Counting the trains that need a section for a move that they have left.
+use Rattle.std.proofs.Common.{◌≡◌, ◌≢◌, ℕ, zero, suc, ◌+◌, ◌-◌, ◌*◌, ◌<◌, ◌≤◌, Bool, true, false, cond, not, ◌&&◌, ◌||◌, eqb, ltb, leb, List, ◌∷◌, length, get_or, set, take, replicate, refl, sym, ap, ◌∙◌, subst, ◌⊎◌, inl, inr, ⊎_elim, arith}
+use Rattle.std.proofs.lemmas.Bool.{cases_lt, cases_eq, cases_Bool, false≢true, eqb-true, eq-eqb, ne_eqb, le-leb, leb-true, lt-leb, lt-ltb, le-ltb, cond-true, cond-false, and_from, and_left, and_right, and_parts, or_cases, or_from, or_left, or_right, not-true, not_from_false, not_from_true}
 use Rattle.std.proofs.lemmas.List.{get_or-set_same, get_or-set_other, length-set, get_or_past, get_or-replicate, length-replicate, take_all}
+use Rattle.std.proofs.lemmas.Grind.{get_or_default_zero}
+use Rattle.std.proofs.Math.Bool.{or-false}
 use Rattle.std.proofs.lemmas.List.Folds.{list_any_at, list_any_more}
-use Rattle.std.proofs.lemmas.List.Sums.{sum_by-cons, sum_by_more, sum_by_more_le, count_by-le-length}
-use Rattle.rail_base.specs.declared.limits.TheConstants.{SECTIONS, TRAINS, ITINERARY_ROUTES, ROUTE_SECTIONS}
+use Rattle.std.proofs.lemmas.List.Sums.{sum_by-cons}
+use Rattle.rail_base.specs.declared.limits.TheConstants.{TRAINS}
 use Rattle.rail_rules.specs.Numbers.{sum_below, is_in}
 use Rattle.rail_rules.specs.Moves.{Moves}
 use Rattle.rail_rules.specs.Places.{place_of, is_inside, after}
-use Rattle.rail_rules.proofs.CallerLemmas.{sum_below_same}
-use Rattle.rail_place.specs.Tables.{moves_in, IsTable, MoveLists}
-use Rattle.rail_consequence.specs.Needs.{Counts, own_of, trains_of, present, times, needs_between, needs_left, IsCounted, IsMore, IsRoomFor}
-use Rattle.rail_consequence.proofs.Legs.{inside_parts, inside_listed}
+use Rattle.rail_rules.proofs.CallerLemmas.{any_below_at, any_below_found, any_below_from, any_below_none, sum_below_same}
+use Rattle.rail_consequence.specs.Needs.{count_of, is_last_need, needs_from, needs_left, one_if, times, IsAmong, IsAnalystFor, IsCounted, IsRecounted, Tallied}
+use Rattle.rail_consequence.proofs.Legs.{inside_listed}
 
 -- numbers in a list
 pub times-cons : (x y : ℕ) (ys : List ℕ) → times x (y ∷ ys) ≡ cond (eqb y x) 1 0 + times x ys
 times-cons x y ys = sum_by-cons (λ z. cond (eqb z x) 1 0) y ys
-
-pub times_within : (y : ℕ) (ys : List ℕ) (i : ℕ) → i < length ys → y ≡ get_or ys i y → times y (take i ys) + 1 ≤ times y ys
-times_within y ys i lt is =
-    let f : ℕ → ℕ = λ z. cond (eqb z y) 1 0 in
-    let own : f y ≡ 1 = cond-true (eqb y y) 1 0 (eq-eqb y y refl) in
-    omega (arith, sum_by_more_le f ys i y lt, ap f is, own)
-
-pub times_absent : (x : ℕ) (xs : List ℕ) → is_in x xs ≡ false → times x xs ≡ 0
-times_absent x [] out = refl
-times_absent x (y ∷ ys) out =
-    let parts = or_parts (eqb y x) (is_in x ys) out in
-    omega (arith, times-cons x y ys, ap {B = ℕ} (λ b. cond b 1 0) parts.0, times_absent x ys parts.1)
-
-pub times_present : (x : ℕ) (xs : List ℕ) → is_in x xs ≡ true → 1 ≤ times x xs
-times_present x [] is = absurd (false≢true is)
-times_present x (y ∷ ys) is = by (eqb y x) refl (times_present x ys) is
-  where
-    by : (b : Bool) → eqb y x ≡ b → (is_in x ys ≡ true → 1 ≤ times x ys) → (b || is_in x ys) ≡ true → 1 ≤ times x (y ∷ ys)
-    by true here rest h = omega (arith, times-cons x y ys, ap {B = ℕ} (λ c. cond c 1 0) here)
-    by false other rest h = omega (arith, times-cons x y ys, rest h)
 
 pub in_at : (x : ℕ) (xs : List ℕ) (i : ℕ) → i < length xs → x ≡ get_or xs i x → is_in x xs ≡ true
 in_at x xs i lt is = list_any_at (λ y. eqb y x) xs i x lt (ap (λ y. eqb y x) (sym is) ∙ eq-eqb x x refl)
@@ -76,14 +57,6 @@ pub sum_most : (f : ℕ → ℕ) (n k : ℕ) → ((i : ℕ) → i < n → f i �
 sum_most f zero k h = omega arith
 sum_most f (suc n) k h = omega (arith, sum_most f n k (λ i lt. h i (omega arith)), h n (omega arith))
 
-pub sum_longer : (f : ℕ → ℕ) (m n : ℕ) → m ≤ n → sum_below f m ≤ sum_below f n
-sum_longer f m zero le = let none : m ≡ 0 = omega arith in omega (arith, ap (sum_below f) none)
-sum_longer f m (suc n) le =
-    ⊎_elim
-    (λ below. omega (arith, sum_longer f m n (omega arith)))
-    (λ above. let same : m ≡ suc n = omega arith in omega (arith, ap (sum_below f) same))
-    (cases_lt m (suc n))
-
 -- where one item changes and the others are the same, so does the sum
 pub sum_shift : (f g : ℕ → ℕ) (n t c d : ℕ) → t < n → f t + c ≡ g t + d → ((i : ℕ) → i ≢ t → f i ≡ g i) → sum_below f n + c ≡ sum_below g n + d
 sum_shift f g zero t c d lt here same = absurd (omega arith)
@@ -104,182 +77,220 @@ item_within f (suc n) t lt =
     (λ above. let last : t ≡ n = omega arith in omega (arith, ap f last))
     (cases_lt t n)
 
--- some or none
-pub present_some : (n : ℕ) → 0 < n → present n ≡ 1
-present_some n some = cond-true (ltb 0 n) 1 0 (lt-ltb 0 n some)
+-- one where it is so
+pub one_true : (is : Bool) → is ≡ true → one_if is ≡ 1
+one_true is e = cond-true is 1 0 e
 
-pub present_one : (n : ℕ) → present n ≤ 1
-present_one n = by (ltb 0 n)
-  where
-    by : (b : Bool) → cond b 1 0 ≤ 1
-    by true = omega arith
-    by false = omega arith
+pub one_false : (is : Bool) → is ≡ false → one_if is ≡ 0
+one_false is e = cond-false is 1 0 e
 
-pub present_none : (n : ℕ) → present n ≡ 0 → n ≡ 0
-present_none n none = ⊎_elim (λ some. absurd (omega (arith, present_some n some, none))) (λ zero. omega (arith, zero)) (cases_lt 0 n)
+pub one_few : (is : Bool) → one_if is ≤ 1
+one_few true = omega arith
+one_few false = omega arith
 
--- what is left from a move on, by that move
-between_none : (f : ℕ → ℕ) (p n : ℕ) → n ≤ p → sum_below (λ i. cond (leb p i) (f i) 0) n ≡ 0
-between_none f p n le = sum_zero (λ i. cond (leb p i) (f i) 0) n (λ i lt. cond-false (leb p i) (f i) 0 (lt-leb p i (omega arith)))
+pub one_none : (is : Bool) → one_if is ≡ 0 → is ≡ false
+one_none is none = ⊎_elim (λ e. absurd (omega (arith, one_true is e, none))) (λ e. e) (cases_Bool is)
 
-between_next : (f : ℕ → ℕ) (p n : ℕ) → p < n → sum_below (λ i. cond (leb p i) (f i) 0) n ≡ sum_below (λ i. cond (leb (suc p) i) (f i) 0) n + f p
-between_next f p zero lt = absurd (omega arith)
-between_next f p (suc n) lt =
-    ⊎_elim
-    (λ below. omega (arith, between_next f p n below, cond-true (leb p n) (f n) 0 (le-leb p n (omega arith)), cond-true (leb (suc p) n) (f n) 0 (le-leb (suc p) n (omega arith))))
-    (λ above.
-    let last : n ≡ p = omega arith in
-    omega (arith, between_none f p n (omega arith), between_none f (suc p) n (omega arith), cond-true (leb p n) (f n) 0 (le-leb p n (omega arith)), cond-false (leb (suc p) n) (f n) 0 (lt-leb (suc p) n (omega arith)), ap f last))
-    (cases_lt p n)
+-- the moves from a place on are that from the place, and the later ones
+module _ (plan : Moves) (t p x : ℕ) where
+  abbrev later : ℕ → ℕ → Bool
+  later from m = leb from m && is_in x (plan.claim t m)
 
-pub needs_next : (plan : Moves) (t p x : ℕ) → 0 < p → p < plan.moves t → needs_left plan t p x ≡ needs_left plan t (suc p) x + times x (plan.claim t p)
-needs_next plan t p x low high =
-    let here : needs_left plan t p x ≡ needs_between plan t p (plan.moves t) x = cond-true (ltb 0 p) (needs_between plan t p (plan.moves t) x) 0 (lt-ltb 0 p low) in
-    let there : needs_left plan t (suc p) x ≡ needs_between plan t (suc p) (plan.moves t) x = cond-true (ltb 0 (suc p)) (needs_between plan t (suc p) (plan.moves t) x) 0 (lt-ltb 0 (suc p) (omega arith)) in
-    omega (arith, here, there, between_next (λ i. times x (plan.claim t i)) p (plan.moves t) high)
+  from_now : p < plan.moves t → is_in x (plan.claim t p) ≡ true → needs_from plan t p x ≡ true
+  from_now lt is = any_below_from (later p) (plan.moves t) p lt (and_from (leb p p) (is_in x (plan.claim t p)) (le-leb p p (omega arith)) is)
 
--- one move more is counted
-pub needs_more : (plan : Moves) (t p i x : ℕ) → p ≤ i → needs_between plan t p (i + 1) x ≡ needs_between plan t p i x + times x (plan.claim t i)
-needs_more plan t p i x le =
-    let f : ℕ → ℕ = λ j. cond (leb p j) (times x (plan.claim t j)) 0 in
-    let next : i + 1 ≡ suc i = omega arith in
-    omega (arith, ap (sum_below f) next, cond-true (leb p i) (times x (plan.claim t i)) 0 (le-leb p i le))
+  from_later : needs_from plan t (suc p) x ≡ true → needs_from plan t p x ≡ true
+  from_later is =
+      let found = any_below_found (later (suc p)) (plan.moves t) is in
+      let parts = and_parts (leb (suc p) found.0) (is_in x (plan.claim t found.0)) found.2 in
+      any_below_from (later p) (plan.moves t) found.0 found.1
+      (and_from (leb p found.0) (is_in x (plan.claim t found.0)) (le-leb p found.0 (omega (arith, leb-true (suc p) found.0 parts.0))) parts.1)
 
-pub needs_none : (plan : Moves) (t p x : ℕ) → needs_between plan t p p x ≡ 0
-needs_none plan t p x = between_none (λ i. times x (plan.claim t i)) p p (omega arith)
+  from_neither : is_in x (plan.claim t p) ≡ false → needs_from plan t (suc p) x ≡ false → needs_from plan t p x ≡ false
+  from_neither now after =
+      any_below_none (later p) (plan.moves t) (λ m lt.
+      ⊎_elim
+      (λ before. and_left (leb p m) (is_in x (plan.claim t m)) (lt-leb p m before))
+      (λ from.
+      ⊎_elim
+      (λ past.
+      and_right (leb p m) (is_in x (plan.claim t m))
+      (⊎_elim
+      (λ is. absurd (false≢true (sym (any_below_at (later (suc p)) (plan.moves t) m after lt) ∙ and_from (leb (suc p) m) (is_in x (plan.claim t m)) (le-leb (suc p) m (omega (arith, past))) is)))
+      (λ out. out)
+      (cases_Bool (is_in x (plan.claim t m)))))
+      (λ here. and_right (leb p m) (is_in x (plan.claim t m)) (let same : m ≡ p = omega (arith, from, here) in ap (λ i. is_in x (plan.claim t i)) same ∙ now))
+      (cases_lt p m))
+      (cases_lt m p))
 
-pub needs_within : (plan : Moves) (t p i n x : ℕ) → p ≤ i → i < n → needs_between plan t p i x + times x (plan.claim t i) ≤ needs_between plan t p n x
-needs_within plan t p i n x le lt =
-    omega (arith, needs_more plan t p i x le, sum_longer (λ j. cond (leb p j) (times x (plan.claim t j)) 0) (i + 1) n (omega arith))
+  from_next : p < plan.moves t → needs_from plan t p x ≡ (is_in x (plan.claim t p) || needs_from plan t (suc p) x)
+  from_next lt =
+      ⊎_elim
+      (λ is. from_now lt is ∙ sym (or_left (is_in x (plan.claim t p)) (needs_from plan t (suc p) x) is))
+      (λ out. ⊎_elim
+      (λ is. from_later is ∙ sym (or_right (is_in x (plan.claim t p)) (needs_from plan t (suc p) x) is))
+      (λ none. from_neither out none ∙ sym (or_from (is_in x (plan.claim t p)) (needs_from plan t (suc p) x) out none))
+      (cases_Bool (needs_from plan t (suc p) x)))
+      (cases_Bool (is_in x (plan.claim t p)))
 
-pub left_entered : (plan : Moves) (t p x : ℕ) → 0 < p → needs_left plan t p x ≡ needs_between plan t p (plan.moves t) x
-left_entered plan t p x low = cond-true (ltb 0 p) (needs_between plan t p (plan.moves t) x) 0 (lt-ltb 0 p low)
+  pub left_entered : 0 < p → needs_left plan t p x ≡ needs_from plan t p x
+  left_entered low = ap (λ b. b && needs_from plan t p x) (lt-ltb 0 p low)
 
--- the needs of one train are few, and so are those of all
-pub needs_few : (table : List MoveLists) (t p x : ℕ) → IsTable table → needs_left (moves_in table) t p x ≤ ITINERARY_ROUTES * ROUTE_SECTIONS
-needs_few table t p x h = by (ltb 0 p)
-  where
-    few : needs_between (moves_in table) t p ((moves_in table).moves t) x ≤ ITINERARY_ROUTES * ROUTE_SECTIONS
-    few =
-        let plan : Moves = moves_in table in
-        let most : needs_between plan t p (plan.moves t) x ≤ plan.moves t * 32 =
-        sum_most (λ i. cond (leb p i) (times x (plan.claim t i)) 0) (plan.moves t) 32
-        (λ i lt. one (leb p i) (times x (plan.claim t i)) (omega (arith, count_by-le-length (λ y. eqb y x) (plan.claim t i), h.narrow t i))) in
-        omega (arith, most, h.short t)
-      where
-        one : (b : Bool) (n : ℕ) → n ≤ 32 → cond b n 0 ≤ 32
-        one true n le = le
-        one false n le = omega arith
+  pub left_end : plan.moves t ≤ p → needs_left plan t p x ≡ false
+  left_end past = and_right (ltb 0 p) (needs_from plan t p x) (any_below_none (later p) (plan.moves t) (λ m lt. and_left (leb p m) (is_in x (plan.claim t m)) (lt-leb p m (omega (arith, past, lt)))))
 
-    by : (b : Bool) → cond b (needs_between (moves_in table) t p ((moves_in table).moves t) x) 0 ≤ ITINERARY_ROUTES * ROUTE_SECTIONS
-    by true = few
-    by false = omega arith
+  -- a section of a move that is left
+  pub left_at : (i : ℕ) → 0 < p → p ≤ i → i < plan.moves t → is_in x (plan.claim t i) ≡ true → needs_left plan t p x ≡ true
+  left_at i low from lt is = left_entered low ∙ any_below_from (later p) (plan.moves t) i lt (and_from (leb p i) (is_in x (plan.claim t i)) (le-leb p i from) is)
 
-pub trains_few : (plan : Moves) (s : List ℕ) (n x : ℕ) → sum_below (λ t. present (needs_left plan t (place_of s t) x)) n ≤ n
-trains_few plan s n x = omega (arith, sum_most (λ t. present (needs_left plan t (place_of s t) x)) n 1 (λ t lt. present_one (needs_left plan t (place_of s t) x)))
+  pub left_not : (i : ℕ) → needs_left plan t p x ≡ false → 0 < p → p ≤ i → i < plan.moves t → is_in x (plan.claim t i) ≡ false
+  left_not i none low from lt = ⊎_elim (λ is. absurd (false≢true (sym none ∙ left_at i low from lt is))) (λ out. out) (cases_Bool (is_in x (plan.claim t i)))
 
--- one count after another
-pub more_none : (a : Counts) (t : ℕ) (f : ℕ → ℕ) → ((x : ℕ) → f x ≡ 0) → IsMore a a t f
-more_none a t f none = record {
-  own = λ u x lt. omega (arith, by (eqb u t) x);
-  trains = λ x lt. refl;
+  pub left_none : ((i : ℕ) → 0 < p → p ≤ i → i < plan.moves t → is_in x (plan.claim t i) ≡ false) → needs_left plan t p x ≡ false
+  left_none out =
+      ⊎_elim
+      (λ low.
+      left_entered low
+      ∙ any_below_none (later p) (plan.moves t) (λ i lt.
+      ⊎_elim
+      (λ before. and_left (leb p i) (is_in x (plan.claim t i)) (lt-leb p i before))
+      (λ from. and_right (leb p i) (is_in x (plan.claim t i)) (out i low from lt))
+      (cases_lt i p)))
+      (λ zero. and_left (ltb 0 p) (needs_from plan t p x) (le-ltb 0 p zero))
+      (cases_lt 0 p)
+
+-- the sections that the move needs, up to the index, and no later one
+abbrev pub given_up : Moves → ℕ → ℕ → List ℕ → ℕ → ℕ → Bool
+given_up plan t place sections i x = is_in x (take i sections) && not (needs_from plan t place x)
+
+split_or : (a b : Bool) → one_if (a || b) ≡ one_if (a && not b) + one_if b
+split_or true true = refl
+split_or true false = refl
+split_or false true = refl
+split_or false false = refl
+
+-- a section of the move, whose number counts from 1 in the call
+pub claimed_at : (plan : Moves) (t p x : ℕ) (sections : List ℕ) → sections ≡ plan.claim t (p + 1 - 1) → is_in x sections ≡ true → is_in x (plan.claim t p) ≡ true
+claimed_at plan t p x sections is found = let back : p + 1 - 1 ≡ p = omega arith in ap (is_in x) (sym (is ∙ ap (plan.claim t) back)) ∙ found
+
+-- with all its sections, by the train's place after the move
+pub given_all : (plan : Moves) (t p place i x : ℕ) (sections : List ℕ) → place ≡ p + 1 → 0 < p → p < plan.moves t → sections ≡ plan.claim t (p + 1 - 1) → length sections ≤ i
+    → one_if (needs_left plan t p x) ≡ one_if (given_up plan t place sections i x) + one_if (needs_left plan t place x)
+given_all plan t p place i x sections next low lt is all =
+    let after : place ≡ suc p = omega (arith, next) in
+    let back : p + 1 - 1 ≡ p = omega arith in
+    let whole : is_in x (plan.claim t p) ≡ is_in x (take i sections) = ap (is_in x) (sym (is ∙ ap (plan.claim t) back) ∙ sym (take_all i sections all)) in
+    let now : needs_left plan t p x ≡ (is_in x (take i sections) || needs_from plan t place x) = left_entered plan t p x low ∙ from_next plan t p x lt
+    ∙ ap (λ b. b || needs_from plan t (suc p) x) whole
+    ∙ ap (λ q. is_in x (take i sections) || needs_from plan t q x) (sym after) in
+    omega (arith, ap one_if now, split_or (is_in x (take i sections)) (needs_from plan t place x), ap one_if (left_entered plan t place x (omega (arith, next))))
+
+-- one section more
+module _ (plan : Moves) (t place : ℕ) (sections : List ℕ) (i y : ℕ) (lt : i < length sections) (is_at : y ≡ get_or sections i y) where
+  is : y ≡ get_or sections i 0
+  is = is_at ∙ get_or_default_zero sections i y lt
+
+  abbrev test : Bool
+  test = is_last_need plan t place sections i
+
+  more : (x : ℕ) → is_in x (take (i + 1) sections) ≡ (is_in x (take i sections) || eqb y x)
+  more x = list_any_more (λ z. eqb z x) sections i y lt ∙ ap (λ z. is_in x (take i sections) || eqb z x) (sym is_at)
+
+  other_same : (x : ℕ) → x ≢ y → given_up plan t place sections (i + 1) x ≡ given_up plan t place sections i x
+  other_same x ne =
+      ap (λ b. b && not (needs_from plan t place x)) (more x ∙ ap (λ b. is_in x (take i sections) || b) (ne_eqb y x (λ e. ne (sym e))) ∙ or-false (is_in x (take i sections)))
+
+  parts_of : test ≡ true → (needs_from plan t place y ≡ false) × (is_in y (take i sections) ≡ false)
+  parts_of last =
+      let parts = and_parts (not (needs_from plan t place (get_or sections i 0))) (not (is_in (get_or sections i 0) (take i sections))) last in (
+        ap (needs_from plan t place) is ∙ not-true (needs_from plan t place (get_or sections i 0)) parts.0,
+        ap (λ z. is_in z (take i sections)) is ∙ not-true (is_in (get_or sections i 0) (take i sections)) parts.1,
+      )
+
+  pub given_before : test ≡ true → given_up plan t place sections i y ≡ false
+  given_before last = and_left (is_in y (take i sections)) (not (needs_from plan t place y)) (parts_of last).1
+
+  given_now : test ≡ true → given_up plan t place sections (i + 1) y ≡ true
+  given_now last =
+      and_from (is_in y (take (i + 1) sections)) (not (needs_from plan t place y))
+      (more y ∙ or_right (is_in y (take i sections)) (eqb y y) (eq-eqb y y refl))
+      (not_from_false (needs_from plan t place y) (parts_of last).0)
+
+  -- it counts once, and no other does
+  pub given_one : test ≡ true → (x : ℕ) → one_if (given_up plan t place sections (i + 1) x) ≡ one_if (given_up plan t place sections i x) + one_if (eqb x y)
+  given_one last x =
+      ⊎_elim
+      (λ same.
+      let P : ℕ → Type 0 = λ z. one_if (given_up plan t place sections (i + 1) z) ≡ one_if (given_up plan t place sections i z) + one_if (eqb z y) in
+      subst P (sym same)
+      (omega (arith, one_true (given_up plan t place sections (i + 1) y) (given_now last), one_false (given_up plan t place sections i y) (given_before last), one_true (eqb y y) (eq-eqb y y refl))))
+      (λ ne. omega (arith, ap one_if (other_same x ne), one_false (eqb x y) (ne_eqb x y ne)))
+      (cases_eq x y)
+
+  pub given_same : test ≡ false → (x : ℕ) → given_up plan t place sections (i + 1) x ≡ given_up plan t place sections i x
+  given_same stays x =
+      ⊎_elim
+      (λ same.
+      let P : ℕ → Type 0 = λ z. given_up plan t place sections (i + 1) z ≡ given_up plan t place sections i z in
+      subst P (sym same) (here (needs_from plan t place y) refl (is_in y (take i sections)) refl))
+      (λ ne. other_same x ne)
+      (cases_eq x y)
+    where
+      here : (n : Bool) → needs_from plan t place y ≡ n → (e : Bool) → is_in y (take i sections) ≡ e → given_up plan t place sections (i + 1) y ≡ given_up plan t place sections i y
+      here true needed e _ =
+          and_right (is_in y (take (i + 1) sections)) (not (needs_from plan t place y)) (not_from_true (needs_from plan t place y) needed)
+          ∙ sym (and_right (is_in y (take i sections)) (not (needs_from plan t place y)) (not_from_true (needs_from plan t place y) needed))
+      here false needed true earlier =
+          ap (λ b. b && not (needs_from plan t place y)) (more y ∙ or_left (is_in y (take i sections)) (eqb y y) earlier ∙ sym earlier)
+      here false needed false earlier =
+          absurd (false≢true (sym stays ∙ and_from (not (needs_from plan t place (get_or sections i 0))) (not (is_in (get_or sections i 0) (take i sections)))
+          (not_from_false (needs_from plan t place (get_or sections i 0)) (ap (needs_from plan t place) (sym is) ∙ needed))
+          (not_from_false (is_in (get_or sections i 0) (take i sections)) (ap (λ z. is_in z (take i sections)) (sym is) ∙ earlier))))
+
+-- the counts of a state
+module _ (plan : Moves) (s : List ℕ) (a : List ℕ) (counted : IsCounted plan s a) (t : ℕ) (listed : t < length s) where
+  abbrev needy : ℕ → ℕ → ℕ
+  needy x u = one_if (needs_left plan u (place_of s u) x)
+
+  pub among_counted : length s ≤ TRAINS → IsAmong plan t (place_of s t) a
+  among_counted few = record {
+    some = λ x lt. omega (arith, counted x lt, item_within (needy x) (length s) t listed);
+    few = λ x lt. omega (arith, counted x lt, sum_most (needy x) (length s) 1 (λ u below. one_few (needs_left plan u (place_of s u) x)), few);
+  }
+
+  pub counted_on : (p : ℕ) (b : List ℕ) → IsRecounted plan t (place_of s t) p a b → IsCounted plan (set s t p) b
+  counted_on p b moved = λ x lt.
+      let next : ℕ → ℕ = λ u. one_if (needs_left plan u (place_of (set s t p) u) x) in
+      let there : next t ≡ one_if (needs_left plan t p x) = ap (λ q. one_if (needs_left plan t q x)) (get_or-set_same s t p 0 listed) in
+      omega (
+        arith,
+        counted x lt,
+        moved x lt,
+        there,
+        sum_shift (needy x) next (length s) t (next t) (needy x t) listed (omega arith)
+            (λ u ne. ap (λ q. one_if (needs_left plan u q x)) (sym (get_or-set_other s t u p 0 ne))),
+        ap (sum_below next) (length-set s t p),
+      )
+
+-- one train of a tally at another place
+pub tallied_on : (plan : Moves) (a : Tallied) (t p : ℕ) (counts : List ℕ) → IsAnalystFor plan a → t < plan.trains → p ≤ plan.moves t
+    → IsRecounted plan t (place_of a.positions t) p a.counts counts → IsAnalystFor plan (record { positions = set a.positions t p; counts = counts })
+tallied_on plan a t p counts kept listed within moved = record {
+  long = length-set a.positions t p ∙ kept.long;
+  within = λ u lt.
+      ⊎_elim
+      (λ same.
+      let P : ℕ → Type 0 = λ k. place_of (set a.positions t p) k ≤ plan.moves k in
+      subst P (sym same) (omega (arith, get_or-set_same a.positions t p 0 (omega (arith, kept.long, listed)), within)))
+      (λ ne. omega (arith, get_or-set_other a.positions t u p 0 ne, kept.within u lt))
+      (cases_eq u t);
+  counted = counted_on plan a.positions a.counts kept.counted t (omega (arith, kept.long, listed)) p counts moved;
 }
-  where
-    by : (b : Bool) (x : ℕ) → cond b (f x) 0 ≡ 0
-    by true x = none x
-    by false x = refl
 
-pub own_more : (a b : Counts) (t x : ℕ) (f : ℕ → ℕ) → IsMore a b t f → x < SECTIONS → own_of b t x ≡ own_of a t x + f x
-own_more a b t x f more lt = omega (arith, more.own t x lt, cond-true (eqb t t) (f x) 0 (eq-eqb t t refl))
+-- nobody has entered
+pub counted_none : (plan : Moves) (s a : List ℕ) → ((t : ℕ) → place_of s t ≡ 0) → ((x : ℕ) → count_of a x ≡ 0) → IsCounted plan s a
+counted_none plan s a outside none = λ x lt.
+    none x ∙ sym (sum_zero (λ t. one_if (needs_left plan t (place_of s t) x)) (length s) (λ t below. ap (λ q. one_if (needs_left plan t q x)) (outside t)))
 
-pub other_same : (a b : Counts) (t u x : ℕ) (f : ℕ → ℕ) → IsMore a b t f → x < SECTIONS → u ≢ t → own_of b u x ≡ own_of a u x
-other_same a b t u x f more lt ne = omega (arith, more.own u x lt, cond-false (eqb u t) (f x) 0 (ne_eqb u t ne))
-
--- the train counts once at most
-pub trains_more : (a b : Counts) (t x : ℕ) (f : ℕ → ℕ) → IsMore a b t f → x < SECTIONS → trains_of b x ≤ trains_of a x + 1
-trains_more a b t x f more lt = omega (arith, more.trains x lt, present_one (own_of b t x))
-
-pub trains_less : (a b : Counts) (t x : ℕ) (f : ℕ → ℕ) → IsMore a b t f → x < SECTIONS → 0 < own_of a t x → (0 < own_of b t x → 0 < trains_of b x) → 0 < trains_of a x
-trains_less a b t x f more lt some counted =
-    let some_b : 0 < own_of b t x = omega (arith, own_more a b t x f more lt, some) in
-    omega (arith, more.trains x lt, present_some (own_of a t x) some, present_some (own_of b t x) some_b, counted some_b)
-
--- a move of a train inside: what was needed before it is needed after it, and for the move itself
-module _ (plan : Moves) (s : List ℕ) (t : ℕ) (inside : is_inside plan s t ≡ true) where
-  pub next_place : place_of (after s t) t ≡ suc (place_of s t)
-  next_place = get_or-set_same s t (suc (place_of s t)) 0 (inside_listed plan s t inside)
-
-  own_next : (x : ℕ) → needs_left plan t (place_of s t) x ≡ needs_left plan t (place_of (after s t) t) x + times x (plan.claim t (place_of s t))
-  own_next x =
-      let parts = inside_parts plan s t inside in
-      needs_next plan t (place_of s t) x parts.0 parts.1 ∙ ap (λ p. needs_left plan t p x + times x (plan.claim t (place_of s t))) (sym next_place)
-
-  other_next : (u x : ℕ) → u ≢ t → needs_left plan u (place_of s u) x ≡ needs_left plan u (place_of (after s t) u) x
-  other_next u x ne = ap (λ p. needs_left plan u p x) (sym (get_or-set_other s t u (suc (place_of s t)) 0 ne))
-
-  trains_next : (x : ℕ)
-      → sum_below (λ u. present (needs_left plan u (place_of s u) x)) (length s)
-      + present (needs_left plan t (place_of (after s t) t) x)
-      ≡ sum_below (λ u. present (needs_left plan u (place_of (after s t) u) x)) (length (after s t))
-      + present (needs_left plan t (place_of s t) x)
-  trains_next x =
-      let f : ℕ → ℕ = λ u. present (needs_left plan u (place_of s u) x) in
-      let g : ℕ → ℕ = λ u. present (needs_left plan u (place_of (after s t) u) x) in
-      omega (arith, sum_shift f g (length s) t (g t) (f t) (inside_listed plan s t inside) (omega arith) (λ u ne. ap present (other_next u x ne)), ap (sum_below g) (length-set s t (suc (place_of s t))))
-
-  -- the needs of the move are counted
-  pub counted_own : (a : Counts) (x : ℕ) → IsCounted plan s a → x < SECTIONS → times x (plan.claim t (place_of s t)) ≤ own_of a t x
-  counted_own a x counted within = omega (arith, counted.own t x (inside_listed plan s t inside) within, own_next x)
-
-  pub counted_trains : (a : Counts) (x : ℕ) → IsCounted plan s a → x < SECTIONS → 0 < own_of a t x → 0 < trains_of a x
-  counted_trains a x counted within some =
-      let f : ℕ → ℕ = λ u. present (needs_left plan u (place_of s u) x) in
-      let lt = inside_listed plan s t inside in
-      omega (arith, counted.trains x within, item_within f (length s) t lt, present_some (needs_left plan t (place_of s t) x) (omega (arith, some, counted.own t x lt within)))
-
-  -- after the move
-  pub counted_next : (a b : Counts) → IsCounted plan s a → IsMore b a t (λ x. times x (plan.claim t (place_of s t))) → IsCounted plan (after s t) b
-  counted_next a b counted more = record {
-    own = λ u x lt within.
-        let listed : u < length s = omega (arith, length-set s t (suc (place_of s t))) in
-        ⊎_elim
-        (λ same. let P : ℕ → Type 0 = λ k. own_of b k x ≡ needs_left plan k (place_of (after s t) k) x in subst P (sym same) (own_is x within))
-        (λ ne. omega (arith, other_same b a t u x (λ y. times y (plan.claim t (place_of s t))) more within ne, other_next u x ne, counted.own u x listed within))
-        (cases_eq u t);
-    trains = λ x within. omega (arith, more.trains x within, trains_next x, counted.trains x within, ap present (own_is x within), ap present (counted.own t x (inside_listed plan s t inside) within));
-  }
-    where
-      own_is : (x : ℕ) → x < SECTIONS → own_of b t x ≡ needs_left plan t (place_of (after s t) t) x
-      own_is x within = omega (arith, own_more b a t x (λ y. times y (plan.claim t (place_of s t))) more within, own_next x, counted.own t x (inside_listed plan s t inside) within)
-
-  -- and back before it
-  pub counted_before : (a b : Counts) → IsCounted plan (after s t) a → IsMore a b t (λ x. times x (plan.claim t (place_of s t))) → IsCounted plan s b
-  counted_before a b counted more = record {
-    own = λ u x lt within.
-        let listed : u < length (after s t) = omega (arith, length-set s t (suc (place_of s t))) in
-        ⊎_elim
-        (λ same. let P : ℕ → Type 0 = λ k. own_of b k x ≡ needs_left plan k (place_of s k) x in subst P (sym same) (own_is x within))
-        (λ ne. omega (arith, other_same a b t u x (λ y. times y (plan.claim t (place_of s t))) more within ne, other_next u x ne, counted.own u x listed within))
-        (cases_eq u t);
-    trains = λ x within. omega (arith, more.trains x within, trains_next x, counted.trains x within, ap present (own_is x within), ap present (counted.own t x here within));
-  }
-    where
-      here : t < length (after s t)
-      here = omega (arith, length-set s t (suc (place_of s t)), inside_listed plan s t inside)
-
-      own_is : (x : ℕ) → x < SECTIONS → own_of b t x ≡ needs_left plan t (place_of s t) x
-      own_is x within = omega (arith, own_more a b t x (λ y. times y (plan.claim t (place_of s t))) more within, own_next x, counted.own t x here within)
-
-pub length_after : (s : List ℕ) (t : ℕ) → length (after s t) ≡ length s
-length_after s t = length-set s t (suc (place_of s t))
-
--- the counts before a move fit their types
-pub room_before : (table : List MoveLists) (s : List ℕ) (t : ℕ) → is_inside (moves_in table) s t ≡ true → (a : Counts) → IsTable table → length s ≤ TRAINS → IsCounted (moves_in table) (after s t) a
-    → IsRoomFor a t (λ x. times x ((moves_in table).claim t (place_of s t)))
-room_before table s t inside a h few counted =
-    let plan : Moves = moves_in table in
-    let here : t < length (after s t) = omega (arith, length_after s t, inside_listed plan s t inside) in
-    record {
-      own = λ x within. omega (arith, counted.own t x here within, own_next plan s t inside x, needs_few table t (place_of s t) x h);
-      trains = λ x within. omega (arith, counted.trains x within, trains_few plan (after s t) (length (after s t)) x, length_after s t, few);
-    }
+pub next_place : (plan : Moves) (s : List ℕ) (t : ℕ) → is_inside plan s t ≡ true → place_of (after s t) t ≡ suc (place_of s t)
+next_place plan s t inside = get_or-set_same s t (suc (place_of s t)) 0 (inside_listed plan s t inside)

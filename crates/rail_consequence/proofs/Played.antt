@@ -12,9 +12,9 @@ use Rattle.rail_place.specs.Tables.{moves_in, IsTable, MoveLists}
 use Rattle.rail_place.specs.Made.{State, IsMadeFor}
 use Rattle.rail_place.specs.Plays.{IsPlayed}
 use Rattle.rail_consequence.specs.Workspace.{Work, IsPlayedFrom, IsReady, GoesOn, IsBack}
-use Rattle.rail_consequence.specs.Needs.{Counts, IsCounted, IsMore, times}
+use Rattle.rail_consequence.specs.Needs.{IsCounted}
 use Rattle.rail_consequence.proofs.Legs.{inside_parts, inside_listed}
-use Rattle.rail_consequence.proofs.Counts.{counted_next}
+use Rattle.rail_consequence.proofs.Counts.{sum_most, sum_shift}
 
 pub played_push : (plan : Moves) (s xs r : List ℕ) (t : ℕ) → IsPlayed plan s xs r → is_inside plan r t ≡ true → is_legal plan r t ≡ true → IsPlayed plan s (xs ++ t ∷ []) (after r t)
 played_push plan s [] r t same inside legal = (
@@ -48,27 +48,14 @@ played_completes plan s (t ∷ rest) r played nobody =
     (played_completes plan (after s t) rest r played.2 nobody)
 
 -- a place further on leaves so many moves less
-sum_more : (f g : ℕ → ℕ) (n t d : ℕ) → t < n → ((u : ℕ) → u ≢ t → f u ≡ g u) → f t + d ≡ g t → sum_below f n + d ≡ sum_below g n
-sum_more f g zero t d lt same here = absurd (omega arith)
-sum_more f g (suc n) t d lt same here =
-    ⊎_elim
-    (λ below. omega (arith, sum_more f g n t d below same here, same n (λ e. absurd (omega (arith, e, below)))))
-    (λ last.
-    let is : n ≡ t = omega arith in
-    let P : ℕ → Type 0 = λ k. f k + d ≡ g k in
-    let equal : sum_below f n ≡ sum_below g n = sum_below_same f g n (λ u under. same u (λ e. absurd (omega (arith, e, under)))) in
-    omega (arith, subst P (sym is) here, equal))
-    (cases_lt t n)
-
-pub left_at : (plan : Moves) (s : List ℕ) (t p d : ℕ) → t < length s → place_of s t + d ≡ p → p ≤ plan.moves t → moves_left plan (set s t p) + d ≡ moves_left plan s
-left_at plan s t p d lt at within =
+pub moves_left_at : (plan : Moves) (s : List ℕ) (t p d : ℕ) → t < length s → place_of s t + d ≡ p → p ≤ plan.moves t → moves_left plan (set s t p) + d ≡ moves_left plan s
+moves_left_at plan s t p d lt at within =
     let left : List ℕ → ℕ → ℕ = λ r u. plan.moves u - place_of r u in
     let here : place_of (set s t p) t ≡ p = get_or-set_same s t p 0 lt in
     let P : ℕ → Type 0 = λ n. sum_below (left (set s t p)) n + d ≡ sum_below (left s) (length s) in
     subst P (sym (length-set s t p))
-    (sum_more (left (set s t p)) (left s) (length s) t d lt
-    (λ u ne. ap (λ k. plan.moves u - k) (get_or-set_other s t u p 0 ne))
-    (omega (arith, here)))
+    (omega (arith, sum_shift (left (set s t p)) (left s) (length s) t d 0 lt (omega (arith, here, at, within))
+    (λ u ne. ap (λ k. plan.moves u - k) (get_or-set_other s t u p 0 ne))))
 
 -- going on to a place leaves fewer moves
 pub fewer_at : (plan : Moves) (s : List ℕ) (t p : ℕ) → t < length s → place_of s t < p → p ≤ plan.moves t → moves_left plan (set s t p) < moves_left plan s
@@ -87,16 +74,12 @@ fewer_at plan s t p lt ahead within =
 pub fewer_left : (plan : Moves) (s : List ℕ) (t : ℕ) → is_inside plan s t ≡ true → moves_left plan (after s t) < moves_left plan s
 fewer_left plan s t inside = fewer_at plan s t (suc (place_of s t)) (inside_listed plan s t inside) (omega arith) (omega (arith, (inside_parts plan s t inside).1))
 
-sum_bound : (f : ℕ → ℕ) (n k : ℕ) → ((i : ℕ) → f i ≤ k) → sum_below f n ≤ n * k
-sum_bound f zero k h = omega arith
-sum_bound f (suc n) k h = omega (arith, sum_bound f n k h, h n)
-
 -- the moves that are left are within the limits
 pub left_few : (table : List MoveLists) (s : List ℕ) → IsTable table → is_valid_state (moves_in table) s ≡ true → moves_left (moves_in table) s ≤ LIST_TRAINS
 left_few table s h valid =
     let plan : Moves = moves_in table in
     let long : length s ≡ length table = (state_parts plan s valid).long in
-    let bound : moves_left plan s ≤ length s * ITINERARY_ROUTES = sum_bound (λ t. plan.moves t - place_of s t) (length s) ITINERARY_ROUTES (λ t. omega (arith, h.short t)) in
+    let bound : moves_left plan s ≤ length s * ITINERARY_ROUTES = sum_most (λ t. plan.moves t - place_of s t) (length s) ITINERARY_ROUTES (λ t lt. omega (arith, h.short t)) in
     omega (arith, long, h.few, bound)
 
 pub goes_nowhere : (plan : Moves) (w : Work) → GoesOn plan w w
@@ -135,19 +118,19 @@ pub ready_step :
     (w : Work)
     (t : ℕ)
     (places : State)
-    (needs : Counts)
+    (needs : List ℕ)
     (stops : List (Option ℕ))
     (list : List ℕ)
     → IsReady table w → is_inside (moves_in table) w.places.positions t ≡ true
     → IsMadeFor table places
     → places.positions ≡ after w.places.positions t
-    → IsMore needs w.needs t (λ x. times x ((moves_in table).claim t (place_of w.places.positions t))) → list ≡ w.list ++ t ∷ [] → IsReady table (record { places = places; needs = needs; stops = stops; list = list })
-ready_step table w t places needs stops list ready inside made next more at =
+    → IsCounted (moves_in table) (after w.places.positions t) needs → list ≡ w.list ++ t ∷ [] → IsReady table (record { places = places; needs = needs; stops = stops; list = list })
+ready_step table w t places needs stops list ready inside made next counted at =
     let plan : Moves = moves_in table in
     let C : List ℕ → Type 0 = λ s. IsCounted plan s needs in
     record {
       made = made;
-      counted = subst C (sym next) (counted_next plan w.places.positions t inside w.needs needs ready.counted more);
+      counted = subst C (sym next) counted;
       few = omega (arith, ready.few, ap length at, length_push w.list t, ap (moves_left plan) next, fewer_left plan w.places.positions t inside);
     }
 

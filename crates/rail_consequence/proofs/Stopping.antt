@@ -1,22 +1,22 @@
 -- Stopped trains have no safe leg, and which moves of others leave them so.
-use Rattle.std.proofs.Common.{◌≡◌, ◌≢◌, ℕ, zero, suc, ◌+◌, ◌<◌, ◌≤◌, true, false, not, eqb, ltb, List, length, get_or, set, Option, Some, None, refl, sym, ap, ◌∙◌, subst, ⊎_elim, arith}
-use Rattle.std.proofs.lemmas.Bool.{and_parts, and_from, cases_Bool, cases_eq, cases_lt, false≢true, lt-ltb, eq-eqb, or_left, not-true, not_from_false}
+use Rattle.std.proofs.Common.{◌≡◌, ◌≢◌, ℕ, zero, suc, ◌+◌, ◌<◌, ◌≤◌, true, false, not, ltb, List, length, get_or, set, Option, Some, None, refl, sym, ap, ◌∙◌, subst, ⊎_elim, arith}
+use Rattle.std.proofs.lemmas.Bool.{and_parts, and_from, cases_Bool, cases_eq, cases_lt, false≢true, lt-ltb, not-true, not_from_false}
 use Rattle.std.proofs.lemmas.List.{get_or-set_same, get_or-set_other, length-set}
 use Rattle.std.specs.List.{list_any}
 use Rattle.rail_base.specs.declared.limits.TheConstants.{SECTIONS}
-use Rattle.rail_rules.specs.Numbers.{is_in, are_apart}
+use Rattle.rail_rules.specs.Numbers.{is_in, are_apart, sum_below}
 use Rattle.rail_rules.specs.Moves.{Moves, stand, is_valid}
 use Rattle.rail_rules.specs.Places.{place_of, is_inside, is_legal, is_held, holds, is_valid_state}
-use Rattle.rail_rules.specs.Analysis.{Leg, is_leg, is_safe}
+use Rattle.rail_rules.specs.Analysis.{is_leg, is_safe}
 use Rattle.rail_rules.proofs.CallerLemmas.{any_below_at, any_below_none, list_any_at, list_any_none, apart_at, apart_from, state_parts, stand_needed}
 use Rattle.rail_place.specs.Tables.{moves_in, MoveLists}
 use Rattle.rail_place.specs.Made.{State, IsMadeFor}
 use Rattle.rail_place.proofs.CallerLemmas.{holder_listed, state_apart, move_valid}
-use Rattle.rail_consequence.specs.Needs.{Counts, IsCounted, own_of, trains_of, present, needs_left}
+use Rattle.rail_consequence.specs.Needs.{IsCounted, count_of, needs_left, one_if}
 use Rattle.rail_consequence.specs.Stops.{IsHeldByOther, IsStopped}
 use Rattle.rail_consequence.proofs.Legs.{Goes, goes_parts, leg_from, inside_parts, inside_from, inside_listed, IsClear}
 use Rattle.rail_consequence.proofs.Safe.{safe_from_clear, clear_from_safe}
-use Rattle.rail_consequence.proofs.Counts.{present_some, left_entered, times_present, needs_within}
+use Rattle.rail_consequence.proofs.Counts.{left_at, one_false, one_true}
 use Rattle.rail_consequence.proofs.Clear.{none_from_clear, sum_alone}
 
 -- no leg leads over a move that needs a section which another train holds
@@ -98,10 +98,10 @@ pub tried_leads : (plan : Moves) (s : List ℕ) (t made : ℕ) → is_valid plan
 tried_leads plan s t made valid known listed low from below tried free =
     open_leads plan s t made valid known listed low from below (open_more plan s t made tried.free free)
 
--- another train went on: what is needed by a stop of u and was by the train that moved is needed by a third
-pub record IsPassed (plan : Moves) (r : List ℕ) (counts : Counts) (t u from : ℕ) : Type 0 where
-  pub counted : IsCounted plan r counts
-  pub freed : (i x : ℕ) → from ≤ i → i < place_of r t → is_in x (plan.claim t i) ≡ true → own_of counts t x ≡ 0 → trains_of counts x ≡ 1 → own_of counts u x ≡ 0
+-- another train went on: a section that it needed for that, and needs no more, is not left to the stopped train alone
+abbrev pub IsPassed : Moves → List ℕ → ℕ → ℕ → ℕ → Type 0
+IsPassed plan r t u from = (i x : ℕ) → from ≤ i → i < place_of r t → is_in x (plan.claim t i) ≡ true → needs_left plan t (place_of r t) x ≡ false
+    → sum_below (λ v. one_if (needs_left plan v (place_of r v) x)) (length r) ≡ 1 → needs_left plan u (place_of r u) x ≡ false
 
 module _ (plan : Moves) (s : List ℕ) (t to u : ℕ) (valid : is_valid plan ≡ true) (state : is_valid_state plan s ≡ true) (was_inside : is_inside plan s t ≡ true) (gone : place_of s t < to) (ne : u ≢ t) where
   abbrev next : List ℕ
@@ -116,22 +116,20 @@ module _ (plan : Moves) (s : List ℕ) (t to u : ℕ) (valid : is_valid plan ≡
   there : (v : ℕ) → v ≢ t → place_of next v ≡ place_of s v
   there v other = get_or-set_other s t v to 0 other
 
-  module _ (counts : Counts) (passed : IsPassed plan next counts t u (place_of s t)) (in_range : (v i x : ℕ) → is_in x (plan.claim v i) ≡ true → x < SECTIONS) where
+  module _ (passed : IsPassed plan next t u (place_of s t)) where
     -- where the moves that were made needed a section of a stop, and nobody else does, the train itself does not
     gap : (p i x : ℕ) → u < length s → place_of s u < p → p < plan.moves u → 0 < place_of s u → is_in x (stand plan u p) ≡ true → IsClear plan next u (stand plan u p) → place_of s t ≤ i → i < to → is_in x (plan.claim t i) ≡ true → ⊥
     gap zero i x known ahead inner entered in_stand clear from below needed = omega arith
     gap (suc m) i x known ahead inner entered in_stand clear from below needed =
-        let within = in_range t i x needed in
         let listed_next : (v : ℕ) → v < length s → v < length next = λ v lt. omega (arith, lt, length-set s t to) in
         let none = none_from_clear plan next u (stand plan u (suc m)) clear in
-        let own_t : own_of counts t x ≡ 0 = passed.counted.own t x (listed_next t listed) within ∙ none x t in_stand (listed_next t listed) (λ e. ne (sym e)) in
-        let alone = sum_alone (λ v. present (needs_left plan v (place_of next v) x)) (length next) u (listed_next u known) (λ v lt other. ap present (none x v in_stand lt other)) in
+        let gone : needs_left plan t (place_of next t) x ≡ false = none x t in_stand (listed_next t listed) (λ e. ne (sym e)) in
+        let alone = sum_alone (λ v. one_if (needs_left plan v (place_of next v) x)) (length next) u (listed_next u known) (λ v lt other. one_false (needs_left plan v (place_of next v) x) (none x v in_stand lt other)) in
         let in_need : is_in x (plan.claim u m) ≡ true = stand_needed plan u m x valid (omega (arith, known, (state_parts plan s state).long)) in_stand in
         let at : place_of next u ≡ place_of s u = there u ne in
-        let some : 0 < needs_left plan u (place_of next u) x = omega (arith, left_entered plan u (place_of next u) x (omega (arith, at)), needs_within plan u (place_of next u) m (plan.moves u) x (omega (arith, at)) (omega arith), times_present x (plan.claim u m) in_need) in
-        let one : trains_of counts x ≡ 1 = passed.counted.trains x within ∙ alone ∙ present_some (needs_left plan u (place_of next u) x) some in
-        let own_u : own_of counts u x ≡ 0 = passed.freed i x from (omega (arith, here)) needed own_t one in
-        omega (arith, own_u, passed.counted.own u x (listed_next u known) within, some)
+        let some : needs_left plan u (place_of next u) x ≡ true = left_at plan u (place_of next u) x m (omega (arith, at, entered)) (omega (arith, at, ahead)) (omega arith) in_need in
+        let one : sum_below (λ v. one_if (needs_left plan v (place_of next v) x)) (length next) ≡ 1 = alone ∙ one_true (needs_left plan u (place_of next u) x) some in
+        false≢true (sym (passed i x from (omega (arith, here)) needed gone one) ∙ some)
 
     clear_before : (p : ℕ) → u < length s → place_of s u < p → p < plan.moves u → 0 < place_of s u → IsClear plan next u (stand plan u p) → IsClear plan s u (stand plan u p)
     clear_before p known ahead inner entered clear v i other inside from below =
@@ -186,10 +184,11 @@ module _ (plan : Moves) (s : List ℕ) (t to u : ℕ) (valid : is_valid plan ≡
         }
 
 -- what is noted of a train after a leg of another one
-pub settled_one : (table : List MoveLists) (state : State) (counts : Counts) (s : List ℕ) (t to u x : ℕ) → IsMadeFor table state → IsCounted (moves_in table) state.positions counts
+pub settled_one : (table : List MoveLists) (state : State) (counts : List ℕ) (s : List ℕ) (t to u x : ℕ) → IsMadeFor table state → IsCounted (moves_in table) state.positions counts
     → is_valid_state (moves_in table) s ≡ true → is_inside (moves_in table) s t ≡ true → place_of s t < to → set s t to ≡ state.positions → u ≢ t → u < length s → IsStopped (moves_in table) s u x
     → (get_or state.owners x None ≡ None → ⊥)
-    → ((i y : ℕ) → place_of s t ≤ i → i < to → is_in y ((moves_in table).claim t i) ≡ true → own_of counts t y ≡ 0 → trains_of counts y ≡ 1 → own_of counts u y ≡ 0)
+    → ((i y : ℕ) → place_of s t ≤ i → i < to → is_in y ((moves_in table).claim t i) ≡ true → needs_left (moves_in table) t (place_of state.positions t) y ≡ false
+    → count_of counts y ≡ 1 → needs_left (moves_in table) u (place_of state.positions u) y ≡ false)
     → IsStopped (moves_in table) state.positions u x
 settled_one table state counts s t to u x made counted valid inside ahead same ne known stop held freed = by (get_or state.owners x None) refl
   where
@@ -198,10 +197,14 @@ settled_one table state counts s t to u x made counted valid inside ahead same n
         let P : List ℕ → Type 0 = λ q. IsStopped (moves_in table) q u x in
         let C : List ℕ → Type 0 = λ q. IsCounted (moves_in table) q counts in
         let at : place_of (set s t to) t ≡ to = get_or-set_same s t to 0 (inside_listed (moves_in table) s t inside) in
+        let F : List ℕ → Type 0 = λ q. (i y : ℕ) → place_of s t ≤ i → i < to → is_in y ((moves_in table).claim t i) ≡ true → needs_left (moves_in table) t (place_of q t) y ≡ false
+        → count_of counts y ≡ 1 → needs_left (moves_in table) u (place_of q u) y ≡ false in
+        let freed_at : F (set s t to) = subst F (sym same) freed in
+        let counted_at = subst C (sym same) counted in
         subst P same
-        (stopped_still (moves_in table) s t to u made.moves.valid valid inside ahead ne counts
-        (record { counted = subst C (sym same) counted; freed = λ i y from below. freed i y from (omega (arith, below, at)) })
-        (λ w i y is_needed. made.moves.in_range w i y is_needed) x v known stop (ap (λ q. holds (moves_in table) q v x) same ∙ (made.told x v).0 is))
+        (stopped_still (moves_in table) s t to u made.moves.valid valid inside ahead ne
+        (λ i y from below needed gone one. freed_at i y from (omega (arith, below, at)) needed gone (counted_at y (made.moves.in_range t i y needed) ∙ one))
+        x v known stop (ap (λ q. holds (moves_in table) q v x) same ∙ (made.told x v).0 is))
 
     by : (o : Option ℕ) → get_or state.owners x None ≡ o → IsStopped (moves_in table) state.positions u x
     by None is = absurd (held is)

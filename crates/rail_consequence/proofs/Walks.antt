@@ -1,18 +1,18 @@
 -- A train that goes on move by move, and the legs that end where it stands.
-use Rattle.std.proofs.Common.{◌≡◌, ◌≢◌, ◌↔◌, ℕ, suc, ◌+◌, ◌-◌, ◌<◌, ◌≤◌, Bool, true, false, ◌&&◌, List, [], ◌∷◌, ◌++◌, length, get_or, set, take, sym, ap, ◌∙◌, subst, ⊎_elim, arith}
+use Rattle.std.proofs.Common.{◌≡◌, ◌↔◌, ℕ, suc, ◌+◌, ◌-◌, ◌<◌, ◌≤◌, Bool, true, false, ◌&&◌, List, [], ◌∷◌, ◌++◌, length, get_or, set, take, sym, ap, ◌∙◌, subst, ⊎_elim, arith}
 use Rattle.std.proofs.lemmas.Bool.{and_parts, and_from, cases_lt, cases_Bool, false≢true}
-use Rattle.std.proofs.lemmas.List.{get_or-set_same, get_or-set_other, get_or_past, set-set, set-get_or, append-nil}
+use Rattle.std.proofs.lemmas.List.{get_or-set_same, get_or_past, set-set, set-get_or, append-nil}
 use Rattle.rail_rules.specs.Numbers.{is_in}
-use Rattle.rail_rules.specs.Moves.{Moves, stand}
+use Rattle.rail_rules.specs.Moves.{Moves}
 use Rattle.rail_rules.specs.Places.{place_of, is_inside, is_legal, after, nobody_inside}
 use Rattle.rail_rules.specs.Analysis.{Leg, is_leg, after_leg, is_safe, clears, free_legs, Finds, moves_left}
 use Rattle.rail_rules.proofs.CallerLemmas.{state_parts}
 use Rattle.rail_place.specs.Tables.{moves_in, MoveLists}
 use Rattle.rail_consequence.specs.Workspace.{Work, IsReady, GoesOn, IsBack}
-use Rattle.rail_consequence.proofs.Legs.{goes_parts, leg_from, IsClear, inside_from, inside_parts, inside_same, inside_listed}
+use Rattle.rail_consequence.proofs.Legs.{goes_parts, leg_from, inside_from, inside_parts, inside_same, inside_listed}
 use Rattle.rail_consequence.proofs.Counts.{in_take_more}
-use Rattle.rail_consequence.proofs.Safe.{safe_leg_keeps, safe_from_clear, clear_from_safe, found_front, cost, cost-safe, cost-free, free_legs-cons}
-use Rattle.rail_consequence.proofs.Played.{goes_nowhere, goes_further, goes_step, fewer_at}
+use Rattle.rail_consequence.proofs.Safe.{safe_leg_keeps, found_front, cost, cost-safe, cost-free, free_legs-cons}
+use Rattle.rail_consequence.proofs.Played.{goes_nowhere, goes_further, goes_step}
 
 -- the train went on from one work to the other, and nothing else changed
 pub record IsWalk (plan : Moves) (t : ℕ) (a b : Work) : Type 0 where

@@ -4,3 +4,4 @@ pub mod Searches
 pub mod Needs
 pub mod Stops
 pub mod Freeing
+pub mod Analysts

@@ -8,12 +8,12 @@ use Rattle.rail_rules.specs.Places.{is_inside, is_valid_state}
 use Rattle.rail_place.specs.Tables.{moves_in, MoveLists}
 use Rattle.rail_place.specs.Made.{State, IsMadeFor}
 use Rattle.rail_place.specs.Plays.{IsPlayed}
-use Rattle.rail_consequence.specs.Needs.{Counts, IsCounted}
+use Rattle.rail_consequence.specs.Needs.{IsCounted}
 
--- places, the counts of the moves that are left, what stops the trains, and the moves that were made
+-- places, for each section how many trains are counted, what stops the trains, and the moves that were made
 pub record Work : Type 0 where
   pub places : State
-  pub needs : Counts
+  pub needs : List ℕ
   pub stops : List (Option ℕ)
   pub list : List ℕ
 

@@ -1,4 +1,4 @@
-ghost use Rattle.std.specs.Prelude.{◌≡◌, ℕ, ◌+◌, ◌-◌, ◌<◌, ◌≤◌, ◌≢◌, ◌↔◌, [], ◌∷◌, ◌++◌, List, Some, None, true, false, get_or, ◌&&◌, length, take, drop, set, IsTrue, IsNone, IsOk, IfSome, MatchOption, vec_capacity};
+ghost use Rattle.std.specs.Prelude.{◌≡◌, ℕ, ◌+◌, ◌-◌, ◌<◌, ◌≤◌, ◌≢◌, ◌↔◌, [], ◌∷◌, ◌++◌, List, Some, None, true, false, get_or, ◌&&◌, length, take, drop, set, IsTrue, IsNone, IfOk, IsOk, IfSome, MatchOption, vec_capacity};
 ghost use Rattle.rail_rules.specs.Analysis.{Finds, Leg, after_leg, is_leg, is_safe, moves_left};
 ghost use Rattle.rail_rules.specs.Places.{after, completes, is_inside, is_legal, is_valid_state, nobody_inside, place_of};
 ghost use Rattle.rail_place.specs.Made.{IsMadeFor};
@@ -6,14 +6,15 @@ ghost use Rattle.rail_place.specs.Plays.{IsPlayed};
 ghost use Rattle.rail_place.specs.Tables.{moves_in};
 ghost use Rattle.rail_rules.specs.Moves.{stand};
 ghost use Rattle.rail_rules.specs.Numbers.{are_apart, is_in};
-ghost use Rattle.rail_consequence.specs.Needs.{own_of, trains_of};
+ghost use Rattle.rail_consequence.specs.Needs.{IsAnalystFor, IsCounted, count_of, needs_left};
 ghost use Rattle.rail_consequence.specs.Searches.{FindsByNoLeg, FindsByNoLegOf, FindsSame, HasNoSafeLeg, HasNoSafeLegOf, IsCleared, leg_to};
 ghost use Rattle.rail_consequence.specs.Freeing.{FreesNobody};
 ghost use Rattle.rail_consequence.specs.Stops.{AddsNoStops, IsHeldByOther, IsSettled, KeepsLevelsAbove, KeepsOtherLevels, KeepsOtherStops, Shows, StillStops, stop_at};
 ghost use Rattle.rail_consequence.specs.Workspace.{GoesOn, IsBack, IsListing, IsPlayedFrom, IsReady, Work};
 
-use crate::needs::Needs;
+use crate::needs::{Needs, needs_left};
 use crate::stops::Stops;
+use crate::tally::Tally;
 use rail_base::limits::{LIST_TRAINS, SECTIONS, TRAINS};
 use rail_base::{OutOfMemory, SectionNo, TrainNo};
 use rail_place::{Moves, Places};
@@ -32,11 +33,13 @@ enum Look {
 }
 
 /// Finds lists of moves that bring every train inside to its exit. It keeps places of its own and room
-/// for the longest list, so that a search takes no memory.
+/// for the longest list, so that a search takes no memory. It belongs to the moves for which it was made:
+/// the needs of the moves that are left are counted once, and then follow the places from search to search.
 #[derive(Debug)]
 pub struct Analyst {
     /// The trains that were inside when the last search began, by number.
     inside: Vec<TrainNo>,
+    tally: Tally,
     sheet: Worksheet,
 }
 
@@ -44,6 +47,7 @@ impl Drop for Analyst {
     fn drop(self) {
         let Analyst {
             inside: _inside,
+            tally: _tally,
             sheet: _sheet,
         } = self;
     }
@@ -52,11 +56,11 @@ impl Drop for Analyst {
 impl Model for Analyst {
     ghost use Rattle.std.specs.Prelude.{◌≤◌, vec_capacity};
     ghost use Rattle.rail_base.specs.declared.limits.TheConstants.{TRAINS};
-    ghost use Rattle.rail_consequence.specs.Workspace.{Work};
+    ghost use Rattle.rail_consequence.specs.Needs.{Tallied};
 
-    ghost Value = { Work };
+    ghost Value = { Tallied };
 
-    ghost view = { λ analyst. analyst.sheet };
+    ghost view = { λ analyst. analyst.tally };
 
     ghost invariant = { λ analyst. TRAINS ≤ vec_capacity analyst.inside };
 }
@@ -84,10 +88,16 @@ impl Model for Worksheet {
 }
 
 impl Analyst {
+    ghost use Rattle.std.specs.Borrow.{sem};
+    ghost use Rattle.rail_consequence.specs.Analysts.{StaysFor};
+
     /// An analyst, with all the memory that it ever takes.
-    pub fn new(alloc: Global, moves: &Moves) -> Result<Analyst, OutOfMemory> {
+    pub fn new(alloc: Global, moves: &Moves) -> Result<Analyst, OutOfMemory>
+        ensures { IfOk result (IsAnalystFor (moves_in moves.now)) }
+    {
         Ok(Analyst {
             inside: Vec::with_capacity(alloc, TRAINS)?,
+            tally: Tally::new(alloc, moves)?,
             sheet: Worksheet::new(alloc, moves)?,
         })
     }
@@ -104,13 +114,17 @@ impl Analyst {
     /// this is done after each choice of at most `depth` of them: the cost then grows with the number of
     /// legs, to the power of the depth, where no list is found.
     pub fn find(&mut self, moves: &Moves, places: &Places, depth: u8) -> Option<&[TrainNo]>
-        requires { IsMadeFor moves.now places.now }
+        requires made { IsMadeFor moves.now places.now }
+        requires own { IsAnalystFor (moves_in moves.now) self.old }
+        ensures* own { sem 𝓛 (StaysFor self.entry (moves_in moves.now)) }
         ensures some { IfSome result (λ list. IsTrue (completes (moves_in moves.now) places.now.positions list.now)) }
         ensures none { IsNone result ↔ (Finds (moves_in moves.now) depth places.now.positions → ⊥) }
     {
+        self.tally.follow(moves, places);
         list_inside(&mut self.inside, moves, places);
         let inside = self.inside.as_slice();
-        self.sheet.begin(moves, places, inside, depth);
+        self.sheet
+            .begin(moves, places, self.tally.needs(), inside, depth);
         if self.sheet.search(moves, inside, depth) {
             Some(self.sheet.list())
         } else {
@@ -162,9 +176,18 @@ impl Worksheet {
         })
     }
 
-    /// Begins a search from the places: no moves are made, and nothing is noted of the trains inside.
-    fn begin(&mut self, moves: &Moves, places: &Places, inside: &[TrainNo], depth: u8)
+    /// Begins a search from the places, with the needs there: no moves are made, and nothing is noted of
+    /// the trains inside.
+    fn begin(
+        &mut self,
+        moves: &Moves,
+        places: &Places,
+        needs: &Needs,
+        inside: &[TrainNo],
+        depth: u8,
+    )
         requires made { IsMadeFor moves.now places.now }
+        requires counted { IsCounted (moves_in moves.now) places.now.positions needs.now }
         requires listed { IsListing (moves_in moves.now) places.now.positions inside.now }
         ensures ready { IsReady moves.now self.new }
         ensures settled { IsSettled (moves_in moves.now) self.new.places.positions self.new.stops depth }
@@ -172,7 +195,7 @@ impl Worksheet {
         ensures list { self.new.list ≡ [] }
     {
         self.places.copy_from(places);
-        self.needs.set_up(moves, places);
+        self.needs.copy_from(needs);
         self.list.clear();
         self.stops.clear(depth, inside);
     }
@@ -647,7 +670,7 @@ impl Worksheet {
         self.keep_stops(inside, above, level, train);
         let place = self.places.position(train);
         for made in from..place {
-            self.free_needers(inside, moves.need(train, made + 1), level, train);
+            self.free_needers(moves, inside, moves.need(train, made + 1), level, train);
         }
     }
 
@@ -693,58 +716,82 @@ impl Worksheet {
     /// what stops that one.
     fn free_needers(
         &mut self,
+        moves: &Moves,
         inside: &[TrainNo],
         sections: &[SectionNo],
         level: u8,
         train: TrainNo,
     )
-        requires listed { (u : ℕ) → IsTrue (is_in u inside.now) → u < TRAINS }
-        requires train { train < TRAINS }
+        requires made { IsMadeFor moves.now self.old.places }
+        requires listed { (u : ℕ) → IsTrue (is_in u inside.now) → u < length moves.now }
+        requires train { train < length moves.now }
         requires in_range { (x : ℕ) → IsTrue (is_in x sections.now) → x < SECTIONS }
-        ensures freed { (x u y : ℕ) → IsTrue (is_in x sections.now) → own_of self.old.needs train x ≡ 0
-            → trains_of self.old.needs x ≡ 1 → IsTrue (is_in u inside.now)
-            → stop_at self.new.stops level u ≡ Some y → own_of self.old.needs u x ≡ 0 }
+        ensures freed { (x u y : ℕ) → IsTrue (is_in x sections.now)
+            → needs_left (moves_in moves.now) train (place_of self.old.places.positions train) x ≡ false
+            → count_of self.old.needs x ≡ 1 → IsTrue (is_in u inside.now) → stop_at self.new.stops level u ≡ Some y
+            → needs_left (moves_in moves.now) u (place_of self.old.places.positions u) x ≡ false }
         ensures fewer { AddsNoStops level self.old.stops self.new.stops }
         ensures kept { KeepsOtherLevels level self.old.stops self.new.stops }
         ensures rest { self.new ≡ record self.old { stops = self.new.stops } }
     {
         for section in sections {
-            self.free_needer(inside, *section, level, train);
+            self.free_needer(moves, inside, *section, level, train);
         }
     }
 
     /// The same of one section.
-    fn free_needer(&mut self, inside: &[TrainNo], section: SectionNo, level: u8, train: TrainNo)
-        requires listed { (u : ℕ) → IsTrue (is_in u inside.now) → u < TRAINS }
-        requires train { train < TRAINS }
+    fn free_needer(
+        &mut self,
+        moves: &Moves,
+        inside: &[TrainNo],
+        section: SectionNo,
+        level: u8,
+        train: TrainNo,
+    )
+        requires made { IsMadeFor moves.now self.old.places }
+        requires listed { (u : ℕ) → IsTrue (is_in u inside.now) → u < length moves.now }
+        requires train { train < length moves.now }
         requires section { section < SECTIONS }
-        ensures freed { own_of self.old.needs train section ≡ 0 → trains_of self.old.needs section ≡ 1
-            → (u y : ℕ) → IsTrue (is_in u inside.now) → stop_at self.new.stops level u ≡ Some y
-            → own_of self.old.needs u section ≡ 0 }
+        ensures freed { needs_left (moves_in moves.now) train (place_of self.old.places.positions train) section ≡ false
+            → count_of self.old.needs section ≡ 1 → (u y : ℕ) → IsTrue (is_in u inside.now)
+            → stop_at self.new.stops level u ≡ Some y
+            → needs_left (moves_in moves.now) u (place_of self.old.places.positions u) section ≡ false }
         ensures fewer { AddsNoStops level self.old.stops self.new.stops }
         ensures kept { KeepsOtherLevels level self.old.stops self.new.stops }
         ensures rest { self.new ≡ record self.old { stops = self.new.stops } }
     {
-        if self.needs.has(train, section) || !self.needs.is_for_one(section) {
+        if !self.needs.is_for_one(section) || self.needs_left(moves, train, section) {
             return;
         }
         for other in inside {
-            self.forget_needer(*other, section, level);
+            self.forget_needer(moves, *other, section, level);
         }
     }
 
     /// Notes nothing of what stops the train, if it needs the section.
-    fn forget_needer(&mut self, train: TrainNo, section: SectionNo, level: u8)
-        requires train { train < TRAINS }
+    fn forget_needer(&mut self, moves: &Moves, train: TrainNo, section: SectionNo, level: u8)
+        requires made { IsMadeFor moves.now self.old.places }
+        requires train { train < length moves.now }
         requires section { section < SECTIONS }
-        ensures freed { (y : ℕ) → stop_at self.new.stops level train ≡ Some y → own_of self.old.needs train section ≡ 0 }
+        ensures freed { (y : ℕ) → stop_at self.new.stops level train ≡ Some y
+            → needs_left (moves_in moves.now) train (place_of self.old.places.positions train) section ≡ false }
         ensures fewer { AddsNoStops level self.old.stops self.new.stops }
         ensures kept { KeepsOtherLevels level self.old.stops self.new.stops }
         ensures rest { self.new ≡ record self.old { stops = self.new.stops } }
     {
-        if self.needs.has(train, section) {
+        if self.needs_left(moves, train, section) {
             self.stops.set(level, train, None);
         }
+    }
+
+    /// The train has entered, and needs the section for a move that it has left.
+    fn needs_left(&self, moves: &Moves, train: TrainNo, section: SectionNo) -> bool
+        requires made { IsMadeFor moves.now self.now.places }
+        requires train { train < length moves.now }
+        requires section { section < SECTIONS }
+        ensures { result ≡ needs_left (moves_in moves.now) train (place_of self.now.places.positions train) section }
+    {
+        needs_left(moves, train, self.places.position(train), section)
     }
 
     /// Nobody is inside.
@@ -779,7 +826,9 @@ impl Worksheet {
         requires within { place ≤ (moves_in moves.now).moves train }
         ensures { result ≡ is_safe (moves_in moves.now) self.now.places.positions (leg_to train place) }
     {
-        place == moves.places(train) || self.needs.are_own(train, moves.stand(train, place))
+        let from = self.places.position(train);
+        let sections = moves.stand(train, place);
+        place == moves.places(train) || self.needs.are_own(moves, train, from, sections)
     }
 
     /// Makes the train's next move.
@@ -793,8 +842,7 @@ impl Worksheet {
         ensures list { self.new.list ≡ self.old.list ++ train ∷ [] }
         ensures stops { self.new.stops ≡ self.old.stops }
     {
-        let place = self.places.position(train);
-        self.needs.subtract(train, moves.need(train, place + 1));
+        self.needs.advance(moves, &self.places, train);
         self.places.advance(moves, train);
         self.list.push_reserved(train);
     }
@@ -830,8 +878,7 @@ impl Worksheet {
         let Some(train) = self.list.pop() else {
             return;
         };
-        let place = self.places.position(train);
+        self.needs.retreat(moves, &self.places, train);
         self.places.retreat(moves, train);
-        self.needs.add(train, moves.need(train, place));
     }
 }

@@ -16,6 +16,7 @@ mod analyst;
 mod laws;
 mod needs;
 mod stops;
+mod tally;
 
 pub use analyst::Analyst;
 pub use laws::{

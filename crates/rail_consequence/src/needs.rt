@@ -1,240 +1,261 @@
-//! How often the moves that the trains have left need each section.
+//! For how many trains each section is needed by moves that they have left.
 
-ghost use Rattle.std.specs.Prelude.{◌≡◌, ◌≢◌, ℕ, ◌+◌, ◌-◌, ◌*◌, ◌<◌, ◌≤◌, ◌^◌, ◌==◌, [], ◌∷◌, nat_lt, length, get_or, set, IsTrue};
+ghost use Rattle.std.specs.Prelude.{◌≡◌, ℕ, ◌+◌, ◌-◌, ◌<◌, ◌≤◌, ◌^◌, ◌==◌, ◌&&◌, ◌||◌, nat_lt, length, get_or, set, IsTrue, IfOk};
 ghost use Rattle.std.specs.List.{list_all};
 ghost use Rattle.rail_rules.specs.Numbers.{is_in};
-ghost use Rattle.rail_rules.specs.Places.{place_of};
+ghost use Rattle.rail_rules.specs.Places.{after, is_inside, place_of};
 ghost use Rattle.rail_place.specs.Made.{IsMadeFor};
 ghost use Rattle.rail_place.specs.Tables.{IsTable, moves_in};
-ghost use Rattle.rail_consequence.specs.Needs.{IsCounted, IsMore, IsRoomFor, needs_left, own_of, present, times, trains_of};
+ghost use Rattle.rail_consequence.specs.Needs.{IsAmong, IsCounted, IsRecounted, count_of, is_last_need, needs_left, one_if};
 
-use rail_base::limits::{SECTIONS, TRAINS};
+use rail_base::limits::SECTIONS;
 use rail_base::{OutOfMemory, SectionNo, TrainNo};
 use rail_place::{Moves, Places};
 use std::alloc::Global;
 use std::marker::Model;
 
-/// How often the moves that each train has left need each section, and how many trains need it. A train
-/// that has not entered counts for nothing.
+/// For each section how many trains need it for moves that they have left. A train that has not entered
+/// counts for nothing. Each call is handed the moves of which the needs are counted.
 #[derive(Debug, Drop)]
 pub struct Needs {
-    /// The sections of each train, one train after another.
-    own: Vec<u16>,
     trains: Vec<u16>,
-    /// The trains for which something may be counted, so that no others need to be cleared.
-    counted: Vec<bool>,
 }
 
 impl Model for Needs {
-    ghost use Rattle.rail_consequence.specs.Needs.{Counts, IsWide};
+    ghost use Rattle.std.specs.Prelude.{◌≡◌, ℕ, List, length};
+    ghost use Rattle.rail_base.specs.declared.limits.TheConstants.{SECTIONS};
 
-    ghost Value = { Counts };
+    ghost Value = { List ℕ };
 
-    ghost view = { λ needs. record { own = needs.own.items; trains = needs.trains.items } };
+    ghost view = { λ needs. needs.trains.items };
 
-    ghost invariant = { λ needs. IsWide needs.own.items needs.trains.items needs.counted.items };
+    ghost invariant = { λ needs. length needs.trains.items ≡ SECTIONS };
 }
 
 impl Needs {
-    /// Room for the needs of any trains, of which none is counted.
-    pub fn new(alloc: Global) -> Result<Needs, OutOfMemory> {
+    /// The needs of no train.
+    pub fn new(alloc: Global) -> Result<Needs, OutOfMemory>
+        ensures { IfOk result (λ needs. (x : ℕ) → count_of needs x ≡ 0) }
+    {
         Ok(Needs {
-            own: vec![in alloc; 0u16; TRAINS * SECTIONS]?,
             trains: vec![in alloc; 0u16; SECTIONS]?,
-            counted: vec![in alloc; false; TRAINS]?,
         })
     }
 
-    /// Counts the needs of the moves that are left from these places, and nothing else.
-    pub fn set_up(&mut self, moves: &Moves, places: &Places)
-        requires { IsMadeFor moves.now places.now }
-        ensures { IsCounted (moves_in moves.now) places.now.positions self.new }
+    /// Takes over the counts of the other needs.
+    pub fn copy_from(&mut self, other: &Needs)
+        ensures { self.new ≡ other.now }
     {
-        self.clear(moves.trains());
-        for number in 0..moves.trains() {
-            let train = TrainNo(number);
-            self.count_train(moves, train, places.position(train));
-        }
+        self.trains.copy_from_slice(&other.trains);
     }
 
-    /// Counts the moves that the train has left at the place, where those that it has left at its own were
-    /// counted. It has entered at both.
+    /// Counts the train, which stands where these places tell, as at the place.
     pub fn put(&mut self, moves: &Moves, places: &Places, train: TrainNo, place: u16)
         requires made { IsMadeFor moves.now places.now }
         requires train { train < length moves.now }
-        requires entered { 0 < place_of places.now.positions train }
-        requires later { 0 < place }
         requires within { place ≤ (moves_in moves.now).moves train }
         requires counted { IsCounted (moves_in moves.now) places.now.positions self.old }
         ensures { IsCounted (moves_in moves.now) (set places.now.positions train place) self.new }
     {
-        let from = places.position(train);
-        for made in from..place {
-            self.subtract(train, moves.need(train, made + 1));
-        }
-        for made in place..from {
-            self.add(train, moves.need(train, made + 1));
-        }
+        self.recount(moves, train, places.position(train), place);
     }
 
-    /// Counts nothing of these many trains.
-    fn clear(&mut self, trains: u16)
-        requires { trains ≤ TRAINS }
-        ensures own { (u x : ℕ) → u < trains → x < SECTIONS → own_of self.new u x ≡ 0 }
-        ensures trains { (x : ℕ) → trains_of self.new x ≡ 0 }
+    /// Counts the train, which is inside at these places, as after its next move.
+    pub fn advance(&mut self, moves: &Moves, places: &Places, train: TrainNo)
+        requires made { IsMadeFor moves.now places.now }
+        requires counted { IsCounted (moves_in moves.now) places.now.positions self.old }
+        requires inside { IsTrue (is_inside (moves_in moves.now) places.now.positions train) }
+        ensures { IsCounted (moves_in moves.now) (after places.now.positions train) self.new }
     {
-        for number in 0..trains {
-            self.clear_train(TrainNo(number));
-        }
-        self.trains.fill(0);
+        self.take_off(moves, train, places.position(train));
     }
 
-    /// Counts nothing of the train.
-    fn clear_train(&mut self, train: TrainNo)
-        requires { train < TRAINS }
-        ensures here { (x : ℕ) → x < SECTIONS → own_of self.new train x ≡ 0 }
-        ensures others { (u x : ℕ) → u ≢ train → x < SECTIONS → own_of self.new u x ≡ own_of self.old u x }
+    /// Counts the train, which was inside before the move that led to these places, as before that move.
+    pub fn retreat(&mut self, moves: &Moves, places: &Places, train: TrainNo)
+        requires made { IsMadeFor moves.now places.now }
+        requires counted { IsCounted (moves_in moves.now) places.now.positions self.old }
+        requires train { train < length moves.now }
+        requires moved { 1 < place_of places.now.positions train }
+        ensures { IsCounted (moves_in moves.now)
+            (set places.now.positions train (place_of places.now.positions train - 1)) self.new }
     {
-        if self.counted[usize::from(train.0)] {
-            let first = usize::from(train.0) * SECTIONS;
-            clear_part(&mut self.own, first, first + SECTIONS);
-            self.counted[usize::from(train.0)] = false;
-        }
+        self.put_on(moves, train, places.position(train) - 1);
     }
 
-    /// Counts the moves that a train has left at the place, if it has entered.
-    fn count_train(&mut self, moves: &Moves, train: TrainNo, place: u16)
+    /// Counts the train, which was counted as at the one place, as at the other.
+    pub fn recount(&mut self, moves: &Moves, train: TrainNo, from: u16, to: u16)
         requires table { IsTable moves.now }
         requires train { train < length moves.now }
-        requires within { place ≤ (moves_in moves.now).moves train }
-        requires own { (x : ℕ) → x < SECTIONS → own_of self.old train x + needs_left (moves_in moves.now) train place x < 2 ^ 16 }
-        requires trains { (x : ℕ) → x < SECTIONS → trains_of self.old x < TRAINS }
-        ensures { IsMore self.old self.new train (needs_left (moves_in moves.now) train place) }
+        requires from { from ≤ (moves_in moves.now).moves train }
+        requires to { to ≤ (moves_in moves.now).moves train }
+        requires among { IsAmong (moves_in moves.now) train from self.old }
+        ensures { IsRecounted (moves_in moves.now) train from to self.old self.new }
     {
-        if place == 0 {
-            return;
-        }
-        for made in place..moves.places(train) {
-            self.add(train, moves.need(train, made + 1));
+        let first = place_or_last(moves, train, from);
+        let last = place_or_last(moves, train, to);
+        if first < last {
+            self.go_on(moves, train, first, last);
+        } else if last < first {
+            self.go_back(moves, train, first, last);
         }
     }
 
-    /// Counts the sections once more each.
-    pub fn add(&mut self, train: TrainNo, sections: &[SectionNo])
-        requires train { train < TRAINS }
-        requires in_range { (x : ℕ) → IsTrue (is_in x sections.now) → x < SECTIONS }
-        requires room { IsRoomFor self.old train (λ x. times x sections.now) }
-        ensures { IsMore self.old self.new train (λ x. times x sections.now) }
+    /// Counts the train as after the moves that lead from the one place to the other.
+    fn go_on(&mut self, moves: &Moves, train: TrainNo, from: u16, to: u16)
+        requires table { IsTable moves.now }
+        requires train { train < length moves.now }
+        requires entered { 0 < from }
+        requires ahead { from < to }
+        requires within { to ≤ (moves_in moves.now).moves train }
+        requires among { IsAmong (moves_in moves.now) train from self.old }
+        ensures { IsRecounted (moves_in moves.now) train from to self.old self.new }
     {
-        for section in sections {
-            self.add_one(train, *section);
+        for made in from..to {
+            self.take_off(moves, train, made);
         }
     }
 
-    /// Counts the sections once less each.
-    pub fn subtract(&mut self, train: TrainNo, sections: &[SectionNo])
-        requires train { train < TRAINS }
-        requires in_range { (x : ℕ) → IsTrue (is_in x sections.now) → x < SECTIONS }
-        requires own { (x : ℕ) → x < SECTIONS → times x sections.now ≤ own_of self.old train x }
-        requires trains { (x : ℕ) → x < SECTIONS → 0 < own_of self.old train x → 0 < trains_of self.old x }
-        ensures { IsMore self.new self.old train (λ x. times x sections.now) }
+    /// Counts the train as before the moves that lead to the one place from the other.
+    fn go_back(&mut self, moves: &Moves, train: TrainNo, from: u16, to: u16)
+        requires table { IsTable moves.now }
+        requires train { train < length moves.now }
+        requires entered { 0 < to }
+        requires behind { to < from }
+        requires within { from ≤ (moves_in moves.now).moves train }
+        requires among { IsAmong (moves_in moves.now) train from self.old }
+        ensures { IsRecounted (moves_in moves.now) train from to self.old self.new }
     {
-        for section in sections {
-            self.subtract_one(train, *section);
+        for made in (to..from).rev() {
+            self.put_on(moves, train, made);
         }
     }
 
-    /// Counts the section once more.
-    fn add_one(&mut self, train: TrainNo, section: SectionNo)
-        requires train { train < TRAINS }
+    /// Counts the train no longer for the sections that it needs for its move from this place, and for no
+    /// later one.
+    fn take_off(&mut self, moves: &Moves, train: TrainNo, place: u16)
+        requires table { IsTable moves.now }
+        requires train { train < length moves.now }
+        requires entered { 0 < place }
+        requires within { place < (moves_in moves.now).moves train }
+        requires among { IsAmong (moves_in moves.now) train place self.old }
+        ensures { IsRecounted (moves_in moves.now) train place (place + 1) self.old self.new }
+    {
+        let sections = moves.need(train, place + 1);
+        for (index, section) in sections.iter().enumerate() {
+            if is_last_need(moves, train, place + 1, sections, index) {
+                self.take_one_off(*section);
+            }
+        }
+    }
+
+    /// Counts the train again for the sections that it needs for its move from this place, and for no
+    /// later one.
+    fn put_on(&mut self, moves: &Moves, train: TrainNo, place: u16)
+        requires table { IsTable moves.now }
+        requires train { train < length moves.now }
+        requires entered { 0 < place }
+        requires within { place < (moves_in moves.now).moves train }
+        requires among { IsAmong (moves_in moves.now) train (place + 1) self.old }
+        ensures { IsRecounted (moves_in moves.now) train (place + 1) place self.old self.new }
+    {
+        let sections = moves.need(train, place + 1);
+        for (index, section) in sections.iter().enumerate() {
+            if is_last_need(moves, train, place + 1, sections, index) {
+                self.put_one_on(*section);
+            }
+        }
+    }
+
+    /// Counts one train less for the section.
+    fn take_one_off(&mut self, section: SectionNo)
         requires section { section < SECTIONS }
-        requires own { own_of self.old train section + 1 < 2 ^ 16 }
-        requires trains { trains_of self.old section + 1 < 2 ^ 16 }
-        ensures { IsMore self.old self.new train (λ x. times x (section ∷ [])) }
+        requires some { 0 < count_of self.old section }
+        ensures { (x : ℕ) → count_of self.new x + one_if (x == section) ≡ count_of self.old x }
     {
-        let cell = cell(train, section);
-        if self.own[cell] == 0 {
-            self.trains[usize::from(section.0)] += 1;
-            self.counted[usize::from(train.0)] = true;
-        }
-        self.own[cell] += 1;
+        self.trains[usize::from(section.0)] -= 1;
     }
 
-    /// Counts the section once less.
-    fn subtract_one(&mut self, train: TrainNo, section: SectionNo)
-        requires train { train < TRAINS }
+    /// Counts one train more for the section.
+    fn put_one_on(&mut self, section: SectionNo)
         requires section { section < SECTIONS }
-        requires own { 0 < own_of self.old train section }
-        requires trains { 0 < trains_of self.old section }
-        ensures { IsMore self.new self.old train (λ x. times x (section ∷ [])) }
+        requires few { count_of self.old section + 1 < 2 ^ 16 }
+        ensures { (x : ℕ) → count_of self.new x ≡ count_of self.old x + one_if (x == section) }
     {
-        let cell = cell(train, section);
-        self.own[cell] -= 1;
-        if self.own[cell] == 0 {
-            self.trains[usize::from(section.0)] -= 1;
-        }
-    }
-
-    /// Whether the train needs the section.
-    pub fn has(&self, train: TrainNo, section: SectionNo) -> bool
-        requires train { train < TRAINS }
-        requires section { section < SECTIONS }
-        ensures { result ≡ nat_lt 0 (own_of self.now train section) }
-    {
-        self.own[cell(train, section)] > 0
+        self.trains[usize::from(section.0)] += 1;
     }
 
     /// Whether one train alone needs the section.
     pub fn is_for_one(&self, section: SectionNo) -> bool
         requires { section < SECTIONS }
-        ensures { result ≡ (trains_of self.now section == 1) }
+        ensures { result ≡ (count_of self.now section == 1) }
     {
         self.trains[usize::from(section.0)] == 1
     }
 
-    /// No other train than this one needs any of the sections.
-    pub fn are_own(&self, train: TrainNo, sections: &[SectionNo]) -> bool
-        requires train { train < TRAINS }
+    /// No other train than this one, which stands at the place, needs any of the sections.
+    pub fn are_own(&self, moves: &Moves, train: TrainNo, place: u16, sections: &[SectionNo]) -> bool
+        requires train { train < length moves.now }
         requires in_range { (x : ℕ) → IsTrue (is_in x sections.now) → x < SECTIONS }
-        ensures { result ≡ list_all (λ x. trains_of self.now x == present (own_of self.now train x)) sections.now }
+        ensures { result ≡ list_all (λ x. count_of self.now x == 0
+            || ((count_of self.now x == 1) && needs_left (moves_in moves.now) train place x)) sections.now }
     {
         for section in sections {
-            if !self.is_own(train, *section) {
+            if !self.is_own(moves, train, place, *section) {
                 return false;
             }
         }
         true
     }
 
-    /// No other train than this one needs the section.
-    fn is_own(&self, train: TrainNo, section: SectionNo) -> bool
-        requires train { train < TRAINS }
+    /// No other train than this one, which stands at the place, needs the section.
+    fn is_own(&self, moves: &Moves, train: TrainNo, place: u16, section: SectionNo) -> bool
+        requires train { train < length moves.now }
         requires section { section < SECTIONS }
-        ensures { result ≡ (trains_of self.now section == present (own_of self.now train section)) }
+        ensures { result ≡ (count_of self.now section == 0
+            || ((count_of self.now section == 1) && needs_left (moves_in moves.now) train place section)) }
     {
-        let own = self.own[cell(train, section)] > 0;
-        self.trains[usize::from(section.0)] == u16::from(own)
+        let trains = self.trains[usize::from(section.0)];
+        trains == 0 || trains == 1 && needs_left(moves, train, place, section)
     }
 }
 
-/// Sets the counts from the one number to below the other to 0.
-fn clear_part(counts: &mut [u16], from: usize, to: usize)
-    requires ordered { from ≤ to }
-    requires within { to ≤ length counts.old }
-    ensures zeros { (i : ℕ) → from ≤ i → i < to → get_or counts.new i 0 ≡ 0 }
-    ensures before { (i : ℕ) → i < from → get_or counts.new i 0 ≡ get_or counts.old i 0 }
-    ensures after { (i : ℕ) → to ≤ i → get_or counts.new i 0 ≡ get_or counts.old i 0 }
-    ensures length { length counts.new ≡ length counts.old }
+/// The train at the place has entered, and needs the section for a move that it has left.
+pub fn needs_left(moves: &Moves, train: TrainNo, place: u16, section: SectionNo) -> bool
+    requires train { train < length moves.now }
+    requires section { section < SECTIONS }
+    ensures { result ≡ needs_left (moves_in moves.now) train place section }
 {
-    counts[from..to].fill(0);
+    0 < place && moves.needs_after(train, place, section)
 }
 
-/// Where the needs of the train for the section are counted.
-fn cell(train: TrainNo, section: SectionNo) -> usize
-    requires train { train < TRAINS }
-    requires section { section < SECTIONS }
-    ensures cell { result ≡ train * SECTIONS + section }
-    ensures within { result < TRAINS * SECTIONS }
+/// The section at the index stands at no earlier one, and the train needs it for no move from the place on.
+fn is_last_need(
+    moves: &Moves,
+    train: TrainNo,
+    place: u16,
+    sections: &[SectionNo],
+    index: usize,
+) -> bool
+    requires train { train < length moves.now }
+    requires index { index < length sections.now }
+    requires in_range { (x : ℕ) → IsTrue (is_in x sections.now) → x < SECTIONS }
+    ensures { result ≡ is_last_need (moves_in moves.now) train place sections.now index }
 {
-    usize::from(train.0) * SECTIONS + usize::from(section.0)
+    let section = sections[index];
+    !moves.needs_after(train, place, section) && !sections[..index].contains(&section)
+}
+
+/// The place, or the last one of a train that has not entered: both trains need nothing.
+fn place_or_last(moves: &Moves, train: TrainNo, place: u16) -> u16
+    requires train { train < length moves.now }
+    requires within { place ≤ (moves_in moves.now).moves train }
+    ensures within { result ≤ (moves_in moves.now).moves train }
+    ensures entered { 0 < (moves_in moves.now).moves train → 0 < result }
+    ensures alike { (x : ℕ) → needs_left (moves_in moves.now) train result x ≡ needs_left (moves_in moves.now) train place x }
+{
+    if place == 0 {
+        moves.places(train)
+    } else {
+        place
+    }
 }

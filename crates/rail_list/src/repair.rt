@@ -3,6 +3,7 @@ ghost use Rattle.rail_rules.specs.Analysis.{finds};
 ghost use Rattle.rail_rules.specs.Places.{after, completes, is_legal};
 ghost use Rattle.rail_place.specs.Made.{IsMadeFor};
 ghost use Rattle.rail_place.specs.Tables.{moves_in};
+ghost use Rattle.rail_consequence.specs.Needs.{IsAnalystFor};
 ghost use Rattle.rail_list.specs.KeptLists.{HasRoomFor};
 ghost use Rattle.rail_list.specs.Repairs.{IsNoted, is_known, is_repairable_for};
 
@@ -24,11 +25,13 @@ pub fn admit_by_list(
     train: TrainNo,
 ) -> Option<Note>
     requires made { IsMadeFor moves.now places.old }
+    requires own { IsAnalystFor (moves_in moves.now) analyst.old }
     requires room { HasRoomFor moves.now kept.old }
     requires completes { IsTrue (completes (moves_in moves.now) places.old.positions kept.old.trains) }
     requires train { train < length moves.now }
     requires legal { IsTrue (is_legal (moves_in moves.now) places.old.positions train) }
     ensures made { IsMadeFor moves.now places.new }
+    ensures own { IsAnalystFor (moves_in moves.now) analyst.new }
     ensures room { kept.new.room ≡ kept.old.room }
     ensures none { IsNone result → (places.new.positions ≡ places.old.positions) × (kept.new ≡ kept.old)
         × (is_known (moves_in moves.now) depth places.old.positions kept.old.trains train ≡ false) }
@@ -83,10 +86,12 @@ fn admit_afresh(
     train: TrainNo,
 ) -> bool
     requires made { IsMadeFor moves.now places.old }
+    requires own { IsAnalystFor (moves_in moves.now) analyst.old }
     requires room { HasRoomFor moves.now kept.old }
     requires train { train < length moves.now }
     requires legal { IsTrue (is_legal (moves_in moves.now) places.old.positions train) }
     ensures made { IsMadeFor moves.now places.new }
+    ensures own { IsAnalystFor (moves_in moves.now) analyst.new }
     ensures room { kept.new.room ≡ kept.old.room }
     ensures exact { result ≡ finds (moves_in moves.now) depth (after places.old.positions train) }
     ensures none { result ≡ false → (places.new.positions ≡ places.old.positions) × (kept.new.trains ≡ kept.old.trains) }
@@ -117,10 +122,12 @@ pub fn is_list_known(
     train: TrainNo,
 ) -> bool
     requires made { IsMadeFor moves.now places.old }
+    requires own { IsAnalystFor (moves_in moves.now) analyst.old }
     requires completes { IsTrue (completes (moves_in moves.now) places.old.positions kept.now.trains) }
     requires train { train < length moves.now }
     requires legal { IsTrue (is_legal (moves_in moves.now) places.old.positions train) }
     ensures made { IsMadeFor moves.now places.new }
+    ensures own { IsAnalystFor (moves_in moves.now) analyst.new }
     ensures positions { places.new.positions ≡ places.old.positions }
     ensures exact { result ≡ is_known (moves_in moves.now) depth places.old.positions kept.now.trains train }
 {
@@ -139,9 +146,11 @@ fn is_found(
     train: TrainNo,
 ) -> bool
     requires made { IsMadeFor moves.now places.old }
+    requires own { IsAnalystFor (moves_in moves.now) analyst.old }
     requires train { train < length moves.now }
     requires legal { IsTrue (is_legal (moves_in moves.now) places.old.positions train) }
     ensures made { IsMadeFor moves.now places.new }
+    ensures own { IsAnalystFor (moves_in moves.now) analyst.new }
     ensures positions { places.new.positions ≡ places.old.positions }
     ensures exact { result ≡ finds (moves_in moves.now) depth (after places.old.positions train) }
 {

@@ -1,4 +1,4 @@
-use Rattle.std.proofs.Common.{◌≡◌, ℕ, List, ◌++◌, sym, ap, ◌∙◌, subst}
+use Rattle.std.proofs.Common.{◌≡◌, ℕ, List, ◌++◌, refl, sym, ap, ◌∙◌, subst}
 use Rattle.std.proofs.lemmas.Bool.{true≢false}
 use Rattle.rail_rules.specs.Moves.{Moves}
 use Rattle.rail_rules.specs.Places.{completes}
@@ -24,8 +24,11 @@ returns-then-search c =
     let d = c.search.new.self in
     let found = c.search.ensures.found c.if-search.true in
     let same : a.places.positions ≡ s = c.begin.ensures.positions in
-    let list : c.list.result.now ≡ found.0.more = c.list.ensures ∙ found.0.list ∙ ap (λ xs. xs ++ found.0.more) c.begin.ensures.list in
-    record {
-      some = ap (λ xs. completes plan s xs) list ∙ ap (λ r. completes plan r found.0.more) (sym same) ∙ played_completes plan a.places.positions found.0.more d.places.positions found.0.played found.1;
-      none = (λ e. absurd (true≢false e), λ no. absurd (no (finds_at plan c.args.depth a.places.positions s same found.2)));
-    }
+    let list : c.list.result.now ≡ found.0.more = c.list.ensures ∙ found.0.list ∙ ap (λ xs. xs ++ found.0.more) c.begin.ensures.list in (
+      (refl, λ _. tt, c.follow.ensures.kept),
+      record {
+        own = tt;
+        some = ap (λ xs. completes plan s xs) list ∙ ap (λ r. completes plan r found.0.more) (sym same) ∙ played_completes plan a.places.positions found.0.more d.places.positions found.0.played found.1;
+        none = (λ e. absurd (true≢false e), λ no. absurd (no (finds_at plan c.args.depth a.places.positions s same found.2)));
+      },
+    )

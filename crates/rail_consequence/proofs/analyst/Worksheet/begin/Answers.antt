@@ -23,9 +23,10 @@ returns-clause-ready c =
     let table = c.args.moves.now in
     let places : State = c.copy_from.new.self in
     let made : IsMadeFor table places = c.copy_from.ensures.made table c.requires.made in
-    let C : List ℕ → Type 0 = λ s. IsCounted (moves_in table) s c.set_up.new.self in
+    let C : List ℕ → Type 0 = λ s. IsCounted (moves_in table) s c.copy_from-2.new.self in
+    let D : List ℕ → Type 0 = λ counts. IsCounted (moves_in table) c.args.places.now.positions counts in
     record {
       made = made;
-      counted = subst C (sym c.copy_from.ensures.positions) c.set_up.ensures;
+      counted = subst C (sym c.copy_from.ensures.positions) (subst D (sym c.copy_from-2.ensures) c.requires.counted);
       few = omega (arith, ap length c.clear.ensures.items, left_few table places.positions made.moves made.valid);
     }

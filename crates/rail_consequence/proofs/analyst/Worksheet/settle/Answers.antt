@@ -6,7 +6,8 @@ use Rattle.rail_rules.specs.Numbers.{is_in}
 use Rattle.rail_rules.specs.Places.{place_of, is_inside}
 use Rattle.rail_rules.proofs.CallerLemmas.{state_parts}
 use Rattle.rail_place.specs.Tables.{moves_in}
-use Rattle.rail_consequence.specs.Needs.{own_of, trains_of}
+use Rattle.rail_place.specs.Made.{State, IsMadeFor}
+use Rattle.rail_consequence.specs.Needs.{count_of, needs_left}
 use Rattle.rail_consequence.specs.Stops.{stop_at, IsStopped}
 use Rattle.rail_consequence.specs.Workspace.{Work}
 use Rattle.rail_consequence.proofs.Legs.{inside_same, inside_listed}
@@ -18,11 +19,18 @@ use Rattle.rail_consequence.proofs.analyst.Worksheet.settle.Goals as goal
 pub keep_stops-requires : goal.keep_stops-requires
 keep_stops-requires c = listed_few c.args.moves.now c.args.self.now.places.positions c.args.inside.now c.requires.ready.made.moves c.requires.listed
 
-pub free_needers-requires-clause-listed : goal.free_needers-requires-clause-listed
-free_needers-requires-clause-listed c = listed_few c.args.moves.now c.args.self.now.places.positions c.args.inside.now c.requires.ready.made.moves c.requires.listed
+pub free_needers-requires-clause-made : goal.free_needers-requires-clause-made
+free_needers-requires-clause-made c =
+    let P : State → Type 0 = λ places. IsMadeFor c.args.moves.now places in
+    subst P (sym (ap (λ (w : Work). w.places) c.loop-made.invariant.rest)) c.requires.ready.made
 
-pub free_needers-requires-clause-train : goal.free_needers-requires-clause-train
-free_needers-requires-clause-train c = omega (arith, c.requires.train, c.requires.ready.made.moves.few)
+pub loop-made-init : goal.loop-made-init
+loop-made-init c = record {
+  held = c.keep_stops.ensures.held;
+  freed = λ i x u y from below needed gone one lt stop. absurd (omega (arith, from, below));
+  kept = c.keep_stops.ensures.kept;
+  rest = c.keep_stops.ensures.rest;
+}
 
 pub need-requires-clause-last : goal.need-requires-clause-last
 need-requires-clause-last c =
@@ -39,15 +47,16 @@ loop-made-preserved c =
     let back : m + 1 - 1 ≡ m = omega arith in
     record {
       held = λ u x lt stop. inv.held u x lt (c.free_needers.ensures.fewer u x (few u lt) stop);
-      freed = λ i x u y from below needed own one lt stop.
+      freed = λ i x u y from below needed gone one lt stop.
           ⊎_elim
-          (λ earlier. inv.freed i x u y from earlier needed own one lt (c.free_needers.ensures.fewer u y (few u lt) stop))
+          (λ earlier. inv.freed i x u y from earlier needed gone one lt (c.free_needers.ensures.fewer u y (few u lt) stop))
           (λ ge.
           let last : i ≡ m = omega arith in
           let in_need : is_in x c.need.result.now ≡ true = ap (is_in x) (c.need.ensures.sections ∙ ap (plan.claim t) (back ∙ sym last)) ∙ needed in
-          let own_now = ap (λ (w : Work). own_of w.needs t x) inv.rest ∙ own in
-          let one_now = ap (λ (w : Work). trains_of w.needs x) inv.rest ∙ one in
-          sym (ap (λ (w : Work). own_of w.needs u x) inv.rest) ∙ c.free_needers.ensures.freed x u y in_need own_now one_now lt stop)
+          let gone_now = ap (λ (w : Work). needs_left plan t (place_of w.places.positions t) x) inv.rest ∙ gone in
+          let one_now = ap (λ (w : Work). count_of w.needs x) inv.rest ∙ one in
+          sym (ap (λ (w : Work). needs_left plan u (place_of w.places.positions u) x) inv.rest)
+          ∙ c.free_needers.ensures.freed x u y in_need gone_now one_now lt stop)
           (cases_lt i m);
       kept = λ l u ne lt. c.free_needers.ensures.kept l u ne lt ∙ inv.kept l u ne lt;
       rest = c.free_needers.ensures.rest ∙ ap (λ (w : Work). record w { stops = c.free_needers.new.self.stops }) inv.rest;
@@ -74,5 +83,5 @@ returns-clause-settled c =
     let told = inv.held u x known stop in
     let was : is_inside plan s u ≡ true = inside_same plan r s u (get_or-set_other r t u from 0 told.0) lt in
     settled_one table a.places a.needs s t (place_of r t) u x c.requires.ready.made c.requires.ready.counted c.requires.valid c.requires.inside (omega (arith, before, c.requires.ahead)) same told.0 (inside_listed plan s u was) (c.requires.settled u x was told.1) told.2
-    (λ i y low high needed own one. inv.freed i y u x (omega (arith, before, low)) (omega (arith, high, at, c.loop-made-test.false)) needed own one known stop) in
+    (λ i y low high needed gone one. inv.freed i y u x (omega (arith, before, low)) (omega (arith, high, at, c.loop-made-test.false)) needed gone one known stop) in
     subst P (sym (ap (λ (w : Work). w.places.positions) inv.rest)) settled

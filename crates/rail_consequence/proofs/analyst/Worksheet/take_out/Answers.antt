@@ -7,7 +7,7 @@ use Rattle.rail_place.specs.Tables.{moves_in}
 use Rattle.rail_consequence.specs.Stops.{IsSettled, stop_at}
 use Rattle.rail_consequence.specs.Workspace.{Work}
 use Rattle.rail_consequence.proofs.Legs.{inside_listed, inside_parts}
-use Rattle.rail_consequence.proofs.Played.{left_at}
+use Rattle.rail_consequence.proofs.Played.{moves_left_at}
 use Rattle.rail_consequence.proofs.analyst.Worksheet.take_out.Goals as goal
 
 pub put-requires-clause-few : goal.put-requires-clause-few
@@ -17,7 +17,7 @@ put-requires-clause-few c =
     let s = a.places.positions in
     let t = c.args.train in
     let high = (inside_parts plan s t c.requires.inside).1 in
-    let fewer = left_at plan s t c.places.result (plan.moves t - place_of s t) (inside_listed plan s t c.requires.inside) (omega (arith, high, c.places.ensures)) (omega (arith, c.places.ensures)) in
+    let fewer = moves_left_at plan s t c.places.result (plan.moves t - place_of s t) (inside_listed plan s t c.requires.inside) (omega (arith, high, c.places.ensures)) (omega (arith, c.places.ensures)) in
     omega (arith, c.requires.ready.few, fewer)
 
 pub settle-requires-clause-valid : goal.settle-requires-clause-valid

@@ -1,0 +1,10 @@
+use Rattle.std.proofs.Common.{◌≤◌}
+use Rattle.rail_place.specs.Tables.{moves_in}
+use Rattle.rail_consequence.specs.Needs.{IsRecounted}
+use Rattle.rail_consequence.proofs.needs.Needs.go_back.Given as goal
+
+abbrev pub invariant-loop-made : goal.invariant-loop-made
+invariant-loop-made l = record {
+  above : l.to ≤ l.made;
+  counted : IsRecounted (moves_in l.moves) l.train l.from l.made l.fn.self l.self;
+}
