@@ -1,7 +1,9 @@
 -- What is left of what stops the other trains, once a train has gone on.
 use Rattle.std.specs.Prelude.{◌≡◌, ◌≢◌, ℕ, ◌<◌, ◌≤◌, List, Option, Some, set, IsTrue}
+use Rattle.rail_rules.specs.Numbers.{is_in}
 use Rattle.rail_rules.specs.Moves.{Moves}
 use Rattle.rail_rules.specs.Places.{holds, is_inside}
+use Rattle.rail_consequence.specs.Needs.{count_of, needs_from}
 use Rattle.rail_consequence.specs.Searches.{HasNoSafeLegOf}
 use Rattle.rail_consequence.specs.Stops.{stop_at}
 
@@ -12,16 +14,25 @@ pub record IsHeldStill (plan : Moves) (s : List ℕ) (stops : List (Option ℕ))
   pub holder : ℕ
   pub held : IsTrue (holds plan (set s t p) holder section)
 
--- another train is inside, and a section that stops it is held still, as for each that is
-pub record AreHeldStill (plan : Moves) (s : List ℕ) (stops : List (Option ℕ)) (level t p : ℕ) : Type 0 where
-  pub other : ℕ
-  pub differs : other ≢ t
-  pub inside : IsTrue (is_inside plan s other)
-  pub all : (u : ℕ) → u ≢ t → IsTrue (is_inside plan s u) → IsHeldStill plan s stops level u t p
+-- this is so of the train, if it is inside and another than the one that goes on
+abbrev pub StaysHeld : Moves → List ℕ → List (Option ℕ) → ℕ → ℕ → ℕ → ℕ → Type 0
+StaysHeld plan s stops level t p u = u ≢ t → IsTrue (is_inside plan s u) → IsHeldStill plan s stops level u t p
+
+-- another train is inside
+pub record HasOther (plan : Moves) (s : List ℕ) (t : ℕ) : Type 0 where
+  pub train : ℕ
+  pub differs : train ≢ t
+  pub inside : IsTrue (is_inside plan s train)
+
+-- the train at the place still needs the section, or not two trains did before
+abbrev pub IsNeededThen : Moves → List ℕ → ℕ → ℕ → ℕ → Type 0
+IsNeededThen plan counts t p x = count_of counts x ≡ 2 → IsTrue (needs_from plan t p x)
+
+-- this is so of each section that the moves of the train from the one place to the other need
+abbrev pub LeavesNoneAlone : Moves → List ℕ → ℕ → ℕ → ℕ → Type 0
+LeavesNoneAlone plan counts t from p = (i x : ℕ) → from ≤ i → i < p → IsTrue (is_in x (plan.claim t i)) → IsNeededThen plan counts t p x
 
 -- another train is inside, and none that is has a safe leg once the train has gone on to the place
 pub record FreesNobody (plan : Moves) (s : List ℕ) (t p : ℕ) : Type 0 where
-  pub other : ℕ
-  pub differs : other ≢ t
-  pub inside : IsTrue (is_inside plan s other)
+  pub other : HasOther plan s t
   pub none : (u : ℕ) → u ≢ t → HasNoSafeLegOf plan (set s t p) u

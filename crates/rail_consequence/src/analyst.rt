@@ -8,7 +8,7 @@ ghost use Rattle.rail_rules.specs.Moves.{stand};
 ghost use Rattle.rail_rules.specs.Numbers.{are_apart, is_in};
 ghost use Rattle.rail_consequence.specs.Needs.{IsAnalystFor, IsCounted, count_of, needs_left};
 ghost use Rattle.rail_consequence.specs.Searches.{FindsByNoLeg, FindsByNoLegOf, FindsSame, HasNoSafeLeg, HasNoSafeLegOf, IsCleared, leg_to};
-ghost use Rattle.rail_consequence.specs.Freeing.{FreesNobody};
+ghost use Rattle.rail_consequence.specs.Freeing.{FreesNobody, HasOther, IsNeededThen, LeavesNoneAlone, StaysHeld};
 ghost use Rattle.rail_consequence.specs.Stops.{AddsNoStops, IsHeldByOther, IsSettled, KeepsLevelsAbove, KeepsOtherLevels, KeepsOtherStops, Shows, StillStops, stop_at};
 ghost use Rattle.rail_consequence.specs.Workspace.{GoesOn, IsBack, IsListing, IsPlayedFrom, IsReady, Work};
 
@@ -163,6 +163,15 @@ fn stands_inside(moves: &Moves, places: &Places, train: TrainNo) -> bool
 {
     let place = places.position(train);
     0 < place && place < moves.places(train)
+}
+
+/// The train stands on the section at the place.
+fn stands_on(moves: &Moves, train: TrainNo, place: u16, section: SectionNo) -> bool
+    requires train { train < length moves.now }
+    requires last { place ≤ (moves_in moves.now).moves train }
+    ensures { result ≡ is_in section (stand (moves_in moves.now) train place) }
+{
+    moves.stand(train, place).contains(&section)
 }
 
 impl Worksheet {
@@ -446,7 +455,117 @@ impl Worksheet {
         requires within { place ≤ (moves_in moves.now).moves train }
         ensures { IsTrue result → FreesNobody (moves_in moves.now) self.now.places.positions train place }
     {
+        if !self.has_other_inside(moves, inside, train) {
+            return false;
+        }
+        if !self.are_stopped_still(moves, inside, train, place, level) {
+            return false;
+        }
+        self.leaves_none_alone(moves, train, place)
+    }
+
+    /// Whether another train is inside.
+    fn has_other_inside(&self, moves: &Moves, inside: &[TrainNo], train: TrainNo) -> bool
+        requires ready { IsReady moves.now self.now }
+        requires listed { IsListing (moves_in moves.now) self.now.places.positions inside.now }
+        ensures { IsTrue result → HasOther (moves_in moves.now) self.now.places.positions train }
+    {
+        for other in inside {
+            if *other != train && stands_inside(moves, &self.places, *other) {
+                return true;
+            }
+        }
         false
+    }
+
+    /// Whether each other train inside is stopped still once the train has gone on to the place.
+    fn are_stopped_still(
+        &self,
+        moves: &Moves,
+        inside: &[TrainNo],
+        train: TrainNo,
+        place: u16,
+        level: u8,
+    ) -> bool
+        requires ready { IsReady moves.now self.now }
+        requires listed { IsListing (moves_in moves.now) self.now.places.positions inside.now }
+        requires train { train < length moves.now }
+        requires within { place ≤ (moves_in moves.now).moves train }
+        ensures { IsTrue result → (u : ℕ)
+            → StaysHeld (moves_in moves.now) self.now.places.positions self.now.stops level train place u }
+    {
+        for other in inside {
+            if !self.is_stopped_still(moves, *other, train, place, level) {
+                return false;
+            }
+        }
+        true
+    }
+
+    /// Whether a section is noted that stops the one train, and is held once the other has gone on to the
+    /// place; or the one is the other, or not inside.
+    fn is_stopped_still(
+        &self,
+        moves: &Moves,
+        stopped: TrainNo,
+        train: TrainNo,
+        place: u16,
+        level: u8,
+    ) -> bool
+        requires ready { IsReady moves.now self.now }
+        requires stopped { stopped < length moves.now }
+        requires train { train < length moves.now }
+        requires within { place ≤ (moves_in moves.now).moves train }
+        ensures { IsTrue result
+            → StaysHeld (moves_in moves.now) self.now.places.positions self.now.stops level train place stopped }
+    {
+        if stopped == train || !stands_inside(moves, &self.places, stopped) {
+            return true;
+        }
+        let Some(section) = self.stops.get(level, stopped) else {
+            return false;
+        };
+        self.is_held_by_other(train, section) || stands_on(moves, train, place, section)
+    }
+
+    /// Whether each section that the train needs on its way to the place is one that it needs later too, or
+    /// is not needed by two trains, so that none is left to another train alone.
+    fn leaves_none_alone(&self, moves: &Moves, train: TrainNo, place: u16) -> bool
+        requires ready { IsReady moves.now self.now }
+        requires train { train < length moves.now }
+        requires within { place ≤ (moves_in moves.now).moves train }
+        ensures { IsTrue result → LeavesNoneAlone (moves_in moves.now) self.now.needs train (place_of self.now.places.positions train) place }
+    {
+        for made in self.places.position(train)..place {
+            if !self.leaves_none_of(moves, moves.need(train, made + 1), train, place) {
+                return false;
+            }
+        }
+        true
+    }
+
+    /// The same of these sections.
+    fn leaves_none_of(&self, moves: &Moves, sections: &[SectionNo], train: TrainNo, place: u16) -> bool
+        requires train { train < length moves.now }
+        requires in_range { (x : ℕ) → IsTrue (is_in x sections.now) → x < SECTIONS }
+        ensures { IsTrue result → (x : ℕ) → IsTrue (is_in x sections.now)
+            → IsNeededThen (moves_in moves.now) self.now.needs train place x }
+    {
+        for section in sections {
+            if !self.leaves_no_one(moves, *section, train, place) {
+                return false;
+            }
+        }
+        true
+    }
+
+    /// The same of one section.
+    fn leaves_no_one(&self, moves: &Moves, section: SectionNo, train: TrainNo, place: u16) -> bool
+        requires train { train < length moves.now }
+        requires section { section < SECTIONS }
+        ensures { IsTrue result → IsNeededThen (moves_in moves.now) self.now.needs train place section }
+    {
+        self.needs.count(section) != 2 || moves.needs_after(train, place, section)
     }
 
     /// Whether the train is inside and can go on to at least so many places while all others stand.

@@ -184,6 +184,14 @@ impl Needs {
         self.trains[usize::from(section.0)] += 1;
     }
 
+    /// How many trains need the section.
+    pub fn count(&self, section: SectionNo) -> u16
+        requires { section < SECTIONS }
+        ensures { result ≡ count_of self.now section }
+    {
+        self.trains[usize::from(section.0)]
+    }
+
     /// Whether one train alone needs the section.
     pub fn is_for_one(&self, section: SectionNo) -> bool
         requires { section < SECTIONS }
