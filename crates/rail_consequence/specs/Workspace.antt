@@ -8,14 +8,14 @@ use Rattle.rail_place.specs.Made.{State, IsMadeFor}
 use Rattle.rail_place.specs.Plays.{IsPlayed}
 use Rattle.rail_consequence.specs.Needs.{IsCounted}
 
--- places, for each section how many trains are counted, what stops the trains, and the moves that were made
+-- places, for each section how many trains need it, what stops the trains, and the moves that were made
 pub record Work : Type 0 where
   pub places : State
   pub needs : List ℕ
   pub stops : List (Option ℕ)
   pub list : List ℕ
 
--- the list leads from some valid state to the places, which were made for the moves, and for these the trains are counted
+-- the list leads from some valid state to the places, which were made for the moves, and the trains are counted that need each section there
 pub record IsReady (table : List MoveLists) (work : Work) : Type 0 where
   pub start : List ℕ
   pub valid : IsTrue (is_valid_state (moves_in table) start)
