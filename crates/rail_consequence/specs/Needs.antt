@@ -35,7 +35,7 @@ abbrev pub IsCounted : Moves → List ℕ → List ℕ → Type 0
 IsCounted plan s counts = (x : ℕ) → x < SECTIONS
     → count_of counts x ≡ sum_below (λ t. one_if (needs_left plan t (place_of s t) x)) (length s)
 
--- the train is counted as at the place, beside fewer others than there may be trains
+-- the train is counted as at the place, beside no more others than there may be trains
 pub record IsAmong (plan : Moves) (t place : ℕ) (counts : List ℕ) : Type 0 where
   pub some : (x : ℕ) → x < SECTIONS → one_if (needs_left plan t place x) ≤ count_of counts x
   pub few : (x : ℕ) → x < SECTIONS → count_of counts x ≤ TRAINS + one_if (needs_left plan t place x)

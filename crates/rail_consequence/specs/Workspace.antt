@@ -10,14 +10,14 @@ use Rattle.rail_place.specs.Made.{State, IsMadeFor}
 use Rattle.rail_place.specs.Plays.{IsPlayed}
 use Rattle.rail_consequence.specs.Needs.{IsCounted}
 
--- places, for each section how many trains are counted, what stops the trains, and the moves that were made
+-- places, for each section how many trains need it, what stops the trains, and the moves that were made
 pub record Work : Type 0 where
   pub places : State
   pub needs : List ℕ
   pub stops : List (Option ℕ)
   pub list : List ℕ
 
--- the places were made for the moves, for these the moves that are left are counted, and the list has room for them
+-- the places were made for the moves, the trains are counted that need each section there, and the list has room for the moves that are left
 pub record IsReady (table : List MoveLists) (work : Work) : Type 0 where
   pub made : IsMadeFor table work.places
   pub counted : IsCounted (moves_in table) work.places.positions work.needs

@@ -39,6 +39,7 @@ enum Look {
 pub struct Analyst {
     /// The trains that were inside when the last search began, by number.
     inside: Vec<TrainNo>,
+    /// The needs at the places from which the last search began.
     tally: Tally,
     sheet: Worksheet,
 }

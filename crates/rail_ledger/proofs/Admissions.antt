@@ -357,4 +357,5 @@ module _ (front : Front) (ledger : Ledger) (at : IsAt front ledger) (going : led
           queue_room = room ∙ at.queue_room;
           list_room = λ open_still. at.list_room still;
           list_empty = λ open_still. at.list_empty still;
+          analyst = at.analyst;
         })

@@ -135,6 +135,7 @@ module _ (front : Front) (ledger : Ledger) (at : IsAt front ledger) (going : led
         queue_room = omega (arith, at.queue_room, ap length first, spare);
         list_room = λ open_still. at.list_room still;
         list_empty = λ open_still. at.list_empty still;
+        analyst = at.analyst;
       }))
 
   -- its order takes effect
@@ -169,6 +170,7 @@ module _ (front : Front) (ledger : Ledger) (at : IsAt front ledger) (going : led
         queue_room = omega (arith, at.queue_room, ap length first, spare, has.room);
         list_room = λ open_still. at.list_room still;
         list_empty = λ open_still. at.list_empty still;
+        analyst = at.analyst;
       }))
 
   -- the event of a command gives its line

@@ -124,6 +124,7 @@ module _ (front : Front) (ledger : Ledger) (at : IsAt front ledger) (going : led
         queue_room = omega (arith, at.queue_room, ap length first, ap length events, spare);
         list_room = λ open_still. at.list_room still;
         list_empty = λ open_still. at.list_empty still;
+        analyst = at.analyst;
       }
 
 -- the trains that are neither out nor cancelled, by what is kept
@@ -167,4 +168,5 @@ ended_at front ledger at going settled empty remaining is =
       queue_room = at.queue_room;
       list_room = λ open_still. absurd (false≢true (sym open_still));
       list_empty = λ open_still. absurd (false≢true (sym open_still));
+      analyst = at.analyst;
     }

@@ -27,6 +27,7 @@ settled_at front ledger at known told = record {
   queue_room = at.queue_room;
   list_room = at.list_room;
   list_empty = at.list_empty;
+  analyst = at.analyst;
 }
 
 -- the hold line of the first train that was not told why it waits
@@ -51,6 +52,7 @@ held_at front ledger at going deciding known t in_list lacks first why is after 
       queue_room = room ∙ at.queue_room;
       list_room = λ open_still. at.list_room still;
       list_empty = λ open_still. at.list_empty still;
+      analyst = at.analyst;
     })
 
 -- its line may follow

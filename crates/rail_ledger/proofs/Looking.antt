@@ -47,6 +47,7 @@ looked front ledger at states many each = record {
   queue_room = at.queue_room;
   list_room = at.list_room;
   list_empty = at.list_empty;
+  analyst = at.analyst;
 }
 
 -- who is untried after the look was so before, and no held section bars the train

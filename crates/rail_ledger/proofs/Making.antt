@@ -16,7 +16,7 @@ use Rattle.rail_laws_run.specs.TimeLimits.{StaysBelow}
 use Rattle.rail_laws_run.proofs.CallerLemmas.{stays_below, ready_is_past}
 use Rattle.rail_block.specs.declared.times.MoveTimes.{MoveTimes}
 use Rattle.rail_block.specs.CarriedTimes.{AreBelow, times_at}
-use Rattle.rail_consequence.specs.Workspace.{Work}
+use Rattle.rail_consequence.specs.Needs.{Tallied}
 use Rattle.rail_list.specs.KeptLists.{Kept}
 use Rattle.rail_place.specs.Made.{State}
 use Rattle.rail_state.specs.Representation.{IsAdmissible, IsAdmitLine, MayKeep, admit_line, list_for}
@@ -91,7 +91,7 @@ module _ (front : Front) (ledger : Ledger) (at : IsAt front ledger) (going : led
   }
 
   -- the ledger stands for the front with the line of the admission
-  pub admitted_at : (P : State) (K : Kept) (W : Work) (after : RunState)
+  pub admitted_at : (P : State) (K : Kept) (W : Tallied) (after : RunState)
       → HasList front ledger (record ledger { places = P; kept = K; analyst = W }) t note → K.trains ≡ list
       → length after.queue.events + after.queue.spare ≡ length ledger.state.queue.events + ledger.state.queue.spare
       → (times : MoveTimes) (arrival : Option ℕ) → IsAdmitLine ledger.input.plant front t times arrival ledger.state after
@@ -110,6 +110,7 @@ module _ (front : Front) (ledger : Ledger) (at : IsAt front ledger) (going : led
     queue_room = room ∙ at.queue_room;
     list_room = λ open_still. at.list_room still;
     list_empty = λ open_still. at.list_empty still;
+    analyst = has.analyst;
   }
 
 -- the list on the line of an admission

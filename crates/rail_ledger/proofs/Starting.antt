@@ -12,6 +12,7 @@ use Rattle.rail_rules.specs.Moves.{Moves}
 use Rattle.rail_rules.specs.Numbers.{listed, sum_below}
 use Rattle.rail_rules.specs.Places.{holds}
 use Rattle.rail_rules.specs.Plant.{bound, moves_of, trains}
+use Rattle.rail_consequence.specs.Needs.{IsAnalystFor}
 use Rattle.rail_list.specs.KeptLists.{HasRoomFor}
 use Rattle.rail_place.specs.Made.{IsMadeFor}
 use Rattle.rail_place.specs.Tables.{moves_in, MoveLists}
@@ -34,6 +35,7 @@ pub record IsNew (ledger : Ledger) (table : List MoveLists) : Type 0 where
   pub queue_room : length ledger.state.queue.events + ledger.state.queue.spare ≡ bound ledger.input.plant (length ledger.input.commands.items) + MOVE_EVENTS
   pub remaining_room : TRAINS ≤ vec_capacity ledger.remaining
   pub remaining : ledger.remaining.items ≡ []
+  pub analyst : IsAnalystFor (moves_in table) ledger.analyst
 
 zeros : (n : ℕ) → replicate {A = ℕ} n 0 ≡ listed (λ t. 0) n
 zeros zero = refl
@@ -58,4 +60,5 @@ new_stands ledger table new = record {
   queue_room = new.queue_room;
   list_room = λ going. new.remaining_room;
   list_empty = λ going. new.remaining;
+  analyst = subst (λ (plan : Moves). IsAnalystFor plan ledger.analyst) new.same new.analyst;
 }

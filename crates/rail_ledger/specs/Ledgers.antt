@@ -17,6 +17,7 @@ use Rattle.rail_rules.specs.Lawful.{is_lawful, may_follow}
 use Rattle.rail_judging.specs.Verdicts.{broken_law, missing_law}
 use Rattle.rail_rules.specs.RunHistories.{Seat, is_chosen, is_run}
 use Rattle.rail_place.specs.Made.{State}
+use Rattle.rail_consequence.specs.Needs.{IsAnalystFor}
 use Rattle.rail_list.specs.KeptLists.{Kept}
 use Rattle.rail_queue.specs.Order.{first_time_of}
 use Rattle.rail_state.specs.declared.train.TrainState.{TrainState}
@@ -59,6 +60,7 @@ pub record IsAt (front : Front) (ledger : Ledger) : Type 0 where
   pub queue_room : length ledger.state.queue.events + ledger.state.queue.spare ≡ bound ledger.input.plant (length ledger.input.commands.items) + MOVE_EVENTS
   pub list_room : has_ended front ≡ false → TRAINS ≤ vec_capacity ledger.remaining
   pub list_empty : has_ended front ≡ false → ledger.remaining.items ≡ []
+  pub analyst : IsAnalystFor (moves_of ledger.input.plant) ledger.analyst
 
 -- the order takes effect, by what is kept
 abbrev pub is_effective : Ledger → Order → Bool
@@ -252,6 +254,7 @@ pub record HasList (front : Front) (old new : Ledger) (t : ℕ) (note : Note) : 
   pub counted : new.places.played < 2 ^ 64
   pub told : (x u : ℕ) → (get_or new.places.owners x None ≡ Some u) ↔ IsTrue (holds (moves_of old.input.plant) new.places.positions u x)
   pub list_room : sum_below (moves old.input.plant) (trains old.input.plant) ≤ new.kept.room
+  pub analyst : IsAnalystFor (moves_of old.input.plant) new.analyst
 
 -- the list that belongs to the line of an admission
 abbrev pub list_with : Note → Listed

@@ -11,8 +11,10 @@ ghost use Rattle.rail_ledger.specs.Inputs.{input_in};
 ghost use Rattle.rail_ledger.specs.Ledgers.{AreAlike, AreUnbarred, ContinuesRun, GivesEntry, HasHeeded, HasList, HasPassed, HasTried, IsAdmissionOf, IsAt, IsDeciding, IsNextLine, IsNextTrain, IsOther, IsSettled, IsSomewhere, MayGoOn, StandsAsBefore, is_effective, list_in, list_with, untried};
 ghost use Rattle.rail_ledger.specs.declared.ledger.Listed.TheVariants as which;
 ghost use Rattle.rail_base.specs.declared.limits.TheConstants.{TRAINS};
+ghost use Rattle.rail_consequence.specs.Needs.{IsAnalystFor};
 ghost use Rattle.rail_list.specs.KeptLists.{HasRoomFor};
 ghost use Rattle.rail_place.specs.Made.{IsMadeFor};
+ghost use Rattle.rail_place.specs.Tables.{moves_in};
 ghost use Rattle.rail_queue.specs.Order.{first_time_of, goes_before, is_sorted};
 ghost use Rattle.rail_rules.specs.Causes.{could_go};
 ghost use Rattle.rail_rules.specs.Fronts.{Front, is_hold};
@@ -425,6 +427,7 @@ struct Lists {
 fn lists_of(alloc: Global, moves: &Moves) -> Result<Lists, OutOfMemory>
     ensures made { IfOk result (λ lists. IsMadeFor moves.now lists.places) }
     ensures positions { IfOk result (λ lists. lists.places.positions ≡ replicate {A = ℕ} (length moves.now) 0) }
+    ensures analyst { IfOk result (λ lists. IsAnalystFor (moves_in moves.now) lists.analyst) }
     ensures kept { IfOk result (λ lists. lists.kept.trains ≡ []) }
     ensures room { IfOk result (λ lists. HasRoomFor moves.now lists.kept) }
     ensures remaining { IfOk result (λ lists. lists.remaining.items ≡ []) }

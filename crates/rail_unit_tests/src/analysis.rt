@@ -1,5 +1,7 @@
 //! What the player of lists answers, and at which depth a list is found.
+ghost use Rattle.rail_consequence.specs.Needs.{IsAnalystFor};
 ghost use Rattle.rail_place.specs.Made.{IsMadeFor};
+ghost use Rattle.rail_place.specs.Tables.{moves_in};
 
 use crate::plants::{are_there, moves_of, places_at};
 use rail_base::{SectionNo, TrainNo};
@@ -136,7 +138,8 @@ fn helps_at(alloc: Global, moves: &Moves, positions: &str, depth: &str) -> bool 
 /// Whether at this depth a list is found from the places that completes, and none at a lesser one; of no
 /// depth, whether none is found below 3.
 fn is_least(moves: &Moves, places: &mut Places, analyst: &mut Analyst, want: Option<u8>) -> bool
-    requires { IsMadeFor moves.now places.old }
+    requires made { IsMadeFor moves.now places.old }
+    requires own { IsAnalystFor (moves_in moves.now) analyst.old }
 {
     for depth in 0..3 {
         if let Some(list) = analyst.find(moves, places, depth) {

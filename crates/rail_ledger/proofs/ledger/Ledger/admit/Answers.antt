@@ -76,7 +76,7 @@ returns-clause-line c = λ front at.
     let next = c.requires.next front at in
     let same : mid ≡ record old { places = mid.places; kept = mid.kept; analyst = mid.analyst } = alike_ledger old mid c.in_ok-note.ensures.alike c.in_ok-note.ensures.found.0 in
     let has : HasList front old mid t note = c.in_ok-note.ensures.found.1 front at in
-    let has_now : HasList front old (record old { places = mid.places; kept = mid.kept; analyst = mid.analyst }) t note = record { noted = has.noted; positions = has.positions; room = has.room; counted = has.counted; told = has.told; list_room = has.list_room } in
+    let has_now : HasList front old (record old { places = mid.places; kept = mid.kept; analyst = mid.analyst }) t note = record { noted = has.noted; positions = has.positions; room = has.room; counted = has.counted; told = has.told; list_room = has.list_room; analyst = has.analyst } in
     let still = sym at.rep.ended ∙ c.requires.going in
     let can_go = admissible (dispatch_in old.input) old.input.plant front old.state at.rep still (c.requires.deciding front at) t next note mid.kept.trains has.noted in
     let keeps = may_keep (dispatch_in old.input) old.input.plant front old.state at.rep still (c.requires.deciding front at) t next note mid.kept.trains has.noted in

@@ -19,4 +19,5 @@ returns-clause-stays c = λ front at. record {
   queue_room = at.queue_room;
   list_room = λ still. omega (arith, at.list_room still, c.list_remaining.ensures.room, c.clear.ensures.capacity);
   list_empty = λ still. c.clear.ensures.items;
+  analyst = at.analyst;
 }

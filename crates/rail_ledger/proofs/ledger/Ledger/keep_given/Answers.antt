@@ -1,6 +1,6 @@
 use Rattle.std.proofs.Common.{◌∙◌}
 use Rattle.rail_ledger.proofs.Admissions.{given_exact, has_given, legal_admissible}
-use Rattle.rail_ledger.proofs.Finding.{kept_at, list_completes, made_for}
+use Rattle.rail_ledger.proofs.Finding.{analyst_for, kept_at, list_completes, made_for}
 use Rattle.rail_ledger.proofs.ledger.Ledger.keep_given.Goals as goal
 
 pub admit_given-requires-clause-made : goal.admit_given-requires-clause-made
@@ -25,4 +25,4 @@ returns-clause-given c = λ yes front at.
 pub returns-clause-stays : goal.returns-clause-stays
 returns-clause-stays c = λ no front at.
     let none = c.admit_given.ensures.none no in
-    kept_at c.moves-moves.result.now front c.args.self.now c.admit_given.new.places c.admit_given.new.kept c.args.self.now.analyst c.moves-moves.ensures.moves at c.admit_given.ensures.made none.0 none.1 c.admit_given.ensures.room
+    kept_at c.moves-moves.result.now front c.args.self.now c.admit_given.new.places c.admit_given.new.kept c.args.self.now.analyst c.moves-moves.ensures.moves at c.admit_given.ensures.made (analyst_for c.moves-moves.result.now front c.args.self.now c.moves-moves.ensures.moves at) none.0 none.1 c.admit_given.ensures.room
