@@ -49,7 +49,12 @@ pub(crate) fn earliest(slots: &Slots<Event>, marks: &Marks, base: u64) -> Option
 }
 
 /// The chain that comes first once the event is put into its chain, where another one may come first before.
-pub(crate) fn first_with(slots: &Slots<Event>, first: Option<usize>, chain: usize, event: &Event) -> usize
+pub(crate) fn first_with(
+    slots: &Slots<Event>,
+    first: Option<usize>,
+    chain: usize,
+    event: &Event,
+) -> usize
     requires { IsFirstChain slots.now.chains first }
     ensures { (base : ℕ) (new : List (List (ℕ × Event))) → IsRing ring base slots.now.chains → chain ≡ chain_at base event.now
         → IsPut slots.now.chains new chain event.now → IsChosen new result }

@@ -23,7 +23,10 @@ pub(crate) const RING: usize = 1024;
 /// They lie in chains by buckets of 64 tenths of a second. The base is the greatest bucket of an event that was
 /// popped. An event whose bucket at its push is one of the 1,024 from the base on lies in the chain of its bucket
 /// modulo 1,024; all others lie in the far chain. So a push into a near bucket looks at held events of this bucket
-/// alone, however many are pending.
+/// and at the one that comes first of all, however many are pending.
+///
+/// The chain with the event that comes first is kept. So to ask for this event searches nothing, and only `pop` and
+/// `forget` look for the chain anew.
 #[derive(Debug)]
 pub struct EventQueue {
     slots: Slots<Event>,
@@ -112,7 +115,7 @@ impl EventQueue {
     }
 
     /// Puts the event behind those that come before it and those that are equal to it in time, class and
-    /// number. Where its bucket is near, the search looks at held events of that bucket alone.
+    /// number. Where its bucket is near, the search for its place looks at held events of that bucket alone.
     pub fn push(&mut self, event: Event)
         requires { 1 ≤ self.old.spare }
         ensures events { self.new.events ≡ inserted event self.old.events }
