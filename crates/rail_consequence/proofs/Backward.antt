@@ -3,7 +3,7 @@ use Rattle.std.proofs.Common.{◌≡◌, ◌≢◌, ℕ, suc, ◌-◌, ◌<◌, 
 use Rattle.std.proofs.lemmas.List.{drop-append-le, length_push}
 use Rattle.rail_rules.specs.Numbers.{are_apart}
 use Rattle.rail_rules.specs.Moves.{Moves, stand}
-use Rattle.rail_rules.specs.Places.{place_of, is_inside, after, is_valid_state}
+use Rattle.rail_rules.specs.Places.{place_of, is_inside, after}
 use Rattle.rail_rules.specs.Analysis.{moves_left}
 use Rattle.rail_rules.proofs.CallerLemmas.{state_parts}
 use Rattle.rail_place.specs.Tables.{moves_in, MoveLists}

@@ -1,5 +1,5 @@
 -- Where a train's going on frees nobody, nothing is found by safe legs alone.
-use Rattle.std.proofs.Common.{◌≡◌, ◌≢◌, ℕ, ◌+◌, ◌<◌, ◌≤◌, true, false, ltb, List, Option, length, set, refl, sym, ap, ◌∙◌, subst, ⊎_elim, arith}
+use Rattle.std.proofs.Common.{◌≡◌, ℕ, ◌+◌, ◌<◌, ◌≤◌, true, false, ltb, List, Option, length, set, refl, sym, ap, ◌∙◌, subst, ⊎_elim, arith}
 use Rattle.std.proofs.lemmas.Bool.{and_from, cases_Bool, cases_eq, cases_lt, false≢true, lt-ltb}
 use Rattle.std.proofs.lemmas.List.{get_or-set_same, get_or-set_other, length-set, set-set}
 use Rattle.rail_base.specs.declared.limits.TheConstants.{SECTIONS}
@@ -8,12 +8,12 @@ use Rattle.rail_rules.specs.Moves.{Moves, is_valid}
 use Rattle.rail_rules.specs.Places.{place_of, is_inside, is_legal, is_valid_state, nobody_inside}
 use Rattle.rail_rules.specs.Analysis.{Leg, is_leg, is_safe, Finds}
 use Rattle.rail_consequence.specs.Needs.{IsCounted, count_of, needs_from, needs_left, one_if}
-use Rattle.rail_consequence.specs.Searches.{HasNoSafeLeg, HasNoSafeLegOf}
+use Rattle.rail_consequence.specs.Searches.{HasNoSafeLeg}
 use Rattle.rail_consequence.specs.Stops.{IsSettled}
 use Rattle.rail_consequence.specs.Freeing.{FreesNobody, HasOther, LeavesNoneAlone, StaysHeld}
 use Rattle.rail_consequence.proofs.Counts.{left_at, one_false, one_true, sum_shift}
 use Rattle.rail_consequence.proofs.Stopping.{IsPassed, stopped_still, stopped_unsafe}
-use Rattle.rail_consequence.proofs.Legs.{goes_parts, leg_from, inside_from, inside_listed, inside_parts, inside_same, nobody_at}
+use Rattle.rail_consequence.proofs.Legs.{goes_parts, leg_from, inside_listed, inside_parts, inside_same, nobody_at}
 use Rattle.rail_consequence.proofs.Safe.{safe_from_clear, clear_from_safe, found_past_leg}
 use Rattle.rail_consequence.proofs.Walks.{found_by_free}
 

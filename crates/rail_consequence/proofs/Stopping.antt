@@ -3,7 +3,6 @@ use Rattle.std.proofs.Common.{◌≡◌, ◌≢◌, ℕ, zero, suc, ◌+◌, ◌
 use Rattle.std.proofs.lemmas.Bool.{and_parts, and_from, cases_Bool, cases_eq, cases_lt, false≢true, lt-ltb, not-true, not_from_false}
 use Rattle.std.proofs.lemmas.List.{get_or-set_same, get_or-set_other, length-set}
 use Rattle.std.specs.List.{list_any}
-use Rattle.rail_base.specs.declared.limits.TheConstants.{SECTIONS}
 use Rattle.rail_rules.specs.Numbers.{is_in, are_apart, sum_below}
 use Rattle.rail_rules.specs.Moves.{Moves, stand, is_valid}
 use Rattle.rail_rules.specs.Places.{place_of, is_inside, is_legal, is_held, holds, is_valid_state}
@@ -14,7 +13,7 @@ use Rattle.rail_place.specs.Made.{State, IsMadeFor}
 use Rattle.rail_place.proofs.CallerLemmas.{holder_listed, state_apart, move_valid}
 use Rattle.rail_consequence.specs.Needs.{IsCounted, count_of, needs_left, one_if}
 use Rattle.rail_consequence.specs.Stops.{IsHeldByOther, IsStopped}
-use Rattle.rail_consequence.proofs.Legs.{Goes, goes_parts, leg_from, inside_parts, inside_from, inside_listed, IsClear}
+use Rattle.rail_consequence.proofs.Legs.{goes_parts, leg_from, inside_parts, inside_from, inside_listed, IsClear}
 use Rattle.rail_consequence.proofs.Safe.{safe_from_clear, clear_from_safe}
 use Rattle.rail_consequence.proofs.Counts.{left_at, one_false, one_true}
 use Rattle.rail_consequence.proofs.Clear.{none_from_clear, sum_alone}

@@ -2,14 +2,14 @@
 use Rattle.std.proofs.Common.{◌≡◌, ◌≢◌, ℕ, ◌+◌, ◌<◌, ◌≤◌, true, List, length, set, sym, ap, ◌∙◌, ⊎_elim, arith}
 use Rattle.std.proofs.lemmas.Bool.{cases_eq}
 use Rattle.std.proofs.lemmas.List.{get_or-set_same, get_or-set_other, set-set, set-get_or}
-use Rattle.rail_rules.specs.Numbers.{are_apart, is_in}
+use Rattle.rail_rules.specs.Numbers.{are_apart}
 use Rattle.rail_rules.specs.Moves.{Moves, stand}
 use Rattle.rail_rules.specs.Places.{place_of, is_inside}
 use Rattle.rail_rules.specs.Analysis.{moves_left}
 use Rattle.rail_base.specs.declared.limits.TheConstants.{LIST_TRAINS}
 use Rattle.rail_place.specs.Tables.{moves_in, MoveLists}
 use Rattle.rail_place.proofs.CallerLemmas.{state_apart}
-use Rattle.rail_consequence.specs.Workspace.{Work, IsBack, IsListing, IsReady}
+use Rattle.rail_consequence.specs.Workspace.{Work, IsListing, IsReady}
 use Rattle.rail_consequence.proofs.Legs.{inside_listed, inside_parts, inside_same}
 
 -- the train is out, and nothing else changed

@@ -1,5 +1,5 @@
 -- What the marks of the chains say after a change, and which one is first.
-use Rattle.std.proofs.Common.{◌≡◌, ℕ, zero, suc, ◌+◌, ◌-◌, ◌*◌, ◌^◌, ◌/◌, ◌%◌, ◌<◌, ◌≤◌, ◌≢◌, List, [], ◌∷◌, length, get_or, set, replicate, bit_and, bit_or, refl, sym, ap, ◌∙◌, ⊎_elim, arith}
+use Rattle.std.proofs.Common.{◌≡◌, ℕ, zero, suc, ◌+◌, ◌-◌, ◌*◌, ◌^◌, ◌/◌, ◌%◌, ◌<◌, ◌≤◌, ◌≢◌, List, [], ◌∷◌, ◌++◌, length, get_or, set, replicate, bit_and, bit_or, refl, sym, ap, ◌∙◌, ⊎_elim, arith}
 use Rattle.std.specs.Int.{bit_at, bit_not, trailing_zeros, w64}
 use Rattle.std.proofs.lemmas.Bool.{cases_eq, cases_lt}
 use Rattle.std.proofs.lemmas.Nat.{pow-add}
@@ -184,6 +184,11 @@ nearest_of base chain words chains all first =
 -- where there is no event there is no mark
 pub marked_none : (words : List ℕ) (chains : List (List (ℕ × Event))) (n : ℕ) → ((c : ℕ) → mark_at words c ≡ 0) → chains ≡ replicate n [] → AreMarked words chains 1024
 marked_none words chains n none is c low = none c ∙ sym (ap (λ cs. mark_of (get_or cs c [])) is ∙ ap mark_of (empty_chain n c))
+
+-- a chain with an event is to be marked
+pub mark_some : (front : List (ℕ × Event)) (x : ℕ × Event) (rest : List (ℕ × Event)) → mark_of (front ++ x ∷ rest) ≡ 1
+mark_some [] x rest = refl
+mark_some (y ∷ front) x rest = refl
 
 -- the marks after a change of one chain
 pub marked_set : (words now : List ℕ) (chains new : List (List (ℕ × Event))) (k : ℕ) (list : List (ℕ × Event)) → AreMarked words chains 1024 → new ≡ set chains k list → (k < 1024 → mark_at now k ≡ mark_of (get_or new k [])) → ((other : ℕ) → other ≢ k → mark_at now other ≡ mark_at words other) → AreMarked now new 1024

@@ -60,7 +60,7 @@ near_at (suc n) (x ∷ xs) (suc c) low within =
 lower : (a b : ℕ) → b ≤ a → (a ≡ b → ⊥) → b < a
 lower a b most differ = ⊎_elim (λ less. less) (λ high. absurd (differ (omega (arith, most, high)))) (cases_lt b a)
 
-apart_at : (e x : Event) → (e.at ≡ x.at → ⊥) → Apart e x
+pub apart_at : (e x : Event) → (e.at ≡ x.at → ⊥) → Apart e x
 apart_at e x differ not_so =
     ⊎_elim
     (λ (less : e.at < x.at). or_left (ltb e.at x.at) _ (lt-ltb e.at x.at less))
@@ -86,7 +86,7 @@ pub pushed : (old new : List Event) (event : Event) → OneMore old new event �
 pushed old new event more = ap in_order more.new_is ∙ in_order_more more.front event more.back more.apart ∙ ap (λ l. inserted event (in_order l)) (sym more.old_is)
 
 -- each event of the ring but those of one chain lies in another bucket
-others_apart : (base n : ℕ) (chains : List (List (ℕ × Event))) (c k : ℕ) (event : Event) → LiesIn n base c event → k ≢ c → AllByRecursion (LiesIn n base k) (events_in (get_or chains k [])) → AllByRecursion (Apart event) (events_in (get_or chains k []))
+pub others_apart : (base n : ℕ) (chains : List (List (ℕ × Event))) (c k : ℕ) (event : Event) → LiesIn n base c event → k ≢ c → AllByRecursion (LiesIn n base k) (events_in (get_or chains k [])) → AllByRecursion (Apart event) (events_in (get_or chains k []))
 others_apart base n chains c k event mine ne lies =
     each_map (LiesIn n base k) (Apart event) (events_in (get_or chains k [])) (λ x here. apart_at event x (λ same. ne (sym here.at ∙ ap (λ t. t / 64 % n) (sym same) ∙ mine.at))) lies
 

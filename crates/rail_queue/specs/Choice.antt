@@ -1,9 +1,9 @@
 -- The chain whose first event comes first of all.
-use Rattle.std.specs.Prelude.{◌≡◌, ℕ, ◌+◌, ◌%◌, ◌<◌, true, false, List, [], ◌∷◌, ◌++◌, get_or, set, length}
+use Rattle.std.specs.Prelude.{◌≡◌, ℕ, ◌+◌, ◌%◌, ◌<◌, true, false, List, [], ◌∷◌, get_or, length, Option, Some, None}
 use Rattle.rail_queue.specs.declared.event.Event.{Event}
 use Rattle.rail_queue.specs.Order.{goes_before}
 use Rattle.std.specs.List.{AllByRecursion}
-use Rattle.rail_queue.specs.Ring.{all_events, ring}
+use Rattle.rail_queue.specs.Ring.{events_in, ring}
 
 -- the chain so many buckets behind the first one of the ring
 abbrev pub turn : ℕ → ℕ → ℕ
@@ -24,16 +24,17 @@ pub record IsNearest (chains : List (List (ℕ × Event))) (base chain : ℕ) : 
   pub rest : List (ℕ × Event)
   pub is : get_or chains chain [] ≡ (slot, first) ∷ rest
 
--- the first event of the chain comes first of all
+-- the first event of the chain comes first of all: none goes before it, and one of the ring goes before each far one, which was pushed before its equals
 pub record IsChosen (chains : List (List (ℕ × Event))) (chain : ℕ) : Type 0 where
   pub within : chain < length chains
   pub slot : ℕ
   pub first : Event
   pub rest : List (ℕ × Event)
   pub is : get_or chains chain [] ≡ (slot, first) ∷ rest
-  pub front : List Event
-  pub back : List Event
-  pub old_is : all_events ring chains ≡ front ++ first ∷ back
-  pub new_is : all_events ring (set chains chain rest) ≡ front ++ back
-  pub before : AllByRecursion (λ x. goes_before first x ≡ true) front
-  pub none : AllByRecursion (λ x. goes_before x first ≡ false) back
+  pub none : (c : ℕ) → AllByRecursion (λ x. goes_before x first ≡ false) (events_in (get_or chains c []))
+  pub far : chain < ring → AllByRecursion (λ x. goes_before first x ≡ true) (events_in (get_or chains ring []))
+
+-- the chain whose first event comes first of all, if there is an event
+abbrev pub IsFirstChain : List (List (ℕ × Event)) → Option ℕ → Type 0
+IsFirstChain chains None = (c : ℕ) → get_or chains c [] ≡ []
+IsFirstChain chains (Some chain) = IsChosen chains chain

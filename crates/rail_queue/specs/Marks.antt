@@ -1,7 +1,8 @@
 -- Which chains of the ring have an event, by a bit for each, 64 to a word.
-use Rattle.std.specs.Prelude.{◌≡◌, ℕ, ◌+◌, ◌/◌, ◌%◌, ◌<◌, List, [], ◌∷◌, get_or}
+use Rattle.std.specs.Prelude.{◌≡◌, ℕ, ◌+◌, ◌/◌, ◌%◌, ◌<◌, List, [], ◌∷◌, get_or, Option}
 use Rattle.std.specs.Int.{bit_at}
 use Rattle.rail_queue.specs.declared.event.Event.{Event}
+use Rattle.rail_queue.specs.Choice.{IsFirstChain}
 use Rattle.rail_queue.specs.Ring.{IsRing, ring}
 
 -- the bit of a chain
@@ -29,7 +30,8 @@ pub record IsFirstMarked (words : List ℕ) (start chain : ℕ) : Type 0 where
   pub marked : mark_at words chain ≡ 1
   pub bare : AreBare words start step
 
--- what a queue keeps: the events lie as they are to, and the chains of the ring that have some are marked
-pub record IsKept (base : ℕ) (words : List ℕ) (chains : List (List (ℕ × Event))) : Type 0 where
+-- what a queue keeps: the events lie as they are to, the chains of the ring that have some are marked, and it is known which chain comes first
+pub record IsKept (base : ℕ) (words : List ℕ) (chains : List (List (ℕ × Event))) (first : Option ℕ) : Type 0 where
   pub ringed : IsRing ring base chains
   pub marked : AreMarked words chains 1024
+  pub chosen : IsFirstChain chains first

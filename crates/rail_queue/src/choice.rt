@@ -1,14 +1,25 @@
 //! The chain whose first event comes first of all.
 
-ghost use Rattle.std.specs.Prelude.{◌≡◌, [], IfSome, IfNone};
-ghost use Rattle.rail_queue.specs.Choice.{IsChosen};
-ghost use Rattle.rail_queue.specs.Marks.{IsKept};
-ghost use Rattle.rail_queue.specs.Ring.{all_events, ring};
+ghost use Rattle.std.specs.Prelude.{◌≡◌, ℕ, List, ◌<◌, [], get_or, length};
+ghost use Rattle.rail_queue.specs.Choice.{IsChosen, IsFirstChain};
+ghost use Rattle.rail_queue.specs.Marks.{AreMarked};
+ghost use Rattle.rail_queue.specs.Ring.{chain_at, IsPut, IsRing, ring};
+ghost use Rattle.rail_queue.specs.declared.event.Event.{Event};
+ghost use Rattle.rail_slots.specs.Slots.{first_item};
 
 use crate::event::Event;
 use crate::marks::Marks;
 use crate::queue::RING;
 use rail_slots::Slots;
+
+/// The first event of the chain, if it has one.
+pub(crate) fn first_event(slots: &Slots<Event>, chain: usize) -> Option<Event>
+    requires { chain < length slots.now.chains }
+    ensures { result ≡ first_item (get_or slots.now.chains chain []) }
+{
+    let slot = slots.first(chain)?;
+    Some(slots.item(slot))
+}
 
 /// The chain whose first event comes first of all; of two equal ones that of the far chain, which was pushed
 /// before the other.
@@ -16,9 +27,9 @@ use rail_slots::Slots;
 /// It looks at the first events of two chains, however far time jumps: the nearest one of the ring, found by the
 /// marks, and the far one.
 pub(crate) fn earliest(slots: &Slots<Event>, marks: &Marks, base: u64) -> Option<usize>
-    requires { IsKept base marks.now.words slots.now.chains }
-    ensures some { IfSome result (λ chain. IsChosen slots.now.chains chain) }
-    ensures none { IfNone result (all_events ring slots.now.chains ≡ []) }
+    requires ringed { IsRing ring base slots.now.chains }
+    requires marked { AreMarked marks.now.words slots.now.chains 1024 }
+    ensures { IsFirstChain slots.now.chains result }
 {
     let Some(near) = marks.first_from((base % RING as u64) as usize) else {
         if slots.first(RING).is_some() {
@@ -26,15 +37,34 @@ pub(crate) fn earliest(slots: &Slots<Event>, marks: &Marks, base: u64) -> Option
         }
         return None;
     };
-    let Some(far) = slots.first(RING) else {
+    let Some(far_event) = first_event(slots, RING) else {
         return Some(near);
     };
-    let Some(first) = slots.first(near) else {
+    let Some(near_event) = first_event(slots, near) else {
         unreachable!()
     };
-    let near_event = slots.item(first);
-    let far_event = slots.item(far);
     let sooner = near_event.goes_before(&far_event);
     let chain = if sooner { near } else { RING };
     Some(chain)
+}
+
+/// The chain that comes first once the event is put into its chain, where another one may come first before.
+pub(crate) fn first_with(
+    slots: &Slots<Event>,
+    first: Option<usize>,
+    chain: usize,
+    event: &Event,
+) -> usize
+    requires { IsFirstChain slots.now.chains first }
+    ensures { (base : ℕ) (new : List (List (ℕ × Event))) → IsRing ring base slots.now.chains → chain ≡ chain_at base event.now
+        → IsPut slots.now.chains new chain event.now → IsChosen new result }
+{
+    let Some(before) = first else {
+        return chain;
+    };
+    let Some(next) = first_event(slots, before) else {
+        unreachable!()
+    };
+    let sooner = event.goes_before(&next);
+    if sooner { chain } else { before }
 }

@@ -7,8 +7,11 @@
 //! Two laws say what a push means for the order: of equal events the one pushed first comes first, and the
 //! others stay in their order.
 //!
+//! Which chain comes first is kept: a push compares its event with the one that comes first, and the chains are
+//! searched only where events were taken out.
+//!
 //! What may not change is that only `with_room` takes memory, that the events lie in these chains, and that a
-//! push into a near bucket looks at no events but those of this bucket.
+//! push into a near bucket makes no steps but over events of this bucket.
 #![tactic(auto)]
 
 mod chains;

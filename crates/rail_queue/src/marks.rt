@@ -1,6 +1,6 @@
 //! Which chains of the ring have an event.
 
-ghost use Rattle.std.specs.Prelude.{◌≡◌, ℕ, ◌+◌, ◌%◌, ◌<◌, ◌≢◌, [], length, get_or, IfSome, IfNone};
+ghost use Rattle.std.specs.Prelude.{◌≡◌, ℕ, ◌+◌, ◌%◌, ◌<◌, ◌≢◌, [], cond, length, get_or, IfSome, IfNone};
 ghost use Rattle.rail_queue.specs.Marks.{AreBare, AreMarked, IsFirstMarked, mark_at, mark_of};
 
 use crate::event::Event;
@@ -26,22 +26,28 @@ impl Marks {
         Marks { words: [0; WORDS] }
     }
 
-    /// Marks the chain.
-    fn mark(&mut self, chain: usize)
-        requires { chain < 1024 }
-        ensures here { mark_at self.new.words chain ≡ 1 }
+    /// Marks the chain, or takes its mark away, where it is one of the ring.
+    fn set(&mut self, chain: usize, marked: bool)
+        ensures here { chain < 1024 → mark_at self.new.words chain ≡ cond marked 1 0 }
         ensures others { (other : ℕ) → other ≢ chain → mark_at self.new.words other ≡ mark_at self.old.words other }
     {
-        self.words[chain / 64] |= 1 << (chain % 64);
+        if chain >= RING {
+            return;
+        }
+        let bit = 1 << (chain % 64);
+        if marked {
+            self.words[chain / 64] |= bit;
+        } else {
+            self.words[chain / 64] &= !bit;
+        }
     }
 
-    /// Takes the mark of the chain away.
-    fn unmark(&mut self, chain: usize)
-        requires { chain < 1024 }
-        ensures here { mark_at self.new.words chain ≡ 0 }
+    /// Marks the chain where it is one of the ring.
+    pub(crate) fn mark(&mut self, chain: usize)
+        ensures here { chain < 1024 → mark_at self.new.words chain ≡ 1 }
         ensures others { (other : ℕ) → other ≢ chain → mark_at self.new.words other ≡ mark_at self.old.words other }
     {
-        self.words[chain / 64] &= !(1 << (chain % 64));
+        self.set(chain, true);
     }
 
     /// Marks the chain where it is one of the ring and has an event, and else takes its mark away.
@@ -50,14 +56,7 @@ impl Marks {
         ensures here { chain < 1024 → mark_at self.new.words chain ≡ mark_of (get_or slots.now.chains chain []) }
         ensures others { (other : ℕ) → other ≢ chain → mark_at self.new.words other ≡ mark_at self.old.words other }
     {
-        if chain >= RING {
-            return;
-        }
-        if slots.first(chain).is_some() {
-            self.mark(chain);
-        } else {
-            self.unmark(chain);
-        }
+        self.set(chain, slots.first(chain).is_some());
     }
 
     /// Marks those chains of the ring that have an event, and no others.

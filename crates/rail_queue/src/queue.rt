@@ -5,7 +5,7 @@ ghost use Rattle.rail_queue.specs.Order.{goes_before, in_order, inserted, is_of,
 ghost use Rattle.rail_queue.specs.Ring.{all_events, bucket, chain_at, IsPut, IsRing, ring};
 
 use crate::chains::put_in_order;
-use crate::choice::earliest;
+use crate::choice::{earliest, first_event, first_with};
 use crate::event::{Class, Event};
 use crate::marks::Marks;
 use crate::removal::take_out;
@@ -23,13 +23,18 @@ pub(crate) const RING: usize = 1024;
 /// They lie in chains by buckets of 64 tenths of a second. The base is the greatest bucket of an event that was
 /// popped. An event whose bucket at its push is one of the 1,024 from the base on lies in the chain of its bucket
 /// modulo 1,024; all others lie in the far chain. So a push into a near bucket looks at held events of this bucket
-/// alone, however many are pending.
+/// and at the one that comes first of all, however many are pending.
+///
+/// The chain with the event that comes first is kept. So to ask for this event searches nothing, and only `pop` and
+/// `forget` look for the chain anew.
 #[derive(Debug)]
 pub struct EventQueue {
     slots: Slots<Event>,
     base: u64,
     /// Which chains of the ring have an event.
     marks: Marks,
+    /// The chain whose first event comes first of all, if there is an event.
+    first_chain: Option<usize>,
 }
 
 impl Drop for EventQueue {
@@ -38,6 +43,7 @@ impl Drop for EventQueue {
             slots: _slots,
             base: _base,
             marks: _marks,
+            first_chain: _first_chain,
         } = self;
     }
 }
@@ -50,7 +56,7 @@ impl Model for EventQueue {
 
     ghost view = { λ queue. queue_of queue.slots queue.base };
 
-    ghost invariant = { λ queue. IsKept queue.base queue.marks.words queue.slots.chains };
+    ghost invariant = { λ queue. IsKept queue.base queue.marks.words queue.slots.chains queue.first_chain };
 }
 
 /// The chain of an event in the ring that begins with the bucket `base`.
@@ -78,6 +84,7 @@ impl EventQueue {
             slots,
             base: 0,
             marks: Marks::new(),
+            first_chain: None,
         })
     }
 
@@ -108,7 +115,7 @@ impl EventQueue {
     }
 
     /// Puts the event behind those that come before it and those that are equal to it in time, class and
-    /// number. Where its bucket is near, the search looks at held events of that bucket alone.
+    /// number. Where its bucket is near, the search for its place looks at held events of that bucket alone.
     pub fn push(&mut self, event: Event)
         requires { 1 ≤ self.old.spare }
         ensures events { self.new.events ≡ inserted event self.old.events }
@@ -120,8 +127,9 @@ impl EventQueue {
             → self.new.slots.walked ≤ self.old.slots.walked + count_by (λ held. nat_eq (bucket held) (bucket event)) self.old.events }
     {
         let chain = chain_of(self.base, &event);
+        self.first_chain = Some(first_with(&self.slots, self.first_chain, chain, &event));
         put_in_order(&mut self.slots, chain, event);
-        self.marks.note(&self.slots, chain);
+        self.marks.mark(chain);
     }
 
     /// The next event, if there is one.
@@ -131,13 +139,8 @@ impl EventQueue {
         ensures least { IfSome result (λ event. list_any (λ other. goes_before other event) self.now.events ≡ false) }
         ensures sorted { IsTrue (is_sorted self.now.events) }
     {
-        let Some(chain) = earliest(&self.slots, &self.marks, self.base) else {
-            return None;
-        };
-        let Some(first) = self.slots.first(chain) else {
-            unreachable!()
-        };
-        Some(self.slots.item(first))
+        let chain = self.first_chain?;
+        first_event(&self.slots, chain)
     }
 
     /// Takes out the next event, if there is one.
@@ -150,14 +153,13 @@ impl EventQueue {
             → count_by p self.old.events ≡ count_by p (event ∷ []) + count_by p self.new.events) }
         ensures base { MatchOption result (self.new.base ≡ self.old.base) (λ event. self.new.base ≡ max self.old.base (bucket event)) }
     {
-        let Some(chain) = earliest(&self.slots, &self.marks, self.base) else {
-            return None;
-        };
+        let chain = self.first_chain?;
         let Some(event) = self.slots.take_first(chain) else {
             unreachable!()
         };
         self.marks.note(&self.slots, chain);
         self.base = self.base.max(event.bucket());
+        self.first_chain = earliest(&self.slots, &self.marks, self.base);
         Some(event)
     }
 
@@ -171,6 +173,7 @@ impl EventQueue {
     {
         take_out(&mut self.slots, RING + 1, class, number);
         self.marks.note_all(&self.slots);
+        self.first_chain = earliest(&self.slots, &self.marks, self.base);
     }
 
     /// When the next event happens, if there is one.

@@ -1,7 +1,7 @@
 ghost use Rattle.std.specs.Prelude.{◌≡◌, ℕ, ◌+◌, ◌^◌, ◌-◌, ◌<◌, ◌≤◌, min, List, [], ◌∷◌, ◌++◌, get_or, set, replicate, length, IfOk, IfSome, MatchOption, Some, None};
 ghost use Rattle.rail_slots.specs.Slots.{Stands, StandsAt, first_slot, first_item, behind_first, left_from, places};
 
-use crate::links::{free_behind, put_all_behind, use_behind};
+use crate::links::{Link, free_behind, put_all_behind, use_behind};
 use rail_base::OutOfMemory;
 use std::alloc::Global;
 use std::marker::Model;
@@ -11,7 +11,7 @@ use std::marker::Model;
 pub struct Slots<T> {
     /// The cell behind each cell. Cell 0 stands before the free slots, cell 1 before the first chain and so on;
     /// the other cells are the slots.
-    next: Vec<Option<usize>>,
+    next: Vec<Link>,
     /// The item of each slot in use.
     items: Vec<Option<T>>,
     chains: usize,
@@ -34,6 +34,13 @@ impl<T> Model for Slots<T> {
     ghost invariant = { λ slots. IsSound slots.next.items slots.items.items slots.chains slots.spare };
 }
 
+/// So many links to no cell.
+fn no_links(alloc: Global, cells: usize) -> Result<Vec<Link>, OutOfMemory>
+    ensures { IfOk result (λ made. made.items ≡ replicate cells None) }
+{
+    Ok(vec![in alloc; Link::none(); cells]?)
+}
+
 /// So many places where nothing is.
 fn nothing<T: Copy>(alloc: Global, places: usize) -> Result<Vec<Option<T>>, OutOfMemory>
     ensures { IfOk result (λ made. made.items ≡ replicate places None) }
@@ -54,7 +61,7 @@ impl<T: Copy> Slots<T> {
         let Some(cells) = heads.checked_add(room) else {
             return Err(OutOfMemory);
         };
-        let mut next = nothing(alloc, cells)?;
+        let mut next = no_links(alloc, cells)?;
         let items = nothing(alloc, cells)?;
         put_all_behind(&mut next, heads);
         Ok(Slots {
@@ -87,7 +94,7 @@ impl<T: Copy> Slots<T> {
         ensures first { result ≡ first_slot (get_or self.now.chains chain []) }
         ensures fits { length (get_or self.now.chains chain []) < 2 ^ 64 }
     {
-        self.next[chain + 1]
+        self.next[chain + 1].cell()
     }
 
     /// The item of a slot in use.
@@ -111,7 +118,7 @@ impl<T: Copy> Slots<T> {
         ensures nearer { IfSome result (λ after. left_from self.new.chains after + 1 ≡ left_from self.old.chains slot) }
     {
         self.walked = self.walked.saturating_add(1);
-        self.next[slot]
+        self.next[slot].cell()
     }
 
     /// Puts an item into a slot that was not in use, as the first of the chain.
@@ -123,7 +130,7 @@ impl<T: Copy> Slots<T> {
         ensures spare { self.new.spare + 1 ≡ self.old.spare }
         ensures walked { self.new.walked ≡ self.old.walked }
     {
-        let Some(slot) = self.next[0] else {
+        let Some(slot) = self.next[0].cell() else {
             unreachable!()
         };
         use_behind(&mut self.next, chain + 1, slot);
@@ -142,7 +149,7 @@ impl<T: Copy> Slots<T> {
         ensures spare { self.new.spare + 1 ≡ self.old.spare }
         ensures walked { self.new.walked ≡ self.old.walked }
     {
-        let Some(new) = self.next[0] else {
+        let Some(new) = self.next[0].cell() else {
             unreachable!()
         };
         use_behind(&mut self.next, slot, new);
@@ -159,7 +166,7 @@ impl<T: Copy> Slots<T> {
         ensures spare { MatchOption result (self.new.spare ≡ self.old.spare) (λ _. self.new.spare ≡ self.old.spare + 1) }
         ensures walked { self.new.walked ≡ self.old.walked }
     {
-        let Some(slot) = self.next[chain + 1] else {
+        let Some(slot) = self.next[chain + 1].cell() else {
             return None;
         };
         free_behind(&mut self.next, chain + 1, slot);
@@ -177,7 +184,7 @@ impl<T: Copy> Slots<T> {
         ensures walked { self.new.walked ≡ self.old.walked }
         ensures fewer { IfSome result (λ _. left_from self.new.chains slot + 1 ≡ left_from self.old.chains slot) }
     {
-        let Some(old) = self.next[slot] else {
+        let Some(old) = self.next[slot].cell() else {
             return None;
         };
         free_behind(&mut self.next, slot, old);

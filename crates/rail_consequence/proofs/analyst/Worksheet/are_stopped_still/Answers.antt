@@ -1,4 +1,4 @@
-use Rattle.std.proofs.Common.{ℕ, sym, subst, ⊎_elim}
+use Rattle.std.proofs.Common.{ℕ, subst, ⊎_elim}
 use Rattle.rail_rules.specs.Moves.{Moves}
 use Rattle.rail_place.specs.Tables.{moves_in}
 use Rattle.rail_consequence.specs.Freeing.{StaysHeld}

@@ -1,16 +1,15 @@
-use Rattle.std.proofs.Common.{◌≡◌, ℕ, ◌<◌, List, [], true, length, set, Option, Some, None, is_some, refl, sym, ap, ◌∙◌, subst, ⊎_elim, arith}
+use Rattle.std.proofs.Common.{◌≡◌, ℕ, ◌<◌, [], true, length, Option, Some, None, is_some, refl, sym, ap, ◌∙◌, subst, ⊎_elim, arith}
 use Rattle.std.proofs.lemmas.Bool.{cases_eq}
-use Rattle.std.proofs.lemmas.List.{append-nil, get_or-set_same, set-set, set-get_or}
+use Rattle.std.proofs.lemmas.List.{append-nil}
 use Rattle.std.proofs.lemmas.Option.{same_Some}
 use Rattle.rail_rules.specs.Moves.{Moves}
-use Rattle.rail_rules.specs.Places.{place_of, is_inside, is_valid_state}
+use Rattle.rail_rules.specs.Places.{is_inside}
 use Rattle.rail_rules.specs.Analysis.{Leg, moves_left}
 use Rattle.rail_rules.proofs.CallerLemmas.{state_parts}
 use Rattle.rail_place.specs.Tables.{moves_in}
-use Rattle.rail_consequence.specs.Stops.{IsSettled, IsStopped, stop_at}
+use Rattle.rail_consequence.specs.Stops.{IsStopped, stop_at}
 use Rattle.rail_consequence.specs.Workspace.{Work}
 use Rattle.rail_consequence.proofs.Legs.{goes_parts, inside_listed}
-use Rattle.rail_consequence.proofs.Listing.{listed_on}
 use Rattle.rail_consequence.proofs.Played.{fewer_at}
 use Rattle.rail_consequence.proofs.Walks.{leg_finds}
 use Rattle.rail_consequence.proofs.Stopping.{stopped_unsafe}

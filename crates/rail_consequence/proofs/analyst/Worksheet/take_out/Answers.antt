@@ -1,8 +1,7 @@
-use Rattle.std.proofs.Common.{◌≡◌, ℕ, ◌+◌, ◌-◌, ◌<◌, List, length, set, sym, ap, ◌∙◌, subst, arith}
+use Rattle.std.proofs.Common.{◌≡◌, ℕ, ◌+◌, ◌-◌, List, set, sym, ap, ◌∙◌, subst, arith}
 use Rattle.std.proofs.lemmas.List.{set-set, set-get_or}
 use Rattle.rail_rules.specs.Moves.{Moves}
 use Rattle.rail_rules.specs.Places.{place_of, is_valid_state}
-use Rattle.rail_rules.specs.Analysis.{moves_left}
 use Rattle.rail_place.specs.Tables.{moves_in}
 use Rattle.rail_consequence.specs.Stops.{IsSettled, stop_at}
 use Rattle.rail_consequence.specs.Workspace.{Work}

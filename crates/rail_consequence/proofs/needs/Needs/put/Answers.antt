@@ -1,7 +1,6 @@
-use Rattle.std.proofs.Common.{◌≡◌, ℕ, ◌<◌, ◌≤◌, length, sym, subst, arith}
+use Rattle.std.proofs.Common.{ℕ, ◌<◌, ◌≤◌, length, sym, subst, arith}
 use Rattle.rail_base.specs.declared.limits.TheConstants.{TRAINS}
 use Rattle.rail_rules.specs.Moves.{Moves}
-use Rattle.rail_rules.specs.Places.{place_of}
 use Rattle.rail_rules.proofs.CallerLemmas.{state_parts}
 use Rattle.rail_place.specs.Tables.{moves_in}
 use Rattle.rail_consequence.specs.Needs.{IsAmong, IsRecounted}

@@ -19,8 +19,11 @@ left c = left_of (stays c.args.class c.args.number) c.self.inside.base c.self.in
 pub note_all-requires : goal.note_all-requires
 note_all-requires c = omega (arith, c.take_out.ensures.long, c.self.invariant.ringed.long, ring_is)
 
+pub earliest-self-inside-requires-clause-ringed : goal.earliest-self-inside-requires-clause-ringed
+earliest-self-inside-requires-clause-ringed c = (left (goal.at.earliest-self-inside-requires-clause-ringed c).After-take_out).ring_is
+
 pub invariant_of-self : goal.invariant_of-self
-invariant_of-self c = record { ringed = (left (goal.at.invariant_of-self c).After-take_out).ring_is; marked = c.note_all.ensures }
+invariant_of-self c = record { ringed = (left (goal.at.invariant_of-self c).After-take_out).ring_is; marked = c.note_all.ensures; chosen = c.earliest-self-inside.ensures }
 
 pub returns-clause-events : goal.returns-clause-events
 returns-clause-events c =

@@ -1,11 +1,12 @@
-use Rattle.std.proofs.Common.{◌∷◌, ◌++◌, ap, ◌∙◌, count_by, length, arith}
-use Rattle.std.proofs.lemmas.List.{length-set}
+use Rattle.std.proofs.Common.{ap, ◌∙◌, count_by, sym, arith}
 use Rattle.std.specs.Prelude.{nat_eq}
 use Rattle.rail_queue.specs.Order.{inserted}
 use Rattle.rail_queue.specs.Queue.{Queue}
 use Rattle.rail_queue.specs.Ring.{bucket}
 use Rattle.rail_queue.proofs.Ringed.{Pushed, chain_within, ring_is, pushed_in, short_chain, counted}
-use Rattle.rail_queue.proofs.Marked.{marked_set}
+use Rattle.rail_queue.proofs.Marked.{mark_some, marked_set}
+use Rattle.rail_queue.proofs.Leading.{here}
+use Rattle.rail_queue.specs.Marks.{mark_of}
 use Rattle.rail_queue.proofs.queue.EventQueue.push.Goals.{After-put_in_order}
 use Rattle.rail_queue.proofs.queue.EventQueue.push.Goals as goal
 
@@ -15,17 +16,15 @@ put_in_order-requires-clause-chain c = omega (arith, c.chain_of-chain.ensures, c
 pushed : (c : After-put_in_order) → Pushed c.self.inside.base c.self.inside.slots.chains c.put_in_order.new.slots.chains c.args.event
 pushed c = pushed_in c.self.inside.base c.self.inside.slots.chains c.put_in_order.new.slots.chains c.args.event c.chain_of-chain.result c.chain_of-chain.ensures c.self.invariant.ringed c.put_in_order.ensures.put
 
-pub note-requires : goal.note-requires
-note-requires c =
-    let put = c.put_in_order.ensures.put in
-    omega (arith, ap length put.is, length-set c.self.inside.slots.chains c.chain_of-chain.result (put.front ++ (put.slot, c.args.event) ∷ put.rest), c.chain_of-chain.ensures, chain_within c.self.inside.base c.args.event, c.self.invariant.ringed.long, ring_is)
-
 pub invariant_of-self : goal.invariant_of-self
 invariant_of-self c =
     let put = c.put_in_order.ensures.put in
     record {
       ringed = (pushed (goal.at.invariant_of-self c).After-put_in_order).ring_is;
-      marked = marked_set c.self.inside.marks.words c.note.new.self.words c.self.inside.slots.chains c.put_in_order.new.slots.chains c.chain_of-chain.result _ c.self.invariant.marked put.is c.note.ensures.here c.note.ensures.others;
+      marked = marked_set c.self.inside.marks.words c.mark.new.self.words c.self.inside.slots.chains c.put_in_order.new.slots.chains c.chain_of-chain.result _ c.self.invariant.marked put.is
+          (λ low. c.mark.ensures.here low ∙ sym (ap mark_of (here c.self.inside.slots.chains c.put_in_order.new.slots.chains c.chain_of-chain.result c.args.event put (omega (arith, low, c.self.invariant.ringed.long, ring_is))) ∙ mark_some put.front (put.slot, c.args.event) put.rest))
+          c.mark.ensures.others;
+      chosen = c.first_with.ensures c.self.inside.base c.put_in_order.new.slots.chains c.self.invariant.ringed c.chain_of-chain.ensures put;
     }
 
 pub returns-clause-events : goal.returns-clause-events

@@ -21,7 +21,7 @@ returns-clause-first g c =
     let chain = chain_of s.next.items s.items.items s.chains s.spare c.args.chain c.args.self.now.chains c.self.invariant (ap (λ r. r.chains) c.self.view_is) c.requires in
     let e : c.args.chain + 1 ≡ suc c.args.chain = omega arith in
     let inside : c.args.chain + 1 < length s.next.items = omega (arith, chain.room) in
-    get_or_read s.next.items _ _ inside c.index.ensures None ∙ ap (λ n. get_or s.next.items n None) e ∙ sym chain.first
+    c.cell.ensures ∙ get_or_read s.next.items _ _ inside c.index.ensures None ∙ ap (λ n. get_or s.next.items n None) e ∙ sym chain.first
 
 pub returns-clause-fits : goal.returns-clause-fits
 returns-clause-fits g c =

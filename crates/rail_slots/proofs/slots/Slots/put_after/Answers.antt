@@ -11,7 +11,7 @@ first g c =
     let s = c.self.inside in
     let free = free_of s.next.items s.items.items s.chains s.spare c.self.invariant (omega (arith, c.requires.spare, ap (λ r. r.spare) c.self.view_is)) in
     let zero_in : 0 < length s.next.items = omega (arith, free.room) in
-    sym (get_or_read s.next.items _ _ zero_in c.index.ensures None) ∙ c.in-Some.is
+    sym (c.cell.ensures ∙ get_or_read s.next.items _ _ zero_in c.index.ensures None) ∙ c.in-Some.is
 
 within : (g : _) (c : In-Some g) → c.in-Some.new < length c.self.inside.next.items
 within g c =
@@ -29,7 +29,7 @@ unreachable-requires g c =
     let s = c.self.inside in
     let free = free_of s.next.items s.items.items s.chains s.spare c.self.invariant (omega (arith, c.requires.spare, ap (λ r. r.spare) c.self.view_is)) in
     let zero_in : 0 < length s.next.items = omega (arith, free.room) in
-    let h : None ≡ Some free.slot = sym c.in_default.is ∙ get_or_read s.next.items _ _ zero_in c.index.ensures None ∙ free.first in
+    let h : None ≡ Some free.slot = sym c.in_default.is ∙ c.cell.ensures ∙ get_or_read s.next.items _ _ zero_in c.index.ensures None ∙ free.first in
     cc
 
 pub use_behind-requires-clause-cell : goal.use_behind-requires-clause-cell

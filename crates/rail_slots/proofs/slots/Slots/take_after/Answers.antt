@@ -4,23 +4,23 @@ use Rattle.rail_slots.specs.Slots.{first_item, behind_first}
 use Rattle.rail_slots.specs.Links.{put, taken}
 use Rattle.rail_slots.proofs.Ahead.{fewer}
 use Rattle.rail_slots.proofs.Shown.{standing_of, written, made_long, none_after, take_after_is, one_more, after_room, after_some}
-use Rattle.rail_slots.proofs.slots.Slots.take_after.Goals.{After-index, In-Some, After-free_behind}
+use Rattle.rail_slots.proofs.slots.Slots.take_after.Goals.{After-cell, In-Some, After-free_behind}
 use Rattle.rail_slots.proofs.slots.Slots.take_after.Goals as goal
 
 -- what the slot leads to
-read : (g : _) (c : After-index g) → c.index.result.now ≡ get_or c.self.inside.next.items c.args.slot None
+read : (g : _) (c : After-cell g) → c.cell.result ≡ get_or c.self.inside.next.items c.args.slot None
 read g c =
     let s = c.self.inside in
     let at = c.requires in
     let there = standing_of s.next.items s.items.items s.chains s.spare c.args.slot at.chain c.args.self.now.chains at.before at.item at.rest c.self.invariant (ap (λ r. r.chains) c.self.view_is) at.at in
-    get_or_read s.next.items _ _ there.room c.index.ensures None
+    c.cell.ensures ∙ get_or_read s.next.items _ _ there.room c.index.ensures None
 
 behind : (g : _) (c : In-Some g) → get_or c.self.inside.next.items c.args.slot None ≡ Some c.in-Some.old
 behind g c =
     let s = c.self.inside in
     let at = c.requires in
     let there = standing_of s.next.items s.items.items s.chains s.spare c.args.slot at.chain c.args.self.now.chains at.before at.item at.rest c.self.invariant (ap (λ r. r.chains) c.self.view_is) at.at in
-    sym (get_or_read s.next.items _ _ there.room c.index.ensures None) ∙ c.in-Some.is
+    sym (c.cell.ensures ∙ get_or_read s.next.items _ _ there.room c.index.ensures None) ∙ c.in-Some.is
 
 within : (g : _) (c : In-Some g) → c.in-Some.old < length c.self.inside.next.items
 within g c =
@@ -41,13 +41,13 @@ index-requires g c =
 pub returns-in_default-clause-item : goal.returns-in_default-clause-item
 returns-in_default-clause-item g c = λ k before rest item stands.
     let s = c.self.inside in
-    let none = sym (read g (goal.at.returns-in_default-clause-item g c).After-index) ∙ c.in_default.is in
+    let none = sym (read g (goal.at.returns-in_default-clause-item g c).After-cell) ∙ c.in_default.is in
     sym (ap first_item (none_after s.next.items s.items.items s.chains s.spare c.args.slot k c.args.self.now.chains before item rest c.self.invariant (ap (λ r. r.chains) c.self.view_is) stands none))
 
 pub returns-in_default-clause-chains : goal.returns-in_default-clause-chains
 returns-in_default-clause-chains g c = λ k before rest item stands.
     let s = c.self.inside in
-    let none = sym (read g (goal.at.returns-in_default-clause-chains g c).After-index) ∙ c.in_default.is in
+    let none = sym (read g (goal.at.returns-in_default-clause-chains g c).After-cell) ∙ c.in_default.is in
     let nothing = none_after s.next.items s.items.items s.chains s.spare c.args.slot k c.args.self.now.chains before item rest c.self.invariant (ap (λ r. r.chains) c.self.view_is) stands none in
     sym (ap (λ l. set c.args.self.now.chains k (before ++ (c.args.slot, item) ∷ l)) (ap behind_first nothing ∙ sym nothing) ∙ ap (set c.args.self.now.chains k) (sym stands.is) ∙ set-get_or c.args.self.now.chains k [])
 

@@ -3,23 +3,23 @@ use Rattle.std.proofs.lemmas.List.{get_or_read, set-get_or}
 use Rattle.rail_slots.specs.Slots.{first_item, behind_first}
 use Rattle.rail_slots.specs.Links.{put, taken}
 use Rattle.rail_slots.proofs.Shown.{chain_of, written, made_long, no_first, take_first_is, one_more, slot_room, first_some}
-use Rattle.rail_slots.proofs.slots.Slots.take_first.Goals.{After-index, In-Some, After-free_behind, After-index-2}
+use Rattle.rail_slots.proofs.slots.Slots.take_first.Goals.{After-cell, In-Some, After-free_behind, After-index-2}
 use Rattle.rail_slots.proofs.slots.Slots.take_first.Goals as goal
 
 -- what the cell before the chain leads to
-read : (g : _) (c : After-index g) → c.index.result.now ≡ get_or c.self.inside.next.items (c.args.chain + 1) None
+read : (g : _) (c : After-cell g) → c.cell.result ≡ get_or c.self.inside.next.items (c.args.chain + 1) None
 read g c =
     let s = c.self.inside in
     let chain = chain_of s.next.items s.items.items s.chains s.spare c.args.chain c.args.self.now.chains c.self.invariant (ap (λ r. r.chains) c.self.view_is) c.requires in
     let inside : c.args.chain + 1 < length s.next.items = omega (arith, chain.room) in
-    get_or_read s.next.items _ _ inside c.index.ensures None
+    c.cell.ensures ∙ get_or_read s.next.items _ _ inside c.index.ensures None
 
 behind : (g : _) (c : In-Some g) → get_or c.self.inside.next.items (c.args.chain + 1) None ≡ Some c.in-Some.slot
 behind g c =
     let s = c.self.inside in
     let chain = chain_of s.next.items s.items.items s.chains s.spare c.args.chain c.args.self.now.chains c.self.invariant (ap (λ r. r.chains) c.self.view_is) c.requires in
     let inside : c.args.chain + 1 < length s.next.items = omega (arith, chain.room) in
-    sym (get_or_read s.next.items _ _ inside c.index.ensures None) ∙ c.in-Some.is
+    sym (c.cell.ensures ∙ get_or_read s.next.items _ _ inside c.index.ensures None) ∙ c.in-Some.is
 
 within : (g : _) (c : In-Some g) → c.in-Some.slot < length c.self.inside.next.items
 within g c =
@@ -50,13 +50,13 @@ overflow_add-chain-2 g c =
 pub returns-in_default-clause-item : goal.returns-in_default-clause-item
 returns-in_default-clause-item g c =
     let s = c.self.inside in
-    let none = sym (read g (goal.at.returns-in_default-clause-item g c).After-index) ∙ c.in_default.is in
+    let none = sym (read g (goal.at.returns-in_default-clause-item g c).After-cell) ∙ c.in_default.is in
     sym (ap first_item (no_first s.next.items s.items.items s.chains s.spare c.args.chain (c.args.chain + 1) c.args.self.now.chains c.self.invariant (ap (λ r. r.chains) c.self.view_is) c.requires (omega arith) none))
 
 pub returns-in_default-clause-chains : goal.returns-in_default-clause-chains
 returns-in_default-clause-chains g c =
     let s = c.self.inside in
-    let none = sym (read g (goal.at.returns-in_default-clause-chains g c).After-index) ∙ c.in_default.is in
+    let none = sym (read g (goal.at.returns-in_default-clause-chains g c).After-cell) ∙ c.in_default.is in
     let nothing = no_first s.next.items s.items.items s.chains s.spare c.args.chain (c.args.chain + 1) c.args.self.now.chains c.self.invariant (ap (λ r. r.chains) c.self.view_is) c.requires (omega arith) none in
     sym (ap (λ l. set c.args.self.now.chains c.args.chain l) (ap behind_first nothing ∙ sym nothing) ∙ set-get_or c.args.self.now.chains c.args.chain [])
 
