@@ -9,13 +9,16 @@ ghost use Rattle.rail_consequence.specs.Needs.{times};
 ghost use Rattle.rail_list.specs.KeptLists.{before_first, entries_behind, is_free_before};
 ghost use Rattle.rail_list.specs.declared.kept.TheConstants.{TRAIN_NUMBERS};
 
+use crate::needers::does_need_from;
 use rail_base::{SectionNo, TrainNo};
 use rail_place::Moves;
 
 /// How many entries stand before the first of the train, where none of them needs one of the sections for its
 /// move. The list has an entry for each move that its trains have left, so that those behind an entry tell
-/// which move it is. Each entry costs a look at the table for each section, and only where its train needs the
-/// section for this or a later move a look at the sections of the move.
+/// which move it is, and later entries of a train are later moves. An entry costs a look at the table for each
+/// section until one is needed for this or a later move, and then, a second time, until the move needs one; the
+/// sections of the move are looked at only where it or a later one needs the section. Where a train needs none of
+/// them any more, each further entry of it costs two comparisons, until another such train comes.
 pub fn free_entries_before(
     moves: &Moves,
     list: &[TrainNo],
@@ -30,12 +33,19 @@ pub fn free_entries_before(
     ensures first { IfSome result (λ first. first ≡ length (before_first train list.now)) }
     ensures exact { is_some result ≡ is_free_before (moves_in moves.now) train sections.now list.now }
 {
+    // The last train found that needs none of the sections any more; at first the train itself, which is no other.
+    let mut clear = train;
     for (place, other) in list.iter().enumerate() {
         if *other == train {
             return Some(place);
         }
+        if *other == clear {
+            continue;
+        }
         let reached = moves.places(*other) - behind[place];
-        if does_need_one(moves, *other, reached, sections) {
+        if !does_need_from(moves, *other, reached - 1, sections) {
+            clear = *other;
+        } else if does_need_one(moves, *other, reached, sections) {
             return None;
         }
     }
