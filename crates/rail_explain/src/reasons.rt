@@ -60,11 +60,11 @@ pub fn meaning(refusal: &Refusal) -> &'static [u8]
         Reason::ListName => b" names a train that is not in the scene",
         Reason::ListPlaces => b": two trains would stand on one section at these places",
         Reason::SnapshotForm => b" is no line of a snapshot",
-        Reason::SnapshotOther => b" belongs to another input",
-        Reason::NoPath => b" has no free path",
-        Reason::RerouteForm => b" has not the form of a rerouting",
-        Reason::RerouteName => b" has a name that is not there",
-        Reason::NotYet => b" asks for a form that is not built",
+        Reason::SnapshotOther => b" is of a run of another scene, timetable or command file",
+        Reason::NoPath => b": no path is free between the paths of the other trains",
+        Reason::RerouteForm => b" does not say how a train is rerouted",
+        Reason::RerouteName => b" names a train or a route that is not in the scene",
+        Reason::NotYet => b": the command has a form that is not built",
     }
 }
 

@@ -1,18 +1,19 @@
 -- What is pulled completes exactly where no earlier entry needs what the train then stands on, and the walk over these entries.
-use Rattle.std.proofs.Common.{◌≡◌, ◌≢◌, ℕ, suc, ◌+◌, ◌-◌, ◌<◌, true, ◌&&◌, eqb, List, [], ◌∷◌, length, get_or, drop, sym, ap, ◌∙◌, subst, ⊎_elim, arith}
-use Rattle.std.proofs.lemmas.Bool.{and_parts, cases_eq, cond-true, cond-false, eq-eqb, ne_eqb, false≢true}
+use Rattle.std.proofs.Common.{◌≡◌, ◌≢◌, ℕ, suc, ◌+◌, ◌-◌, ◌<◌, ◌≤◌, true, false, not, ◌&&◌, eqb, leb, List, [], ◌∷◌, length, get_or, drop, sym, ap, ◌∙◌, subst, ⊎_elim, arith}
+use Rattle.std.proofs.lemmas.Bool.{and_parts, cases_eq, cond-true, cond-false, eq-eqb, le-leb, ne_eqb, not-false, false≢true}
 use Rattle.std.proofs.lemmas.List.{drop_more}
-use Rattle.rail_rules.specs.Numbers.{are_apart}
+use Rattle.rail_rules.specs.Numbers.{any_below, are_apart}
 use Rattle.rail_rules.specs.Moves.{Moves, stand}
 use Rattle.rail_rules.specs.Places.{place_of, is_inside, is_legal, after, completes}
 use Rattle.rail_rules.specs.Fronts.{without_first}
+use Rattle.rail_rules.proofs.CallerLemmas.{any_below_at, apart_sym}
 use Rattle.rail_place.proofs.CallerLemmas.{inside_listed}
 use Rattle.rail_consequence.specs.Needs.{times}
-use Rattle.rail_consequence.proofs.CallerLemmas.{nobody_at}
+use Rattle.rail_consequence.proofs.CallerLemmas.{nobody_at, times-cons}
 use Rattle.rail_list.specs.KeptLists.{is_free_before}
 use Rattle.rail_list.proofs.Pulling.{place_kept, inside_kept, after_comm}
 use Rattle.rail_list.proofs.Beside.{legal_beside}
-use Rattle.rail_list.proofs.MovesLeft.{entries_left, times-same}
+use Rattle.rail_list.proofs.MovesLeft.{entries_left, times-same, times_from}
 
 -- the train's own entry, and an entry of another train
 free_here : (plan : Moves) (t u : ℕ) (sections rest : List ℕ) → u ≡ t → is_free_before plan t sections (u ∷ rest) ≡ true
@@ -64,3 +65,38 @@ pub walk_next : (plan : Moves) (list sections : List ℕ) (i u t : ℕ) → i < 
 walk_next plan list sections i u t lt is other =
     let split : drop i list ≡ u ∷ drop (i + 1) list = drop_more list i u lt ∙ ap (λ x. x ∷ drop (i + 1) list) (sym is) in
     ap (is_free_before plan t sections) split ∙ free_next plan t u sections (drop (i + 1) list) other
+
+-- the train needs none of the sections for a move of which an entry stands in the rest of a list
+abbrev pub IsClearOf : Moves → List ℕ → List ℕ → ℕ → Type 0
+IsClearOf plan sections rest u = (m : ℕ) → plan.moves u ≤ m + times u rest → m < plan.moves u → are_apart sections (plan.claim u m) ≡ true
+
+-- an entry of the train, and those behind it
+pub times_here : (list : List ℕ) (i u : ℕ) → i < length list → u ≡ get_or list i u → times u (drop i list) ≡ suc (times u (drop (i + 1) list))
+times_here list i u lt is =
+    let rest : List ℕ = drop (i + 1) list in
+    ap (times u) (drop_more list i u lt ∙ ap (λ v. v ∷ rest) (sym is)) ∙ times-same u rest
+
+-- what a train needs for none of the entries from an index on it needs for none of those behind it
+pub clear_later : (plan : Moves) (list sections : List ℕ) (i u : ℕ) → i < length list → IsClearOf plan sections (drop i list) u → IsClearOf plan sections (drop (i + 1) list) u
+clear_later plan list sections i u lt clear = λ m from below.
+    clear m (omega (arith, from, ap (times u) (drop_more list i u lt), times-cons u (get_or list i u) (drop (i + 1) list))) below
+
+-- an entry of such a train is passed
+pub clear_passed : (plan : Moves) (list sections : List ℕ) (i u t : ℕ) → i < length list → u ≡ get_or list i u → u ≢ t → times u list ≤ plan.moves u
+    → IsClearOf plan sections (drop i list) u → is_free_before plan t sections (drop i list) ≡ is_free_before plan t sections (drop (i + 1) list)
+clear_passed plan list sections i u t lt is other few clear =
+    let rest : List ℕ = drop (i + 1) list in
+    let left = times_from list i u u lt is in
+    walk_next plan list sections i u t lt is other
+    ∙ ap (λ b. b && is_free_before plan t sections rest)
+    (clear (plan.moves u - suc (times u rest)) (omega (arith, times_here list i u lt is, left, few)) (omega (arith, left, few)))
+
+-- a train that needs none of the sections from a move on, where no entry stands for an earlier one
+pub clear_from : (plan : Moves) (sections rest : List ℕ) (u p : ℕ) → p + times u rest ≤ plan.moves u
+    → any_below (λ m. leb p m && not (are_apart (plan.claim u m) sections)) (plan.moves u) ≡ false → IsClearOf plan sections rest u
+clear_from plan sections rest u p reached none = λ m from below.
+    let late : leb p m ≡ true = le-leb p m (omega (arith, reached, from)) in
+    let apart : not (are_apart (plan.claim u m) sections) ≡ false =
+    ap (λ b. b && not (are_apart (plan.claim u m) sections)) (sym late)
+    ∙ any_below_at (λ k. leb p k && not (are_apart (plan.claim u k) sections)) (plan.moves u) m none below in
+    apart_sym (plan.claim u m) sections (not-false (are_apart (plan.claim u m) sections) apart)

@@ -1,11 +1,10 @@
 -- The kept list and its room.
-use Rattle.std.specs.Prelude.{◌≡◌, ℕ, suc, ◌-◌, ◌==◌, Bool, true, ◌&&◌, cond, ◌≤◌, List, [], ◌∷◌, ◌++◌, length, get_or, drop, replicate}
+use Rattle.std.specs.Prelude.{◌≡◌, ℕ, suc, ◌-◌, ◌==◌, Bool, true, ◌&&◌, cond, ◌≤◌, List, [], ◌∷◌, ◌++◌, length, drop, replicate}
 use Rattle.rail_base.specs.declared.limits.TheConstants.{LIST_TRAINS}
 use Rattle.rail_rules.specs.Numbers.{sum_below, are_apart}
 use Rattle.rail_rules.specs.Moves.{Moves}
 use Rattle.rail_place.specs.Tables.{moves_in, MoveLists}
 use Rattle.rail_consequence.specs.Needs.{times}
-use Rattle.rail_list.specs.declared.kept.TheConstants.{TRAIN_NUMBERS}
 
 -- the trains that move, in this order, and for how many entries memory was taken
 pub record Kept : Type 0 where
@@ -37,12 +36,10 @@ is_free_before plan t sections (u ∷ rest) =
     let later = is_free_before plan t sections rest in
     cond (u == t) true (are_apart sections (plan.claim u (plan.moves u - suc (times u rest))) && later)
 
--- the list begins at the front; behind each entry so many of its train are told; both have the same room, and no train is counted
-pub record IsTold (trains behind counts : List ℕ) (front room room_behind : ℕ) : Type 0 where
+-- the list begins at the front; behind each entry so many of its train are told; both have the same room
+pub record IsTold (trains behind : List ℕ) (front room room_behind : ℕ) : Type 0 where
   pub within : front ≤ length trains
   pub long : length behind ≡ length trains
   pub told : drop front behind ≡ entries_behind (drop front trains)
   pub few : room ≤ LIST_TRAINS
   pub same_room : room_behind ≡ room
-  pub wide : length counts ≡ TRAIN_NUMBERS
-  pub cleared : (u : ℕ) → get_or counts u 0 ≡ 0

@@ -1,21 +1,24 @@
 //! The entries of a list, and for each how many of the same train stand behind it.
 
-ghost use Rattle.std.specs.Prelude.{◌≡◌, ◌≢◌, ℕ, ◌+◌, ◌-◌, ◌<◌, ◌≤◌, ◌++◌, drop, length, get_or, replicate, IsTrue, IfSome, is_some, not, vec_len, vec_capacity};
+ghost use Rattle.std.specs.Prelude.{◌≡◌, ℕ, ◌+◌, ◌-◌, ◌<◌, ◌≤◌, ◌∷◌, ◌++◌, drop, length, get_or, replicate, IsTrue, IfSome, is_some, not, vec_len, vec_capacity};
 ghost use Rattle.std.specs.List.{All, remove};
-ghost use Rattle.rail_base.specs.declared.limits.TheConstants.{LIST_TRAINS, SECTIONS};
+ghost use Rattle.rail_base.specs.declared.limits.TheConstants.{LIST_TRAINS, SECTIONS, TRAINS};
 ghost use Rattle.rail_rules.specs.Numbers.{are_apart, is_in};
 ghost use Rattle.rail_place.specs.Tables.{moves_in};
 ghost use Rattle.rail_consequence.specs.Needs.{times};
 ghost use Rattle.rail_list.specs.KeptLists.{before_first, entries_behind, is_free_before};
-ghost use Rattle.rail_list.specs.declared.kept.TheConstants.{TRAIN_NUMBERS};
 
+use crate::needers::does_need_from;
+use rail_base::limits::TRAINS;
 use rail_base::{SectionNo, TrainNo};
 use rail_place::Moves;
 
 /// How many entries stand before the first of the train, where none of them needs one of the sections for its
 /// move. The list has an entry for each move that its trains have left, so that those behind an entry tell
-/// which move it is. Each entry costs a look at the table for each section, and only where its train needs the
-/// section for this or a later move a look at the sections of the move.
+/// which move it is, and later entries of a train are later moves. An entry costs a look at the table for each
+/// section, as far as the first that its train needs for this or a later move. Where there is one, each section is
+/// looked up once more, and the sections of the move are looked at for those that are needed so. Where there is
+/// none, the further entries of the train cost a comparison each, until those of another train that needs none.
 pub fn free_entries_before(
     moves: &Moves,
     list: &[TrainNo],
@@ -30,12 +33,20 @@ pub fn free_entries_before(
     ensures first { IfSome result (λ first. first ≡ length (before_first train list.now)) }
     ensures exact { is_some result ≡ is_free_before (moves_in moves.now) train sections.now list.now }
 {
+    // The last train that was found to need none of the sections any more. The train itself stands for none yet,
+    // since an entry of it ends the walk.
+    let mut clear = train;
     for (place, other) in list.iter().enumerate() {
         if *other == train {
             return Some(place);
         }
+        if *other == clear {
+            continue;
+        }
         let reached = moves.places(*other) - behind[place];
-        if does_need_one(moves, *other, reached, sections) {
+        if !does_need_from(moves, *other, reached - 1, sections) {
+            clear = *other;
+        } else if does_need_one(moves, *other, reached, sections) {
             return None;
         }
     }
@@ -123,56 +134,61 @@ pub fn add_times(trains: &mut Vec<TrainNo>, behind: &mut Vec<u16>, train: TrainN
     }
 }
 
-/// Adds the trains at the end.
-pub fn add_all(list: &mut Vec<TrainNo>, trains: &[TrainNo])
-    requires { vec_len list.old + length trains.now ≤ vec_capacity list.old }
-    ensures trains { list.new.items ≡ list.old.items ++ trains.now }
-    ensures room { vec_capacity list.new ≡ vec_capacity list.old }
+/// Adds the trains at the end, and 0 for what stands behind each of them.
+pub fn add_all(trains: &mut Vec<TrainNo>, behind: &mut Vec<u16>, list: &[TrainNo])
+    requires trains { vec_len trains.old + length list.now ≤ vec_capacity trains.old }
+    requires behind { vec_len behind.old + length list.now ≤ vec_capacity behind.old }
+    ensures trains { trains.new.items ≡ trains.old.items ++ list.now }
+    ensures behind { vec_len behind.new ≡ vec_len behind.old + length list.now }
+    ensures room { vec_capacity trains.new ≡ vec_capacity trains.old }
+    ensures room_behind { vec_capacity behind.new ≡ vec_capacity behind.old }
 {
-    for train in trains {
-        list.push_reserved(*train);
+    for train in list {
+        trains.push_reserved(*train);
+        behind.push_reserved(0);
     }
 }
 
-/// Counts how often each train stands in the list, where nothing is counted yet.
-pub fn count_all(counts: &mut Vec<u16>, list: &[TrainNo])
-    requires wide { length counts.old.items ≡ TRAIN_NUMBERS }
-    requires cleared { (u : ℕ) → get_or counts.old.items u 0 ≡ 0 }
+/// Sets for each entry of the list how many of the same train stand behind it, in one pass from the last entry on.
+pub fn set_behind(behind: &mut [u16], list: &[TrainNo])
+    requires long { length behind.old ≡ length list.now }
     requires few { length list.now ≤ LIST_TRAINS }
-    ensures wide { length counts.new.items ≡ TRAIN_NUMBERS }
-    ensures counted { (u : ℕ) → get_or counts.new.items u 0 ≡ times u list.now }
+    ensures { behind.new ≡ entries_behind list.now }
 {
-    for train in list {
-        counts[usize::from(train.0)] += 1;
+    let mut counts = [0; TRAINS];
+    for place in (0..list.len()).rev() {
+        behind[place] = count_entry(&mut counts, list[place], &list[place + 1..]);
     }
 }
 
-/// Adds for each entry of the list how many of the same train stand behind it. Each train is counted as often
-/// as it stands in the list, and then no more.
-pub fn add_behind(behind: &mut Vec<u16>, counts: &mut Vec<u16>, list: &[TrainNo])
-    requires room { vec_len behind.old + length list.now ≤ vec_capacity behind.old }
-    requires wide { length counts.old.items ≡ TRAIN_NUMBERS }
-    requires counted { (u : ℕ) → get_or counts.old.items u 0 ≡ times u list.now }
-    ensures behind { behind.new.items ≡ behind.old.items ++ entries_behind list.now }
-    ensures room { vec_capacity behind.new ≡ vec_capacity behind.old }
-    ensures wide { length counts.new.items ≡ TRAIN_NUMBERS }
-    ensures cleared { (u : ℕ) → get_or counts.new.items u 0 ≡ 0 }
+/// How often the train of an entry stands behind it, in the rest of a list, of which the trains are counted. The entry
+/// is then counted too. Only the numbers that a plant may have are counted; another one, which no list that completes
+/// has, is looked for.
+fn count_entry(counts: &mut [u16; TRAINS], train: TrainNo, rest: &[TrainNo]) -> u16
+    requires counted { (u : ℕ) → u < TRAINS → get_or counts.old u 0 ≡ times u rest.now }
+    requires few { length rest.now < LIST_TRAINS }
+    ensures times { result ≡ times train rest.now }
+    ensures counted { (u : ℕ) → u < TRAINS → get_or counts.new u 0 ≡ times u (train ∷ rest.now) }
 {
-    for train in list {
-        behind.push_reserved(count_off(counts, *train));
+    let number = usize::from(train.0);
+    if number >= TRAINS {
+        return times_in(rest, train);
     }
+    let times = counts[number];
+    counts[number] += 1;
+    times
 }
 
-/// Counts the train once less. How often it is then counted.
-fn count_off(counts: &mut Vec<u16>, train: TrainNo) -> u16
-    requires wide { length counts.old.items ≡ TRAIN_NUMBERS }
-    requires some { 0 < get_or counts.old.items train 0 }
-    ensures left { result + 1 ≡ get_or counts.old.items train 0 }
-    ensures wide { length counts.new.items ≡ TRAIN_NUMBERS }
-    ensures here { get_or counts.new.items train 0 ≡ result }
-    ensures others { (u : ℕ) → u ≢ train → get_or counts.new.items u 0 ≡ get_or counts.old.items u 0 }
+/// How often the train stands in the list.
+fn times_in(list: &[TrainNo], train: TrainNo) -> u16
+    requires few { length list.now ≤ LIST_TRAINS }
+    ensures { result ≡ times train list.now }
 {
-    let left = counts[usize::from(train.0)] - 1;
-    counts[usize::from(train.0)] = left;
-    left
+    let mut times = 0;
+    for other in list {
+        if *other == train {
+            times += 1;
+        }
+    }
+    times
 }

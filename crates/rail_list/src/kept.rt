@@ -8,17 +8,12 @@ ghost use Rattle.rail_place.specs.Tables.{moves_in};
 ghost use Rattle.rail_list.specs.KeptLists.{HasRoomFor, entries_behind, with_moves_left};
 ghost use Rattle.rail_list.specs.Repairs.{is_repairable_for};
 
-use crate::entries::{
-    add_all, add_behind, add_times, close_gap, count_all, free_entries_before, make_room,
-};
+use crate::entries::{add_all, add_times, close_gap, free_entries_before, make_room, set_behind};
 use crate::needers::is_needed_inside;
 use rail_base::{OutOfMemory, TrainNo};
 use rail_place::{Moves, Places};
 use std::alloc::Global;
 use std::marker::Model;
-
-/// How many numbers of trains there are.
-pub const TRAIN_NUMBERS: usize = 65_536;
 
 /// A list of moves by their trains, in the order in which they are made. Trains count from 0. It has
 /// room for the moves for which it was made, so that no repair takes memory.
@@ -30,8 +25,6 @@ pub struct KeptList {
     /// trains have left, this tells which move of its train the entry is.
     behind: Vec<u16>,
     front: usize,
-    /// How many entries each train has, while these are counted, and else 0.
-    counts: Vec<u16>,
 }
 
 impl Drop for KeptList {
@@ -40,7 +33,6 @@ impl Drop for KeptList {
             trains: _trains,
             behind: _behind,
             front: _front,
-            counts: _counts,
         } = self;
     }
 }
@@ -53,7 +45,7 @@ impl Model for KeptList {
 
     ghost view = { λ kept. record { trains = drop kept.front kept.trains.items; room = vec_capacity kept.trains } };
 
-    ghost invariant = { λ kept. IsTold kept.trains.items kept.behind.items kept.counts.items kept.front
+    ghost invariant = { λ kept. IsTold kept.trains.items kept.behind.items kept.front
         (vec_capacity kept.trains) (vec_capacity kept.behind) };
 }
 
@@ -68,7 +60,6 @@ impl KeptList {
             trains: Vec::with_capacity(alloc, room)?,
             behind: Vec::with_capacity(alloc, room)?,
             front: 0,
-            counts: vec![in alloc; 0u16; TRAIN_NUMBERS]?,
         })
     }
 
@@ -153,9 +144,8 @@ impl KeptList {
         self.trains.clear();
         self.behind.clear();
         self.front = 0;
-        add_all(&mut self.trains, list);
-        count_all(&mut self.counts, list);
-        add_behind(&mut self.behind, &mut self.counts, list);
+        add_all(&mut self.trains, &mut self.behind, list);
+        set_behind(&mut self.behind, list);
     }
 
     /// The list.

@@ -36,7 +36,7 @@ fn does_need_later(moves: &Moves, places: &Places, train: TrainNo, sections: &[S
 }
 
 /// Whether the train needs one of the sections for a move that it has left at this place.
-fn does_need_from(moves: &Moves, train: TrainNo, place: u16, sections: &[SectionNo]) -> bool
+pub fn does_need_from(moves: &Moves, train: TrainNo, place: u16, sections: &[SectionNo]) -> bool
     requires train { train < length moves.now }
     requires in_range { (x : ℕ) → IsTrue (is_in x sections.now) → x < SECTIONS }
     ensures { result ≡ any_below (λ i. nat_le place i && not (are_apart ((moves_in moves.now).claim train i) sections.now))

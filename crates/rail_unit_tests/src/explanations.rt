@@ -6,7 +6,7 @@ use rail_words::Form;
 use std::alloc::{AllocError, Global};
 
 /// What is said of item 2 of the part, at this step.
-const TOLD: [(Reason, Part, u32, &str); 38] = [
+const TOLD: [(Reason, Part, u32, &str); 44] = [
     (
         Reason::NotToml,
         Part::Bytes,
@@ -176,6 +176,24 @@ const TOLD: [(Reason, Part, u32, &str); 38] = [
         "word 2, FROM, must be before TO",
     ),
     (
+        Reason::SnapshotForm,
+        Part::Line,
+        0,
+        "line 2 is no line of a snapshot",
+    ),
+    (
+        Reason::SnapshotOther,
+        Part::File,
+        0,
+        "the file is of a run of another scene, timetable or command file",
+    ),
+    (
+        Reason::NoPath,
+        Part::Train,
+        0,
+        "train 2: no path is free between the paths of the other trains",
+    ),
+    (
         Reason::EditForm,
         Part::Line,
         0,
@@ -210,6 +228,24 @@ const TOLD: [(Reason, Part, u32, &str); 38] = [
         Part::Line,
         0,
         "line 2: two trains would stand on one section at these places",
+    ),
+    (
+        Reason::RerouteForm,
+        Part::Line,
+        0,
+        "line 2 does not say how a train is rerouted",
+    ),
+    (
+        Reason::RerouteName,
+        Part::Line,
+        0,
+        "line 2 names a train or a route that is not in the scene",
+    ),
+    (
+        Reason::NotYet,
+        Part::Root,
+        0,
+        "the root: the command has a form that is not built",
     ),
     (
         Reason::Range,

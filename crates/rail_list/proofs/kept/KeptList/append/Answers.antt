@@ -77,6 +77,4 @@ invariant_of-self c =
       told = now_behind ∙ sym (behind_append t count list (outside_has_none plan s list t c.requires.outside c.requires.completes)) ∙ sym (ap entries_behind now_trains);
       few = omega (arith, c.add_times.ensures.room, c.make_room-self-inside.ensures.room, c.self.invariant.few);
       same_room = c.add_times.ensures.room_behind ∙ c.make_room-self-inside.ensures.room_behind ∙ c.self.invariant.same_room ∙ sym (c.add_times.ensures.room ∙ c.make_room-self-inside.ensures.room);
-      wide = c.self.invariant.wide;
-      cleared = c.self.invariant.cleared;
     }

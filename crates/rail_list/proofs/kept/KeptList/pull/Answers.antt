@@ -76,8 +76,6 @@ invariant_of-self c =
           ∙ sym (ap entries_behind (returns-in-Some-clause-trains c));
       few = omega (arith, c.close_gap.ensures.room, c.self.invariant.few);
       same_room = c.close_gap-in-Some.ensures.room ∙ c.self.invariant.same_room ∙ sym c.close_gap.ensures.room;
-      wide = c.self.invariant.wide;
-      cleared = c.self.invariant.cleared;
     }
 
 -- what was looked at is what the train stands on after its move
