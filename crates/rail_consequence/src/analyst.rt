@@ -112,8 +112,9 @@ impl Analyst {
     /// at again only once the section that stopped it is free, or it is left alone in need of a section.
     /// So at depth 0 the cost grows with the moves that are left where each train waits for the one before
     /// it. At worst, each safe leg lets every train be looked at again over all its moves. With free legs
-    /// this is done after each choice of at most `depth` of them: the cost then grows with the number of
-    /// legs, to the power of the depth, where no list is found.
+    /// this is done after each choice of at most `depth` of them. Where nothing is found even with the
+    /// chosen train out of the way, that one search stands for all its legs: the cost then grows with the
+    /// number of trains inside, to the power of the depth, and else with that of their legs.
     pub fn find(&mut self, moves: &Moves, places: &Places, depth: u8) -> Option<&[TrainNo]>
         requires made { IsMadeFor moves.now places.now }
         requires own { IsAnalystFor (moves_in moves.now) self.old }
