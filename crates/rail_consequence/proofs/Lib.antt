@@ -12,3 +12,4 @@ mod Stopping
 mod Listing
 mod Without
 mod Freeing
+mod Going

@@ -1,7 +1,7 @@
 -- Lists played from one state to another.
 use Rattle.std.proofs.Common.{◌≡◌, ℕ, zero, suc, ◌+◌, ◌-◌, ◌*◌, ◌<◌, ◌≤◌, true, ◌&&◌, List, [], ◌∷◌, ◌++◌, length, set, take, drop, Option, refl, sym, ap, ◌∙◌, subst, ⊎_elim, arith}
 use Rattle.std.proofs.lemmas.Bool.{and_from, cases_eq}
-use Rattle.std.proofs.lemmas.List.{get_or-set_same, get_or-set_other, length-set, append-nil, append_assoc, take_at, drop_at, length_push}
+use Rattle.std.proofs.lemmas.List.{get_or-set_same, get_or-set_other, length-set, append_assoc, take_at, drop_at, length_push}
 use Rattle.rail_base.specs.declared.limits.TheConstants.{ITINERARY_ROUTES, LIST_TRAINS}
 use Rattle.rail_rules.specs.Numbers.{sum_below}
 use Rattle.rail_rules.specs.Moves.{Moves, is_valid}
@@ -54,8 +54,11 @@ moves_left_at plan s t p d lt at within =
     let here : place_of (set s t p) t ≡ p = get_or-set_same s t p 0 lt in
     let P : ℕ → Type 0 = λ n. sum_below (left (set s t p)) n + d ≡ sum_below (left s) (length s) in
     subst P (sym (length-set s t p))
-    (omega (arith, sum_shift (left (set s t p)) (left s) (length s) t d 0 lt (omega (arith, here, at, within))
-    (λ u ne. ap (λ k. plan.moves u - k) (get_or-set_other s t u p 0 ne))))
+    (omega (
+      arith,
+      sum_shift (left (set s t p)) (left s) (length s) t d 0 lt (omega (arith, here, at, within))
+          (λ u ne. ap (λ k. plan.moves u - k) (get_or-set_other s t u p 0 ne)),
+    ))
 
 -- going on to a place leaves fewer moves
 pub fewer_at : (plan : Moves) (s : List ℕ) (t p : ℕ) → t < length s → place_of s t < p → p ≤ plan.moves t → moves_left plan (set s t p) < moves_left plan s
@@ -82,18 +85,12 @@ left_few table s h valid =
     let bound : moves_left plan s ≤ length s * ITINERARY_ROUTES = sum_most (λ t. plan.moves t - place_of s t) (length s) ITINERARY_ROUTES (λ t lt. omega (arith, h.short t)) in
     omega (arith, long, h.few, bound)
 
-pub goes_nowhere : (plan : Moves) (w : Work) → GoesOn plan w w
-goes_nowhere plan w = record { more = []; list = sym (append-nil w.list); played = refl }
-
 pub goes_further : (plan : Moves) (a b c : Work) → GoesOn plan a b → GoesOn plan b c → GoesOn plan a c
 goes_further plan a b c first later = record {
   more = first.more ++ later.more;
   list = later.list ∙ ap (λ xs. xs ++ later.more) first.list ∙ append_assoc a.list first.more later.more;
   played = played_append plan a.places.positions first.more b.places.positions later.more c.places.positions first.played later.played;
 }
-
-pub goes_step : (plan : Moves) (a b : Work) (t : ℕ) → is_inside plan a.places.positions t ≡ true → is_legal plan a.places.positions t ≡ true → b.places.positions ≡ after a.places.positions t → b.list ≡ a.list ++ t ∷ [] → GoesOn plan a b
-goes_step plan a b t inside legal positions list = record { more = t ∷ []; list = list; played = (inside, legal, sym positions) }
 
 -- what takes all back that was made since
 pub back_by : (plan : Moves) (a b c : Work) (mark : ℕ) → GoesOn plan a b → mark ≡ length a.list → c.list ≡ take mark b.list → ((s : List ℕ) → IsPlayed plan s (drop mark b.list) b.places.positions → c.places.positions ≡ s) → IsBack a c
@@ -133,9 +130,6 @@ ready_step table w t places needs stops list ready inside made next counted at =
       counted = subst C (sym next) counted;
       few = omega (arith, ready.few, ap length at, length_push w.list t, ap (moves_left plan) next, fewer_left plan w.places.positions t inside);
     }
-
-pub ready_few : (table : List MoveLists) (w : Work) (t : ℕ) → IsReady table w → is_inside (moves_in table) w.places.positions t ≡ true → length w.list < LIST_TRAINS
-ready_few table w t ready inside = omega (arith, ready.few, fewer_left (moves_in table) w.places.positions t inside)
 
 pub ready_as : (table : List MoveLists) (a b : Work) → a ≡ b → IsReady table b → IsReady table a
 ready_as table a b same ready = let P : Work → Type 0 = λ w. IsReady table w in subst P (sym same) ready

@@ -1,12 +1,12 @@
 -- Stopped trains have no safe leg, and which moves of others leave them so.
-use Rattle.std.proofs.Common.{◌≡◌, ◌≢◌, ℕ, zero, suc, ◌+◌, ◌<◌, ◌≤◌, true, false, not, ltb, List, length, get_or, set, Option, Some, None, refl, sym, ap, ◌∙◌, subst, ⊎_elim, arith}
-use Rattle.std.proofs.lemmas.Bool.{and_parts, and_from, cases_Bool, cases_eq, cases_lt, false≢true, lt-ltb, not-true, not_from_false}
+use Rattle.std.proofs.Common.{◌≡◌, ◌≢◌, ℕ, zero, suc, ◌+◌, ◌<◌, ◌≤◌, true, false, not, ◌&&◌, eqb, ltb, List, length, get_or, set, Option, Some, None, refl, sym, ap, ◌∙◌, subst, ⊎_elim, arith}
+use Rattle.std.proofs.lemmas.Bool.{and_parts, and_from, cases_Bool, cases_eq, cases_lt, false≢true, lt-ltb, eq-eqb, or_left, not-true, not_from_false}
 use Rattle.std.proofs.lemmas.List.{get_or-set_same, get_or-set_other, length-set}
 use Rattle.std.specs.List.{list_any}
-use Rattle.rail_rules.specs.Numbers.{is_in, are_apart, sum_below}
+use Rattle.rail_rules.specs.Numbers.{any_below, is_in, are_apart, sum_below}
 use Rattle.rail_rules.specs.Moves.{Moves, stand, is_valid}
 use Rattle.rail_rules.specs.Places.{place_of, is_inside, is_legal, is_held, holds, is_valid_state}
-use Rattle.rail_rules.specs.Analysis.{is_leg, is_safe}
+use Rattle.rail_rules.specs.Analysis.{is_leg, is_safe, needs_later}
 use Rattle.rail_rules.proofs.CallerLemmas.{any_below_at, any_below_none, list_any_at, list_any_none, apart_at, apart_from, state_parts, stand_needed}
 use Rattle.rail_place.specs.Tables.{moves_in, MoveLists}
 use Rattle.rail_place.specs.Made.{State, IsMadeFor}
@@ -61,11 +61,6 @@ free_legal plan s t (suc m) valid known listed low high free =
     (ap (λ k. ltb k (plan.moves t)) at ∙ lt-ltb i (plan.moves t) high)
     (not_from_false (list_any (is_held plan r) (plan.claim t (place_of r t))) (ap (λ k. list_any (is_held plan r) (plan.claim t k)) at ∙ none))
 
--- the parts of a way on which no leg is safe so far
-pub record IsTried (plan : Moves) (s : List ℕ) (t made : ℕ) : Type 0 where
-  pub free : (i : ℕ) → place_of s t ≤ i → i < made → (x : ℕ) → is_in x (plan.claim t i) ≡ true → IsHeldByOther plan s t x → ⊥
-  pub unsafe : (p : ℕ) → place_of s t < p → p ≤ made → is_safe plan s (record { train = t; place = p }) ≡ false
-
 -- the moves of the train up to the place are free: no other train holds a section that they need
 abbrev pub IsOpen : Moves → List ℕ → ℕ → ℕ → Type 0
 IsOpen plan s t made = (i : ℕ) → place_of s t ≤ i → i < made → (x : ℕ) → is_in x (plan.claim t i) ≡ true → IsHeldByOther plan s t x → ⊥
@@ -90,12 +85,30 @@ open_leads plan s t made valid known listed low from below free =
       legal = λ i at lt. free_legal plan s t i valid known listed (omega arith) (omega arith) (free i at (omega arith));
     })
 
-pub tried_leads : (plan : Moves) (s : List ℕ) (t made : ℕ) → is_valid plan ≡ true → t < plan.trains
-    → t < length s → 0 < place_of s t → place_of s t ≤ made → made < plan.moves t → IsTried plan s t made
-    → ((x : ℕ) → is_in x (plan.claim t made) ≡ true → IsHeldByOther plan s t x → ⊥)
-    → is_leg plan s (record { train = t; place = made + 1 }) ≡ true
-tried_leads plan s t made valid known listed low from below tried free =
-    open_leads plan s t made valid known listed low from below (open_more plan s t made tried.free free)
+-- the last place on the way so far to which a leg is safe, if there is one
+abbrev pub IsLastSafe : Moves → List ℕ → ℕ → ℕ → Option ℕ → Type 0
+IsLastSafe plan s t made None = (p : ℕ) → place_of s t < p → p ≤ made → is_safe plan s (record { train = t; place = p }) ≡ false
+IsLastSafe plan s t made (Some p) = (is_leg plan s (record { train = t; place = p }) ≡ true) × (is_safe plan s (record { train = t; place = p }) ≡ true)
+
+-- one place further, to which a leg is not safe
+pub last_safe_on : (plan : Moves) (s : List ℕ) (t made : ℕ) (o : Option ℕ) → IsLastSafe plan s t made o → is_safe plan s (record { train = t; place = made + 1 }) ≡ false → IsLastSafe plan s t (made + 1) o
+last_safe_on plan s t made None before unsafe = λ p low high.
+    ⊎_elim
+    (λ earlier. before p low (omega (arith, earlier)))
+    (λ here. let last : p ≡ made + 1 = omega arith in ap (λ q. is_safe plan s (record { train = t; place = q })) last ∙ unsafe)
+    (cases_lt p (made + 1))
+last_safe_on plan s t made (Some p) before unsafe = before
+
+-- out, over moves that are all free
+pub leads_out_free : (plan : Moves) (s : List ℕ) (t last : ℕ) → is_valid plan ≡ true → t < plan.trains → t < length s → 0 < place_of s t → place_of s t < last → last ≡ plan.moves t → IsOpen plan s t last
+    → (is_leg plan s (record { train = t; place = last }) ≡ true) × (is_safe plan s (record { train = t; place = last }) ≡ true)
+leads_out_free plan s t zero valid known listed low ahead out free = absurd (omega arith)
+leads_out_free plan s t (suc m) valid known listed low ahead out free =
+    let same : m + 1 ≡ suc m = omega arith in
+    let P : ℕ → Type 0 = λ n. IsOpen plan s t n in (
+      ap (λ n. is_leg plan s (record { train = t; place = n })) (sym same) ∙ open_leads plan s t m valid known listed low (omega arith) (omega (arith, out)) (subst P (sym same) free),
+      or_left (eqb (suc m) (plan.moves t)) (not (any_below (λ u. not (eqb u t) && needs_later plan s (stand plan t (suc m)) u) (length s))) (eq-eqb (suc m) (plan.moves t) out),
+    )
 
 -- another train went on: a section that it needed for that, and needs no more, is not left to the stopped train alone
 abbrev pub IsPassed : Moves → List ℕ → ℕ → ℕ → ℕ → Type 0

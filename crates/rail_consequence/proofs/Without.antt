@@ -1,6 +1,5 @@
 -- A train that is taken out, and put back where it stood.
-use Rattle.std.proofs.Common.{◌≡◌, ◌≢◌, ℕ, ◌+◌, ◌<◌, ◌≤◌, true, List, length, set, sym, ap, ◌∙◌, ⊎_elim, arith}
-use Rattle.std.proofs.lemmas.Bool.{cases_eq}
+use Rattle.std.proofs.Common.{◌≡◌, ◌≢◌, ℕ, ◌+◌, ◌<◌, ◌≤◌, true, List, length, set, ap, ◌∙◌, arith}
 use Rattle.std.proofs.lemmas.List.{get_or-set_same, get_or-set_other, set-set, set-get_or}
 use Rattle.rail_rules.specs.Numbers.{are_apart}
 use Rattle.rail_rules.specs.Moves.{Moves, stand}
@@ -9,23 +8,13 @@ use Rattle.rail_rules.specs.Analysis.{moves_left}
 use Rattle.rail_base.specs.declared.limits.TheConstants.{LIST_TRAINS}
 use Rattle.rail_place.specs.Tables.{moves_in, MoveLists}
 use Rattle.rail_place.proofs.CallerLemmas.{state_apart}
-use Rattle.rail_consequence.specs.Workspace.{Work, IsListing, IsReady}
-use Rattle.rail_consequence.proofs.Legs.{inside_listed, inside_parts, inside_same}
+use Rattle.rail_consequence.specs.Workspace.{Work, IsReady}
+use Rattle.rail_consequence.proofs.Legs.{inside_listed, inside_parts}
 
 -- the train is out, and nothing else changed
 pub record IsOut (plan : Moves) (t : ℕ) (a e : Work) : Type 0 where
   pub list : e.list ≡ a.list
   pub positions : e.places.positions ≡ set a.places.positions t (plan.moves t)
-
-pub listed_out : (plan : Moves) (s r inside : List ℕ) (t : ℕ) → r ≡ set s t (plan.moves t) → is_inside plan s t ≡ true → IsListing plan s inside → IsListing plan r inside
-listed_out plan s r inside t out was listed = record {
-  trains = listed.trains;
-  all = λ u is.
-      ⊎_elim
-      (λ same. listed.all u (ap (is_inside plan s) same ∙ was))
-      (λ ne. listed.all u (inside_same plan r s u (sym (ap (λ q. place_of q u) out ∙ get_or-set_other s t u (plan.moves t) 0 ne)) is))
-      (cases_eq u t);
-}
 
 module _ (table : List MoveLists) (t place : ℕ) (a e : Work) (ready : IsReady table a) (was : is_inside (moves_in table) a.places.positions t ≡ true) (at : place ≡ place_of a.places.positions t) (out : IsOut (moves_in table) t a e) where
   abbrev plan : Moves

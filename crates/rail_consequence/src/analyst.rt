@@ -1,4 +1,4 @@
-ghost use Rattle.std.specs.Prelude.{◌≡◌, ℕ, ◌+◌, ◌-◌, ◌<◌, ◌≤◌, ◌≢◌, ◌↔◌, [], ◌∷◌, ◌++◌, List, Some, None, true, false, get_or, ◌&&◌, length, take, drop, set, IsTrue, IsNone, IfOk, IsOk, IfSome, MatchOption, vec_capacity};
+ghost use Rattle.std.specs.Prelude.{◌≡◌, ℕ, ◌+◌, ◌-◌, ◌<◌, ◌≤◌, ◌≢◌, ◌↔◌, [], ◌∷◌, ◌++◌, List, Some, None, true, false, get_or, ◌&&◌, length, take, drop, set, IsTrue, IsNone, IfOk, IsOk, IfSome, MatchOption, replicate, vec_capacity, vec_len};
 ghost use Rattle.rail_rules.specs.Analysis.{Finds, Leg, after_leg, is_leg, is_safe, moves_left};
 ghost use Rattle.rail_rules.specs.Places.{after, completes, is_inside, is_legal, is_valid_state, nobody_inside, place_of};
 ghost use Rattle.rail_place.specs.Made.{IsMadeFor};
@@ -165,6 +165,17 @@ fn stands_inside(moves: &Moves, places: &Places, train: TrainNo) -> bool
 {
     let place = places.position(train);
     0 < place && place < moves.places(train)
+}
+
+/// Adds the train so many times at the end.
+fn push_times(list: &mut Vec<TrainNo>, train: TrainNo, count: u16)
+    requires { vec_len list.old + count ≤ vec_capacity list.old }
+    ensures items { list.new.items ≡ list.old.items ++ replicate count train }
+    ensures room { vec_capacity list.new ≡ vec_capacity list.old }
+{
+    for _added in 0..count {
+        list.push_reserved(train);
+    }
 }
 
 /// The train stands on the section at the place.
@@ -547,7 +558,13 @@ impl Worksheet {
     }
 
     /// The same of these sections.
-    fn leaves_none_of(&self, moves: &Moves, sections: &[SectionNo], train: TrainNo, place: u16) -> bool
+    fn leaves_none_of(
+        &self,
+        moves: &Moves,
+        sections: &[SectionNo],
+        train: TrainNo,
+        place: u16,
+    ) -> bool
         requires train { train < length moves.now }
         requires in_range { (x : ℕ) → IsTrue (is_in x sections.now) → x < SECTIONS }
         ensures { IsTrue result → (x : ℕ) → IsTrue (is_in x sections.now)
@@ -693,8 +710,8 @@ impl Worksheet {
         }
     }
 
-    /// Looks how far the train can go on while all others stand, up to the first place to which a leg
-    /// is safe.
+    /// Looks how far the train can go on while all others stand, and for the last place on its way to which
+    /// a leg is safe.
     fn look(&self, moves: &Moves, train: TrainNo) -> Look
         requires ready { IsReady moves.now self.now }
         requires train { train < length moves.now }
@@ -705,12 +722,16 @@ impl Worksheet {
         if place == 0 || place >= last {
             return Look::Idle;
         }
+        let mut safe = None;
         for made in place..last {
             if let Some(section) = self.stop_of(moves, train, made) {
-                return Look::Stopped(section);
+                return match safe {
+                    Some(end) => Look::Leads(end),
+                    None => Look::Stopped(section),
+                };
             }
             if self.is_safe_at(moves, train, made + 1) {
-                return Look::Leads(made + 1);
+                safe = Some(made + 1);
             }
         }
         // A leg that ends out is safe.
@@ -750,7 +771,7 @@ impl Worksheet {
         }
     }
 
-    /// Makes the moves of a leg.
+    /// Makes the moves of a leg, all at once.
     fn go_to(&mut self, moves: &Moves, train: TrainNo, place: u16)
         requires ready { IsReady moves.now self.old }
         requires train { train < length moves.now }
@@ -760,9 +781,9 @@ impl Worksheet {
         ensures positions { self.new.places.positions ≡ set self.old.places.positions train place }
         ensures stops { self.new.stops ≡ self.old.stops }
     {
-        while self.places.position(train) < place {
-            self.step(moves, train);
-        }
+        let count = place - self.places.position(train);
+        self.put(moves, train, place);
+        push_times(&mut self.list, train, count);
     }
 
     /// After the train went on from this place, by a leg or taken out, notes for the one level what still
@@ -950,22 +971,6 @@ impl Worksheet {
         let from = self.places.position(train);
         let sections = moves.stand(train, place);
         place == moves.places(train) || self.needs.are_own(moves, train, from, sections)
-    }
-
-    /// Makes the train's next move.
-    fn step(&mut self, moves: &Moves, train: TrainNo)
-        requires ready { IsReady moves.now self.old }
-        requires train { train < length moves.now }
-        requires inside { IsTrue (is_inside (moves_in moves.now) self.old.places.positions train) }
-        requires legal { IsTrue (is_legal (moves_in moves.now) self.old.places.positions train) }
-        ensures ready { IsReady moves.now self.new }
-        ensures positions { self.new.places.positions ≡ after self.old.places.positions train }
-        ensures list { self.new.list ≡ self.old.list ++ train ∷ [] }
-        ensures stops { self.new.stops ≡ self.old.stops }
-    {
-        self.needs.advance(moves, &self.places, train);
-        self.places.advance(moves, train);
-        self.list.push_reserved(train);
     }
 
     /// Takes the moves back that were made since the list had this length.

@@ -60,16 +60,6 @@ impl Needs {
         self.recount(moves, train, places.position(train), place);
     }
 
-    /// Counts the train, which is inside at these places, as after its next move.
-    pub fn advance(&mut self, moves: &Moves, places: &Places, train: TrainNo)
-        requires made { IsMadeFor moves.now places.now }
-        requires counted { IsCounted (moves_in moves.now) places.now.positions self.old }
-        requires inside { IsTrue (is_inside (moves_in moves.now) places.now.positions train) }
-        ensures { IsCounted (moves_in moves.now) (after places.now.positions train) self.new }
-    {
-        self.take_off(moves, train, places.position(train));
-    }
-
     /// Counts the train, which was inside before the move that led to these places, as before that move.
     pub fn retreat(&mut self, moves: &Moves, places: &Places, train: TrainNo)
         requires made { IsMadeFor moves.now places.now }

@@ -1,40 +1,76 @@
-use Rattle.std.proofs.Common.{◌≡◌, ℕ, ◌<◌, true, ap, ◌∙◌, arith}
-use Rattle.std.proofs.lemmas.Bool.{and_from}
+use Rattle.std.proofs.Common.{◌≡◌, ℕ, ◌+◌, ◌-◌, ◌++◌, List, length, replicate, set, sym, ap, ◌∙◌, subst, arith}
+use Rattle.std.proofs.lemmas.List.{length-append, length-replicate}
 use Rattle.rail_rules.specs.Moves.{Moves}
-use Rattle.rail_rules.specs.Places.{place_of, is_inside, is_legal}
-use Rattle.rail_rules.specs.Analysis.{is_leg}
+use Rattle.rail_rules.specs.Places.{place_of}
+use Rattle.rail_rules.specs.Analysis.{moves_left}
 use Rattle.rail_place.specs.Tables.{moves_in}
+use Rattle.rail_place.specs.Plays.{IsPlayed}
 use Rattle.rail_consequence.specs.Workspace.{Work}
-use Rattle.rail_consequence.proofs.Legs.{goes_parts, inside_from, inside_parts}
-use Rattle.rail_consequence.proofs.Walks.{IsWalk, walk_next}
+use Rattle.rail_consequence.proofs.Going.{leg_free, leg_played}
+use Rattle.rail_consequence.proofs.Legs.{goes_parts, inside_listed}
+use Rattle.rail_consequence.proofs.Played.{moves_left_at, ready_as}
 use Rattle.rail_consequence.proofs.analyst.Worksheet.go_to.Goals as goal
 
--- on the way the train is inside, and its next move is legal
-on_way : (plan : Moves) (t p : ℕ) (a b : Work) → IsWalk plan t a b → is_leg plan a.places.positions (record { train = t; place = p }) ≡ true → place_of b.places.positions t < p → (is_inside plan b.places.positions t ≡ true) × (is_legal plan b.places.positions t ≡ true)
-on_way plan t p a b walk leg lt =
-    let goes = goes_parts plan a.places.positions (record { train = t; place = p }) leg in
-    let parts = inside_parts plan a.places.positions t goes.inside in (
-      inside_from plan b.places.positions t (omega (arith, parts.0, walk.ahead)) (omega (arith, lt, goes.within)),
-      ap (λ q. is_legal plan q t) walk.same ∙ goes.legal (place_of b.places.positions t) walk.ahead lt,
-    )
-
-pub step-requires-clause-legal : goal.step-requires-clause-legal
-step-requires-clause-legal c =
-    let t = c.args.train in
-    let lt : place_of c.loop-train.self.places.positions t < c.args.place = omega (arith, c.loop-train-test.true, c.position.ensures, ap (λ (w : Work). place_of w.places.positions t) c.self.view_is) in
-    (on_way (moves_in c.args.moves.now) t c.args.place c.args.self.now c.loop-train.self c.loop-train.invariant.walk c.requires.leg lt).1
-
-pub loop-train-preserved : goal.loop-train-preserved
-loop-train-preserved c =
+pub put-requires-clause-free : goal.put-requires-clause-free
+put-requires-clause-free c =
     let plan : Moves = moves_in c.args.moves.now in
+    let s = c.args.self.now.places.positions in
     let t = c.args.train in
-    let b = c.loop-train.self in
-    let lt : place_of b.places.positions t < c.args.place = omega (arith, c.loop-train-test.true, c.position.ensures, ap (λ (w : Work). place_of w.places.positions t) c.self.view_is) in
-    let on = on_way plan t c.args.place c.args.self.now b c.loop-train.invariant.walk c.requires.leg lt in
-    let next = walk_next plan t c.args.self.now b c.step.new.self c.loop-train.invariant.walk (and_from (is_inside plan b.places.positions t) (is_legal plan b.places.positions t) on.0 on.1) c.step.ensures.positions c.step.ensures.list in
+    let goes = goes_parts plan s (record { train = t; place = c.args.place }) c.requires.leg in
+    leg_free plan s t c.args.place (c.args.place - place_of s t) c.requires.ready.made.moves.valid c.requires.ready.made.valid c.requires.leg (omega (arith, goes.ahead))
+
+pub put-requires-clause-few : goal.put-requires-clause-few
+put-requires-clause-few c =
+    let plan : Moves = moves_in c.args.moves.now in
+    let s = c.args.self.now.places.positions in
+    let t = c.args.train in
+    let goes = goes_parts plan s (record { train = t; place = c.args.place }) c.requires.leg in
+    let fewer = moves_left_at plan s t c.args.place (c.args.place - place_of s t) (inside_listed plan s t goes.inside) (omega (arith, goes.ahead)) goes.within in
+    omega (arith, c.requires.ready.few, fewer)
+
+pub push_times-requires : goal.push_times-requires
+push_times-requires c =
+    let plan : Moves = moves_in c.args.moves.now in
+    let s = c.args.self.now.places.positions in
+    let t = c.args.train in
+    let at : c.position.result ≡ place_of s t = c.position.ensures ∙ ap (λ (w : Work). place_of w.places.positions t) c.self.view_is in
+    let goes = goes_parts plan s (record { train = t; place = c.args.place }) c.requires.leg in
+    let fewer = moves_left_at plan s t c.args.place (c.args.place - place_of s t) (inside_listed plan s t goes.inside) (omega (arith, goes.ahead)) goes.within in
+    omega (arith, c.requires.ready.few, fewer, at, ap length c.put.ensures.list, ap (λ (w : Work). length w.list) c.self-2.view_is, c.self-2.inside.list.ok, c.self-2.invariant)
+
+pub returns-clause-ready : goal.returns-clause-ready
+returns-clause-ready c =
+    let table = c.args.moves.now in
+    let plan : Moves = moves_in table in
+    let s = c.args.self.now.places.positions in
+    let t = c.args.train in
+    let k : ℕ = c.args.place - c.position.result in
+    let at : c.position.result ≡ place_of s t = c.position.ensures ∙ ap (λ (w : Work). place_of w.places.positions t) c.self.view_is in
+    let goes = goes_parts plan s (record { train = t; place = c.args.place }) c.requires.leg in
+    let fewer = moves_left_at plan s t c.args.place k (inside_listed plan s t goes.inside) (omega (arith, at, goes.ahead)) goes.within in
+    let w = c.put.new.self in
+    let long : length (w.list ++ replicate k t) ≡ length c.args.self.now.list + k = length-append w.list (replicate k t) ∙ omega (arith, ap length c.put.ensures.list, length-replicate {A = ℕ} k t) in
+    let own : Work = record { places = c.self-2.inside.places; needs = c.self-2.inside.needs; stops = c.self-2.inside.stops; list = c.self-2.inside.list.items } in
+    let items : c.push_times.new.list.items ≡ w.list ++ replicate k t = c.push_times.ensures.items ∙ ap (λ (v : Work). v.list ++ replicate k t) c.self-2.view_is in
+    let own_ready = ready_as table own w c.self-2.view_is c.put.ensures.ready in
     record {
-      ready = c.step.ensures.ready;
-      walk = next.walk;
-      within = omega (arith, next.place, lt);
-      stops = c.step.ensures.stops ∙ c.loop-train.invariant.stops;
+      made = own_ready.made;
+      counted = own_ready.counted;
+      few = omega (arith, c.requires.ready.few, fewer, long, ap length items, ap (λ (v : Work). moves_left plan v.places.positions) c.self-2.view_is, ap (moves_left plan) c.put.ensures.positions);
+    }
+
+pub returns-clause-moves : goal.returns-clause-moves
+returns-clause-moves c =
+    let plan : Moves = moves_in c.args.moves.now in
+    let s = c.args.self.now.places.positions in
+    let t = c.args.train in
+    let k : ℕ = c.args.place - c.position.result in
+    let at : c.position.result ≡ place_of s t = c.position.ensures ∙ ap (λ (w : Work). place_of w.places.positions t) c.self.view_is in
+    let goes = goes_parts plan s (record { train = t; place = c.args.place }) c.requires.leg in
+    let there : c.self-2.inside.places.positions ≡ set s t c.args.place = ap (λ (w : Work). w.places.positions) c.self-2.view_is ∙ c.put.ensures.positions in
+    let P : List ℕ → Type 0 = λ q. IsPlayed plan s (replicate k t) q in
+    record {
+      more = replicate k t;
+      list = c.push_times.ensures.items ∙ ap (λ (w : Work). w.list ++ replicate k t) c.self-2.view_is ∙ ap (λ xs. xs ++ replicate k t) c.put.ensures.list;
+      played = subst P (sym there) (leg_played plan s t c.args.place k c.requires.leg (omega (arith, at, goes.ahead)));
     }
