@@ -24,7 +24,7 @@ pub record IsNearest (chains : List (List (ℕ × Event))) (base chain : ℕ) : 
   pub rest : List (ℕ × Event)
   pub is : get_or chains chain [] ≡ (slot, first) ∷ rest
 
--- the first event of the chain comes first of all: none goes before it, and one of the ring goes before each far one, which was pushed before its equals
+-- the first event of the chain comes first of all: no event goes before it, and where it lies in the ring, no far event is equal to it, which would have been pushed before
 pub record IsChosen (chains : List (List (ℕ × Event))) (chain : ℕ) : Type 0 where
   pub within : chain < length chains
   pub slot : ℕ

@@ -48,7 +48,8 @@ pub(crate) fn earliest(slots: &Slots<Event>, marks: &Marks, base: u64) -> Option
     Some(chain)
 }
 
-/// The chain that comes first once the event is put into its chain, where another one may come first before.
+/// The chain that comes first once the event is put into its own chain; `first` is the one that comes first before,
+/// if there is an event. It looks at the first event of that one alone.
 pub(crate) fn first_with(
     slots: &Slots<Event>,
     first: Option<usize>,
