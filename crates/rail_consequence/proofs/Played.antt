@@ -1,7 +1,7 @@
 -- Lists played from one state to another.
-use Rattle.std.proofs.Common.{◌≡◌, ℕ, zero, suc, ◌+◌, ◌-◌, ◌*◌, ◌<◌, ◌≤◌, true, ◌&&◌, List, [], ◌∷◌, ◌++◌, length, set, take, drop, Option, refl, sym, ap, ◌∙◌, subst, ⊎_elim, arith}
+use Rattle.std.proofs.Common.{◌≡◌, ℕ, zero, suc, ◌+◌, ◌-◌, ◌*◌, ◌<◌, ◌≤◌, true, ◌&&◌, List, [], ◌∷◌, ◌++◌, length, set, take, drop, refl, sym, ap, ◌∙◌, subst, ⊎_elim, arith}
 use Rattle.std.proofs.lemmas.Bool.{and_from, cases_eq}
-use Rattle.std.proofs.lemmas.List.{get_or-set_same, get_or-set_other, length-set, append_assoc, take_at, drop_at, length_push}
+use Rattle.std.proofs.lemmas.List.{get_or-set_same, get_or-set_other, length-set, append_assoc, take_at, drop_at}
 use Rattle.rail_base.specs.declared.limits.TheConstants.{ITINERARY_ROUTES, LIST_TRAINS}
 use Rattle.rail_rules.specs.Numbers.{sum_below}
 use Rattle.rail_rules.specs.Moves.{Moves, is_valid}
@@ -9,20 +9,9 @@ use Rattle.rail_rules.specs.Places.{place_of, is_inside, is_legal, after, is_val
 use Rattle.rail_rules.specs.Analysis.{moves_left}
 use Rattle.rail_rules.proofs.CallerLemmas.{sum_below-lt, state_parts, legal_move_kept}
 use Rattle.rail_place.specs.Tables.{moves_in, IsTable, MoveLists}
-use Rattle.rail_place.specs.Made.{State, IsMadeFor}
 use Rattle.rail_place.specs.Plays.{IsPlayed}
 use Rattle.rail_consequence.specs.Workspace.{Work, IsPlayedFrom, IsReady, GoesOn, IsBack}
-use Rattle.rail_consequence.specs.Needs.{IsCounted}
-use Rattle.rail_consequence.proofs.Legs.{inside_parts, inside_listed}
 use Rattle.rail_consequence.proofs.Counts.{sum_most, sum_shift}
-
-pub played_push : (plan : Moves) (s xs r : List ℕ) (t : ℕ) → IsPlayed plan s xs r → is_inside plan r t ≡ true → is_legal plan r t ≡ true → IsPlayed plan s (xs ++ t ∷ []) (after r t)
-played_push plan s [] r t same inside legal = (
-  ap (λ q. is_inside plan q t) same ∙ inside,
-  ap (λ q. is_legal plan q t) same ∙ legal,
-  ap (λ q. after q t) same,
-)
-played_push plan s (x ∷ xs) r t played inside legal = (played.0, played.1, played_push plan (after s x) xs r t played.2 inside legal)
 
 pub played_append : (plan : Moves) (s xs r ys q : List ℕ) → IsPlayed plan s xs r → IsPlayed plan r ys q → IsPlayed plan s (xs ++ ys) q
 played_append plan s [] r ys q same later = let P : List ℕ → Type 0 = λ k. IsPlayed plan k ys q in subst P (sym same) later
@@ -74,9 +63,6 @@ fewer_at plan s t p lt ahead within =
     let P : ℕ → Type 0 = λ n. sum_below (left next) n < sum_below (left s) (length s) in
     subst P (sym (length-set s t p)) (sum_below-lt (left next) (left s) (length s) t lt no_more less)
 
-pub fewer_left : (plan : Moves) (s : List ℕ) (t : ℕ) → is_inside plan s t ≡ true → moves_left plan (after s t) < moves_left plan s
-fewer_left plan s t inside = fewer_at plan s t (suc (place_of s t)) (inside_listed plan s t inside) (omega arith) (omega (arith, (inside_parts plan s t inside).1))
-
 -- the moves that are left are within the limits
 pub left_few : (table : List MoveLists) (s : List ℕ) → IsTable table → is_valid_state (moves_in table) s ≡ true → moves_left (moves_in table) s ≤ LIST_TRAINS
 left_few table s h valid =
@@ -108,28 +94,6 @@ goes_played table a b mark ready goes at =
     let rest : drop mark b.list ≡ goes.more = ap (drop mark) goes.list ∙ drop_at a.list goes.more mark (sym at) in
     let P : List ℕ → Type 0 = λ xs. IsPlayed (moves_in table) a.places.positions xs b.places.positions in
     record { start = a.places.positions; valid = ready.made.valid; played = subst P (sym rest) goes.played }
-
--- one move more
-pub ready_step :
-    (table : List MoveLists)
-    (w : Work)
-    (t : ℕ)
-    (places : State)
-    (needs : List ℕ)
-    (stops : List (Option ℕ))
-    (list : List ℕ)
-    → IsReady table w → is_inside (moves_in table) w.places.positions t ≡ true
-    → IsMadeFor table places
-    → places.positions ≡ after w.places.positions t
-    → IsCounted (moves_in table) (after w.places.positions t) needs → list ≡ w.list ++ t ∷ [] → IsReady table (record { places = places; needs = needs; stops = stops; list = list })
-ready_step table w t places needs stops list ready inside made next counted at =
-    let plan : Moves = moves_in table in
-    let C : List ℕ → Type 0 = λ s. IsCounted plan s needs in
-    record {
-      made = made;
-      counted = subst C (sym next) counted;
-      few = omega (arith, ready.few, ap length at, length_push w.list t, ap (moves_left plan) next, fewer_left plan w.places.positions t inside);
-    }
 
 pub ready_as : (table : List MoveLists) (a b : Work) → a ≡ b → IsReady table b → IsReady table a
 ready_as table a b same ready = let P : Work → Type 0 = λ w. IsReady table w in subst P (sym same) ready
