@@ -87,7 +87,7 @@ no_leg_helps plan s t k q zero frees is found =
 -- what is noted and counted tells that a train's going on frees nobody
 module _ (plan : Moves) (s : List ℕ) (stops : List (Option ℕ)) (counts : List ℕ) (level t p : ℕ) (valid : is_valid plan ≡ true) (state : is_valid_state plan s ≡ true)
     (was : is_inside plan s t ≡ true) (ahead : place_of s t < p) (within : p ≤ plan.moves t) (counted : IsCounted plan s counts)
-    (in_range : (v i x : ℕ) → is_in x (plan.claim v i) ≡ true → x < SECTIONS) (alone : LeavesNoneAlone plan counts t (place_of s t) p) where
+    (in_range : (v i x : ℕ) → is_in x (plan.claim v i) ≡ true → x < SECTIONS) (alone : LeavesNoneAlone plan counts 2 t (place_of s t) p) where
   abbrev later : List ℕ
   later = set s t p
 

@@ -11,8 +11,9 @@ use Rattle.rail_rules.proofs.CallerLemmas.{any_below_at, any_below_none, list_an
 use Rattle.rail_place.specs.Tables.{moves_in, MoveLists}
 use Rattle.rail_place.specs.Made.{State, IsMadeFor}
 use Rattle.rail_place.proofs.CallerLemmas.{holder_listed, state_apart, move_valid}
-use Rattle.rail_consequence.specs.Needs.{IsCounted, count_of, needs_left, one_if}
-use Rattle.rail_consequence.specs.Stops.{IsHeldByOther, IsStopped}
+use Rattle.rail_consequence.specs.Needs.{IsCounted, count_of, needs_from, needs_left, one_if}
+use Rattle.rail_consequence.specs.Freeing.{LeavesNoneAlone}
+use Rattle.rail_consequence.specs.Stops.{IsHeldByOther, IsStopped, StaysUnsafe}
 use Rattle.rail_consequence.proofs.Legs.{goes_parts, leg_from, inside_parts, inside_from, inside_listed, IsClear}
 use Rattle.rail_consequence.proofs.Safe.{safe_from_clear, clear_from_safe}
 use Rattle.rail_consequence.proofs.Counts.{left_at, one_false, one_true}
@@ -128,6 +129,32 @@ module _ (plan : Moves) (s : List ℕ) (t to u : ℕ) (valid : is_valid plan ≡
   there : (v : ℕ) → v ≢ t → place_of next v ≡ place_of s v
   there v other = get_or-set_other s t v to 0 other
 
+  -- a section that stopped a train and is held is held by another
+  held_still : (x v : ℕ) → u < length s → IsStopped plan s u x → holds plan next v x ≡ true → IsHeldByOther plan next u x
+  held_still x v known stop held = record {
+    holder = v;
+    other = λ same.
+        let own : holds plan s u x ≡ true = ap (λ k. is_in x (stand plan u k)) (sym (there u ne)) ∙ ap (λ w. holds plan next w x) (sym same) ∙ held in
+        let apart = state_apart plan s u stop.held.holder state known stop.held.other in
+        false≢true (sym (apart_at (stand plan u (place_of s u)) (stand plan stop.held.holder (place_of s stop.held.holder)) x apart own) ∙ stop.held.held);
+    held = held;
+  }
+
+  -- so a train that it stops at its next move is still stopped
+  pub stopped_next : (x v : ℕ) → u < length s → IsStopped plan s u x → holds plan next v x ≡ true → is_in x (plan.claim u (place_of next u)) ≡ true → IsStopped plan next u x
+  stopped_next x v known stop held needed =
+      let parts = inside_parts plan s u stop.inside in
+      let at : place_of next u ≡ place_of s u = there u ne in
+      record {
+        inside = inside_from plan next u (omega (arith, at, parts.0)) (omega (arith, at, parts.1));
+        place = place_of next u;
+        from = omega arith;
+        below = omega (arith, at, parts.1);
+        needed = needed;
+        held = held_still x v known stop held;
+        unsafe = λ p low high. absurd (omega (arith, low, high));
+      }
+
   module _ (passed : IsPassed plan next t u (place_of s t)) where
     -- where the moves that were made needed a section of a stop, and nobody else does, the train itself does not
     gap : (p i x : ℕ) → u < length s → place_of s u < p → p < plan.moves u → 0 < place_of s u → is_in x (stand plan u p) ≡ true → IsClear plan next u (stand plan u p) → place_of s t ≤ i → i < to → is_in x (plan.claim t i) ≡ true → ⊥
@@ -181,26 +208,27 @@ module _ (plan : Moves) (s : List ℕ) (t to u : ℕ) (valid : is_valid plan ≡
     stopped_still x v known stop held =
         let parts = inside_parts plan s u stop.inside in
         let at : place_of next u ≡ place_of s u = there u ne in
-        let other : v ≢ u = λ same.
-        let own : holds plan s u x ≡ true = ap (λ k. is_in x (stand plan u k)) (sym at) ∙ ap (λ w. holds plan next w x) (sym same) ∙ held in
-        let apart = state_apart plan s u stop.held.holder state known stop.held.other in
-        false≢true (sym (apart_at (stand plan u (place_of s u)) (stand plan stop.held.holder (place_of s stop.held.holder)) x apart own) ∙ stop.held.held) in
         record {
           inside = inside_from plan next u (omega (arith, at, parts.0)) (omega (arith, at, parts.1));
           place = stop.place;
           from = omega (arith, at, stop.from);
           below = stop.below;
           needed = stop.needed;
-          held = record { holder = v; other = other; held = held };
+          held = held_still x v known stop held;
           unsafe = λ p low high. unsafe_still p known (omega (arith, low, at)) (omega (arith, high, stop.below)) parts.0 (stop.unsafe p (omega (arith, low, at)) high);
         }
+
+-- where no section is left to one train alone, none is to this one
+pub untouched : (plan : Moves) (s counts : List ℕ) (t u from x : ℕ) → LeavesNoneAlone plan counts 1 t from (place_of s t) → StaysUnsafe plan s counts t from u x
+untouched plan s counts t u from x alone = λ near i y low below needed gone one.
+    let p : ℕ = place_of s t in
+    absurd (false≢true (sym gone ∙ and_from (ltb 0 p) (needs_from plan t p y) (lt-ltb 0 p (omega (arith, below))) (alone i y low below needed one)))
 
 -- what is noted of a train after a leg of another one
 pub settled_one : (table : List MoveLists) (state : State) (counts : List ℕ) (s : List ℕ) (t to u x : ℕ) → IsMadeFor table state → IsCounted (moves_in table) state.positions counts
     → is_valid_state (moves_in table) s ≡ true → is_inside (moves_in table) s t ≡ true → place_of s t < to → set s t to ≡ state.positions → u ≢ t → u < length s → IsStopped (moves_in table) s u x
     → (get_or state.owners x None ≡ None → ⊥)
-    → ((i y : ℕ) → place_of s t ≤ i → i < to → is_in y ((moves_in table).claim t i) ≡ true → needs_left (moves_in table) t (place_of state.positions t) y ≡ false
-    → count_of counts y ≡ 1 → needs_left (moves_in table) u (place_of state.positions u) y ≡ false)
+    → StaysUnsafe (moves_in table) state.positions counts t (place_of s t) u x
     → IsStopped (moves_in table) state.positions u x
 settled_one table state counts s t to u x made counted valid inside ahead same ne known stop held freed = by (get_or state.owners x None) refl
   where
@@ -208,15 +236,18 @@ settled_one table state counts s t to u x made counted valid inside ahead same n
     still v is =
         let P : List ℕ → Type 0 = λ q. IsStopped (moves_in table) q u x in
         let C : List ℕ → Type 0 = λ q. IsCounted (moves_in table) q counts in
-        let at : place_of (set s t to) t ≡ to = get_or-set_same s t to 0 (inside_listed (moves_in table) s t inside) in
-        let F : List ℕ → Type 0 = λ q. (i y : ℕ) → place_of s t ≤ i → i < to → is_in y ((moves_in table).claim t i) ≡ true → needs_left (moves_in table) t (place_of q t) y ≡ false
-        → count_of counts y ≡ 1 → needs_left (moves_in table) u (place_of q u) y ≡ false in
-        let freed_at : F (set s t to) = subst F (sym same) freed in
+        let U : List ℕ → Type 0 = λ q. StaysUnsafe (moves_in table) q counts t (place_of s t) u x in
+        let freed_at : U (set s t to) = subst U (sym same) freed in
         let counted_at = subst C (sym same) counted in
+        let still_held = ap (λ q. holds (moves_in table) q v x) same ∙ (made.told x v).0 is in
         subst P same
-        (stopped_still (moves_in table) s t to u made.moves.valid valid inside ahead ne
-        (λ i y from below needed gone one. freed_at i y from (omega (arith, below, at)) needed gone (counted_at y (made.moves.in_range t i y needed) ∙ one))
-        x v known stop (ap (λ q. holds (moves_in table) q v x) same ∙ (made.told x v).0 is))
+        (⊎_elim
+        (λ near. stopped_next (moves_in table) s t to u made.moves.valid valid inside ahead ne x v known stop still_held near)
+        (λ further.
+        stopped_still (moves_in table) s t to u made.moves.valid valid inside ahead ne
+        (λ i y from below needed gone one. freed_at further i y from below needed gone (counted_at y (made.moves.in_range t i y needed) ∙ one))
+        x v known stop still_held)
+        (cases_Bool (is_in x ((moves_in table).claim u (place_of (set s t to) u)))))
 
     by : (o : Option ℕ) → get_or state.owners x None ≡ o → IsStopped (moves_in table) state.positions u x
     by None is = absurd (held is)

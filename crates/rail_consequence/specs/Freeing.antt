@@ -24,13 +24,13 @@ pub record HasOther (plan : Moves) (s : List ℕ) (t : ℕ) : Type 0 where
   pub differs : train ≢ t
   pub inside : IsTrue (is_inside plan s train)
 
--- the train at the place still needs the section, or not two trains did before
-abbrev pub IsNeededThen : Moves → List ℕ → ℕ → ℕ → ℕ → Type 0
-IsNeededThen plan counts t p x = count_of counts x ≡ 2 → IsTrue (needs_from plan t p x)
+-- the train at the place still needs the section, or it is not counted for so many trains
+abbrev pub IsNeededThen : Moves → List ℕ → ℕ → ℕ → ℕ → ℕ → Type 0
+IsNeededThen plan counts count t p x = count_of counts x ≡ count → IsTrue (needs_from plan t p x)
 
 -- this is so of each section that the moves of the train from the one place to the other need
-abbrev pub LeavesNoneAlone : Moves → List ℕ → ℕ → ℕ → ℕ → Type 0
-LeavesNoneAlone plan counts t from p = (i x : ℕ) → from ≤ i → i < p → IsTrue (is_in x (plan.claim t i)) → IsNeededThen plan counts t p x
+abbrev pub LeavesNoneAlone : Moves → List ℕ → ℕ → ℕ → ℕ → ℕ → Type 0
+LeavesNoneAlone plan counts count t from p = (i x : ℕ) → from ≤ i → i < p → IsTrue (is_in x (plan.claim t i)) → IsNeededThen plan counts count t p x
 
 -- another train is inside, and none that is has a safe leg once the train has gone on to the place
 pub record FreesNobody (plan : Moves) (s : List ℕ) (t p : ℕ) : Type 0 where

@@ -5,6 +5,7 @@ use Rattle.rail_rules.specs.Numbers.{is_in}
 use Rattle.rail_rules.specs.Moves.{Moves}
 use Rattle.rail_rules.specs.Places.{place_of, is_inside, holds}
 use Rattle.rail_rules.specs.Analysis.{is_leg, is_safe}
+use Rattle.rail_consequence.specs.Needs.{count_of, needs_left}
 use Rattle.rail_consequence.specs.declared.analyst.Look.{Look}
 use Rattle.rail_consequence.specs.declared.analyst.Look.TheVariants.{Idle, Leads, Stopped}
 
@@ -25,14 +26,16 @@ abbrev pub KeepsOtherStops : ℕ → ℕ → List (Option ℕ) → List (Option 
 KeepsOtherStops level t old new =
     (l u : ℕ) → u < TRAINS → (l ≡ level → u ≡ t → ⊥) → stop_at new l u ≡ stop_at old l u
 
--- on this level nothing is noted that was not noted before
-abbrev pub AddsNoStops : ℕ → List (Option ℕ) → List (Option ℕ) → Type 0
-AddsNoStops level old new = (u x : ℕ) → u < TRAINS → stop_at new level u ≡ Some x → stop_at old level u ≡ Some x
-
 -- the section was noted for the train, which is another than the one that moved, and is held still
 abbrev pub StillStops : List (Option ℕ) → List (Option ℕ) → ℕ → ℕ → ℕ → ℕ → Type 0
 StillStops owners stops level u moved x =
     (u ≢ moved) × (stop_at stops level u ≡ Some x) × (get_or owners x None ≡ None → ⊥)
+
+-- another train went on from the place: the section stops this one at its next move, or it needs none of the sections on that way that one train alone needs
+abbrev pub StaysUnsafe : Moves → List ℕ → List ℕ → ℕ → ℕ → ℕ → ℕ → Type 0
+StaysUnsafe plan s counts t from u x = is_in x (plan.claim u (place_of s u)) ≡ false
+    → (i y : ℕ) → from ≤ i → i < place_of s t → IsTrue (is_in y (plan.claim t i)) → needs_left plan t (place_of s t) y ≡ false
+    → count_of counts y ≡ 1 → needs_left plan u (place_of s u) y ≡ false
 
 -- another train holds the section
 pub record IsHeldByOther (plan : Moves) (s : List ℕ) (t x : ℕ) : Type 0 where

@@ -9,7 +9,7 @@ ghost use Rattle.rail_rules.specs.Numbers.{are_apart, is_in};
 ghost use Rattle.rail_consequence.specs.Needs.{IsAnalystFor, IsCounted, count_of, needs_left};
 ghost use Rattle.rail_consequence.specs.Searches.{FindsByNoLeg, FindsByNoLegOf, FindsSame, HasNoSafeLeg, HasNoSafeLegOf, IsCleared, leg_to};
 ghost use Rattle.rail_consequence.specs.Freeing.{FreesNobody, HasOther, IsNeededThen, LeavesNoneAlone, StaysHeld};
-ghost use Rattle.rail_consequence.specs.Stops.{AddsNoStops, IsHeldByOther, IsSettled, KeepsLevelsAbove, KeepsOtherLevels, KeepsOtherStops, Shows, StillStops, stop_at};
+ghost use Rattle.rail_consequence.specs.Stops.{IsHeldByOther, IsSettled, KeepsLevelsAbove, KeepsOtherLevels, KeepsOtherStops, Shows, StaysUnsafe, StillStops, stop_at};
 ghost use Rattle.rail_consequence.specs.Workspace.{GoesOn, IsBack, IsListing, IsPlayedFrom, IsReady, Work};
 
 use crate::needs::{Needs, needs_left};
@@ -474,7 +474,8 @@ impl Worksheet {
         if !self.are_stopped_still(moves, inside, train, place, level) {
             return false;
         }
-        self.leaves_none_alone(moves, train, place)
+        let from = self.places.position(train);
+        self.leaves_none_alone(moves, train, from, place, 2)
     }
 
     /// Whether another train is inside.
@@ -541,16 +542,22 @@ impl Worksheet {
         self.is_held_by_other(train, section) || stands_on(moves, train, place, section)
     }
 
-    /// Whether each section that the train needs on its way to the place is one that it needs later too, or
-    /// is not needed by two trains, so that none is left to another train alone.
-    fn leaves_none_alone(&self, moves: &Moves, train: TrainNo, place: u16) -> bool
-        requires ready { IsReady moves.now self.now }
+    /// Whether each section that the train needs on its way from the one place to the other is one that it
+    /// needs later too, or is not needed by so many trains.
+    fn leaves_none_alone(
+        &self,
+        moves: &Moves,
+        train: TrainNo,
+        from: u16,
+        place: u16,
+        count: u16,
+    ) -> bool
         requires train { train < length moves.now }
         requires within { place ≤ (moves_in moves.now).moves train }
-        ensures { IsTrue result → LeavesNoneAlone (moves_in moves.now) self.now.needs train (place_of self.now.places.positions train) place }
+        ensures { IsTrue result → LeavesNoneAlone (moves_in moves.now) self.now.needs count train from place }
     {
-        for made in self.places.position(train)..place {
-            if !self.leaves_none_of(moves, moves.need(train, made + 1), train, place) {
+        for made in from..place {
+            if !self.leaves_none_of(moves, moves.need(train, made + 1), train, place, count) {
                 return false;
             }
         }
@@ -564,14 +571,15 @@ impl Worksheet {
         sections: &[SectionNo],
         train: TrainNo,
         place: u16,
+        count: u16,
     ) -> bool
         requires train { train < length moves.now }
         requires in_range { (x : ℕ) → IsTrue (is_in x sections.now) → x < SECTIONS }
         ensures { IsTrue result → (x : ℕ) → IsTrue (is_in x sections.now)
-            → IsNeededThen (moves_in moves.now) self.now.needs train place x }
+            → IsNeededThen (moves_in moves.now) self.now.needs count train place x }
     {
         for section in sections {
-            if !self.leaves_no_one(moves, *section, train, place) {
+            if !self.leaves_no_one(moves, *section, train, place, count) {
                 return false;
             }
         }
@@ -579,12 +587,19 @@ impl Worksheet {
     }
 
     /// The same of one section.
-    fn leaves_no_one(&self, moves: &Moves, section: SectionNo, train: TrainNo, place: u16) -> bool
+    fn leaves_no_one(
+        &self,
+        moves: &Moves,
+        section: SectionNo,
+        train: TrainNo,
+        place: u16,
+        count: u16,
+    ) -> bool
         requires train { train < length moves.now }
         requires section { section < SECTIONS }
-        ensures { IsTrue result → IsNeededThen (moves_in moves.now) self.now.needs train place section }
+        ensures { IsTrue result → IsNeededThen (moves_in moves.now) self.now.needs count train place section }
     {
-        self.needs.count(section) != 2 || moves.needs_after(train, place, section)
+        self.needs.count(section) != count || moves.needs_after(train, place, section)
     }
 
     /// Whether the train is inside and can go on to at least so many places while all others stand.
@@ -809,121 +824,121 @@ impl Worksheet {
         ensures kept { KeepsOtherLevels level self.old.stops self.new.stops }
         ensures rest { self.new ≡ record self.old { stops = self.new.stops } }
     {
-        self.keep_stops(inside, above, level, train);
         let place = self.places.position(train);
-        for made in from..place {
-            self.free_needers(moves, inside, moves.need(train, made + 1), level, train);
-        }
-    }
-
-    /// Notes for the one level what was noted for the other of trains that are still stopped, but for
-    /// this train.
-    fn keep_stops(&mut self, inside: &[TrainNo], above: u8, level: u8, train: TrainNo)
-        requires { (u : ℕ) → IsTrue (is_in u inside.now) → u < TRAINS }
-        ensures held { (u x : ℕ) → IsTrue (is_in u inside.now) → stop_at self.new.stops level u ≡ Some x
-            → StillStops self.old.places.owners self.old.stops above u train x }
-        ensures kept { KeepsOtherLevels level self.old.stops self.new.stops }
-        ensures rest { self.new ≡ record self.old { stops = self.new.stops } }
-    {
+        let fell = !self.leaves_none_alone(moves, train, from, place, 1);
         for other in inside {
-            self.keep_stop(above, level, *other, train);
+            self.settle_train(moves, *other, above, level, train, from, fell);
         }
     }
 
-    /// The same of one train.
-    fn keep_stop(&mut self, above: u8, level: u8, train: TrainNo, moved: TrainNo)
-        requires { train < TRAINS }
-        ensures held { (x : ℕ) → stop_at self.new.stops level train ≡ Some x
-            → StillStops self.old.places.owners self.old.stops above train moved x }
-        ensures others { KeepsOtherStops level train self.old.stops self.new.stops }
+    /// Notes for the one level what stops this train still of what was noted for the other level, after another
+    /// train went on from the place. It is told whether a section that was needed on that way may be left to one
+    /// train alone.
+    fn settle_train(
+        &mut self,
+        moves: &Moves,
+        stopped: TrainNo,
+        above: u8,
+        level: u8,
+        train: TrainNo,
+        from: u16,
+        fell: bool,
+    )
+        requires ready { IsReady moves.now self.old }
+        requires stopped { stopped < length moves.now }
+        requires train { train < length moves.now }
+        requires fell { fell ≡ false → LeavesNoneAlone (moves_in moves.now) self.old.needs 1 train from (place_of self.old.places.positions train) }
+        ensures held { (x : ℕ) → stop_at self.new.stops level stopped ≡ Some x
+            → StillStops self.old.places.owners self.old.stops above stopped train x
+            × StaysUnsafe (moves_in moves.now) self.old.places.positions self.old.needs train from stopped x }
+        ensures others { KeepsOtherStops level stopped self.old.stops self.new.stops }
         ensures rest { self.new ≡ record self.old { stops = self.new.stops } }
     {
-        let stop = self.still_stops(above, train, moved);
-        self.stops.set(level, train, stop);
+        let stop = self.still_stops(moves, stopped, above, train, from, fell);
+        self.stops.set(level, stopped, stop);
     }
 
-    /// What was noted of the train, if it is another than the one that moved and the section is held.
-    fn still_stops(&self, above: u8, train: TrainNo, moved: TrainNo) -> Option<SectionNo>
-        requires { train < TRAINS }
-        ensures { IfSome result (λ x. StillStops self.now.places.owners self.now.stops above train moved x) }
+    /// What was noted of the train, if it is inside, another than the one that went on, the section is held, and it
+    /// got no safe leg: it is stopped at its next move, or none of the sections on that way is left to it alone.
+    fn still_stops(
+        &self,
+        moves: &Moves,
+        stopped: TrainNo,
+        above: u8,
+        train: TrainNo,
+        from: u16,
+        fell: bool,
+    ) -> Option<SectionNo>
+        requires ready { IsReady moves.now self.now }
+        requires stopped { stopped < length moves.now }
+        requires train { train < length moves.now }
+        requires fell { fell ≡ false → LeavesNoneAlone (moves_in moves.now) self.now.needs 1 train from (place_of self.now.places.positions train) }
+        ensures held { IfSome result (λ x. StillStops self.now.places.owners self.now.stops above stopped train x) }
+        ensures untouched { IfSome result (λ x.
+            StaysUnsafe (moves_in moves.now) self.now.places.positions self.now.needs train from stopped x) }
     {
-        let section = self.stops.get(above, train)?;
-        if train == moved || self.places.holder(section).is_none() {
+        let section = self.stops.get(above, stopped)?;
+        if stopped == train || self.places.holder(section).is_none() {
+            return None;
+        }
+        let place = self.places.position(stopped);
+        if place >= moves.places(stopped) {
+            return None;
+        }
+        if !fell {
+            return Some(section);
+        }
+        if moves.needs(stopped, place + 1, section) {
+            return Some(section);
+        }
+        if self.is_left_alone(moves, stopped, train, from) {
             return None;
         }
         Some(section)
     }
 
-    /// Where the train needs one of the sections no more, and one train alone does, notes nothing of
-    /// what stops that one.
-    fn free_needers(
-        &mut self,
-        moves: &Moves,
-        inside: &[TrainNo],
-        sections: &[SectionNo],
-        level: u8,
-        train: TrainNo,
-    )
-        requires made { IsMadeFor moves.now self.old.places }
-        requires listed { (u : ℕ) → IsTrue (is_in u inside.now) → u < length moves.now }
+    /// Whether a section that the train needed since this place is needed by the other one alone.
+    fn is_left_alone(&self, moves: &Moves, other: TrainNo, train: TrainNo, from: u16) -> bool
+        requires ready { IsReady moves.now self.now }
+        requires other { other < length moves.now }
+        requires train { train < length moves.now }
+        ensures { result ≡ false → (i y : ℕ) → from ≤ i → i < place_of self.now.places.positions train
+            → IsTrue (is_in y ((moves_in moves.now).claim train i)) → count_of self.now.needs y ≡ 1
+            → needs_left (moves_in moves.now) other (place_of self.now.places.positions other) y ≡ false }
+    {
+        for made in from..self.places.position(train) {
+            if self.is_alone_in(moves, moves.need(train, made + 1), other) {
+                return true;
+            }
+        }
+        false
+    }
+
+    /// Whether one of the sections is needed by the train alone.
+    fn is_alone_in(&self, moves: &Moves, sections: &[SectionNo], train: TrainNo) -> bool
+        requires made { IsMadeFor moves.now self.now.places }
         requires train { train < length moves.now }
         requires in_range { (x : ℕ) → IsTrue (is_in x sections.now) → x < SECTIONS }
-        ensures freed { (x u y : ℕ) → IsTrue (is_in x sections.now)
-            → needs_left (moves_in moves.now) train (place_of self.old.places.positions train) x ≡ false
-            → count_of self.old.needs x ≡ 1 → IsTrue (is_in u inside.now) → stop_at self.new.stops level u ≡ Some y
-            → needs_left (moves_in moves.now) u (place_of self.old.places.positions u) x ≡ false }
-        ensures fewer { AddsNoStops level self.old.stops self.new.stops }
-        ensures kept { KeepsOtherLevels level self.old.stops self.new.stops }
-        ensures rest { self.new ≡ record self.old { stops = self.new.stops } }
+        ensures { result ≡ false → (y : ℕ) → IsTrue (is_in y sections.now) → count_of self.now.needs y ≡ 1
+            → needs_left (moves_in moves.now) train (place_of self.now.places.positions train) y ≡ false }
     {
         for section in sections {
-            self.free_needer(moves, inside, *section, level, train);
+            if self.is_alone(moves, *section, train) {
+                return true;
+            }
         }
+        false
     }
 
-    /// The same of one section.
-    fn free_needer(
-        &mut self,
-        moves: &Moves,
-        inside: &[TrainNo],
-        section: SectionNo,
-        level: u8,
-        train: TrainNo,
-    )
-        requires made { IsMadeFor moves.now self.old.places }
-        requires listed { (u : ℕ) → IsTrue (is_in u inside.now) → u < length moves.now }
+    /// Whether the section is needed by the train alone.
+    fn is_alone(&self, moves: &Moves, section: SectionNo, train: TrainNo) -> bool
+        requires made { IsMadeFor moves.now self.now.places }
         requires train { train < length moves.now }
         requires section { section < SECTIONS }
-        ensures freed { needs_left (moves_in moves.now) train (place_of self.old.places.positions train) section ≡ false
-            → count_of self.old.needs section ≡ 1 → (u y : ℕ) → IsTrue (is_in u inside.now)
-            → stop_at self.new.stops level u ≡ Some y
-            → needs_left (moves_in moves.now) u (place_of self.old.places.positions u) section ≡ false }
-        ensures fewer { AddsNoStops level self.old.stops self.new.stops }
-        ensures kept { KeepsOtherLevels level self.old.stops self.new.stops }
-        ensures rest { self.new ≡ record self.old { stops = self.new.stops } }
+        ensures { result ≡ false → count_of self.now.needs section ≡ 1
+            → needs_left (moves_in moves.now) train (place_of self.now.places.positions train) section ≡ false }
     {
-        if !self.needs.is_for_one(section) || self.needs_left(moves, train, section) {
-            return;
-        }
-        for other in inside {
-            self.forget_needer(moves, *other, section, level);
-        }
-    }
-
-    /// Notes nothing of what stops the train, if it needs the section.
-    fn forget_needer(&mut self, moves: &Moves, train: TrainNo, section: SectionNo, level: u8)
-        requires made { IsMadeFor moves.now self.old.places }
-        requires train { train < length moves.now }
-        requires section { section < SECTIONS }
-        ensures freed { (y : ℕ) → stop_at self.new.stops level train ≡ Some y
-            → needs_left (moves_in moves.now) train (place_of self.old.places.positions train) section ≡ false }
-        ensures fewer { AddsNoStops level self.old.stops self.new.stops }
-        ensures kept { KeepsOtherLevels level self.old.stops self.new.stops }
-        ensures rest { self.new ≡ record self.old { stops = self.new.stops } }
-    {
-        if self.needs_left(moves, train, section) {
-            self.stops.set(level, train, None);
-        }
+        self.needs.count(section) == 1 && self.needs_left(moves, train, section)
     }
 
     /// The train has entered, and needs the section for a move that it has left.

@@ -182,14 +182,6 @@ impl Needs {
         self.trains[usize::from(section.0)]
     }
 
-    /// Whether one train alone needs the section.
-    pub fn is_for_one(&self, section: SectionNo) -> bool
-        requires { section < SECTIONS }
-        ensures { result ≡ (count_of self.now section == 1) }
-    {
-        self.trains[usize::from(section.0)] == 1
-    }
-
     /// No other train than this one, which stands at the place, needs any of the sections.
     pub fn are_own(&self, moves: &Moves, train: TrainNo, place: u16, sections: &[SectionNo]) -> bool
         requires train { train < length moves.now }

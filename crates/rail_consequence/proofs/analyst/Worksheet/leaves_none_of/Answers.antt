@@ -11,7 +11,7 @@ leaves_no_one-requires-clause-section c = c.requires.in_range c.section-item.res
 pub loop-section-preserved : goal.loop-section-preserved
 loop-section-preserved c = λ x found.
     let plan : Moves = moves_in c.args.moves.now in
-    let P : ℕ → Type 0 = λ y. IsNeededThen plan c.args.self.now.needs c.args.train c.args.place y in
+    let P : ℕ → Type 0 = λ y. IsNeededThen plan c.args.self.now.needs c.args.count c.args.train c.args.place y in
     ⊎_elim
     (λ earlier. c.loop-section.invariant x earlier)
     (λ same. subst P same (c.leaves_no_one.ensures c.if-not-leaves_no_one.false))
