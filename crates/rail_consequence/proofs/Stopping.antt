@@ -11,7 +11,7 @@ use Rattle.rail_rules.proofs.CallerLemmas.{any_below_at, any_below_none, list_an
 use Rattle.rail_place.specs.Tables.{moves_in, MoveLists}
 use Rattle.rail_place.specs.Made.{State, IsMadeFor}
 use Rattle.rail_place.proofs.CallerLemmas.{holder_listed, state_apart, move_valid}
-use Rattle.rail_consequence.specs.Needs.{IsCounted, count_of, needs_from, needs_left, one_if}
+use Rattle.rail_consequence.specs.Needs.{IsCounted, needs_from, needs_left, one_if}
 use Rattle.rail_consequence.specs.Freeing.{LeavesNoneAlone}
 use Rattle.rail_consequence.specs.Stops.{IsHeldByOther, IsStopped, StaysUnsafe}
 use Rattle.rail_consequence.proofs.Legs.{goes_parts, leg_from, inside_parts, inside_from, inside_listed, IsClear}

@@ -533,11 +533,8 @@ impl Worksheet {
         ensures { IsTrue result
             → StaysHeld (moves_in moves.now) self.now.places.positions self.now.stops level train place stopped }
     {
-        if stopped == train || !stands_inside(moves, &self.places, stopped) {
-            return true;
-        }
         let Some(section) = self.stops.get(level, stopped) else {
-            return false;
+            return stopped == train || !stands_inside(moves, &self.places, stopped);
         };
         self.is_held_by_other(train, section) || stands_on(moves, train, place, section)
     }
@@ -858,8 +855,8 @@ impl Worksheet {
         self.stops.set(level, stopped, stop);
     }
 
-    /// What was noted of the train, if it is inside, another than the one that went on, the section is held, and it
-    /// got no safe leg: it is stopped at its next move, or none of the sections on that way is left to it alone.
+    /// What was noted of the train, if it is another than the one that went on, the section is held, and it got
+    /// no safe leg: it is stopped at its next move, or none of the sections on that way is left to it alone.
     fn still_stops(
         &self,
         moves: &Moves,
@@ -881,12 +878,12 @@ impl Worksheet {
         if stopped == train || self.places.holder(section).is_none() {
             return None;
         }
+        if !fell {
+            return Some(section);
+        }
         let place = self.places.position(stopped);
         if place >= moves.places(stopped) {
             return None;
-        }
-        if !fell {
-            return Some(section);
         }
         if moves.needs(stopped, place + 1, section) {
             return Some(section);

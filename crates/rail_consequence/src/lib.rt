@@ -3,12 +3,13 @@
 //!
 //! This layer stands on `rail_place` for places and legal moves, and on `rail_rules` for what a leg is,
 //! when it is safe, and what can be found. The analyst makes legs on places of its own, filled from
-//! those handed in: it makes safe legs as long as there is one, which loses nothing, and only then
-//! tries each free leg, going back on those that do not help. For each section it counts how many trains
-//! need it for moves that they have left, which tells whether a leg is safe; and it notes which section
-//! stops each train, so that a train is looked at again only where that may have changed. Two looks spare
-//! it most free legs: where nothing is found with a train out of the way, none of its legs helps; and a last
-//! free leg helps only where it frees another train, which notes and counts tell before it is made.
+//! those handed in: it makes safe legs as long as there is one, each to the last safe place on its way,
+//! which loses nothing, and only then tries each free leg, going back on those that do not help. For each
+//! section it counts how many trains need it for moves that they have left, which tells whether a leg is
+//! safe; and it notes which section stops each train, so that a train is looked at again only where that
+//! may have changed. Two looks spare it most free legs: where nothing is found with a train out of the
+//! way, none of its legs helps; and a last free leg helps only where it frees another train, which notes
+//! and counts tell before it is made.
 //!
 //! An analyst belongs to the moves for which it was made. The counts are kept from one search to the
 //! next, and brought to the new places train by train where the place differs.

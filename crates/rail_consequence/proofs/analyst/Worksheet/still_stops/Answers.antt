@@ -1,5 +1,3 @@
-use Rattle.std.proofs.Common.{◌≡◌, ◌<◌, true, false, sym, ◌∙◌, arith}
-use Rattle.rail_rules.specs.Moves.{Moves}
 use Rattle.rail_place.specs.Tables.{moves_in}
 use Rattle.rail_consequence.proofs.Stopping.{untouched}
 use Rattle.rail_consequence.proofs.analyst.Worksheet.still_stops.Goals as goal
