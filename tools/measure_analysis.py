@@ -3,14 +3,18 @@
 usage: measure_analysis.py REPOSITORY FOLDER RT [SCENE ..]
 
 Makes in FOLDER, which lies outside the repository, a program that reads the moves of trains and calls
-`find`, has RT prove and build it, and runs it under `valgrind --tool=callgrind`. The figure of one call
-is the count of a run with eleven calls less that of a run with one, by ten.
+`find`, has RT prove and build it, and runs it under `valgrind --tool=callgrind`. As in a run, `find` is
+called after a move: it was called before at the places from which one train made it. The figure of the call
+is the count of a run with both calls less that of a run with the one before alone.
 
 First a line of 31 stations with two tracks each, where 12, 23, 46 and 93 eastbound trains stand evenly
-spread over the 93 places that it has, numbered from the east and from the west, at depth 1. Then for
-each SCENE (a scene file) all its trains at their first places, at depth 0, 1 and 2.
+spread over the 93 places that it has, numbered from the east and from the west, at depth 1. Then the same
+line with 128 trains numbered from the east, of which 5, 10, 30 and 60 stand on it so and the others are
+outside, at depth 0 and 1. Then for each SCENE (a scene file) all its trains at their first places, at
+depth 0, 1 and 2.
 """
 
+import itertools
 import math
 import pathlib
 import re
@@ -21,11 +25,11 @@ import tomllib
 
 LIBRARIES = ("rail_base", "rail_rules", "rail_place", "rail_consequence")
 
-# The checks of moves and places that the tests of the analysis have, with their proofs.
-HELPERS = ("share_one", "stands_in", "move_is_valid", "all_in", "row_is_valid", "row_is_small", "all_small",
-           "places_at", "all_within", "sections")
+# The checks of moves and places that the tests have, with their proofs.
+HELPERS = ("push_rows", "share_one", "stands_in", "move_is_valid", "all_in", "row_is_valid", "row_is_small", "all_small",
+           "all_within")
 
-MAIN = """//! Reads rows of numbers, and looks so often for a list from the places that they tell.
+MAIN = """//! Reads rows of numbers, and looks for a list from the places that they tell, before a move and after it.
 #![tactic(auto)]
 
 mod plant;
@@ -37,6 +41,8 @@ use std::alloc::Global;
 use std::test::Fail;
 
 ghost use Rattle.rail_place.specs.Made.{IsMadeFor};
+ghost use Rattle.rail_place.specs.Tables.{moves_in};
+ghost use Rattle.rail_consequence.specs.Needs.{IsAnalystFor};
 
 fn numbers(alloc: Global, line: &str) -> Result<Vec<u16>, Fail> {
     let mut found = Vec::new(alloc);
@@ -46,28 +52,32 @@ fn numbers(alloc: Global, line: &str) -> Result<Vec<u16>, Fail> {
     Ok(found)
 }
 
-fn look(analyst: &mut Analyst, moves: &Moves, places: &Places, depth: u8, often: u16) -> Option<usize>
-    requires { IsMadeFor moves.now places.now }
+/// Whether a list is found from the places.
+fn is_found(analyst: &mut Analyst, moves: &Moves, places: &Places, depth: u8) -> bool
+    requires made { IsMadeFor moves.now places.now }
+    requires own { IsAnalystFor (moves_in moves.now) analyst.old }
+    ensures own { IsAnalystFor (moves_in moves.now) analyst.new }
 {
-    let mut found = None;
-    for _ in 0..often {
-        found = analyst.find(moves, places, depth).map(|list| list.len());
-    }
-    found
+    analyst.find(moves, places, depth).is_some()
 }
 
-fn answer(alloc: Global, rows: &[Vec<u16>]) -> Result<Option<usize>, Fail> {
+fn answer(alloc: Global, rows: &[Vec<u16>]) -> Result<bool, Fail> {
     let Some((head, rest)) = rows.split_first() else {
         return Err(Fail::from("no rows"));
     };
-    let (Some(depth), Some(often)) = (head.get(0), head.get(1)) else {
+    let (Some(depth), Some(calls)) = (head.get(0), head.get(1)) else {
         return Err(Fail::from("no depth"));
     };
     let depth = u8::try_from(*depth).ok().ok_or("depth")?;
-    let Plan { moves, positions } = plan_of(alloc, rest)?;
-    let places = places_at(alloc, &moves, positions.as_slice())?;
+    let Plan { moves, before, now } = plan_of(alloc, rest)?;
+    let before = places_at(alloc, &moves, before.as_slice())?;
+    let now = places_at(alloc, &moves, now.as_slice())?;
     let mut analyst = Analyst::new(alloc, &moves)?;
-    Ok(look(&mut analyst, &moves, &places, depth, *often))
+    let found = is_found(&mut analyst, &moves, &before, depth);
+    if *calls == 1 {
+        return Ok(found);
+    }
+    Ok(is_found(&mut analyst, &moves, &now, depth))
 }
 
 fn main(rt: HostRuntime) -> Result<(), Fail> {
@@ -75,20 +85,18 @@ fn main(rt: HostRuntime) -> Result<(), Fail> {
     for line in rt.lines(rt.alloc()) {
         rows.push(numbers(rt.alloc(), line?.as_str())?)?;
     }
-    match answer(rt.alloc(), rows.as_slice())? {
-        Some(moves) => println!(rt; "{moves}")?,
-        None => println!(rt; "none")?,
-    }
+    let found = answer(rt.alloc(), rows.as_slice())?;
+    println!(rt; "{}", if found { "some" } else { "none" })?;
     Ok(())
 }
 """
 
-PLANT_HEAD = """ghost use Rattle.std.specs.Prelude.{◌≡◌, ℕ, ◌+◌, ◌<◌, ◌≤◌, ◌∷◌, [], List, length, get_or, IsTrue, IfOk};
+PLANT_HEAD = """ghost use Rattle.std.specs.Prelude.{◌≡◌, ℕ, ◌+◌, ◌<◌, ◌≤◌, ◌∷◌, [], length, get_or, IsTrue, IfOk};
 ghost use Rattle.std.specs.List.{list_all, list_any};
 ghost use Rattle.rail_rules.specs.Moves.{is_valid, is_valid_move};
 ghost use Rattle.rail_rules.specs.Numbers.{is_in};
 ghost use Rattle.rail_place.specs.Made.{IsMadeFor};
-ghost use Rattle.rail_place.specs.Tables.{moves_in};
+ghost use Rattle.rail_place.specs.Tables.{moves_in, lists_of};
 
 use rail_base::limits::{ITINERARY_ROUTES, ROUTE_SECTIONS, SECTIONS, TRAINS};
 use rail_base::{SectionNo, Seq, TrainNo};
@@ -96,15 +104,34 @@ use rail_place::{Moves, Places, PlacesFault};
 use std::alloc::{AllocError, Global};
 use std::test::Fail;
 
-/// The moves of the trains, and how many each has made.
+/// The moves of the trains, and how many each has made before the last move and now.
 pub struct Plan {
     pub moves: Moves,
-    pub positions: Vec<u16>,
+    pub before: Vec<u16>,
+    pub now: Vec<u16>,
 }
 
 """
 
 PLANT_TAIL = """
+/// The places with the trains there.
+pub fn places_at(alloc: Global, moves: &Moves, positions: &[u16]) -> Result<Places, PlacesFault>
+    ensures { IfOk result (IsMadeFor moves.now) }
+{
+    if positions.len() != usize::from(moves.trains()) || !all_within(moves, positions) {
+        return Err(PlacesFault::OutOfMemory);
+    }
+    Places::new(alloc, moves, positions)
+}
+
+fn sections(alloc: Global, numbers: &[u16]) -> Result<Seq<SectionNo>, AllocError> {
+    let mut sections = Vec::new(alloc);
+    for number in numbers {
+        sections.push(SectionNo(*number))?;
+    }
+    Ok(Seq::from_vec(sections))
+}
+
 /// The sections of the rows that begin with this number.
 fn rows_of(alloc: Global, rows: &[Vec<u16>], kind: u16) -> Result<Vec<Seq<SectionNo>>, AllocError> {
     let mut found = Vec::new(alloc);
@@ -123,27 +150,28 @@ fn rows_of(alloc: Global, rows: &[Vec<u16>], kind: u16) -> Result<Vec<Seq<Sectio
 fn push(alloc: Global, moves: &mut Moves, rows: &[Vec<u16>]) -> Result<(), Fail> {
     let need = rows_of(alloc, rows, 1)?;
     let stand = rows_of(alloc, rows, 2)?;
-    let fits = usize::from(moves.trains()) < TRAINS && need.len() <= ITINERARY_ROUTES;
-    if !fits || !row_is_small(&need) || !row_is_valid(&need, &stand) {
+    if !push_rows(alloc, moves, need, stand) {
         return Err(Fail::from("no valid moves"));
     }
-    moves.push_train(alloc, need, stand)?;
     Ok(())
 }
 
-/// The trains of the rows; a row that begins with 0 begins a train, and tells how many moves it made.
+/// The trains of the rows; a row that begins with 0 begins a train, and tells how many moves it has made
+/// before the last move and now.
 pub fn plan_of(alloc: Global, rows: &[Vec<u16>]) -> Result<Plan, Fail> {
     let mut moves = Moves::new(alloc);
-    let mut positions = Vec::new(alloc);
+    let mut before = Vec::new(alloc);
+    let mut now = Vec::new(alloc);
     let mut from = 0;
     for to in 1..rows.len() + 1 {
         if to == rows.len() || rows[to].first() == Some(&0) {
-            positions.push(*rows[from].get(1).ok_or("no place")?)?;
+            before.push(*rows[from].get(1).ok_or("no place")?)?;
+            now.push(*rows[from].get(2).ok_or("no place")?)?;
             push(alloc, &mut moves, &rows[from..to])?;
             from = to;
         }
     }
-    Ok(Plan { moves, positions })
+    Ok(Plan { moves, before, now })
 }
 """
 
@@ -160,42 +188,38 @@ def helper(source, name):
     begin = source.index(f"fn {name}(")
     while source[:begin].rstrip("\n").rsplit("\n", 1)[-1].startswith("///"):
         begin = source[:begin].rstrip("\n").rfind("\n") + 1
-    text = source[begin:source.index("\n}\n", begin) + 3]
-    return text.replace("fn places_at", "pub fn places_at")
+    return source[begin:source.index("\n}\n", begin) + 3]
+
+
+def write(path, text):
+    path.parent.mkdir(parents=True, exist_ok=True)
+    path.write_text(text)
 
 
 def make_program(repository, folder):
-    """Copies the libraries without their tests, and writes the crate of the program."""
+    """Copies the libraries, built where they are so there, and writes the crate of the program."""
     crates = folder / "crates"
     shutil.rmtree(crates, ignore_errors=True)
+    for name, part in itertools.product(LIBRARIES, ("src", "specs", "proofs", "out/rlib")):
+        if (repository / "crates" / name / part).is_dir():
+            shutil.copytree(repository / "crates" / name / part, crates / name / part)
     lines = (repository / "crates.txt").read_text().splitlines()
     listed = [line for line in lines if line.split(":")[0] in LIBRARIES]
-    (folder / "crates.txt").parent.mkdir(parents=True, exist_ok=True)
-    for name in LIBRARIES:
-        shutil.copytree(repository / "crates" / name, crates / name, ignore=shutil.ignore_patterns("out", "must-fail", "tests.rt", "tests"))
-        root = crates / name / "src/lib.rt"
-        root.write_text(root.read_text().replace("#[cfg(test)]\nmod tests;\n", ""))
-    listed.append("find_bench: rail_consequence rail_place rail_rules rail_base")
-    (folder / "crates.txt").write_text("\n".join(listed) + "\n")
-    bench = crates / "find_bench"
-    (bench / "src").mkdir(parents=True)
-    tests = repository / "crates/rail_consequence"
-    source = (tests / "src/tests.rt").read_text()
-    (bench / "src/main.rt").write_text(MAIN)
-    (bench / "src/plant.rt").write_text(PLANT_HEAD + "\n".join(helper(source, name) for name in HELPERS) + PLANT_TAIL)
+    write(folder / "crates.txt", "\n".join(listed + ["find_bench: " + " ".join(reversed(LIBRARIES))]) + "\n")
+    bench, tests = crates / "find_bench", repository / "crates/rail_unit_tests"
+    source = (tests / "src/plants.rt").read_text()
+    write(bench / "src/main.rt", MAIN)
+    write(bench / "src/plant.rt", PLANT_HEAD + "\n".join(helper(source, name) for name in HELPERS) + PLANT_TAIL)
     for name in HELPERS:
-        for path in sorted((tests / "proofs/tests" / name).glob("*.antt")):
-            to = bench / "proofs/plant" / name / path.name
-            to.parent.mkdir(parents=True, exist_ok=True)
-            to.write_text(path.read_text().replace("Rattle.rail_consequence.proofs.tests.", "Rattle.find_bench.proofs.plant."))
-    invariant = bench / "proofs/plant/plan_of/Invariants.antt"
-    invariant.parent.mkdir(parents=True)
-    invariant.write_text(PLAN_INVARIANT)
+        for path in sorted((tests / "proofs/plants" / name).glob("*.antt")):
+            proof = path.read_text().replace("Rattle.rail_unit_tests.proofs.plants.", "Rattle.find_bench.proofs.plant.")
+            write(bench / "proofs/plant" / name / path.name, proof)
+    write(bench / "proofs/plant/plan_of/Invariants.antt", PLAN_INVARIANT)
     return bench
 
 
-def line_plan(stations, count, from_east):
-    """Eastbound trains evenly spread over the line: for each its place, its needs and standing sets."""
+def line_plan(stations, inside, outside, from_east):
+    """Eastbound trains evenly spread over the line, and outside: for each its place, its needs and standing sets."""
     number = {}
 
     def section(name):
@@ -204,13 +228,14 @@ def line_plan(stations, count, from_east):
     spots = [("X", 0)]
     for k in range(1, stations + 1):
         spots += [("A", k), ("B", k)] + ([("X", k)] if k < stations else [])
-    chosen = [spots[(2 * i + 1) * len(spots) // (2 * count)] for i in range(count)]
+    chosen = [spots[(2 * i + 1) * len(spots) // (2 * inside)] for i in range(inside)]
     if from_east:
         chosen.reverse()
+    chosen += [("O", k) for k in range(outside)]
     trains = []
     for letter, k in chosen:
         track = letter if letter in "AB" else "AB"[k % 2]
-        need, stand, place = [["X0"]], [["X0"]], 1
+        need, stand, place = [["X0"]], [["X0"]], 0 if letter == "O" else 1
         for j in range(1, stations + 1):
             for row, end in (([f"P{j}", f"{track}{j}"], (track, j)), ([f"Q{j}", f"X{j}"], ("X", j))):
                 need.append(row)
@@ -241,25 +266,38 @@ def scene_plan(path):
     return trains
 
 
-def rows(trains, depth, often):
-    lines = [f"{depth} {often}"]
-    for place, need, stand in trains:
-        lines.append(f"0 {place}")
+def a_move_before(trains):
+    """The places before a move of the train that has the most left of those that can have made the last one."""
+    holder = {x: t for t, (place, _, stand) in enumerate(trains) if place for x in (stand + [[]])[place - 1]}
+
+    def are_free(t, sections):
+        return all(holder.get(x, t) == t for x in sections)
+
+    left = {t: len(need) - place for t, (place, need, stand) in enumerate(trains)
+            if place and are_free(t, need[place - 1]) and are_free(t, ([[]] + stand)[place - 1])}
+    last = max(left, key=left.get)
+    return [place - (t == last) for t, (place, _, _) in enumerate(trains)]
+
+
+def rows(trains, depth, calls):
+    lines = [f"{depth} {calls}"]
+    for (place, need, stand), before in zip(trains, a_move_before(trains)):
+        lines.append(f"0 {before} {place}")
         lines += [" ".join(map(str, [1] + row)) for row in need]
         lines += [" ".join(map(str, [2] + row)) for row in stand]
     return "\n".join(lines) + "\n"
 
 
-def count(program, trains, depth, often):
+def count(program, trains, depth, calls):
     run = subprocess.run(["valgrind", "--tool=callgrind", "--callgrind-out-file=/dev/null", program],
-                         input=rows(trains, depth, often), capture_output=True, text=True, check=True)
+                         input=rows(trains, depth, calls), capture_output=True, text=True, check=True)
     return int(re.search(r"Collected : (\d+)", run.stderr).group(1)), run.stdout.strip()
 
 
-def one_find(program, trains, depth, more=10):
-    first, _ = count(program, trains, depth, 1)
-    last, found = count(program, trains, depth, 1 + more)
-    return (last - first) / more, found
+def one_find(program, trains, depth):
+    before, _ = count(program, trains, depth, 1)
+    both, found = count(program, trains, depth, 2)
+    return both - before, found
 
 
 def moves_left(trains):
@@ -269,25 +307,30 @@ def moves_left(trains):
 def main():
     repository, folder, rt, *scenes = sys.argv[1:]
     bench = make_program(pathlib.Path(repository).resolve(), pathlib.Path(folder).resolve())
-    first = rows(line_plan(31, 12, True), 0, 1)
+    first = rows(line_plan(31, 12, 0, True), 0, 2)
     subprocess.run([rt, "run"], cwd=bench, input=first, text=True, stdout=subprocess.DEVNULL, check=True)
     program = str(bench / "out/find_bench")
     print("| Numbered from | Trains | Moves left | Instructions | A move | Exponent |\n|---|---|---|---|---|---|")
     for side in ("east", "west"):
         before = None
         for number in (12, 23, 46, 93):
-            trains = line_plan(31, number, side == "east")
+            trains = line_plan(31, number, 0, side == "east")
             cost, _ = one_find(program, trains, 1)
             left = moves_left(trains)
             grown = f"{math.log(cost / before[0]) / math.log(left / before[1]):.2f}" if before else ""
             print(f"| {side} | {number} | {left:,} | {cost:,.0f} | {cost / left:,.0f} | {grown} |", flush=True)
             before = (cost, left)
+    print("\n| Inside | Depth 0 | Depth 1 |\n|---|---|---|")
+    for number in (5, 10, 30, 60):
+        trains = line_plan(31, number, 128 - number, True)
+        costs = [one_find(program, trains, depth)[0] for depth in (0, 1)]
+        print(f"| {number} | {costs[0]:,.0f} | {costs[1]:,.0f} |", flush=True)
     if scenes:
         print("\n| Scene | Trains | Moves left | Depth | List | Instructions |\n|---|---|---|---|---|---|")
     for scene in scenes:
         trains = scene_plan(pathlib.Path(scene))
         for depth in (0, 1, 2):
-            cost, found = one_find(program, trains, depth, 1 if depth == 2 else 10)
+            cost, found = one_find(program, trains, depth)
             print(f"| {pathlib.Path(scene).stem} | {len(trains)} | {moves_left(trains):,} | {depth} | {found} | {cost:,.0f} |", flush=True)
 
 
