@@ -683,7 +683,7 @@ impl Worksheet {
         moved
     }
 
-    /// Makes the shortest safe leg of the train; or notes what stops it, where it has none. A train is
+    /// Makes the farthest safe leg of the train; or notes what stops it, where it has none. A train is
     /// not looked at again as long as what stopped it does.
     fn make_safe_leg(
         &mut self,
