@@ -77,9 +77,9 @@ left_next next kept chains spare slot k shows front item (b ∷ back) after soun
     rw first (omega (arith, here, there))
 
 -- and so is a slot itself, where the one after it was taken out
-left_without : {T : Type 0} → (next after : List (Option ℕ)) (kept : List (Option T)) (chains spare more slot k : ℕ) (shows : List (List (ℕ × T))) (front : List (ℕ × T)) (item : T) (back : List (ℕ × T)) → IsSound next kept chains spare → map (held kept) (lists_of next 1 chains) ≡ shows → StandsAt shows slot k front item back
-    → Used after kept chains more (set shows k (front ++ (slot, item) ∷ behind_first back)) → left_from (map (held kept) (lists_of after 1 chains)) slot ≡ suc (length (behind_first back))
-left_without next after kept chains spare more slot k shows front item back sound is stands used =
+left_without : {T : Type 0} → (next after : List (Option ℕ)) (kept : List (Option T)) (chains spare more all slot k : ℕ) (shows : List (List (ℕ × T))) (front : List (ℕ × T)) (item : T) (back : List (ℕ × T)) → IsSound next kept chains spare → map (held kept) (lists_of next 1 chains) ≡ shows → StandsAt shows slot k front item back
+    → Used after kept chains more all (set shows k (front ++ (slot, item) ∷ behind_first back)) → left_from (map (held kept) (lists_of after 1 chains)) slot ≡ suc (length (behind_first back))
+left_without next after kept chains spare more all slot k shows front item back sound is stands used =
     let list : List (ℕ × _) = front ++ (slot, item) ∷ behind_first back in
     let at : StandsAt (set shows k list) slot k front item (behind_first back) = record {
       within = omega (arith, stands.within, length-set shows k list);
@@ -92,10 +92,10 @@ one_fewer None now was back first s some is new old = tt
 one_fewer (Some x) now was [] first s some is new old = absurd (let h : Some s ≡ None = sym some ∙ is in cc)
 one_fewer (Some x) now was (b ∷ back) first s some is new old = omega (arith, new, old)
 
-pub fewer : {T : Type 0} → (next after : List (Option ℕ)) (kept : List (Option T)) (chains spare more slot k s : ℕ) (shows : List (List (ℕ × T))) (front : List (ℕ × T)) (item : T) (back : List (ℕ × T)) (o : Option T) → IsSound next kept chains spare → map (held kept) (lists_of next 1 chains) ≡ shows → StandsAt shows slot k front item back → get_or next slot None ≡ Some s
-    → Used after kept chains more (set shows k (front ++ (slot, item) ∷ behind_first back)) → IfSome o (λ _. left_from (map (held kept) (lists_of after 1 chains)) slot + 1 ≡ left_from shows slot)
-fewer next after kept chains spare more slot k s shows front item back o sound is stands behind used =
+pub fewer : {T : Type 0} → (next after : List (Option ℕ)) (kept : List (Option T)) (chains spare more all slot k s : ℕ) (shows : List (List (ℕ × T))) (front : List (ℕ × T)) (item : T) (back : List (ℕ × T)) (o : Option T) → IsSound next kept chains spare → map (held kept) (lists_of next 1 chains) ≡ shows → StandsAt shows slot k front item back → get_or next slot None ≡ Some s
+    → Used after kept chains more all (set shows k (front ++ (slot, item) ∷ behind_first back)) → IfSome o (λ _. left_from (map (held kept) (lists_of after 1 chains)) slot + 1 ≡ left_from shows slot)
+fewer next after kept chains spare more all slot k s shows front item back o sound is stands behind used =
     let there = standing_of next kept chains spare slot k shows front item back sound is stands in
     one_fewer o _ _ back (get_or next slot None) s behind there.after
-    (left_without next after kept chains spare more slot k shows front item back sound is stands used)
+    (left_without next after kept chains spare more all slot k shows front item back sound is stands used)
     (left_is next kept chains spare slot k shows front item back sound is stands)

@@ -1,8 +1,8 @@
 -- How cells stay linked where one is taken out, and where one is put behind another.
-use Rattle.std.proofs.Common.{◌≡◌, ℕ, zero, suc, ◌+◌, ◌-◌, ◌<◌, ◌≤◌, ◌≢◌, cond, eqb, List, [], ◌∷◌, ◌++◌, length, get_or, set, Option, Some, None, refl, sym, ap, subst, ◌∙◌, ⊎_elim, arith, length-append, replicate}
+use Rattle.std.proofs.Common.{◌≡◌, ℕ, zero, suc, ◌+◌, ◌<◌, ◌≤◌, ◌≢◌, cond, eqb, List, [], ◌∷◌, ◌++◌, length, get_or, set, Option, Some, None, refl, sym, ap, ◌∙◌, ⊎_elim, arith, length-append, replicate}
 use Rattle.std.proofs.lemmas.Bool.{cases_eq, cases_lt, eq-eqb, ne_eqb}
-use Rattle.std.proofs.lemmas.List.{get_or-set_same, get_or-set_other, length-set}
-use Rattle.rail_slots.specs.Links.{alone, IsFilled, lists_of, walk, walks, Links, AllLink, times, total, all_times, cells, IsLinked, taken, put}
+use Rattle.std.proofs.lemmas.List.{get_or-set_same, get_or-set_other, length-set, length_push, length-replicate}
+use Rattle.rail_slots.specs.Links.{lists_of, walk, walks, Links, AllLink, times, total, all_times, cells, IsLinked, taken, put}
 
 -- what a list of links says is what a walk of enough steps gives
 pub walk_is : (n : ℕ) (next : List (Option ℕ)) (at : Option ℕ) (list : List ℕ) → Links next at list → length list ≤ n → walk n next at ≡ list
@@ -190,6 +190,35 @@ linked_with next lists k before p s rest free in_space within is =
       room = omega (arith, same, size, free.space, long_at p before (s ∷ rest), long_at p before rest);
     }
 
+-- a new cell stands nowhere
+longer : (next : List (Option ℕ)) (q : ℕ) → get_or (next ++ None ∷ []) q None ≡ get_or next q None
+longer [] zero = refl
+longer [] (suc q) = refl
+longer (x ∷ next) zero = refl
+longer (x ∷ next) (suc q) = longer next q
+
+longer_links : (next : List (Option ℕ)) (at : Option ℕ) (list : List ℕ) → Links next at list → Links (next ++ None ∷ []) at list
+longer_links next at [] links = links
+longer_links next at (x ∷ rest) links = (links.0, rw (longer next x) (longer_links next (get_or next x None) rest links.1))
+
+all_longer : (next : List (Option ℕ)) (cell : ℕ) (lists : List (List ℕ)) → AllLink next cell lists → AllLink (next ++ None ∷ []) cell lists
+all_longer next cell [] links = tt
+all_longer next cell (list ∷ lists) links = (longer_links next (Some cell) list links.0, all_longer next (suc cell) lists links.1)
+
+pub linked_new : (next : List (Option ℕ)) (lists : List (List ℕ)) → IsLinked next lists → Without (next ++ None ∷ []) lists (length next)
+linked_new next lists linked =
+    let long = length_push next None in
+    record {
+      linked = record {
+        links = all_longer next 0 lists linked.links;
+        once = linked.once;
+        within = λ q most. linked.within q (omega (arith, long, most));
+        room = omega (arith, long, linked.room);
+      };
+      nowhere = linked.within (length next) (omega arith);
+      space = omega (arith, long, linked.room);
+    }
+
 -- what is said of lists that are linked is what the walks give
 pub shown : (next : List (Option ℕ)) (free : List ℕ) (lists : List (List ℕ)) → IsLinked next (free ∷ lists) → (walk (length next) next (Some 0) ≡ free) × (lists_of next 1 (length lists) ≡ lists)
 shown next free lists linked = (
@@ -197,7 +226,11 @@ shown next free lists linked = (
   walks_are (length next) next 1 lists linked.links.1 (omega (arith, linked.room)),
 )
 
--- cells by themselves
+-- so many cells, each a list by itself
+abbrev pub alone : ℕ → ℕ → List (List ℕ)
+alone cell zero = []
+alone cell (suc k) = (cell ∷ []) ∷ alone (suc cell) k
+
 nothing_behind : (n c : ℕ) → get_or (replicate {A = Option ℕ} n None) c None ≡ None
 nothing_behind zero c = refl
 nothing_behind (suc n) zero = refl
@@ -231,38 +264,16 @@ pub alone_long : (cell k : ℕ) → length (alone cell k) ≡ k
 alone_long cell zero = refl
 alone_long cell (suc k) = omega (arith, alone_long (suc cell) k)
 
--- before the first cell is put behind the cell 0
-pub filled_none : (n h : ℕ) → suc h ≤ length (replicate {A = Option ℕ} n None) → IsFilled (replicate n None) h (suc h)
-filled_none n h within =
-    record {
-      rest = [];
-      long = omega arith;
-      linked = record {
-        links = ((refl, nothing_behind n 0), alone_link n 1 h);
-        once = λ q. alone_once q 0 (suc h);
-        within = λ q most. alone_above q 0 (suc h) (omega (arith, within, most));
-        room = omega (arith, within, alone_cells 1 h);
-      };
-      beyond = λ q most. alone_above q 0 (suc h) (omega (arith, most));
-    }
-
-pub filled_start : (next : List (Option ℕ)) (heads : ℕ) → 1 ≤ heads → heads ≤ length next → next ≡ replicate (length next) None → IsFilled next (heads - 1) heads
-filled_start next heads some within is =
-    let e : heads ≡ suc (heads - 1) = omega arith in
-    let start : IsFilled (replicate (length next) None) (heads - 1) (suc (heads - 1)) = filled_none (length next) (heads - 1) (omega (arith, ap length is, some, within)) in
-    subst (λ (l : List (Option ℕ)). IsFilled l (heads - 1) heads) (sym is) (subst (λ (n : ℕ). IsFilled (replicate (length next) None) (heads - 1) n) (sym e) start)
-
 pub put_long : (next : List (Option ℕ)) (cell s : ℕ) → length (put next cell s) ≡ length next
 put_long next cell s = length-set (set next s (get_or next cell None)) cell (Some s) ∙ length-set next s (get_or next cell None)
 
--- and with one more
-pub filled_more : (next : List (Option ℕ)) (h slot : ℕ) → slot < length next → IsFilled next h slot → IsFilled (put next 0 slot) h (suc slot)
-filled_more next h slot within filled =
-    let lists : List (List ℕ) = (0 ∷ filled.rest) ∷ alone 1 h in
-    let before : Without next lists slot = record { linked = filled.linked; nowhere = filled.beyond slot (omega arith); space = omega (arith, filled.long, alone_cells 1 h, within) } in
+-- cells by themselves are linked
+pub alone_linked : (heads : ℕ) → IsLinked (replicate heads None) (alone 0 heads)
+alone_linked heads =
+    let long : length (replicate {A = Option ℕ} heads None) ≡ heads = length-replicate heads None in
     record {
-      rest = slot ∷ filled.rest;
-      long = omega (arith, filled.long);
-      linked = linked_with next lists 0 [] 0 slot filled.rest before within (omega arith) refl;
-      beyond = λ q most. omega (arith, filled.beyond q (omega (arith, most)), none_if slot q (λ same. omega (arith, same, most)));
+      links = alone_link heads 0 heads;
+      once = λ q. alone_once q 0 heads;
+      within = λ q most. alone_above q 0 heads (omega (arith, long, most));
+      room = omega (arith, long, alone_cells 0 heads);
     }

@@ -1,12 +1,12 @@
 -- What callers see of a room of slots: where a chain begins, where a slot stands, and what a change makes of the chains.
 use Rattle.std.proofs.Common.{◌≡◌, ℕ, zero, suc, ◌+◌, ◌-◌, ◌<◌, ◌≤◌, ◌≢◌, List, [], ◌∷◌, ◌++◌, length, get_or, set, map, Option, Some, None, IsSome, MatchOption, refl, sym, ap, subst, take, drop, replicate, append_assoc, ◌∙◌, ⊎_elim, arith}
 use Rattle.std.proofs.lemmas.Bool.{cases_eq, cases_lt}
-use Rattle.std.proofs.lemmas.List.{get_or-set_same, get_or-set_other, length-set, length-map, get_or-map, map-set, length-replicate}
+use Rattle.std.proofs.lemmas.List.{get_or-set_other, length-set, length-map, length_push, get_or-map, map-set, length-replicate}
 use Rattle.std.proofs.Math.Seq.{take-append_seam}
 use Rattle.rail_slots.specs.Slots.{Stands, StandsAt, first_slot, first_item, behind_first}
-use Rattle.rail_slots.specs.Links.{walk, lists_of, alone, IsFilled, held, held_with, Links, times, all_times, cells, IsLinked, IsSound, taken, put}
-use Rattle.rail_slots.proofs.Linked.{at_least, at_place, one_if, in_room, changed, put_long, alone_long, alone_above}
-use Rattle.rail_slots.proofs.Sound.{begins, begins_one, walks_long, held_kept, all_held_kept, Parts, parts_of, seen, used, freed, split, held-append}
+use Rattle.rail_slots.specs.Links.{walk, lists_of, held, held_with, Links, times, all_times, all_cells, cells, IsLinked, IsSound, IsReserved, HasSlot, IsNewSlot, taken, put}
+use Rattle.rail_slots.proofs.Linked.{at_least, at_place, one_if, in_room, changed, put_long, alone, alone_linked, alone_long, alone_above}
+use Rattle.rail_slots.proofs.Sound.{begins, begins_one, walks_long, all_held_same, Parts, parts_of, Seen, seen, Ready, apart, ready_free, old_ones, ready_new, used, freed, split, held-append}
 
 part : (q : ℕ) (lists : List (List ℕ)) (k : ℕ) → k < length lists → times q (get_or lists k []) ≤ all_times q lists
 part q [] k within = absurd (omega (arith, within))
@@ -134,96 +134,102 @@ standing_of next kept chains spare slot k shows front item back sound is stands 
       after = sym (ap first_slot (sym cell.back_is) ∙ first_of next kept (get_or next slot None) cell.rest (links_after next (get_or next (suc k) None) cell.before slot cell.rest links) full);
     }
 
--- where there is room, a slot is free
-pub record Free (next : List (Option ℕ)) (spare : ℕ) : Type 0 where
-  pub slot : ℕ
-  pub rest : List ℕ
-  pub first : get_or next 0 None ≡ Some slot
-  pub is : walk (length next) next (Some 0) ≡ 0 ∷ slot ∷ rest
-  pub room : slot < length next
-
-free_in : (next : List (Option ℕ)) (list rest : List ℕ) → list ≡ 0 ∷ rest → 2 ≤ length list → Links next (get_or next 0 None) rest → (slot : ℕ) × (more : List ℕ) × (get_or next 0 None ≡ Some slot) × (list ≡ 0 ∷ slot ∷ more)
-free_in next list [] is long links = absurd (omega (arith, ap length is, long))
-free_in next list (slot ∷ more) is long links = (slot, more, links.0, is)
-
-pub free_of : {T : Type 0} → (next : List (Option ℕ)) (kept : List (Option T)) (chains spare : ℕ) → IsSound next kept chains spare → 1 ≤ spare → Free next spare
-free_of next kept chains spare sound some =
-    let list : List ℕ = walk (length next) next (Some 0) in
-    let first = begins_one next 0 list sound.linked.links.0 in
-    let found = free_in next list first.rest first.is (omega (arith, sound.free, some)) first.links in
-    record {
-      slot = found.0;
-      rest = found.1;
-      first = found.2;
-      is = found.3;
-      room = in_room next (list ∷ lists_of next 1 chains) 0 (0 ∷ []) found.0 found.1 sound.linked (omega arith) found.3;
-    }
-
 -- what a change of one list changes of what is seen
 view_set : {T : Type 0} → (kept : List (Option T)) (lists : List (List ℕ)) (k : ℕ) (new : List ℕ) (shows : List (List (ℕ × T))) (seen_new : List (ℕ × T)) → map (held kept) lists ≡ shows → held kept new ≡ seen_new → map (held kept) (set lists k new) ≡ set shows k seen_new
 view_set kept lists k new shows seen_new is here = map-set (held kept) lists k new ∙ ap (λ ls. set ls k (held kept new)) is ∙ ap (set shows k) here
 
--- what comes into use
-pub record Used {T : Type 0} (next : List (Option ℕ)) (kept : List (Option T)) (chains spare : ℕ) (shows : List (List (ℕ × T))) : Type 0 where
+-- what a change makes of a room of so many cells in all
+pub record Used {T : Type 0} (next : List (Option ℕ)) (kept : List (Option T)) (chains spare all : ℕ) (shows : List (List (ℕ × T))) : Type 0 where
   pub sound : IsSound next kept chains spare
   pub is : map (held kept) (lists_of next 1 chains) ≡ shows
+  pub all_is : all_cells next spare ≡ all
 
-pub used_view : {T : Type 0} → (next : List (Option ℕ)) (kept : List (Option T)) (chains spare less : ℕ) (shows : List (List (ℕ × T))) (s : ℕ) (item : T) (k : ℕ) (before : List ℕ) (p : ℕ) (rest : List ℕ) (front : List (ℕ × T))
-    → IsSound next kept chains spare → map (held kept) (lists_of next 1 chains) ≡ shows → suc less ≡ spare → get_or next 0 None ≡ Some s → k < chains → get_or (lists_of next 1 chains) k [] ≡ before ++ p ∷ rest
-    → ((more : List (ℕ × T)) → held kept (before ++ p ∷ []) ++ more ≡ front ++ more)
-    → Used (put (taken next 0 s) p s) (set kept s (Some item)) chains less (set shows k (front ++ (s, item) ∷ held kept rest))
-used_view next kept chains spare less shows s item k before p rest front sound is fits first within at fronts =
-    let lists : List (List ℕ) = lists_of next 1 chains in
-    let free = free_of next kept chains spare sound (omega (arith, fits)) in
-    let same : free.slot ≡ s = (let h : Some free.slot ≡ Some s = sym free.first ∙ first in cc) in
-    let start : walk (length next) next (Some 0) ≡ 0 ∷ s ∷ free.rest = free.is ∙ ap (λ (n : ℕ). 0 ∷ n ∷ free.rest) same in
-    let parts0 : Parts next kept spare (walk (length next) next (Some 0)) lists = parts_of next kept chains spare sound in
-    let parts : Parts next kept (suc less) (0 ∷ s ∷ free.rest) lists = subst (λ (n : ℕ). Parts next kept n (0 ∷ s ∷ free.rest) lists) (sym fits) (subst (λ (l : List ℕ). Parts next kept spare l lists) start parts0) in
-    let long : length lists ≡ chains = walks_long (length next) next 1 chains in
-    let new : List ℕ = before ++ p ∷ s ∷ rest in
-    let after = used next kept less s free.rest lists k before p rest item parts (omega (arith, long, within)) at in
-    let result = seen (put (taken next 0 s) p s) (set kept s (Some item)) chains less (0 ∷ free.rest) (set lists k new) (length-set lists k new ∙ long) after in
-    let once = parts.linked.once s in
-    let none : all_times s lists ≡ 0 = omega (arith, once, one_if s s refl) in
-    let in_lists : times s (before ++ p ∷ rest) ≡ 0 = omega (arith, none, part s lists k (omega (arith, long, within)), ap (times s) at) in
-    let front_none : times s (before ++ p ∷ []) ≡ 0 = omega (arith, in_lists, at_place s p before rest, at_place s p before []) in
-    let back_none : times s rest ≡ 0 = omega (arith, in_lists, at_place s p before rest) in
-    let written : get_or (set kept s (Some item)) s None ≡ Some item = get_or-set_same kept s (Some item) None (omega (arith, sound.items, free.room, same)) in
-    let here : held (set kept s (Some item)) new ≡ front ++ (s, item) ∷ held kept rest =
-    ap (held (set kept s (Some item))) (sym (append_assoc before (p ∷ []) (s ∷ rest)))
-    ∙ held-append (set kept s (Some item)) (before ++ p ∷ []) (s ∷ rest)
-    ∙ ap (λ l. l ++ held (set kept s (Some item)) (s ∷ rest)) (held_kept kept (before ++ p ∷ []) s (Some item) front_none)
-    ∙ fronts (held (set kept s (Some item)) (s ∷ rest))
-    ∙ ap (λ l. front ++ l) (ap (λ o. held_with s o (held (set kept s (Some item)) rest)) written ∙ ap (λ l. (s, item) ∷ l) (held_kept kept rest s (Some item) back_none)) in
+used_seen : {T : Type 0} → (next : List (Option ℕ)) (kept : List (Option T)) (chains spare all : ℕ) (unused : List ℕ) (lists : List (List ℕ)) (shows : List (List (ℕ × T)))
+    → Seen next kept chains spare unused lists → map (held kept) lists ≡ shows → length next + (suc spare - length unused) ≡ all → Used next kept chains spare all shows
+used_seen next kept chains spare all unused lists shows seen is many =
+    record { sound = seen.sound; is = ap (map (held kept)) seen.lists ∙ is; all_is = ap (λ (l : List ℕ). length next + (suc spare - length l)) seen.free ∙ many }
+
+pub kept_room : {T : Type 0} → (next old : List (Option ℕ)) (kept was : List (Option T)) (chains spare spare_old room room_items room_now room_items_now : ℕ) (shows : List (List (ℕ × T)))
+    → Used next kept chains spare (all_cells old spare_old) shows → IsReserved old was chains spare_old room room_items → room_now ≡ room → room_items_now ≡ room_items → IsReserved next kept chains spare room_now room_items_now
+kept_room next old kept was chains spare spare_old room room_items room_now room_items_now shows used all same same_items =
+    record { sound = used.sound; links_fit = omega (arith, used.all_is, all.links_fit, same); items_fit = omega (arith, used.all_is, all.items_fit, same_items) }
+
+-- where there is room, a slot can come into use
+slot_in : (next : List (Option ℕ)) (list rest : List ℕ) (lists : List (List ℕ)) (spare room room_items long : ℕ) → IsLinked next (list ∷ lists) → list ≡ 0 ∷ rest → Links next (get_or next 0 None) rest → long ≡ length next → 1 ≤ spare
+    → length next + (suc spare - length list) ≤ room → length next + (suc spare - length list) ≤ room_items → MatchOption (get_or next 0 None) ((length next < room) × (long < room_items)) (λ slot. slot < length next)
+slot_in next list [] lists spare room room_items long linked is links same some more more_items =
+    rw links (omega (arith, ap length is, some, more), omega (arith, ap length is, same, some, more_items))
+slot_in next list (slot ∷ rest) lists spare room room_items long linked is links same some more more_items = rw links.0 (in_room next (list ∷ lists) 0 (0 ∷ []) slot rest linked (omega arith) is)
+
+pub has_slot : {T : Type 0} → (next : List (Option ℕ)) (kept : List (Option T)) (chains spare room room_items : ℕ) → IsReserved next kept chains spare room room_items → 1 ≤ spare → HasSlot next kept room room_items
+has_slot next kept chains spare room room_items all some =
+    let sound = all.sound in
+    let first = begins_one next 0 (walk (length next) next (Some 0)) sound.linked.links.0 in
     record {
-      sound = result.sound;
-      is = ap (map (held (set kept s (Some item)))) result.lists
-          ∙ view_set (set kept s (Some item)) lists k new shows (front ++ (s, item) ∷ held kept rest) (all_held_kept kept lists s (Some item) none ∙ is) here;
+      heads = omega (arith, sound.heads);
+      items = sound.items;
+      slot = slot_in next (walk (length next) next (Some 0)) first.rest (lists_of next 1 chains) spare room room_items (length kept) sound.linked first.is first.links sound.items some all.links_fit all.items_fit;
     }
 
--- a free slot is not in use
-pub unused : {T : Type 0} → (next : List (Option ℕ)) (kept : List (Option T)) (chains spare : ℕ) (shows : List (List (ℕ × T))) (s : ℕ) → IsSound next kept chains spare → map (held kept) (lists_of next 1 chains) ≡ shows → 1 ≤ spare → get_or next 0 None ≡ Some s → Stands shows s → ⊥
-unused next kept chains spare shows s sound is some first stands =
-    let lists : List (List ℕ) = lists_of next 1 chains in
-    let free = free_of next kept chains spare sound some in
-    let same : free.slot ≡ s = (let h : Some free.slot ≡ Some s = sym free.first ∙ first in cc) in
-    let start : walk (length next) next (Some 0) ≡ 0 ∷ s ∷ free.rest = free.is ∙ ap (λ (n : ℕ). 0 ∷ n ∷ free.rest) same in
-    let long : length lists ≡ chains = walks_long (length next) next 1 chains in
-    let there = standing_of next kept chains spare s stands.chain shows stands.before stands.item stands.rest sound is stands.at in
-    omega (arith, sound.linked.once s, ap (times s) start, one_if s s refl, at_least s lists stands.chain there.before there.rest (omega (arith, long, there.within)) there.is)
+-- a slot with an item that stands nowhere, in a sound room
+pub record New {T : Type 0} (next : List (Option ℕ)) (kept : List (Option T)) (chains spare all s : ℕ) (item : T) (shows : List (List (ℕ × T))) : Type 0 where
+  pub used : Used next kept chains spare all shows
+  pub ready : Ready next kept spare s item (walk (length next) next (Some 0)) (lists_of next 1 chains)
 
--- what goes
-pub freed_view : {T : Type 0} → (next : List (Option ℕ)) (kept : List (Option T)) (chains spare : ℕ) (shows : List (List (ℕ × T))) (s k p : ℕ) (before rest : List ℕ) (new : List (ℕ × T))
-    → IsSound next kept chains spare → map (held kept) (lists_of next 1 chains) ≡ shows → k < chains → get_or (lists_of next 1 chains) k [] ≡ before ++ p ∷ s ∷ rest → held kept (before ++ p ∷ rest) ≡ new
-    → Used (put (taken next p s) 0 s) kept chains (suc spare) (set shows k new)
-freed_view next kept chains spare shows s k p before rest new sound is within at here =
+new_seen : {T : Type 0} → (next : List (Option ℕ)) (kept : List (Option T)) (chains spare all s : ℕ) (item : T) (unused : List ℕ) (lists : List (List ℕ)) (shows : List (List (ℕ × T)))
+    → length lists ≡ chains → Ready next kept spare s item unused lists → map (held kept) lists ≡ shows → length next + (suc spare - length unused) ≡ all → New next kept chains spare all s item shows
+new_seen next kept chains spare all s item unused lists shows long ready is many =
+    let result = seen next kept chains spare unused lists long ready.parts in
+    record { used = used_seen next kept chains spare all unused lists shows result is many; ready = rw (result.free, result.lists) ready }
+
+new_in : {T : Type 0} → (next after : List (Option ℕ)) (kept now : List (Option T)) (chains less s : ℕ) (item : T) (list rest : List ℕ) (lists : List (List ℕ)) (shows : List (List (ℕ × T)))
+    → length lists ≡ chains → Parts next kept (suc less) list lists → list ≡ 0 ∷ rest → Links next (get_or next 0 None) rest → map (held kept) lists ≡ shows → IsNewSlot (get_or next 0 None) next kept item after now s
+    → New after now chains less (length next + (suc (suc less) - length list)) s item shows
+new_in next after kept now chains less s item list [] lists shows long parts is links shown made =
+    let new : (s ≡ length next) × (after ≡ next ++ None ∷ []) × (now ≡ kept ++ Some item ∷ []) = subst (λ o. IsNewSlot o next kept item after now s) links made in
+    let ready = ready_new next kept less list lists item parts (omega (arith, ap length is)) in
+    let same = all_held_same kept (kept ++ Some item ∷ []) lists (old_ones next kept (Some item) list lists parts.linked parts.items) in
+    rw (new.0, new.1, new.2)
+    (new_seen (next ++ None ∷ []) (kept ++ Some item ∷ []) chains less _ (length next) item list lists shows long ready (same ∙ shown) (omega (arith, ap length is, length_push next None)))
+new_in next after kept now chains less s item list (first ∷ rest) lists shows long parts is links shown made =
+    let new : (s ≡ first) × (after ≡ taken next 0 first) × (now ≡ set kept first (Some item)) = subst (λ o. IsNewSlot o next kept item after now s) links.0 made in
+    let ready = ready_free next kept less first rest lists item (subst (λ (l : List ℕ). Parts next kept (suc less) l lists) is parts) in
+    let same = all_held_same kept (set kept first (Some item)) lists (apart kept first (Some item) lists (omega (arith, ready.without.nowhere))) in
+    rw (new.0, new.1, new.2)
+    (new_seen (taken next 0 first) (set kept first (Some item)) chains less _ first item (0 ∷ rest) lists shows long ready (same ∙ shown) (omega (arith, ap length is, length-set next 0 (get_or next first None))))
+
+pub new_of : {T : Type 0} → (next after : List (Option ℕ)) (kept now : List (Option T)) (chains spare s : ℕ) (item : T) (shows : List (List (ℕ × T)))
+    → IsSound next kept chains spare → map (held kept) (lists_of next 1 chains) ≡ shows → 1 ≤ spare → IsNewSlot (get_or next 0 None) next kept item after now s → New after now chains (spare - 1) (all_cells next spare) s item shows
+new_of next after kept now chains spare s item shows sound is some made =
+    let list : List ℕ = walk (length next) next (Some 0) in
+    let first = begins_one next 0 list sound.linked.links.0 in
+    let one : spare ≡ suc (spare - 1) = omega (arith, some) in
+    let parts : Parts next kept (suc (spare - 1)) list (lists_of next 1 chains) = subst (λ (n : ℕ). Parts next kept n list (lists_of next 1 chains)) one (parts_of next kept chains spare sound) in
+    subst (λ (n : ℕ). New after now chains (spare - 1) (length next + (suc n - length list)) s item shows) (sym one)
+    (new_in next after kept now chains (spare - 1) s item list first.rest (lists_of next 1 chains) shows (walks_long (length next) next 1 chains) parts first.is first.links is made)
+
+-- a new slot is not in use
+pub unused : {T : Type 0} → (next : List (Option ℕ)) (kept : List (Option T)) (chains spare all s : ℕ) (item : T) (shows : List (List (ℕ × T))) → New next kept chains spare all s item shows → Stands shows s → ⊥
+unused next kept chains spare all s item shows new stands =
     let lists : List (List ℕ) = lists_of next 1 chains in
     let long : length lists ≡ chains = walks_long (length next) next 1 chains in
-    let first = begins_one next 0 (walk (length next) next (Some 0)) sound.linked.links.0 in
-    let parts : Parts next kept spare (0 ∷ first.rest) lists = subst (λ (l : List ℕ). Parts next kept spare l lists) first.is (parts_of next kept chains spare sound) in
-    let after = freed next kept spare s first.rest lists k before p rest parts (omega (arith, long, within)) at in
-    let result = seen (put (taken next p s) 0 s) kept chains (suc spare) (0 ∷ s ∷ first.rest) (set lists k (before ++ p ∷ rest)) (length-set lists k (before ++ p ∷ rest) ∙ long) after in
-    record { sound = result.sound; is = ap (map (held kept)) result.lists ∙ view_set kept lists k (before ++ p ∷ rest) shows new is here }
+    let there = standing_of next kept chains spare s stands.chain shows stands.before stands.item stands.rest new.used.sound new.used.is stands.at in
+    omega (arith, new.ready.without.nowhere, at_least s lists stands.chain there.before there.rest (omega (arith, long, there.within)) there.is)
+
+-- it comes into use behind a cell
+used_view : {T : Type 0} → (next : List (Option ℕ)) (kept : List (Option T)) (chains spare all : ℕ) (shows : List (List (ℕ × T))) (s : ℕ) (item : T) (k : ℕ) (before : List ℕ) (p : ℕ) (rest : List ℕ) (front : List (ℕ × T))
+    → New next kept chains spare all s item shows → k < chains → get_or (lists_of next 1 chains) k [] ≡ before ++ p ∷ rest → ((more : List (ℕ × T)) → held kept (before ++ p ∷ []) ++ more ≡ front ++ more)
+    → Used (put next p s) kept chains spare all (set shows k (front ++ (s, item) ∷ held kept rest))
+used_view next kept chains spare all shows s item k before p rest front new within at fronts =
+    let lists : List (List ℕ) = lists_of next 1 chains in
+    let unused : List ℕ = walk (length next) next (Some 0) in
+    let long : length lists ≡ chains = walks_long (length next) next 1 chains in
+    let list : List ℕ = before ++ p ∷ s ∷ rest in
+    let after = used next kept spare s item unused lists k before p rest new.ready (omega (arith, long, within)) at in
+    let result = seen (put next p s) kept chains spare unused (set lists k list) (length-set lists k list ∙ long) after in
+    let here : held kept list ≡ front ++ (s, item) ∷ held kept rest =
+    ap (held kept) (sym (append_assoc before (p ∷ []) (s ∷ rest))) ∙ held-append kept (before ++ p ∷ []) (s ∷ rest) ∙ fronts (held kept (s ∷ rest)) ∙ ap (λ o. front ++ held_with s o (held kept rest)) new.ready.here in
+    used_seen (put next p s) kept chains spare all unused (set lists k list) _ result (view_set kept lists k list shows (front ++ (s, item) ∷ held kept rest) new.used.is here) (omega (arith, put_long next p s, new.used.all_is))
 
 -- what a call wrote to a vector through a slice
 pub written : (n : ℕ) (old new made : List (Option ℕ)) → n ≡ length old → new ≡ made → length made ≡ length old → take n (new ++ drop (length new) old) ≡ made
@@ -233,31 +239,39 @@ written n old new made long is same =
 pub made_long : (next : List (Option ℕ)) (a p s : ℕ) → length (put (taken next a s) p s) ≡ length next
 made_long next a p s = put_long (taken next a s) p s ∙ length-set next a (get_or next s None)
 
--- the same, for the vector as it is after the call
-pub put_first_is : {T : Type 0} → (next : List (Option ℕ)) (kept : List (Option T)) (chains spare : ℕ) (shows : List (List (ℕ × T))) (s : ℕ) (item : T) (k j : ℕ) (after : List (Option ℕ))
-    → IsSound next kept chains spare → map (held kept) (lists_of next 1 chains) ≡ shows → 1 ≤ spare → get_or next 0 None ≡ Some s → k < length shows → j ≡ suc k → after ≡ put (taken next 0 s) j s
-    → Used after (set kept s (Some item)) chains (spare - 1) (set shows k ((s, item) ∷ get_or shows k []))
-put_first_is next kept chains spare shows s item k j after sound is some first within at made =
-    let chain = chain_of next kept chains spare k shows sound is within in
-    let fits : suc (spare - 1) ≡ spare = omega (arith, some) in
-    let used = used_view next kept chains spare (spare - 1) shows s item k [] (suc k) chain.rest [] sound is fits first chain.within chain.is (λ more. ap (λ o. held_with (suc k) o [] ++ more) chain.bare) in
-    subst (λ (l : List (Option ℕ)). Used l (set kept s (Some item)) chains (spare - 1) (set shows k ((s, item) ∷ get_or shows k [])))
-    (ap (λ n. put (taken next 0 s) n s) (sym at) ∙ sym made)
-    (subst (λ (l : List (ℕ × _)). Used (put (taken next 0 s) (suc k) s) (set kept s (Some item)) chains (spare - 1) (set shows k ((s, item) ∷ l))) (sym chain.held_is) used)
+-- what goes
+pub freed_view : {T : Type 0} → (next : List (Option ℕ)) (kept : List (Option T)) (chains spare : ℕ) (shows : List (List (ℕ × T))) (s k p : ℕ) (before rest : List ℕ) (new : List (ℕ × T))
+    → IsSound next kept chains spare → map (held kept) (lists_of next 1 chains) ≡ shows → k < chains → get_or (lists_of next 1 chains) k [] ≡ before ++ p ∷ s ∷ rest → held kept (before ++ p ∷ rest) ≡ new
+    → Used (put (taken next p s) 0 s) kept chains (suc spare) (all_cells next spare) (set shows k new)
+freed_view next kept chains spare shows s k p before rest new sound is within at here =
+    let lists : List (List ℕ) = lists_of next 1 chains in
+    let long : length lists ≡ chains = walks_long (length next) next 1 chains in
+    let first = begins_one next 0 (walk (length next) next (Some 0)) sound.linked.links.0 in
+    let parts : Parts next kept spare (0 ∷ first.rest) lists = subst (λ (l : List ℕ). Parts next kept spare l lists) first.is (parts_of next kept chains spare sound) in
+    let after = freed next kept spare s first.rest lists k before p rest parts (omega (arith, long, within)) at in
+    let result = seen (put (taken next p s) 0 s) kept chains (suc spare) (0 ∷ s ∷ first.rest) (set lists k (before ++ p ∷ rest)) (length-set lists k (before ++ p ∷ rest) ∙ long) after in
+    used_seen (put (taken next p s) 0 s) kept chains (suc spare) (all_cells next spare) (0 ∷ s ∷ first.rest) (set lists k (before ++ p ∷ rest)) _ result (view_set kept lists k (before ++ p ∷ rest) shows new is here)
+    (omega (arith, made_long next p 0 s, ap length first.is))
 
-pub put_after_is : {T : Type 0} → (next : List (Option ℕ)) (kept : List (Option T)) (chains spare : ℕ) (shows : List (List (ℕ × T))) (s : ℕ) (item : T) (slot k : ℕ) (front : List (ℕ × T)) (here : T) (back : List (ℕ × T)) (after : List (Option ℕ))
-    → IsSound next kept chains spare → map (held kept) (lists_of next 1 chains) ≡ shows → 1 ≤ spare → get_or next 0 None ≡ Some s → StandsAt shows slot k front here back → after ≡ put (taken next 0 s) slot s
-    → Used after (set kept s (Some item)) chains (spare - 1) (set shows k (front ++ (slot, here) ∷ (s, item) ∷ back))
-put_after_is next kept chains spare shows s item slot k front here back after sound is some first stands made =
-    let there = standing_of next kept chains spare slot k shows front here back sound is stands in
-    let fits : suc (spare - 1) ≡ spare = omega (arith, some) in
+-- the same, for the vector as it is after the call
+pub put_first_is : {T : Type 0} → (next : List (Option ℕ)) (kept : List (Option T)) (chains spare all : ℕ) (shows : List (List (ℕ × T))) (s : ℕ) (item : T) (k j : ℕ) (after : List (Option ℕ))
+    → New next kept chains spare all s item shows → k < length shows → j ≡ suc k → after ≡ put next j s → Used after kept chains spare all (set shows k ((s, item) ∷ get_or shows k []))
+put_first_is next kept chains spare all shows s item k j after new within at made =
+    let chain = chain_of next kept chains spare k shows new.used.sound new.used.is within in
+    let used = used_view next kept chains spare all shows s item k [] (suc k) chain.rest [] new chain.within chain.is (λ more. ap (λ o. held_with (suc k) o [] ++ more) chain.bare) in
+    rw (made, at, chain.held_is) used
+
+pub put_after_is : {T : Type 0} → (next : List (Option ℕ)) (kept : List (Option T)) (chains spare all : ℕ) (shows : List (List (ℕ × T))) (s : ℕ) (item : T) (slot k : ℕ) (front : List (ℕ × T)) (here : T) (back : List (ℕ × T)) (after : List (Option ℕ))
+    → New next kept chains spare all s item shows → StandsAt shows slot k front here back → after ≡ put next slot s → Used after kept chains spare all (set shows k (front ++ (slot, here) ∷ (s, item) ∷ back))
+put_after_is next kept chains spare all shows s item slot k front here back after new stands made =
+    let there = standing_of next kept chains spare slot k shows front here back new.used.sound new.used.is stands in
     let fronts : (more : List (ℕ × _)) → held kept (there.before ++ slot ∷ []) ++ more ≡ (front ++ (slot, here) ∷ []) ++ more = λ more.
     ap (λ l. l ++ more) (held-append kept there.before (slot ∷ []) ∙ ap (λ l. l ++ held_with slot (get_or kept slot None) []) there.front_is ∙ ap (λ o. front ++ held_with slot o []) there.here) in
-    let used = used_view next kept chains spare (spare - 1) shows s item k there.before slot there.rest (front ++ (slot, here) ∷ []) sound is fits first there.within there.is fronts in
+    let used = used_view next kept chains spare all shows s item k there.before slot there.rest (front ++ (slot, here) ∷ []) new there.within there.is fronts in
     let shape : (front ++ (slot, here) ∷ []) ++ (s, item) ∷ held kept there.rest ≡ front ++ (slot, here) ∷ (s, item) ∷ back =
     append_assoc front ((slot, here) ∷ []) ((s, item) ∷ held kept there.rest) ∙ ap (λ l. front ++ (slot, here) ∷ (s, item) ∷ l) there.back_is in
-    subst (λ (l : List (Option ℕ)). Used l (set kept s (Some item)) chains (spare - 1) (set shows k (front ++ (slot, here) ∷ (s, item) ∷ back))) (sym made)
-    (subst (λ (l : List (ℕ × _)). Used (put (taken next 0 s) slot s) (set kept s (Some item)) chains (spare - 1) (set shows k l)) shape used)
+    subst (λ (l : List (Option ℕ)). Used l kept chains spare all (set shows k (front ++ (slot, here) ∷ (s, item) ∷ back))) (sym made)
+    (subst (λ (l : List (ℕ × _)). Used (put next slot s) kept chains spare all (set shows k l)) shape used)
 
 -- a chain with its first slot, where it has one
 pub record First {T : Type 0} (kept : List (Option T)) (next : List (Option ℕ)) (chains k s : ℕ) (shows : List (ℕ × T)) : Type 0 where
@@ -289,20 +303,20 @@ first_at next kept chains spare k s shows sound is within behind =
     }
 
 pub take_first_is : {T : Type 0} → (next : List (Option ℕ)) (kept : List (Option T)) (chains spare k j s : ℕ) (shows : List (List (ℕ × T))) (after : List (Option ℕ)) → IsSound next kept chains spare → map (held kept) (lists_of next 1 chains) ≡ shows → k < length shows → j ≡ suc k → get_or next j None ≡ Some s → after ≡ put (taken next j s) 0 s
-    → Used after kept chains (spare + 1) (set shows k (behind_first (get_or shows k []))) × (get_or kept s None ≡ first_item (get_or shows k []))
+    → Used after kept chains (spare + 1) (all_cells next spare) (set shows k (behind_first (get_or shows k []))) × (get_or kept s None ≡ first_item (get_or shows k []))
 take_first_is next kept chains spare k j s shows after sound is within at behind made =
     let first = first_at next kept chains spare k s shows sound is within (ap (λ n. get_or next n None) (sym at) ∙ behind) in
     let chain = chain_of next kept chains spare k shows sound is within in
     let more : suc spare ≡ spare + 1 = omega arith in
     let bare : held kept (suc k ∷ first.rest) ≡ behind_first (get_or shows k []) = ap (λ o. held_with (suc k) o (held kept first.rest)) chain.bare ∙ sym (ap behind_first first.shown) in
     let gone = freed_view next kept chains spare shows s k (suc k) [] first.rest (behind_first (get_or shows k [])) sound is chain.within first.is bare in (
-      subst (λ (n : ℕ). Used after kept chains n (set shows k (behind_first (get_or shows k [])))) more
-          (subst (λ (l : List (Option ℕ)). Used l kept chains (suc spare) (set shows k (behind_first (get_or shows k [])))) (ap (λ n. put (taken next n s) 0 s) (sym at) ∙ sym made) gone),
+      subst (λ (n : ℕ). Used after kept chains n (all_cells next spare) (set shows k (behind_first (get_or shows k [])))) more
+          (subst (λ (l : List (Option ℕ)). Used l kept chains (suc spare) (all_cells next spare) (set shows k (behind_first (get_or shows k [])))) (ap (λ n. put (taken next n s) 0 s) (sym at) ∙ sym made) gone),
       first.here ∙ sym (ap first_item first.shown),
     )
 
 pub take_after_is : {T : Type 0} → (next : List (Option ℕ)) (kept : List (Option T)) (chains spare slot k s : ℕ) (shows : List (List (ℕ × T))) (front : List (ℕ × T)) (here : T) (back : List (ℕ × T)) (after : List (Option ℕ)) → IsSound next kept chains spare → map (held kept) (lists_of next 1 chains) ≡ shows → StandsAt shows slot k front here back → get_or next slot None ≡ Some s → after ≡ put (taken next slot s) 0 s
-    → Used after kept chains (spare + 1) (set shows k (front ++ (slot, here) ∷ behind_first back)) × (get_or kept s None ≡ first_item back)
+    → Used after kept chains (spare + 1) (all_cells next spare) (set shows k (front ++ (slot, here) ∷ behind_first back)) × (get_or kept s None ≡ first_item back)
 take_after_is next kept chains spare slot k s shows front here back after sound is stands behind made =
     let there = standing_of next kept chains spare slot k shows front here back sound is stands in
     let cell = first_cell next (get_or next slot None) there.rest s there.links behind in
@@ -313,8 +327,8 @@ take_after_is next kept chains spare slot k s shows front here back after sound 
     held-append kept there.before (slot ∷ cell.0) ∙ ap (λ l. l ++ held_with slot (get_or kept slot None) (held kept cell.0)) there.front_is
     ∙ ap (λ o. front ++ held_with slot o (held kept cell.0)) there.here ∙ ap (λ l. front ++ (slot, here) ∷ l) (sym (ap behind_first shown)) in
     let gone = freed_view next kept chains spare shows s k slot there.before cell.0 (front ++ (slot, here) ∷ behind_first back) sound is there.within (there.is ∙ ap (λ (l : List ℕ). there.before ++ slot ∷ l) cell.1) new in (
-      subst (λ (n : ℕ). Used after kept chains n (set shows k (front ++ (slot, here) ∷ behind_first back))) more
-          (subst (λ (l : List (Option ℕ)). Used l kept chains (suc spare) (set shows k (front ++ (slot, here) ∷ behind_first back))) (sym made) gone),
+      subst (λ (n : ℕ). Used after kept chains n (all_cells next spare) (set shows k (front ++ (slot, here) ∷ behind_first back))) more
+          (subst (λ (l : List (Option ℕ)). Used l kept chains (suc spare) (all_cells next spare) (set shows k (front ++ (slot, here) ∷ behind_first back))) (sym made) gone),
       held_here.1 ∙ sym (ap first_item shown),
     )
 
@@ -342,23 +356,25 @@ alone_held : {T : Type 0} → (kept : List (Option T)) (cell k : ℕ) → ((c : 
 alone_held kept cell zero none = refl
 alone_held kept cell (suc k) none = rw (none cell) (ap (λ l. [] ∷ l) (alone_held kept (suc cell) k none))
 
--- an empty room
-pub empty_is : {T : Type 0} → (cells chains room : ℕ) (next after : List (Option ℕ)) (kept : List (Option T)) → cells ≡ chains + 1 + room → length next ≡ cells → kept ≡ replicate cells None → IsFilled next chains cells → after ≡ next
-    → Used after kept chains room (replicate chains [])
-empty_is cells chains room next after kept fits long none filled is =
+-- an empty room, with no cell of a slot
+pub empty_is : {T : Type 0} → (chains room : ℕ) (next : List (Option ℕ)) (kept : List (Option T)) → next ≡ replicate (suc chains) None → kept ≡ replicate (suc chains) None → Used next kept chains room (suc chains + room) (replicate chains [])
+empty_is {T} chains room next kept cells none =
+    let links : List (Option ℕ) = replicate (suc chains) None in
+    let items : List (Option T) = replicate (suc chains) None in
     let lists : List (List ℕ) = alone 1 chains in
     let many : length lists ≡ chains = alone_long 1 chains in
-    let parts : Parts next kept room (0 ∷ filled.rest) lists = record {
-      linked = filled.linked;
-      heads = omega (arith, many, fits, long);
-      items = ap length none ∙ length-replicate cells None ∙ sym long;
-      free = omega (arith, filled.long, fits);
-      bare = λ c low. ap (λ l. get_or l c None) none ∙ nothing_in cells c;
+    let long : length links ≡ suc chains = length-replicate (suc chains) None in
+    let parts : Parts links items room (0 ∷ []) lists = record {
+      linked = alone_linked (suc chains);
+      heads = omega (arith, many, long);
+      items = length-replicate (suc chains) None ∙ sym long;
+      free = omega arith;
+      bare = λ c low. nothing_in (suc chains) c;
       full = λ c high some. absurd (omega (arith, some, alone_above c 1 chains (omega (arith, many, high))));
     } in
-    let result = seen next kept chains room (0 ∷ filled.rest) lists many parts in
-    let shown : map (held kept) (lists_of next 1 chains) ≡ replicate chains [] = ap (map (held kept)) result.lists ∙ alone_held kept 1 chains (λ c. ap (λ l. get_or l c None) none ∙ nothing_in cells c) in
-    subst (λ (l : List (Option ℕ)). Used l kept chains room (replicate chains [])) (sym is) (record { sound = result.sound; is = shown })
+    rw (cells, none)
+    (used_seen links items chains room (suc chains + room) (0 ∷ []) lists (replicate chains []) (seen links items chains room (0 ∷ []) lists many parts)
+    (alone_held items 1 chains (nothing_in (suc chains))) (omega (arith, long)))
 
 -- the cell behind another one in a chain is a slot with an item
 pub slot_room : {T : Type 0} → (next : List (Option ℕ)) (kept : List (Option T)) (chains spare k j s : ℕ) (shows : List (List (ℕ × T))) → IsSound next kept chains spare → map (held kept) (lists_of next 1 chains) ≡ shows → k < length shows → j ≡ suc k → get_or next j None ≡ Some s → s < length next

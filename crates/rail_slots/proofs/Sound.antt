@@ -1,9 +1,9 @@
 -- What a room of slots keeps, and what callers see of it, where a slot comes into use and where it goes.
 use Rattle.std.proofs.Common.{◌≡◌, ℕ, zero, suc, ◌+◌, ◌<◌, ◌≤◌, cond, eqb, List, [], ◌∷◌, ◌++◌, length, get_or, set, map, Option, Some, None, IsSome, refl, sym, ap, subst, ◌∙◌, ⊎_elim, append_assoc, arith}
 use Rattle.std.proofs.lemmas.Bool.{cases_eq, cases_lt}
-use Rattle.std.proofs.lemmas.List.{get_or-set_same, get_or-set_other, length-set}
+use Rattle.std.proofs.lemmas.List.{get_or-set_same, get_or-set_other, get_or_append_left, get_or_push, length-set, length_push}
 use Rattle.rail_slots.specs.Links.{walk, walks, lists_of, held, held_with, Links, AllLink, times, all_times, IsLinked, IsSound, taken, put}
-use Rattle.rail_slots.proofs.Linked.{shown, at_least, at_place, one_if, none_if, Without, linked_without, linked_with, in_room, put_long, changed, other_first}
+use Rattle.rail_slots.proofs.Linked.{shown, at_least, at_place, one_if, none_if, Without, linked_without, linked_with, linked_new, in_room, put_long, changed}
 
 -- each list begins with its own cell
 pub record Begins (next : List (Option ℕ)) (cell : ℕ) (list : List ℕ) : Type 0 where
@@ -43,24 +43,22 @@ beyond next s free lists linked =
     (λ high. omega (arith, high))
     (cases_lt s (suc (length lists)))
 
--- what is written at a slot that stands in no list changes nothing of what is held
-pub held_kept : {T : Type 0} → (items : List (Option T)) (list : List ℕ) (s : ℕ) (v : Option T) → times s list ≡ 0 → held (set items s v) list ≡ held items list
-held_kept items [] s v none = refl
-held_kept items (x ∷ rest) s v none =
-    let parts = other_first s x rest none in
-    rw (get_or-set_other items s x v None parts.0) (ap (held_with x (get_or items x None)) (held_kept items rest s v parts.1))
+-- items that are the same at the slots of some lists are held in the same way
+held_same : {T : Type 0} → (old new : List (Option T)) (list : List ℕ) → ((q : ℕ) → 0 < times q list → get_or new q None ≡ get_or old q None) → held new list ≡ held old list
+held_same old new [] same = refl
+held_same old new (x ∷ rest) same = rw (same x (omega (arith, one_if x x refl))) (ap (held_with x (get_or old x None)) (held_same old new rest (λ q some. same q (omega (arith, some)))))
 
-pub all_held_kept : {T : Type 0} → (items : List (Option T)) (lists : List (List ℕ)) (s : ℕ) (v : Option T) → all_times s lists ≡ 0 → map (held (set items s v)) lists ≡ map (held items) lists
-all_held_kept items [] s v none = refl
-all_held_kept items (list ∷ lists) s v none =
-    rw (held_kept items list s v (omega (arith, none))) (ap (λ ls. held items list ∷ ls) (all_held_kept items lists s v (omega (arith, none))))
+pub all_held_same : {T : Type 0} → (old new : List (Option T)) (lists : List (List ℕ)) → ((q : ℕ) → 0 < all_times q lists → get_or new q None ≡ get_or old q None) → map (held new) lists ≡ map (held old) lists
+all_held_same old new [] same = refl
+all_held_same old new (list ∷ lists) same =
+    rw (held_same old new list (λ q some. same q (omega (arith, some)))) (ap (λ ls. held old list ∷ ls) (all_held_same old new lists (λ q some. same q (omega (arith, some)))))
 
 -- the sound parts, by their lists
 pub record Parts {T : Type 0} (next : List (Option ℕ)) (kept : List (Option T)) (spare : ℕ) (unused : List ℕ) (lists : List (List ℕ)) : Type 0 where
   pub linked : IsLinked next (unused ∷ lists)
   pub heads : length lists < length next
   pub items : length kept ≡ length next
-  pub free : length unused ≡ suc spare
+  pub free : length unused ≤ suc spare
   pub bare : (c : ℕ) → c ≤ length lists → get_or kept c None ≡ None
   pub full : (c : ℕ) → length lists < c → 0 < all_times c lists → IsSome (get_or kept c None)
 
@@ -77,11 +75,12 @@ parts_of next kept chains spare sound =
     }
 
 -- and what makes a room sound, with the lists that are then seen
-pub record Seen {T : Type 0} (next : List (Option ℕ)) (kept : List (Option T)) (chains spare : ℕ) (shows : List (List ℕ)) : Type 0 where
+pub record Seen {T : Type 0} (next : List (Option ℕ)) (kept : List (Option T)) (chains spare : ℕ) (unused : List ℕ) (shows : List (List ℕ)) : Type 0 where
   pub sound : IsSound next kept chains spare
+  pub free : walk (length next) next (Some 0) ≡ unused
   pub lists : lists_of next 1 chains ≡ shows
 
-pub seen : {T : Type 0} → (next : List (Option ℕ)) (kept : List (Option T)) (chains spare : ℕ) (free : List ℕ) (lists : List (List ℕ)) → length lists ≡ chains → Parts next kept spare free lists → Seen next kept chains spare lists
+pub seen : {T : Type 0} → (next : List (Option ℕ)) (kept : List (Option T)) (chains spare : ℕ) (free : List ℕ) (lists : List (List ℕ)) → length lists ≡ chains → Parts next kept spare free lists → Seen next kept chains spare free lists
 seen next kept chains spare free lists long parts =
     let is = shown next free lists parts.linked in
     let same : lists_of next 1 chains ≡ lists = ap (lists_of next 1) (sym long) ∙ is.1 in
@@ -90,39 +89,95 @@ seen next kept chains spare free lists long parts =
         linked = rw (is.0, same) parts.linked;
         heads = omega (arith, long, parts.heads);
         items = parts.items;
-        free = ap length is.0 ∙ parts.free;
+        free = omega (arith, ap length is.0, parts.free);
         bare = λ c low. parts.bare c (omega (arith, long, low));
         full = λ c high some. parts.full c (omega (arith, long, high)) (subst (λ (ls : List (List ℕ)). 0 < all_times c ls) same some);
       };
+      free = is.0;
       lists = same;
     }
 
--- the first free slot comes into use behind a cell
-pub used : {T : Type 0} → (next : List (Option ℕ)) (kept : List (Option T)) (spare s : ℕ) (free : List ℕ) (lists : List (List ℕ)) (k : ℕ) (before : List ℕ) (p : ℕ) (rest : List ℕ) (item : T)
-    → Parts next kept (suc spare) (0 ∷ s ∷ free) lists → k < length lists → get_or lists k [] ≡ before ++ p ∷ rest
-    → Parts (put (taken next 0 s) p s) (set kept s (Some item)) spare (0 ∷ free) (set lists k (before ++ p ∷ s ∷ rest))
-used next kept spare s free lists k before p rest item parts within is =
-    let middle : Without (taken next 0 s) ((0 ∷ free) ∷ lists) s = linked_without next ((0 ∷ s ∷ free) ∷ lists) 0 [] 0 s free parts.linked (omega arith) refl in
+-- a slot that stands nowhere, with its item
+pub record Ready {T : Type 0} (next : List (Option ℕ)) (kept : List (Option T)) (spare s : ℕ) (item : T) (unused : List ℕ) (lists : List (List ℕ)) : Type 0 where
+  pub parts : Parts next kept spare unused lists
+  pub without : Without next (unused ∷ lists) s
+  pub within : s < length next
+  pub high : length lists < s
+  pub here : get_or kept s None ≡ Some item
+
+-- it was the first free one
+pub apart : {T : Type 0} → (kept : List (Option T)) (s : ℕ) (v : Option T) (lists : List (List ℕ)) → all_times s lists ≡ 0 → (q : ℕ) → 0 < all_times q lists → get_or (set kept s v) q None ≡ get_or kept q None
+apart kept s v lists none q some = get_or-set_other kept s q v None (λ e. omega (arith, some, none, ap (λ n. all_times n lists) e))
+
+pub ready_free : {T : Type 0} → (next : List (Option ℕ)) (kept : List (Option T)) (spare s : ℕ) (free : List ℕ) (lists : List (List ℕ)) (item : T) → Parts next kept (suc spare) (0 ∷ s ∷ free) lists → Ready (taken next 0 s) (set kept s (Some item)) spare s item (0 ∷ free) lists
+ready_free next kept spare s free lists item parts =
+    let without : Without (taken next 0 s) ((0 ∷ free) ∷ lists) s = linked_without next ((0 ∷ s ∷ free) ∷ lists) 0 [] 0 s free parts.linked (omega arith) refl in
     let same : length (taken next 0 s) ≡ length next = length-set next 0 (get_or next s None) in
-    let in_space : s < length next = in_room next ((0 ∷ s ∷ free) ∷ lists) 0 (0 ∷ []) s free parts.linked (omega arith) refl in
-    let after : IsLinked (put (taken next 0 s) p s) ((0 ∷ free) ∷ set lists k (before ++ p ∷ s ∷ rest)) =
-    linked_with (taken next 0 s) ((0 ∷ free) ∷ lists) (suc k) before p s rest middle (omega (arith, same, in_space)) (omega (arith, within)) is in
-    let long : length (set lists k (before ++ p ∷ s ∷ rest)) ≡ length lists = length-set lists k (before ++ p ∷ s ∷ rest) in
-    let room : length (put (taken next 0 s) p s) ≡ length next = put_long (taken next 0 s) p s ∙ same in
+    let within : s < length next = in_room next ((0 ∷ s ∷ free) ∷ lists) 0 (0 ∷ []) s free parts.linked (omega arith) refl in
     let high : length lists < s = beyond next s free lists parts.linked in
+    record {
+      parts = record {
+        linked = without.linked;
+        heads = omega (arith, same, parts.heads);
+        items = length-set kept s (Some item) ∙ parts.items ∙ sym same;
+        free = omega (arith, parts.free);
+        bare = λ c low. get_or-set_other kept s c (Some item) None (λ e. omega (arith, e, low, high)) ∙ parts.bare c low;
+        full = λ c above some. rw (apart kept s (Some item) lists (omega (arith, without.nowhere)) c some) (parts.full c above some);
+      };
+      without = without;
+      within = omega (arith, same, within);
+      high = high;
+      here = get_or-set_same kept s (Some item) None (omega (arith, within, parts.items));
+    }
+
+-- or it has a new cell
+pub old_ones : {T : Type 0} → (next : List (Option ℕ)) (kept : List (Option T)) (v : Option T) (unused : List ℕ) (lists : List (List ℕ)) → IsLinked next (unused ∷ lists) → length kept ≡ length next → (q : ℕ) → 0 < all_times q lists → get_or (kept ++ v ∷ []) q None ≡ get_or kept q None
+old_ones next kept v unused lists linked long q some =
+    get_or_append_left kept (v ∷ []) None q
+    (⊎_elim
+    (λ low. omega (arith, low, long))
+    (λ high. absurd (omega (arith, linked.within q high, some)))
+    (cases_lt q (length next)))
+
+pub ready_new : {T : Type 0} → (next : List (Option ℕ)) (kept : List (Option T)) (spare : ℕ) (unused : List ℕ) (lists : List (List ℕ)) (item : T) → Parts next kept (suc spare) unused lists → length unused ≤ suc spare → Ready (next ++ None ∷ []) (kept ++ Some item ∷ []) spare (length next) item unused lists
+ready_new next kept spare unused lists item parts few =
+    let without : Without (next ++ None ∷ []) (unused ∷ lists) (length next) = linked_new next (unused ∷ lists) parts.linked in
+    let long = length_push next None in
+    record {
+      parts = record {
+        linked = without.linked;
+        heads = omega (arith, long, parts.heads);
+        items = omega (arith, long, length_push kept (Some item), parts.items);
+        free = few;
+        bare = λ c low. get_or_append_left kept (Some item ∷ []) None c (omega (arith, low, parts.heads, parts.items)) ∙ parts.bare c low;
+        full = λ c above some. rw (old_ones next kept (Some item) unused lists parts.linked parts.items c some) (parts.full c above some);
+      };
+      without = without;
+      within = omega (arith, long);
+      high = parts.heads;
+      here = get_or_push kept (Some item) None (length next) parts.items;
+    }
+
+-- it is put behind a cell
+pub used : {T : Type 0} → (next : List (Option ℕ)) (kept : List (Option T)) (spare s : ℕ) (item : T) (unused : List ℕ) (lists : List (List ℕ)) (k : ℕ) (before : List ℕ) (p : ℕ) (rest : List ℕ)
+    → Ready next kept spare s item unused lists → k < length lists → get_or lists k [] ≡ before ++ p ∷ rest → Parts (put next p s) kept spare unused (set lists k (before ++ p ∷ s ∷ rest))
+used next kept spare s item unused lists k before p rest ready within is =
+    let parts = ready.parts in
+    let long : length (set lists k (before ++ p ∷ s ∷ rest)) ≡ length lists = length-set lists k (before ++ p ∷ s ∷ rest) in
+    let room : length (put next p s) ≡ length next = put_long next p s in
     let count : (q : ℕ) → all_times q (set lists k (before ++ p ∷ s ∷ rest)) ≡ all_times q lists + cond {A = ℕ} (eqb s q) 1 0 = λ q.
     (let h = changed (times q) lists k (before ++ p ∷ rest) (before ++ p ∷ s ∷ rest) within is in
     omega (arith, h, at_place q p before (s ∷ rest), at_place q p before rest)) in
     record {
-      linked = after;
+      linked = linked_with next (unused ∷ lists) (suc k) before p s rest ready.without ready.within (omega (arith, within)) is;
       heads = omega (arith, long, room, parts.heads);
-      items = length-set kept s (Some item) ∙ parts.items ∙ sym room;
-      free = omega (arith, parts.free);
-      bare = λ c low. get_or-set_other kept s c (Some item) None (λ e. omega (arith, e, low, long, high)) ∙ parts.bare c (omega (arith, long, low));
+      items = parts.items ∙ sym room;
+      free = parts.free;
+      bare = λ c low. parts.bare c (omega (arith, long, low));
       full = λ c above some.
           ⊎_elim
-          (λ e. subst (λ (n : ℕ). IsSome (get_or (set kept s (Some item)) n None)) (sym e) (rw (get_or-set_same kept s (Some item) None (omega (arith, in_space, parts.items))) refl))
-          (λ ne. rw (get_or-set_other kept s c (Some item) None ne) (parts.full c (omega (arith, long, above)) (omega (arith, some, count c, none_if s c (λ e. ne (sym e))))))
+          (λ e. subst (λ o. IsSome o) (sym (ap (λ (n : ℕ). get_or kept n None) e ∙ ready.here)) refl)
+          (λ ne. parts.full c (omega (arith, long, above)) (omega (arith, some, count c, none_if s c (λ e. ne (sym e)))))
           (cases_eq c s);
     }
 

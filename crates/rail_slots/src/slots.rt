@@ -1,7 +1,8 @@
-ghost use Rattle.std.specs.Prelude.{◌≡◌, ℕ, ◌+◌, ◌^◌, ◌-◌, ◌<◌, ◌≤◌, min, List, [], ◌∷◌, ◌++◌, get_or, set, replicate, length, IfOk, IfSome, MatchOption, Some, None};
+ghost use Rattle.std.specs.Prelude.{◌≡◌, ℕ, ◌+◌, ◌^◌, ◌-◌, ◌<◌, ◌≤◌, min, List, [], ◌∷◌, ◌++◌, get_or, set, replicate, length, IfOk, IfSome, MatchOption, Some, None, vec_capacity, vec_len};
 ghost use Rattle.rail_slots.specs.Slots.{Stands, StandsAt, first_slot, first_item, behind_first, left_from, places};
+ghost use Rattle.rail_slots.specs.Links.{HasSlot, IsNewSlot};
 
-use crate::links::{Link, free_behind, put_all_behind, use_behind};
+use crate::links::{Link, free_behind, put_behind, take_behind};
 use rail_base::OutOfMemory;
 use std::alloc::Global;
 use std::marker::Model;
@@ -9,10 +10,11 @@ use std::marker::Model;
 /// Chains of slots in one room. Chains count from 0; a slot's number means nothing but the slot.
 #[derive(Debug, Drop)]
 pub struct Slots<T> {
-    /// The cell behind each cell. Cell 0 stands before the free slots, cell 1 before the first chain and so on;
-    /// the other cells are the slots.
+    /// The cell behind each cell. Cell 0 stands before the free slots, cell 1 before the first chain and so on; the
+    /// other cells are the slots. A slot gets its cell when it is first used, so a room that is hardly used costs
+    /// little; memory is reserved for all.
     next: Vec<Link>,
-    /// The item of each slot in use.
+    /// The item of each slot in use, by its cell.
     items: Vec<Option<T>>,
     chains: usize,
     spare: usize,
@@ -26,26 +28,61 @@ impl<T> Model for Slots<T> {
 
     ghost coded = { room_code T.code };
 
-    ghost use Rattle.rail_slots.specs.Links.{lists_of, held, IsSound};
-    ghost use Rattle.std.specs.Prelude.{map};
+    ghost use Rattle.rail_slots.specs.Links.{lists_of, held, IsReserved};
+    ghost use Rattle.std.specs.Prelude.{map, vec_capacity};
 
     ghost view = { λ slots. record { chains = map (held slots.items.items) (lists_of slots.next.items 1 slots.chains); spare = slots.spare; walked = slots.walked } };
 
-    ghost invariant = { λ slots. IsSound slots.next.items slots.items.items slots.chains slots.spare };
+    ghost invariant = { λ slots. IsReserved slots.next.items slots.items.items slots.chains slots.spare
+        (vec_capacity slots.next) (vec_capacity slots.items) };
 }
 
-/// So many links to no cell.
-fn no_links(alloc: Global, cells: usize) -> Result<Vec<Link>, OutOfMemory>
-    ensures { IfOk result (λ made. made.items ≡ replicate cells None) }
+/// So many copies of a value, in room for so many values in all.
+fn copies<T: Copy>(
+    alloc: Global,
+    value: T,
+    count: usize,
+    room: usize,
+) -> Result<Vec<T>, OutOfMemory>
+    requires { count ≤ room }
+    ensures items { IfOk result (λ made. made.items ≡ replicate count value) }
+    ensures room { IfOk result (λ made. vec_capacity made ≡ room) }
 {
-    Ok(vec![in alloc; Link::none(); cells]?)
+    let mut made = Vec::with_capacity(alloc, room)?;
+    for _copy in 0..count {
+        made.push_reserved(value);
+    }
+    Ok(made)
 }
 
-/// So many places where nothing is.
-fn nothing<T: Copy>(alloc: Global, places: usize) -> Result<Vec<Option<T>>, OutOfMemory>
-    ensures { IfOk result (λ made. made.items ≡ replicate places None) }
+/// Puts an item into a slot that was never used. The slot stands in no chain then.
+#[inline(never)]
+fn new_cell<T: Copy>(next: &mut Vec<Link>, items: &mut Vec<Option<T>>, item: T) -> usize
+    requires next { vec_len next.old < vec_capacity next.old }
+    requires items { vec_len items.old < vec_capacity items.old }
+    ensures made { IsNewSlot None next.old.items items.old.items item next.new.items items.new.items result }
+    ensures room { vec_capacity next.new ≡ vec_capacity next.old }
+    ensures room_items { vec_capacity items.new ≡ vec_capacity items.old }
 {
-    Ok(vec![in alloc; None; places]?)
+    let slot = next.len();
+    next.push_reserved(Link::none());
+    items.push_reserved(Some(item));
+    slot
+}
+
+/// Puts an item into the first free slot, or else into one that was never used. The slot stands in no chain then.
+fn new_slot<T: Copy>(next: &mut Vec<Link>, items: &mut Vec<Option<T>>, item: T) -> usize
+    requires { HasSlot next.old.items items.old.items (vec_capacity next.old) (vec_capacity items.old) }
+    ensures made { IsNewSlot (get_or next.old.items 0 None) next.old.items items.old.items item next.new.items items.new.items result }
+    ensures room { vec_capacity next.new ≡ vec_capacity next.old }
+    ensures room_items { vec_capacity items.new ≡ vec_capacity items.old }
+{
+    let Some(slot) = next[0].cell() else {
+        return new_cell(next, items, item);
+    };
+    take_behind(next, 0, slot);
+    items[slot] = Some(item);
+    slot
 }
 
 impl<T: Copy> Slots<T> {
@@ -61,12 +98,9 @@ impl<T: Copy> Slots<T> {
         let Some(cells) = heads.checked_add(room) else {
             return Err(OutOfMemory);
         };
-        let mut next = no_links(alloc, cells)?;
-        let items = nothing(alloc, cells)?;
-        put_all_behind(&mut next, heads);
         Ok(Slots {
-            next,
-            items,
+            next: copies(alloc, Link::none(), heads, cells)?,
+            items: copies(alloc, None, heads, cells)?,
             chains,
             spare: room,
             walked: 0,
@@ -130,11 +164,8 @@ impl<T: Copy> Slots<T> {
         ensures spare { self.new.spare + 1 ≡ self.old.spare }
         ensures walked { self.new.walked ≡ self.old.walked }
     {
-        let Some(slot) = self.next[0].cell() else {
-            unreachable!()
-        };
-        use_behind(&mut self.next, chain + 1, slot);
-        self.items[slot] = Some(item);
+        let slot = new_slot(&mut self.next, &mut self.items, item);
+        put_behind(&mut self.next, chain + 1, slot);
         self.spare -= 1;
         slot
     }
@@ -149,11 +180,8 @@ impl<T: Copy> Slots<T> {
         ensures spare { self.new.spare + 1 ≡ self.old.spare }
         ensures walked { self.new.walked ≡ self.old.walked }
     {
-        let Some(new) = self.next[0].cell() else {
-            unreachable!()
-        };
-        use_behind(&mut self.next, slot, new);
-        self.items[new] = Some(item);
+        let new = new_slot(&mut self.next, &mut self.items, item);
+        put_behind(&mut self.next, slot, new);
         self.spare -= 1;
         new
     }

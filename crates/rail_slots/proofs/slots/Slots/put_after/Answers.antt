@@ -1,72 +1,51 @@
-use Rattle.std.proofs.Common.{◌≡◌, ◌<◌, get_or, length, Some, None, sym, ap, ◌∙◌, arith}
-use Rattle.std.proofs.lemmas.List.{get_or_read}
-use Rattle.rail_slots.specs.Links.{put, taken}
-use Rattle.rail_slots.proofs.Shown.{standing_of, free_of, written, made_long, unused, put_after_is}
-use Rattle.rail_slots.proofs.slots.Slots.put_after.Goals.{In-Some, After-use_behind}
+use Rattle.std.proofs.Common.{◌≡◌, ◌-◌, ◌++◌, drop, length, take, ap, ◌∙◌, arith}
+use Rattle.rail_slots.specs.Links.{all_cells, put}
+use Rattle.rail_slots.proofs.Linked.{put_long}
+use Rattle.rail_slots.proofs.Shown.{standing_of, has_slot, kept_room, New, new_of, put_after_is, unused, written}
+use Rattle.rail_slots.proofs.slots.Slots.put_after.Goals.{After-new_slot-new, After-put_behind}
 use Rattle.rail_slots.proofs.slots.Slots.put_after.Goals as goal
 
--- the slot that comes into use is the first of the free ones
-first : (g : _) (c : In-Some g) → get_or c.self.inside.next.items 0 None ≡ Some c.in-Some.new
-first g c =
+-- the slot is new, and then it is put behind the slot in use
+new : (g : _) (c : After-new_slot-new g)
+    → New c.new_slot-new.new.next.items c.new_slot-new.new.items.items c.self.inside.chains (c.self.inside.spare - 1) (all_cells c.self.inside.next.items c.self.inside.spare) c.new_slot-new.result c.args.item c.args.self.now.chains
+new g c =
     let s = c.self.inside in
-    let free = free_of s.next.items s.items.items s.chains s.spare c.self.invariant (omega (arith, c.requires.spare, ap (λ r. r.spare) c.self.view_is)) in
-    let zero_in : 0 < length s.next.items = omega (arith, free.room) in
-    sym (c.cell.ensures ∙ get_or_read s.next.items _ _ zero_in c.index.ensures None) ∙ c.in-Some.is
+    new_of s.next.items _ s.items.items _ s.chains s.spare _ c.args.item c.args.self.now.chains c.self.invariant.sound (ap (λ r. r.chains) c.self.view_is) (omega (arith, c.requires.spare, ap (λ r. r.spare) c.self.view_is)) c.new_slot-new.ensures.made
 
-within : (g : _) (c : In-Some g) → c.in-Some.new < length c.self.inside.next.items
-within g c =
+behind : (g : _) (c : After-put_behind g)
+    → take c.new_slot-new.new.next.len (c.put_behind.new.next ++ drop (length c.put_behind.new.next) c.new_slot-new.new.next.items) ≡ put c.new_slot-new.new.next.items c.args.slot c.new_slot-new.result
+behind g c =
+    let made = c.new_slot-new.new.next in
+    written made.len made.items c.put_behind.new.next (put made.items c.args.slot c.new_slot-new.result) made.ok.0 (c.put_behind.ensures ∙ ap (λ l. put l c.args.slot c.new_slot-new.result) c.deref_mut.ensures.value) (put_long made.items c.args.slot c.new_slot-new.result)
+
+pub new_slot-new-requires : goal.new_slot-new-requires
+new_slot-new-requires g c =
     let s = c.self.inside in
-    let free = free_of s.next.items s.items.items s.chains s.spare c.self.invariant (omega (arith, c.requires.spare, ap (λ r. r.spare) c.self.view_is)) in
-    let same : Some free.slot ≡ Some c.in-Some.new = sym free.first ∙ first g c in
-    let slot : free.slot ≡ c.in-Some.new = cc in
-    omega (arith, free.room, slot)
+    has_slot s.next.items s.items.items s.chains s.spare _ _ c.self.invariant (omega (arith, c.requires.spare, ap (λ r. r.spare) c.self.view_is))
 
-made : (g : _) (c : After-use_behind g) → c.use_behind.new.next ≡ put (taken c.self.inside.next.items 0 c.in-Some.new) c.args.slot c.in-Some.new
-made g c = c.use_behind.ensures ∙ ap (λ l. put (taken l 0 c.in-Some.new) c.args.slot c.in-Some.new) c.deref_mut.ensures.value
-
-pub unreachable-requires : goal.unreachable-requires
-unreachable-requires g c =
-    let s = c.self.inside in
-    let free = free_of s.next.items s.items.items s.chains s.spare c.self.invariant (omega (arith, c.requires.spare, ap (λ r. r.spare) c.self.view_is)) in
-    let zero_in : 0 < length s.next.items = omega (arith, free.room) in
-    let h : None ≡ Some free.slot = sym c.in_default.is ∙ c.cell.ensures ∙ get_or_read s.next.items _ _ zero_in c.index.ensures None ∙ free.first in
-    cc
-
-pub use_behind-requires-clause-cell : goal.use_behind-requires-clause-cell
-use_behind-requires-clause-cell g c =
-    let s = c.self.inside in
+pub put_behind-requires-clause-cell : goal.put_behind-requires-clause-cell
+put_behind-requires-clause-cell g c =
+    let made = new g (goal.at.put_behind-requires-clause-cell g c).After-new_slot-new in
     let at = c.requires.slot in
-    let there = standing_of s.next.items s.items.items s.chains s.spare c.args.slot at.chain c.args.self.now.chains at.before at.item at.rest c.self.invariant (ap (λ r. r.chains) c.self.view_is) at.at in
+    let there = standing_of _ _ c.self.inside.chains _ c.args.slot at.chain c.args.self.now.chains at.before at.item at.rest made.used.sound made.used.is at.at in
     omega (arith, there.room, ap length c.deref_mut.ensures.value)
 
-pub use_behind-requires-clause-slot : goal.use_behind-requires-clause-slot
-use_behind-requires-clause-slot g c = omega (arith, within g (goal.at.use_behind-requires-clause-slot g c).In-Some, ap length c.deref_mut.ensures.value)
-
-pub index_mut-requires : goal.index_mut-requires
-index_mut-requires g c = omega (arith, within g (goal.at.index_mut-requires g c).In-Some, c.self.invariant.items, c.self.inside.items.ok.0)
+pub put_behind-requires-clause-new : goal.put_behind-requires-clause-new
+put_behind-requires-clause-new g c = omega (arith, (new g (goal.at.put_behind-requires-clause-new g c).After-new_slot-new).ready.within, ap length c.deref_mut.ensures.value)
 
 pub invariant_of-self : goal.invariant_of-self
 invariant_of-self g c =
     let s = c.self.inside in
     let place = goal.at.invariant_of-self g c in
-    let after = written s.next.len s.next.items c.use_behind.new.next (put (taken s.next.items 0 c.in-Some.new) c.args.slot c.in-Some.new) s.next.ok.0 (made g place.After-use_behind) (made_long s.next.items 0 c.args.slot c.in-Some.new) in
     let at = c.requires.slot in
-    let used = put_after_is s.next.items s.items.items s.chains s.spare c.args.self.now.chains c.in-Some.new c.args.item c.args.slot at.chain at.before at.item at.rest _ c.self.invariant (ap (λ r. r.chains) c.self.view_is)
-    (omega (arith, c.requires.spare, ap (λ r. r.spare) c.self.view_is)) (first g place.In-Some) at.at after in
-    used.sound
+    let used = put_after_is _ _ c.self.inside.chains _ _ c.args.self.now.chains _ c.args.item c.args.slot at.chain at.before at.item at.rest _ (new g place.After-new_slot-new) at.at (behind g place.After-put_behind) in
+    kept_room _ s.next.items _ s.items.items s.chains (s.spare - 1) s.spare _ _ _ _ _ used c.self.invariant c.new_slot-new.ensures.room c.new_slot-new.ensures.room_items
 
 pub returns-clause-chains : goal.returns-clause-chains
-returns-clause-chains g c =
-    let s = c.self.inside in
+returns-clause-chains g c = λ chain before rest item_before stands.
     let place = goal.at.returns-clause-chains g c in
-    let after = written s.next.len s.next.items c.use_behind.new.next (put (taken s.next.items 0 c.in-Some.new) c.args.slot c.in-Some.new) s.next.ok.0 (made g place.After-use_behind) (made_long s.next.items 0 c.args.slot c.in-Some.new) in
-    λ chain before rest item_before stands.
-    let used = put_after_is s.next.items s.items.items s.chains s.spare c.args.self.now.chains c.in-Some.new c.args.item c.args.slot chain before item_before rest _ c.self.invariant (ap (λ r. r.chains) c.self.view_is)
-    (omega (arith, c.requires.spare, ap (λ r. r.spare) c.self.view_is)) (first g place.In-Some) stands after in
+    let used = put_after_is _ _ c.self.inside.chains _ _ c.args.self.now.chains _ c.args.item c.args.slot chain before item_before rest _ (new g place.After-new_slot-new) stands (behind g place.After-put_behind) in
     used.is
 
 pub returns-clause-unused : goal.returns-clause-unused
-returns-clause-unused g c =
-    let s = c.self.inside in
-    unused s.next.items s.items.items s.chains s.spare c.args.self.now.chains c.in-Some.new c.self.invariant (ap (λ r. r.chains) c.self.view_is)
-    (omega (arith, c.requires.spare, ap (λ r. r.spare) c.self.view_is)) (first g (goal.at.returns-clause-unused g c).In-Some)
+returns-clause-unused g c = unused _ _ c.self.inside.chains _ _ _ c.args.item c.args.self.now.chains (new g (goal.at.returns-clause-unused g c).After-new_slot-new)

@@ -1,75 +1,55 @@
-use Rattle.std.proofs.Common.{◌≡◌, ◌+◌, ◌<◌, get_or, length, Some, None, sym, ap, ◌∙◌, arith}
-use Rattle.std.proofs.lemmas.List.{get_or_read}
-use Rattle.rail_slots.specs.Links.{put, taken}
-use Rattle.rail_slots.proofs.Shown.{chain_of, free_of, written, made_long, unused, put_first_is}
-use Rattle.rail_slots.proofs.slots.Slots.put_first.Goals.{After-index, In-Some, After-use_behind}
+use Rattle.std.proofs.Common.{◌≡◌, ◌+◌, ◌-◌, ◌++◌, drop, length, take, ap, ◌∙◌, arith}
+use Rattle.rail_slots.specs.Links.{all_cells, put}
+use Rattle.rail_slots.proofs.Linked.{put_long}
+use Rattle.rail_slots.proofs.Shown.{chain_of, has_slot, kept_room, New, new_of, put_first_is, unused, written}
+use Rattle.rail_slots.proofs.slots.Slots.put_first.Goals.{After-new_slot-slot, After-put_behind}
 use Rattle.rail_slots.proofs.slots.Slots.put_first.Goals as goal
 
--- the slot that comes into use is the first of the free ones
-first : (g : _) (c : In-Some g) → get_or c.self.inside.next.items 0 None ≡ Some c.in-Some.slot
-first g c =
+-- the slot is new, and then it is put behind the cell before the chain
+new : (g : _) (c : After-new_slot-slot g)
+    → New c.new_slot-slot.new.next.items c.new_slot-slot.new.items.items c.self.inside.chains (c.self.inside.spare - 1) (all_cells c.self.inside.next.items c.self.inside.spare) c.new_slot-slot.result c.args.item c.args.self.now.chains
+new g c =
     let s = c.self.inside in
-    let free = free_of s.next.items s.items.items s.chains s.spare c.self.invariant (omega (arith, c.requires.spare, ap (λ r. r.spare) c.self.view_is)) in
-    let zero_in : 0 < length s.next.items = omega (arith, free.room) in
-    sym (c.cell.ensures ∙ get_or_read s.next.items _ _ zero_in c.index.ensures None) ∙ c.in-Some.is
+    new_of s.next.items _ s.items.items _ s.chains s.spare _ c.args.item c.args.self.now.chains c.self.invariant.sound (ap (λ r. r.chains) c.self.view_is) (omega (arith, c.requires.spare, ap (λ r. r.spare) c.self.view_is)) c.new_slot-slot.ensures.made
 
-within : (g : _) (c : In-Some g) → c.in-Some.slot < length c.self.inside.next.items
-within g c =
+behind : (g : _) (c : After-put_behind g)
+    → take c.new_slot-slot.new.next.len (c.put_behind.new.next ++ drop (length c.put_behind.new.next) c.new_slot-slot.new.next.items) ≡ put c.new_slot-slot.new.next.items (c.args.chain + 1) c.new_slot-slot.result
+behind g c =
+    let made = c.new_slot-slot.new.next in
+    written made.len made.items c.put_behind.new.next (put made.items (c.args.chain + 1) c.new_slot-slot.result) made.ok.0 (c.put_behind.ensures ∙ ap (λ l. put l (c.args.chain + 1) c.new_slot-slot.result) c.deref_mut.ensures.value) (put_long made.items (c.args.chain + 1) c.new_slot-slot.result)
+
+pub new_slot-slot-requires : goal.new_slot-slot-requires
+new_slot-slot-requires g c =
     let s = c.self.inside in
-    let free = free_of s.next.items s.items.items s.chains s.spare c.self.invariant (omega (arith, c.requires.spare, ap (λ r. r.spare) c.self.view_is)) in
-    let same : Some free.slot ≡ Some c.in-Some.slot = sym free.first ∙ first g c in
-    let slot : free.slot ≡ c.in-Some.slot = cc in
-    omega (arith, free.room, slot)
-
-made : (g : _) (c : After-use_behind g) → c.use_behind.new.next ≡ put (taken c.self.inside.next.items 0 c.in-Some.slot) (c.args.chain + 1) c.in-Some.slot
-made g c = c.use_behind.ensures ∙ ap (λ l. put (taken l 0 c.in-Some.slot) (c.args.chain + 1) c.in-Some.slot) c.deref_mut.ensures.value
-
-pub unreachable-requires : goal.unreachable-requires
-unreachable-requires g c =
-    let s = c.self.inside in
-    let free = free_of s.next.items s.items.items s.chains s.spare c.self.invariant (omega (arith, c.requires.spare, ap (λ r. r.spare) c.self.view_is)) in
-    let zero_in : 0 < length s.next.items = omega (arith, free.room) in
-    let h : None ≡ Some free.slot = sym c.in_default.is ∙ c.cell.ensures ∙ get_or_read s.next.items _ _ zero_in c.index.ensures None ∙ free.first in
-    cc
+    has_slot s.next.items s.items.items s.chains s.spare _ _ c.self.invariant (omega (arith, c.requires.spare, ap (λ r. r.spare) c.self.view_is))
 
 pub overflow_add-chain : goal.overflow_add-chain
 overflow_add-chain g c =
     let s = c.self.inside in
-    let chain = chain_of s.next.items s.items.items s.chains s.spare c.args.chain c.args.self.now.chains c.self.invariant (ap (λ r. r.chains) c.self.view_is) c.requires.chain in
+    let chain = chain_of s.next.items s.items.items s.chains s.spare c.args.chain c.args.self.now.chains c.self.invariant.sound (ap (λ r. r.chains) c.self.view_is) c.requires.chain in
     omega (arith, chain.within)
 
-pub use_behind-requires-clause-cell : goal.use_behind-requires-clause-cell
-use_behind-requires-clause-cell g c =
-    let s = c.self.inside in
-    let chain = chain_of s.next.items s.items.items s.chains s.spare c.args.chain c.args.self.now.chains c.self.invariant (ap (λ r. r.chains) c.self.view_is) c.requires.chain in
+pub put_behind-requires-clause-cell : goal.put_behind-requires-clause-cell
+put_behind-requires-clause-cell g c =
+    let made = new g (goal.at.put_behind-requires-clause-cell g c).After-new_slot-slot in
+    let chain = chain_of _ _ c.self.inside.chains _ c.args.chain c.args.self.now.chains made.used.sound made.used.is c.requires.chain in
     omega (arith, chain.room, ap length c.deref_mut.ensures.value)
 
-pub use_behind-requires-clause-slot : goal.use_behind-requires-clause-slot
-use_behind-requires-clause-slot g c = omega (arith, within g (goal.at.use_behind-requires-clause-slot g c).In-Some, ap length c.deref_mut.ensures.value)
-
-pub index_mut-requires : goal.index_mut-requires
-index_mut-requires g c = omega (arith, within g (goal.at.index_mut-requires g c).In-Some, c.self.invariant.items, c.self.inside.items.ok.0)
+pub put_behind-requires-clause-new : goal.put_behind-requires-clause-new
+put_behind-requires-clause-new g c = omega (arith, (new g (goal.at.put_behind-requires-clause-new g c).After-new_slot-slot).ready.within, ap length c.deref_mut.ensures.value)
 
 pub invariant_of-self : goal.invariant_of-self
 invariant_of-self g c =
     let s = c.self.inside in
-    let at = goal.at.invariant_of-self g c in
-    let after = written s.next.len s.next.items c.use_behind.new.next (put (taken s.next.items 0 c.in-Some.slot) (c.args.chain + 1) c.in-Some.slot) s.next.ok.0 (made g at.After-use_behind) (made_long s.next.items 0 (c.args.chain + 1) c.in-Some.slot) in
-    let used = put_first_is s.next.items s.items.items s.chains s.spare c.args.self.now.chains c.in-Some.slot c.args.item c.args.chain (c.args.chain + 1) _ c.self.invariant (ap (λ r. r.chains) c.self.view_is)
-    (omega (arith, c.requires.spare, ap (λ r. r.spare) c.self.view_is)) (first g at.In-Some) c.requires.chain (omega arith) after in
-    used.sound
+    let place = goal.at.invariant_of-self g c in
+    let used = put_first_is _ _ c.self.inside.chains _ _ c.args.self.now.chains _ c.args.item c.args.chain (c.args.chain + 1) _ (new g place.After-new_slot-slot) c.requires.chain (omega arith) (behind g place.After-put_behind) in
+    kept_room _ s.next.items _ s.items.items s.chains (s.spare - 1) s.spare _ _ _ _ _ used c.self.invariant c.new_slot-slot.ensures.room c.new_slot-slot.ensures.room_items
 
 pub returns-clause-chains : goal.returns-clause-chains
 returns-clause-chains g c =
-    let s = c.self.inside in
-    let at = goal.at.returns-clause-chains g c in
-    let after = written s.next.len s.next.items c.use_behind.new.next (put (taken s.next.items 0 c.in-Some.slot) (c.args.chain + 1) c.in-Some.slot) s.next.ok.0 (made g at.After-use_behind) (made_long s.next.items 0 (c.args.chain + 1) c.in-Some.slot) in
-    let used = put_first_is s.next.items s.items.items s.chains s.spare c.args.self.now.chains c.in-Some.slot c.args.item c.args.chain (c.args.chain + 1) _ c.self.invariant (ap (λ r. r.chains) c.self.view_is)
-    (omega (arith, c.requires.spare, ap (λ r. r.spare) c.self.view_is)) (first g at.In-Some) c.requires.chain (omega arith) after in
+    let place = goal.at.returns-clause-chains g c in
+    let used = put_first_is _ _ c.self.inside.chains _ _ c.args.self.now.chains _ c.args.item c.args.chain (c.args.chain + 1) _ (new g place.After-new_slot-slot) c.requires.chain (omega arith) (behind g place.After-put_behind) in
     used.is
 
 pub returns-clause-unused : goal.returns-clause-unused
-returns-clause-unused g c =
-    let s = c.self.inside in
-    unused s.next.items s.items.items s.chains s.spare c.args.self.now.chains c.in-Some.slot c.self.invariant (ap (λ r. r.chains) c.self.view_is)
-    (omega (arith, c.requires.spare, ap (λ r. r.spare) c.self.view_is)) (first g (goal.at.returns-clause-unused g c).In-Some)
+returns-clause-unused g c = unused _ _ c.self.inside.chains _ _ _ c.args.item c.args.self.now.chains (new g (goal.at.returns-clause-unused g c).After-new_slot-slot)

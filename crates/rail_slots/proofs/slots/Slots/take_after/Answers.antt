@@ -1,9 +1,9 @@
-use Rattle.std.proofs.Common.{◌≡◌, ◌+◌, ◌<◌, get_or, length, set, [], ◌∷◌, ◌++◌, Some, None, sym, ap, ◌∙◌, arith}
+use Rattle.std.proofs.Common.{◌≡◌, ◌+◌, ◌<◌, get_or, length, set, [], ◌∷◌, ◌++◌, Some, None, refl, sym, ap, ◌∙◌, arith}
 use Rattle.std.proofs.lemmas.List.{get_or_read, set-get_or}
 use Rattle.rail_slots.specs.Slots.{first_item, behind_first}
 use Rattle.rail_slots.specs.Links.{put, taken}
 use Rattle.rail_slots.proofs.Ahead.{fewer}
-use Rattle.rail_slots.proofs.Shown.{standing_of, written, made_long, none_after, take_after_is, one_more, after_room, after_some}
+use Rattle.rail_slots.proofs.Shown.{kept_room, standing_of, written, made_long, none_after, take_after_is, one_more, after_room, after_some}
 use Rattle.rail_slots.proofs.slots.Slots.take_after.Goals.{After-cell, In-Some, After-free_behind}
 use Rattle.rail_slots.proofs.slots.Slots.take_after.Goals as goal
 
@@ -12,21 +12,21 @@ read : (g : _) (c : After-cell g) → c.cell.result ≡ get_or c.self.inside.nex
 read g c =
     let s = c.self.inside in
     let at = c.requires in
-    let there = standing_of s.next.items s.items.items s.chains s.spare c.args.slot at.chain c.args.self.now.chains at.before at.item at.rest c.self.invariant (ap (λ r. r.chains) c.self.view_is) at.at in
+    let there = standing_of s.next.items s.items.items s.chains s.spare c.args.slot at.chain c.args.self.now.chains at.before at.item at.rest c.self.invariant.sound (ap (λ r. r.chains) c.self.view_is) at.at in
     c.cell.ensures ∙ get_or_read s.next.items _ _ there.room c.index.ensures None
 
 behind : (g : _) (c : In-Some g) → get_or c.self.inside.next.items c.args.slot None ≡ Some c.in-Some.old
 behind g c =
     let s = c.self.inside in
     let at = c.requires in
-    let there = standing_of s.next.items s.items.items s.chains s.spare c.args.slot at.chain c.args.self.now.chains at.before at.item at.rest c.self.invariant (ap (λ r. r.chains) c.self.view_is) at.at in
+    let there = standing_of s.next.items s.items.items s.chains s.spare c.args.slot at.chain c.args.self.now.chains at.before at.item at.rest c.self.invariant.sound (ap (λ r. r.chains) c.self.view_is) at.at in
     sym (c.cell.ensures ∙ get_or_read s.next.items _ _ there.room c.index.ensures None) ∙ c.in-Some.is
 
 within : (g : _) (c : In-Some g) → c.in-Some.old < length c.self.inside.next.items
 within g c =
     let s = c.self.inside in
     let at = c.requires in
-    after_room s.next.items s.items.items s.chains s.spare c.args.slot at.chain c.in-Some.old c.args.self.now.chains at.before at.item at.rest c.self.invariant (ap (λ r. r.chains) c.self.view_is) at.at (behind g c)
+    after_room s.next.items s.items.items s.chains s.spare c.args.slot at.chain c.in-Some.old c.args.self.now.chains at.before at.item at.rest c.self.invariant.sound (ap (λ r. r.chains) c.self.view_is) at.at (behind g c)
 
 made : (g : _) (c : After-free_behind g) → c.free_behind.new.next ≡ put (taken c.self.inside.next.items c.args.slot c.in-Some.old) 0 c.in-Some.old
 made g c = c.free_behind.ensures ∙ ap (λ l. put (taken l c.args.slot c.in-Some.old) 0 c.in-Some.old) c.deref_mut.ensures.value
@@ -35,34 +35,34 @@ pub index-requires : goal.index-requires
 index-requires g c =
     let s = c.self.inside in
     let at = c.requires in
-    let there = standing_of s.next.items s.items.items s.chains s.spare c.args.slot at.chain c.args.self.now.chains at.before at.item at.rest c.self.invariant (ap (λ r. r.chains) c.self.view_is) at.at in
+    let there = standing_of s.next.items s.items.items s.chains s.spare c.args.slot at.chain c.args.self.now.chains at.before at.item at.rest c.self.invariant.sound (ap (λ r. r.chains) c.self.view_is) at.at in
     omega (arith, there.room, s.next.ok.0)
 
 pub returns-in_default-clause-item : goal.returns-in_default-clause-item
 returns-in_default-clause-item g c = λ k before rest item stands.
     let s = c.self.inside in
     let none = sym (read g (goal.at.returns-in_default-clause-item g c).After-cell) ∙ c.in_default.is in
-    sym (ap first_item (none_after s.next.items s.items.items s.chains s.spare c.args.slot k c.args.self.now.chains before item rest c.self.invariant (ap (λ r. r.chains) c.self.view_is) stands none))
+    sym (ap first_item (none_after s.next.items s.items.items s.chains s.spare c.args.slot k c.args.self.now.chains before item rest c.self.invariant.sound (ap (λ r. r.chains) c.self.view_is) stands none))
 
 pub returns-in_default-clause-chains : goal.returns-in_default-clause-chains
 returns-in_default-clause-chains g c = λ k before rest item stands.
     let s = c.self.inside in
     let none = sym (read g (goal.at.returns-in_default-clause-chains g c).After-cell) ∙ c.in_default.is in
-    let nothing = none_after s.next.items s.items.items s.chains s.spare c.args.slot k c.args.self.now.chains before item rest c.self.invariant (ap (λ r. r.chains) c.self.view_is) stands none in
+    let nothing = none_after s.next.items s.items.items s.chains s.spare c.args.slot k c.args.self.now.chains before item rest c.self.invariant.sound (ap (λ r. r.chains) c.self.view_is) stands none in
     sym (ap (λ l. set c.args.self.now.chains k (before ++ (c.args.slot, item) ∷ l)) (ap behind_first nothing ∙ sym nothing) ∙ ap (set c.args.self.now.chains k) (sym stands.is) ∙ set-get_or c.args.self.now.chains k [])
 
 pub free_behind-requires-clause-cell : goal.free_behind-requires-clause-cell
 free_behind-requires-clause-cell g c =
     let s = c.self.inside in
     let at = c.requires in
-    let there = standing_of s.next.items s.items.items s.chains s.spare c.args.slot at.chain c.args.self.now.chains at.before at.item at.rest c.self.invariant (ap (λ r. r.chains) c.self.view_is) at.at in
+    let there = standing_of s.next.items s.items.items s.chains s.spare c.args.slot at.chain c.args.self.now.chains at.before at.item at.rest c.self.invariant.sound (ap (λ r. r.chains) c.self.view_is) at.at in
     omega (arith, there.room, ap length c.deref_mut.ensures.value)
 
 pub free_behind-requires-clause-slot : goal.free_behind-requires-clause-slot
 free_behind-requires-clause-slot g c = omega (arith, within g (goal.at.free_behind-requires-clause-slot g c).In-Some, ap length c.deref_mut.ensures.value)
 
 pub index-requires-2 : goal.index-requires-2
-index-requires-2 g c = omega (arith, within g (goal.at.index-requires-2 g c).In-Some, c.self.invariant.items, c.self.inside.items.ok.0)
+index-requires-2 g c = omega (arith, within g (goal.at.index-requires-2 g c).In-Some, c.self.invariant.sound.items, c.self.inside.items.ok.0)
 
 pub invariant_of-self : goal.invariant_of-self
 invariant_of-self g c =
@@ -70,16 +70,16 @@ invariant_of-self g c =
     let at = c.requires in
     let place = goal.at.invariant_of-self g c in
     let after = written s.next.len s.next.items c.free_behind.new.next (put (taken s.next.items c.args.slot c.in-Some.old) 0 c.in-Some.old) s.next.ok.0 (made g place.After-free_behind) (made_long s.next.items c.args.slot 0 c.in-Some.old) in
-    let done = take_after_is s.next.items s.items.items s.chains s.spare c.args.slot at.chain c.in-Some.old c.args.self.now.chains at.before at.item at.rest _ c.self.invariant (ap (λ r. r.chains) c.self.view_is) at.at (behind g place.In-Some) after in
-    done.0.sound
+    let done = take_after_is s.next.items s.items.items s.chains s.spare c.args.slot at.chain c.in-Some.old c.args.self.now.chains at.before at.item at.rest _ c.self.invariant.sound (ap (λ r. r.chains) c.self.view_is) at.at (behind g place.In-Some) after in
+    kept_room _ s.next.items s.items.items s.items.items s.chains (s.spare + 1) s.spare _ _ _ _ _ done.0 c.self.invariant refl refl
 
 pub returns-clause-item : goal.returns-clause-item
 returns-clause-item g c = λ k before rest item stands.
     let s = c.self.inside in
     let place = goal.at.returns-clause-item g c in
     let after = written s.next.len s.next.items c.free_behind.new.next (put (taken s.next.items c.args.slot c.in-Some.old) 0 c.in-Some.old) s.next.ok.0 (made g place.After-free_behind) (made_long s.next.items c.args.slot 0 c.in-Some.old) in
-    let done = take_after_is s.next.items s.items.items s.chains s.spare c.args.slot k c.in-Some.old c.args.self.now.chains before item rest _ c.self.invariant (ap (λ r. r.chains) c.self.view_is) stands (behind g place.In-Some) after in
-    let inside : c.in-Some.old < length s.items.items = omega (arith, within g place.In-Some, c.self.invariant.items) in
+    let done = take_after_is s.next.items s.items.items s.chains s.spare c.args.slot k c.in-Some.old c.args.self.now.chains before item rest _ c.self.invariant.sound (ap (λ r. r.chains) c.self.view_is) stands (behind g place.In-Some) after in
+    let inside : c.in-Some.old < length s.items.items = omega (arith, within g place.In-Some, c.self.invariant.sound.items) in
     get_or_read s.items.items _ _ inside c.index-2.ensures None ∙ done.1
 
 pub returns-clause-chains : goal.returns-clause-chains
@@ -87,7 +87,7 @@ returns-clause-chains g c = λ k before rest item stands.
     let s = c.self.inside in
     let place = goal.at.returns-clause-chains g c in
     let after = written s.next.len s.next.items c.free_behind.new.next (put (taken s.next.items c.args.slot c.in-Some.old) 0 c.in-Some.old) s.next.ok.0 (made g place.After-free_behind) (made_long s.next.items c.args.slot 0 c.in-Some.old) in
-    let done = take_after_is s.next.items s.items.items s.chains s.spare c.args.slot k c.in-Some.old c.args.self.now.chains before item rest _ c.self.invariant (ap (λ r. r.chains) c.self.view_is) stands (behind g place.In-Some) after in
+    let done = take_after_is s.next.items s.items.items s.chains s.spare c.args.slot k c.in-Some.old c.args.self.now.chains before item rest _ c.self.invariant.sound (ap (λ r. r.chains) c.self.view_is) stands (behind g place.In-Some) after in
     done.0.is
 
 pub returns-clause-spare : goal.returns-clause-spare
@@ -95,8 +95,8 @@ returns-clause-spare g c =
     let s = c.self.inside in
     let at = c.requires in
     let place = goal.at.returns-clause-spare g c in
-    let some = after_some s.next.items s.items.items s.chains s.spare c.args.slot at.chain c.in-Some.old c.args.self.now.chains at.before at.item at.rest c.self.invariant (ap (λ r. r.chains) c.self.view_is) at.at (behind g place.In-Some) in
-    let inside : c.in-Some.old < length s.items.items = omega (arith, within g place.In-Some, c.self.invariant.items) in
+    let some = after_some s.next.items s.items.items s.chains s.spare c.args.slot at.chain c.in-Some.old c.args.self.now.chains at.before at.item at.rest c.self.invariant.sound (ap (λ r. r.chains) c.self.view_is) at.at (behind g place.In-Some) in
+    let inside : c.in-Some.old < length s.items.items = omega (arith, within g place.In-Some, c.self.invariant.sound.items) in
     one_more c.index-2.result.now some.0 (s.spare + 1) c.args.self.now.spare (get_or_read s.items.items _ _ inside c.index-2.ensures None ∙ some.1) (ap (λ r. r.spare + 1) c.self.view_is)
 
 pub returns-clause-fewer : goal.returns-clause-fewer
@@ -105,5 +105,5 @@ returns-clause-fewer g c =
     let at = c.requires in
     let place = goal.at.returns-clause-fewer g c in
     let after = written s.next.len s.next.items c.free_behind.new.next (put (taken s.next.items c.args.slot c.in-Some.old) 0 c.in-Some.old) s.next.ok.0 (made g place.After-free_behind) (made_long s.next.items c.args.slot 0 c.in-Some.old) in
-    let done = take_after_is s.next.items s.items.items s.chains s.spare c.args.slot at.chain c.in-Some.old c.args.self.now.chains at.before at.item at.rest _ c.self.invariant (ap (λ r. r.chains) c.self.view_is) at.at (behind g place.In-Some) after in
-    fewer s.next.items _ s.items.items s.chains s.spare (s.spare + 1) c.args.slot at.chain c.in-Some.old c.args.self.now.chains at.before at.item at.rest c.index-2.result.now c.self.invariant (ap (λ r. r.chains) c.self.view_is) at.at (behind g place.In-Some) done.0
+    let done = take_after_is s.next.items s.items.items s.chains s.spare c.args.slot at.chain c.in-Some.old c.args.self.now.chains at.before at.item at.rest _ c.self.invariant.sound (ap (λ r. r.chains) c.self.view_is) at.at (behind g place.In-Some) after in
+    fewer s.next.items _ s.items.items s.chains s.spare (s.spare + 1) _ c.args.slot at.chain c.in-Some.old c.args.self.now.chains at.before at.item at.rest c.index-2.result.now c.self.invariant.sound (ap (λ r. r.chains) c.self.view_is) at.at (behind g place.In-Some) done.0
