@@ -1,6 +1,7 @@
 -- A standing set is clear where no train but its own is counted for a section of it.
 use Rattle.std.proofs.Common.{◌≡◌, ◌≢◌, ℕ, ◌+◌, ◌<◌, Bool, true, false, cond, not, ◌&&◌, ◌||◌, eqb, List, [], ◌∷◌, length, refl, sym, ap, ◌∙◌, ⊎_elim, arith}
-use Rattle.std.proofs.lemmas.Bool.{and_from, and_parts, cases_Bool, cases_eq, false≢true, cond-true, cond-false, eq-eqb, ne_eqb, eqb-true, not_from_false, not_from_true, or_cases, or_left, or_right}
+use Rattle.std.proofs.lemmas.List.{get_or_past}
+use Rattle.std.proofs.lemmas.Bool.{and_from, and_parts, cases_Bool, cases_eq, cases_lt, false≢true, cond-true, cond-false, eq-eqb, ne_eqb, eqb-true, not_from_false, not_from_true, or_cases, or_left, or_right}
 use Rattle.std.specs.List.{list_all}
 use Rattle.rail_base.specs.declared.limits.TheConstants.{SECTIONS}
 use Rattle.rail_rules.specs.Numbers.{any_below, sum_below, is_in}
@@ -30,6 +31,34 @@ module _ (f : ℕ → ℕ) (n t : ℕ) (lt : t < n) where
 
   pub sum_alone : ((u : ℕ) → u < n → u ≢ t → f u ≡ 0) → sum_below f n ≡ f t
   sum_alone none = omega (arith, split, sum_zero others n (λ i below. ⊎_elim (λ same. cond-true (eqb i t) 0 (f i) (eq-eqb i t same)) (λ ne. cond-false (eqb i t) 0 (f i) (ne_eqb i t ne) ∙ none i below ne) (cases_eq i t)))
+
+-- a sum that is two of its items has no others
+sum_two : (f : ℕ → ℕ) (n t v : ℕ) (lt : t < n) → v < n → v ≢ t → sum_below f n ≡ f t + f v → (u : ℕ) → u < n → u ≢ t → u ≢ v → f u ≡ 0
+sum_two f n t v lt known ne both u below one two =
+    sym (cond-false (eqb u t) 0 (f u) (ne_eqb u t one))
+    ∙ sum_own (others f n t lt) n v known (omega (arith, split f n t lt, both, cond-false (eqb v t) 0 (f v) (ne_eqb v t ne))) u below two
+
+-- where one train is counted for the section, and this one needs it, no other does
+pub one_needer : (plan : Moves) (s counts : List ℕ) (v x : ℕ) → IsCounted plan s counts → x < SECTIONS → v < length s → count_of counts x ≡ 1
+    → needs_left plan v (place_of s v) x ≡ true → (u : ℕ) → u ≢ v → needs_left plan u (place_of s u) x ≡ false
+one_needer plan s counts v x counted few known one needs u ne =
+    let f : ℕ → ℕ = λ w. one_if (needs_left plan w (place_of s w) x) in
+    ⊎_elim
+    (λ below. one_none (needs_left plan u (place_of s u) x) (sum_own f (length s) v known (omega (arith, counted x few, one, one_true (needs_left plan v (place_of s v) x) needs)) u below ne))
+    (λ past. ap (λ k. needs_left plan u k x) (get_or_past s u 0 past))
+    (cases_lt u (length s))
+
+-- where two trains are counted for the section, and these two need it, no third one does
+pub two_needers : (plan : Moves) (s counts : List ℕ) (t v x : ℕ) → IsCounted plan s counts → x < SECTIONS → t < length s → v < length s → v ≢ t → count_of counts x ≡ 2
+    → needs_left plan t (place_of s t) x ≡ true → needs_left plan v (place_of s v) x ≡ true → (u : ℕ) → u ≢ t → u ≢ v → needs_left plan u (place_of s u) x ≡ false
+two_needers plan s counts t v x counted few lt known ne two one other u nt nv =
+    let f : ℕ → ℕ = λ w. one_if (needs_left plan w (place_of s w) x) in
+    ⊎_elim
+    (λ below.
+    one_none (needs_left plan u (place_of s u) x)
+    (sum_two f (length s) t v lt known ne (omega (arith, counted x few, two, one_true (needs_left plan t (place_of s t) x) one, one_true (needs_left plan v (place_of s v) x) other)) u below nt nv))
+    (λ past. ap (λ k. needs_left plan u k x) (get_or_past s u 0 past))
+    (cases_lt u (length s))
 
 module _ (plan : Moves) (s : List ℕ) (t : ℕ) (sections : List ℕ) where
   -- no train but this one needs one of the sections for a move that it has left

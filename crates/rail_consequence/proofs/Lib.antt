@@ -6,6 +6,7 @@ mod Safe
 mod Played
 mod Walks
 mod Counts
+mod LastNeeds
 mod Clear
 mod Backward
 mod Stopping
@@ -13,3 +14,4 @@ mod Listing
 mod Without
 mod Freeing
 mod Going
+mod Waking

@@ -1,7 +1,8 @@
 -- The list of the trains that were inside when a search began: it names all that are inside later.
-use Rattle.std.proofs.Common.{◌≡◌, ℕ, suc, ◌<◌, true, List, [], ◌∷◌, length, sym, ap, ◌∙◌, subst, ⊎_elim, arith}
-use Rattle.std.proofs.lemmas.Bool.{cases_eq}
-use Rattle.std.proofs.lemmas.List.{get_or-set_other}
+use Rattle.std.proofs.Common.{◌≡◌, ℕ, suc, ◌+◌, ◌<◌, ◌≤◌, true, false, ◌||◌, eqb, List, [], ◌∷◌, ◌++◌, length, sym, ap, ◌∙◌, subst, ⊎_elim, arith}
+use Rattle.std.proofs.lemmas.Bool.{cases_eq, eq-eqb, false≢true, or_left, or_right}
+use Rattle.std.proofs.lemmas.List.{get_or-set_other, length_push}
+use Rattle.std.proofs.lemmas.List.Folds.{list_any-append}
 use Rattle.rail_base.specs.declared.limits.TheConstants.{TRAINS}
 use Rattle.rail_rules.specs.Numbers.{is_in}
 use Rattle.rail_rules.specs.Moves.{Moves}
@@ -9,6 +10,7 @@ use Rattle.rail_rules.specs.Places.{place_of, is_inside, after}
 use Rattle.rail_place.specs.Tables.{moves_in, IsTable, MoveLists}
 use Rattle.rail_place.specs.Plays.{IsPlayed}
 use Rattle.rail_consequence.specs.Workspace.{Work, GoesOn, IsListing}
+use Rattle.rail_consequence.proofs.LastNeeds.{in_push}
 use Rattle.rail_consequence.proofs.Legs.{inside_same}
 
 -- a train that is inside after moves was inside before them
@@ -32,3 +34,33 @@ listed_at plan s r inside same listed = let P : List ℕ → Type 0 = λ q. IsLi
 -- the trains that are listed are within the limits
 pub listed_few : (table : List MoveLists) (s inside : List ℕ) → IsTable table → IsListing (moves_in table) s inside → (u : ℕ) → is_in u inside ≡ true → u < TRAINS
 listed_few table s inside moves listed u is = let lt : u < length table = listed.trains u is in omega (arith, lt, moves.few)
+
+-- of the first so many trains those are listed that are inside
+pub record IsListedTo (plan : Moves) (s : List ℕ) (n : ℕ) (inside : List ℕ) : Type 0 where
+  pub trains : (u : ℕ) → is_in u inside ≡ true → u < n
+  pub all : (u : ℕ) → u < n → is_inside plan s u ≡ true → is_in u inside ≡ true
+  pub few : length inside ≤ n
+
+module _ (plan : Moves) (s : List ℕ) (n : ℕ) (inside : List ℕ) (listed : IsListedTo plan s n inside) where
+  pub listed_no : is_inside plan s n ≡ false → IsListedTo plan s (n + 1) inside
+  listed_no out = record {
+    trains = λ u is. omega (arith, listed.trains u is);
+    all = λ u lt is.
+        ⊎_elim
+        (λ same. absurd (false≢true (sym out ∙ ap (is_inside plan s) (sym same) ∙ is)))
+        (λ ne. listed.all u (omega (arith, lt, ne)) is)
+        (cases_eq u n);
+    few = omega (arith, listed.few);
+  }
+
+  pub listed_one : IsListedTo plan s (n + 1) (inside ++ n ∷ [])
+  listed_one = record {
+    trains = λ u is. ⊎_elim (λ earlier. omega (arith, listed.trains u earlier)) (λ here. omega (arith, here)) (in_push u n inside is);
+    all = λ u lt is.
+        list_any-append (λ z. eqb z u) inside (n ∷ [])
+        ∙ ⊎_elim
+        (λ same. or_right (is_in u inside) (is_in u (n ∷ [])) (ap (λ b. b || false) (eq-eqb n u (sym same))))
+        (λ ne. or_left (is_in u inside) (is_in u (n ∷ [])) (listed.all u (omega (arith, lt, ne)) is))
+        (cases_eq u n);
+    few = omega (arith, listed.few, length_push inside n);
+  }

@@ -1,5 +1,5 @@
 -- Lists played from one state to another.
-use Rattle.std.proofs.Common.{◌≡◌, ℕ, zero, suc, ◌+◌, ◌-◌, ◌*◌, ◌<◌, ◌≤◌, true, ◌&&◌, List, [], ◌∷◌, ◌++◌, length, set, take, drop, refl, sym, ap, ◌∙◌, subst, ⊎_elim, arith}
+use Rattle.std.proofs.Common.{◌≡◌, ℕ, ◌+◌, ◌-◌, ◌*◌, ◌<◌, ◌≤◌, true, ◌&&◌, List, [], ◌∷◌, ◌++◌, length, set, take, drop, refl, sym, ap, ◌∙◌, subst, ⊎_elim, arith}
 use Rattle.std.proofs.lemmas.Bool.{and_from, cases_eq}
 use Rattle.std.proofs.lemmas.List.{get_or-set_same, get_or-set_other, length-set, append_assoc, take_at, drop_at}
 use Rattle.rail_base.specs.declared.limits.TheConstants.{ITINERARY_ROUTES, LIST_TRAINS}
@@ -17,11 +17,10 @@ pub played_append : (plan : Moves) (s xs r ys q : List ℕ) → IsPlayed plan s 
 played_append plan s [] r ys q same later = let P : List ℕ → Type 0 = λ k. IsPlayed plan k ys q in subst P (sym same) later
 played_append plan s (x ∷ xs) r ys q first later = (first.0, first.1, played_append plan (after s x) xs r ys q first.2 later)
 
-pub played_split : (plan : Moves) (s : List ℕ) (n : ℕ) (xs r : List ℕ) → IsPlayed plan s xs r → (q : List ℕ) × IsPlayed plan s (take n xs) q × IsPlayed plan q (drop n xs) r
-played_split plan s zero xs r played = (s, refl, played)
-played_split plan s (suc n) [] r played = (s, refl, played)
-played_split plan s (suc n) (x ∷ xs) r played =
-    let rest = played_split plan (after s x) n xs r played.2 in
+pub played_parts : (plan : Moves) (s xs ys r : List ℕ) → IsPlayed plan s (xs ++ ys) r → (q : List ℕ) × IsPlayed plan s xs q × IsPlayed plan q ys r
+played_parts plan s [] ys r played = (s, refl, played)
+played_parts plan s (x ∷ xs) ys r played =
+    let rest = played_parts plan (after s x) xs ys r played.2 in
     (rest.0, (played.0, played.1, rest.1), rest.2)
 
 pub played_valid : (plan : Moves) (s xs r : List ℕ) → is_valid plan ≡ true → is_valid_state plan s ≡ true → IsPlayed plan s xs r → is_valid_state plan r ≡ true

@@ -11,8 +11,7 @@ use Rattle.rail_rules.proofs.CallerLemmas.{any_below_at, any_below_none, list_an
 use Rattle.rail_place.specs.Tables.{moves_in, MoveLists}
 use Rattle.rail_place.specs.Made.{State, IsMadeFor}
 use Rattle.rail_place.proofs.CallerLemmas.{holder_listed, state_apart, move_valid}
-use Rattle.rail_consequence.specs.Needs.{IsCounted, needs_from, needs_left, one_if}
-use Rattle.rail_consequence.specs.Freeing.{LeavesNoneAlone}
+use Rattle.rail_consequence.specs.Needs.{IsCounted, needs_left, one_if}
 use Rattle.rail_consequence.specs.Stops.{IsHeldByOther, IsStopped, StaysUnsafe}
 use Rattle.rail_consequence.proofs.Legs.{goes_parts, leg_from, inside_parts, inside_from, inside_listed, IsClear}
 use Rattle.rail_consequence.proofs.Safe.{safe_from_clear, clear_from_safe}
@@ -217,12 +216,6 @@ module _ (plan : Moves) (s : List ℕ) (t to u : ℕ) (valid : is_valid plan ≡
           held = held_still x v known stop held;
           unsafe = λ p low high. unsafe_still p known (omega (arith, low, at)) (omega (arith, high, stop.below)) parts.0 (stop.unsafe p (omega (arith, low, at)) high);
         }
-
--- where no section is left to one train alone, none is to this one
-pub untouched : (plan : Moves) (s counts : List ℕ) (t u from x : ℕ) → LeavesNoneAlone plan counts 1 t from (place_of s t) → StaysUnsafe plan s counts t from u x
-untouched plan s counts t u from x alone = λ near i y low below needed gone one.
-    let p : ℕ = place_of s t in
-    absurd (false≢true (sym gone ∙ and_from (ltb 0 p) (needs_from plan t p y) (lt-ltb 0 p (omega (arith, below))) (alone i y low below needed one)))
 
 -- what is noted of a train after a leg of another one
 pub settled_one : (table : List MoveLists) (state : State) (counts : List ℕ) (s : List ℕ) (t to u x : ℕ) → IsMadeFor table state → IsCounted (moves_in table) state.positions counts

@@ -1,11 +1,11 @@
 -- What is left of what stops the other trains, once a train has gone on.
-use Rattle.std.specs.Prelude.{◌≡◌, ◌≢◌, ℕ, ◌<◌, ◌≤◌, List, Option, Some, set, IsTrue}
+use Rattle.std.specs.Prelude.{◌≡◌, ◌≢◌, ℕ, ◌+◌, ◌<◌, ◌≤◌, ◌&&◌, not, false, List, Option, Some, set, IsTrue}
 use Rattle.rail_rules.specs.Numbers.{is_in}
 use Rattle.rail_rules.specs.Moves.{Moves}
-use Rattle.rail_rules.specs.Places.{holds, is_inside}
-use Rattle.rail_consequence.specs.Needs.{count_of, needs_from}
+use Rattle.rail_rules.specs.Places.{holds, is_inside, place_of}
+use Rattle.rail_consequence.specs.Needs.{count_of, needs_from, needs_left, one_if}
 use Rattle.rail_consequence.specs.Searches.{HasNoSafeLegOf}
-use Rattle.rail_consequence.specs.Stops.{stop_at}
+use Rattle.rail_consequence.specs.Stops.{IsHeldByOther, stop_at}
 
 -- a section is noted to stop the one train, and some train holds it once the other has gone on to the place
 pub record IsHeldStill (plan : Moves) (s : List ℕ) (stops : List (Option ℕ)) (level u t p : ℕ) : Type 0 where
@@ -24,13 +24,26 @@ pub record HasOther (plan : Moves) (s : List ℕ) (t : ℕ) : Type 0 where
   pub differs : train ≢ t
   pub inside : IsTrue (is_inside plan s train)
 
--- the train at the place still needs the section, or it is not counted for so many trains
-abbrev pub IsNeededThen : Moves → List ℕ → ℕ → ℕ → ℕ → ℕ → Type 0
-IsNeededThen plan counts count t p x = count_of counts x ≡ count → IsTrue (needs_from plan t p x)
+-- another train holds a section of the train's move from the place
+pub record IsBarred (plan : Moves) (s : List ℕ) (u place : ℕ) : Type 0 where
+  pub section : ℕ
+  pub needed : IsTrue (is_in section (plan.claim u place))
+  pub held : IsHeldByOther plan s u section
 
--- this is so of each section that the moves of the train from the one place to the other need
-abbrev pub LeavesNoneAlone : Moves → List ℕ → ℕ → ℕ → ℕ → ℕ → Type 0
-LeavesNoneAlone plan counts count t from p = (i x : ℕ) → from ≤ i → i < p → IsTrue (is_in x (plan.claim t i)) → IsNeededThen plan counts count t p x
+-- more trains are counted for the section than the one, and the other one where it needs it no more from the place on
+abbrev pub IsSharedThen : Moves → List ℕ → List ℕ → ℕ → ℕ → ℕ → ℕ → Type 0
+IsSharedThen plan s counts t p u x =
+    one_if (needs_left plan u (place_of s u) x) + one_if (needs_left plan t (place_of s t) x && not (needs_from plan t p x)) < count_of counts x
+
+-- the one train is not left alone in need of a section that the other one needs on its way to the place, and no more then
+abbrev pub IsSpared : Moves → List ℕ → List ℕ → ℕ → ℕ → ℕ → Type 0
+IsSpared plan s counts t p u = (i x : ℕ) → place_of s t ≤ i → i < p → IsTrue (is_in x (plan.claim t i)) → needs_from plan t p x ≡ false
+    → count_of counts x ≡ 2 → needs_left plan u (place_of s u) x ≡ false
+
+-- a train that is left alone in need of the section has no safe leg once the train has gone on to the place
+abbrev pub GivesUpInVain : Moves → List ℕ → List ℕ → ℕ → ℕ → ℕ → Type 0
+GivesUpInVain plan s counts t p x = needs_from plan t p x ≡ false → count_of counts x ≡ 2
+    → (u : ℕ) → u ≢ t → IsTrue (needs_left plan u (place_of s u) x) → HasNoSafeLegOf plan (set s t p) u
 
 -- another train is inside, and none that is has a safe leg once the train has gone on to the place
 pub record FreesNobody (plan : Moves) (s : List ℕ) (t p : ℕ) : Type 0 where

@@ -1,5 +1,5 @@
 -- For how many trains each section is needed by moves that they have left.
-use Rattle.std.specs.Prelude.{◌≡◌, ℕ, ◌+◌, ◌<◌, ◌≤◌, ◌==◌, Bool, not, ◌&&◌, cond, nat_lt, nat_le, List, length, get_or, take, count_by}
+use Rattle.std.specs.Prelude.{◌≡◌, ℕ, ◌+◌, ◌<◌, ◌≤◌, ◌==◌, Bool, not, ◌&&◌, cond, nat_lt, nat_le, List, [], length, get_or, take, count_by, IsTrue}
 use Rattle.rail_base.specs.declared.limits.TheConstants.{SECTIONS, TRAINS}
 use Rattle.rail_rules.specs.Numbers.{any_below, is_in, sum_below}
 use Rattle.rail_rules.specs.Moves.{Moves}
@@ -45,13 +45,53 @@ abbrev pub IsRecounted : Moves → ℕ → ℕ → ℕ → List ℕ → List ℕ
 IsRecounted plan t from to old new = (x : ℕ) → x < SECTIONS
     → count_of new x + one_if (needs_left plan t from x) ≡ count_of old x + one_if (needs_left plan t to x)
 
+-- the moves of the train from the one place to the other need the sections for the last time: each once, and no others
+pub record AreEnds (plan : Moves) (t from to : ℕ) (sections : List ℕ) : Type 0 where
+  pub in_range : (x : ℕ) → IsTrue (is_in x sections) → x < SECTIONS
+  pub told : (x : ℕ) → times x sections + one_if (needs_from plan t to x) ≡ one_if (needs_from plan t from x)
+
+-- sections in the order in which a train needs them for the last time, and how many of them stand before each place
+pub record EndsRow : Type 0 where
+  pub sections : List ℕ
+  pub starts : List ℕ
+
+-- what stands for a train that the table doesn't have
+abbrev pub no_ends : EndsRow
+no_ends = record { sections = []; starts = [] }
+
+-- how many sections stand before the place
+abbrev pub start_at : EndsRow → ℕ → ℕ
+start_at row place = get_or row.starts place 0
+
+-- the row tells the first so many moves of the train
+pub record IsRowOf (plan : Moves) (t n : ℕ) (row : EndsRow) : Type 0 where
+  pub long : length row.starts ≡ n + 1
+  pub whole : start_at row n ≡ length row.sections
+  pub rising : (from to : ℕ) → from ≤ to → to ≤ n → start_at row from ≤ start_at row to
+  pub ended : (place : ℕ) → place ≤ n → AreEnds plan t 0 place (take (start_at row place) row.sections)
+
+-- each train has a row that tells all its moves
+pub record IsEndsOf (plan : Moves) (rows : List EndsRow) : Type 0 where
+  pub long : length rows ≡ plan.trains
+  pub told : (t : ℕ) → t < plan.trains → IsRowOf plan t (plan.moves t) (get_or rows t no_ends)
+
 -- places, and for each section how many trains are counted
-pub record Tallied : Type 0 where
+pub record Placed : Type 0 where
   pub positions : List ℕ
   pub counts : List ℕ
 
 -- each train has one of its places, and the trains are counted that need a section for a move that they have left there
+pub record IsTallyFor (plan : Moves) (placed : Placed) : Type 0 where
+  pub long : length placed.positions ≡ plan.trains
+  pub within : (t : ℕ) → t < plan.trains → place_of placed.positions t ≤ plan.moves t
+  pub counted : IsCounted plan placed.positions placed.counts
+
+-- what an analyst keeps from search to search: a tally, and the rows of the sections that the trains need for the last time
+pub record Tallied : Type 0 where
+  pub tally : Placed
+  pub ends : List EndsRow
+
+-- both belong to the moves
 pub record IsAnalystFor (plan : Moves) (tallied : Tallied) : Type 0 where
-  pub long : length tallied.positions ≡ plan.trains
-  pub within : (t : ℕ) → t < plan.trains → place_of tallied.positions t ≤ plan.moves t
-  pub counted : IsCounted plan tallied.positions tallied.counts
+  pub tally : IsTallyFor plan tallied.tally
+  pub ends : IsEndsOf plan tallied.ends

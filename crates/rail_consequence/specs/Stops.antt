@@ -26,6 +26,11 @@ abbrev pub KeepsOtherStops : ℕ → ℕ → List (Option ℕ) → List (Option 
 KeepsOtherStops level t old new =
     (l u : ℕ) → u < TRAINS → (l ≡ level → u ≡ t → ⊥) → stop_at new l u ≡ stop_at old l u
 
+-- on the other levels the same is noted as before, and on this one nothing that was not noted before
+pub record KeepsSome (level : ℕ) (old new : List (Option ℕ)) : Type 0 where
+  pub others : KeepsOtherLevels level old new
+  pub fewer : (u x : ℕ) → u < TRAINS → stop_at new level u ≡ Some x → stop_at old level u ≡ Some x
+
 -- the section was noted for the train, which is another than the one that moved, and is held still
 abbrev pub StillStops : List (Option ℕ) → List (Option ℕ) → ℕ → ℕ → ℕ → ℕ → Type 0
 StillStops owners stops level u moved x =
@@ -36,6 +41,11 @@ abbrev pub StaysUnsafe : Moves → List ℕ → List ℕ → ℕ → ℕ → ℕ
 StaysUnsafe plan s counts t from u x = is_in x (plan.claim u (place_of s u)) ≡ false
     → (i y : ℕ) → from ≤ i → i < place_of s t → IsTrue (is_in y (plan.claim t i)) → needs_left plan t (place_of s t) y ≡ false
     → count_of counts y ≡ 1 → needs_left plan u (place_of s u) y ≡ false
+
+-- the train that moved needs the section no more, and one train does: no train of the list of which something is noted is this one, but where that stops it at its next move
+abbrev pub LeavesNoneToIts : Moves → List ℕ → List ℕ → ℕ → List ℕ → List (Option ℕ) → ℕ → ℕ → Type 0
+LeavesNoneToIts plan s counts t inside stops level y = needs_left plan t (place_of s t) y ≡ false → count_of counts y ≡ 1
+    → (u x : ℕ) → IsTrue (is_in u inside) → stop_at stops level u ≡ Some x → is_in x (plan.claim u (place_of s u)) ≡ false → needs_left plan u (place_of s u) y ≡ false
 
 -- another train holds the section
 pub record IsHeldByOther (plan : Moves) (s : List ℕ) (t x : ℕ) : Type 0 where

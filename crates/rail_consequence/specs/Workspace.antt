@@ -8,17 +8,19 @@ use Rattle.rail_rules.specs.Places.{is_inside, is_valid_state}
 use Rattle.rail_place.specs.Tables.{moves_in, MoveLists}
 use Rattle.rail_place.specs.Made.{State, IsMadeFor}
 use Rattle.rail_place.specs.Plays.{IsPlayed}
-use Rattle.rail_consequence.specs.Needs.{IsCounted}
+use Rattle.rail_consequence.specs.Needs.{EndsRow, IsCounted, IsEndsOf}
 
--- places, for each section how many trains need it, what stops the trains, and the moves that were made
+-- the sections that each train needs for the last time, places, for each section how many trains need it, what stops the trains, and the moves that were made
 pub record Work : Type 0 where
+  pub ends : List EndsRow
   pub places : State
   pub needs : List ℕ
   pub stops : List (Option ℕ)
   pub list : List ℕ
 
--- the places were made for the moves, the trains are counted that need each section there, and the list has room for the moves that are left
+-- the ends are those of the moves, for which the places were made, the trains are counted that need each section there, and the list has room for the moves that are left
 pub record IsReady (table : List MoveLists) (work : Work) : Type 0 where
+  pub ends : IsEndsOf (moves_in table) work.ends
   pub made : IsMadeFor table work.places
   pub counted : IsCounted (moves_in table) work.places.positions work.needs
   pub few : length work.list + moves_left (moves_in table) work.places.positions ≤ LIST_TRAINS

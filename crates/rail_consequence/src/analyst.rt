@@ -1,4 +1,5 @@
-ghost use Rattle.std.specs.Prelude.{◌≡◌, ℕ, ◌+◌, ◌-◌, ◌<◌, ◌≤◌, ◌≢◌, ◌↔◌, [], ◌∷◌, ◌++◌, List, Some, None, true, false, get_or, ◌&&◌, length, take, drop, set, IsTrue, IsNone, IfOk, IsOk, IfSome, MatchOption, replicate, vec_capacity, vec_len};
+ghost use Rattle.std.specs.Prelude.{◌≡◌, ℕ, ◌+◌, ◌-◌, ◌<◌, ◌≤◌, ◌≢◌, ◌↔◌, [], ◌∷◌, ◌++◌, List, Some, None, true, false, get_or, ◌&&◌, length, take, drop, set, IsTrue, IsNone, IfOk, IsOk, IfSome, MatchOption, replicate, vec_capacity, vec_len, nat_eq};
+ghost use Rattle.std.specs.List.{suffix_len};
 ghost use Rattle.rail_rules.specs.Analysis.{Finds, Leg, after_leg, is_leg, is_safe, moves_left};
 ghost use Rattle.rail_rules.specs.Places.{after, completes, is_inside, is_legal, is_valid_state, nobody_inside, place_of};
 ghost use Rattle.rail_place.specs.Made.{IsMadeFor};
@@ -6,15 +7,16 @@ ghost use Rattle.rail_place.specs.Plays.{IsPlayed};
 ghost use Rattle.rail_place.specs.Tables.{moves_in};
 ghost use Rattle.rail_rules.specs.Moves.{stand};
 ghost use Rattle.rail_rules.specs.Numbers.{are_apart, is_in};
-ghost use Rattle.rail_consequence.specs.Needs.{IsAnalystFor, IsCounted, count_of, needs_left};
+ghost use Rattle.rail_consequence.specs.Needs.{IsAnalystFor, IsCounted, IsEndsOf, count_of, needs_left};
 ghost use Rattle.rail_consequence.specs.Searches.{FindsByNoLeg, FindsByNoLegOf, FindsSame, HasNoSafeLeg, HasNoSafeLegOf, IsCleared, leg_to};
-ghost use Rattle.rail_consequence.specs.Freeing.{FreesNobody, HasOther, IsNeededThen, LeavesNoneAlone, StaysHeld};
-ghost use Rattle.rail_consequence.specs.Stops.{IsHeldByOther, IsSettled, KeepsLevelsAbove, KeepsOtherLevels, KeepsOtherStops, Shows, StaysUnsafe, StillStops, stop_at};
+ghost use Rattle.rail_consequence.specs.Freeing.{FreesNobody, HasOther, IsBarred, GivesUpInVain, IsSharedThen, IsSpared, StaysHeld};
+ghost use Rattle.rail_consequence.specs.Stops.{IsHeldByOther, IsSettled, KeepsLevelsAbove, KeepsOtherLevels, KeepsOtherStops, KeepsSome, LeavesNoneToIts, Shows, StillStops, stop_at};
 ghost use Rattle.rail_consequence.specs.Workspace.{GoesOn, IsBack, IsListing, IsPlayedFrom, IsReady, Work};
 
+use crate::ends::Ends;
 use crate::needs::{Needs, needs_left};
 use crate::stops::Stops;
-use crate::tally::Tally;
+use crate::tally::{Tally, stands_inside};
 use rail_base::limits::{LIST_TRAINS, SECTIONS, TRAINS};
 use rail_base::{OutOfMemory, SectionNo, TrainNo};
 use rail_place::{Moves, Places};
@@ -61,7 +63,7 @@ impl Model for Analyst {
 
     ghost Value = { Tallied };
 
-    ghost view = { λ analyst. analyst.tally };
+    ghost view = { λ analyst. record { tally = analyst.tally; ends = analyst.sheet.ends } };
 
     ghost invariant = { λ analyst. TRAINS ≤ vec_capacity analyst.inside };
 }
@@ -70,6 +72,7 @@ impl Model for Analyst {
 /// of those that were inside when it began, and look at no others.
 #[derive(Debug, Drop)]
 struct Worksheet {
+    ends: Ends,
     places: Places,
     needs: Needs,
     stops: Stops,
@@ -83,7 +86,7 @@ impl Model for Worksheet {
 
     ghost Value = { Work };
 
-    ghost view = { λ sheet. record { places = sheet.places; needs = sheet.needs; stops = sheet.stops; list = sheet.list.items } };
+    ghost view = { λ sheet. record { ends = sheet.ends; places = sheet.places; needs = sheet.needs; stops = sheet.stops; list = sheet.list.items } };
 
     ghost invariant = { λ sheet. LIST_TRAINS ≤ vec_capacity sheet.list };
 }
@@ -122,8 +125,8 @@ impl Analyst {
         ensures some { IfSome result (λ list. IsTrue (completes (moves_in moves.now) places.now.positions list.now)) }
         ensures none { IsNone result ↔ (Finds (moves_in moves.now) depth places.now.positions → ⊥) }
     {
-        self.tally.follow(moves, places);
-        list_inside(&mut self.inside, moves, places);
+        self.tally
+            .follow(moves, self.sheet.ends(), places, &mut self.inside);
         let inside = self.inside.as_slice();
         self.sheet
             .begin(moves, places, self.tally.needs(), inside, depth);
@@ -135,36 +138,10 @@ impl Analyst {
     }
 }
 
-/// Lists the trains that are inside, by number.
-fn list_inside(inside: &mut Vec<TrainNo>, moves: &Moves, places: &Places)
-    requires made { IsMadeFor moves.now places.now }
-    requires room { TRAINS ≤ vec_capacity inside.old }
-    ensures listed { IsListing (moves_in moves.now) places.now.positions inside.new.items }
-    ensures room { TRAINS ≤ vec_capacity inside.new }
-{
-    inside.clear();
-    for number in 0..moves.trains() {
-        let train = TrainNo(number);
-        if stands_inside(moves, places, train) {
-            inside.push_reserved(train);
-        }
-    }
-}
-
 /// How many places a train must be able to go on to that a search without it costs less than trying them,
 /// where so many free legs may be left.
 fn ends_for(depth: u8) -> u16 {
     if depth == 0 { 3 } else { 2 }
-}
-
-/// The train is inside.
-fn stands_inside(moves: &Moves, places: &Places, train: TrainNo) -> bool
-    requires made { IsMadeFor moves.now places.now }
-    requires train { train < length moves.now }
-    ensures { result ≡ is_inside (moves_in moves.now) places.now.positions train }
-{
-    let place = places.position(train);
-    0 < place && place < moves.places(train)
 }
 
 /// Adds the train so many times at the end.
@@ -178,6 +155,17 @@ fn push_times(list: &mut Vec<TrainNo>, train: TrainNo, count: u16)
     }
 }
 
+/// How often the train stands at the end of the list without another between.
+fn repeats_at_end(train: TrainNo, list: &[TrainNo]) -> usize
+    ensures count { result ≡ suffix_len (nat_eq train) list.now }
+    ensures few { result ≤ length list.now }
+{
+    list.iter()
+        .rev()
+        .take_while(|other| **other == train)
+        .count()
+}
+
 /// The train stands on the section at the place.
 fn stands_on(moves: &Moves, train: TrainNo, place: u16, section: SectionNo) -> bool
     requires train { train < length moves.now }
@@ -189,13 +177,23 @@ fn stands_on(moves: &Moves, train: TrainNo, place: u16, section: SectionNo) -> b
 
 impl Worksheet {
     /// A worksheet, with all the memory that it ever takes.
-    fn new(alloc: Global, moves: &Moves) -> Result<Worksheet, OutOfMemory> {
+    fn new(alloc: Global, moves: &Moves) -> Result<Worksheet, OutOfMemory>
+        ensures { IfOk result (λ sheet. IsEndsOf (moves_in moves.now) sheet.ends) }
+    {
         Ok(Worksheet {
+            ends: Ends::new(alloc, moves)?,
             places: Places::outside(alloc, moves)?,
             needs: Needs::new(alloc)?,
             stops: Stops::new(alloc)?,
             list: Vec::with_capacity(alloc, LIST_TRAINS)?,
         })
+    }
+
+    /// The sections that each train needs for the last time.
+    fn ends(&self) -> &Ends
+        ensures { result.now ≡ self.now.ends }
+    {
+        &self.ends
     }
 
     /// Begins a search from the places, with the needs there: no moves are made, and nothing is noted of
@@ -209,6 +207,7 @@ impl Worksheet {
         depth: u8,
     )
         requires made { IsMadeFor moves.now places.now }
+        requires ends { IsEndsOf (moves_in moves.now) self.old.ends }
         requires counted { IsCounted (moves_in moves.now) places.now.positions needs.now }
         requires listed { IsListing (moves_in moves.now) places.now.positions inside.now }
         ensures ready { IsReady moves.now self.new }
@@ -444,13 +443,13 @@ impl Worksheet {
         ensures list { self.new.list ≡ self.old.list }
         ensures stops { self.new.stops ≡ self.old.stops }
     {
-        self.needs.put(moves, &self.places, train, place);
+        self.needs
+            .put(moves, &self.ends, &self.places, train, place);
         self.places.put(moves, train, place);
     }
 
-    /// Whether no other train inside gets a safe leg where the train goes on to the place, as the notes for
-    /// the level tell: there is another, the section that stops each is still held, and no section is left
-    /// to one of them alone.
+    /// Whether no other train inside gets a safe leg where the train goes on to the place: there is another, and
+    /// each stays without one, as the notes for the level or a look tell.
     fn frees_nobody(
         &self,
         moves: &Moves,
@@ -471,11 +470,91 @@ impl Worksheet {
         if !self.has_other_inside(moves, inside, train) {
             return false;
         }
-        if !self.are_stopped_still(moves, inside, train, place, level) {
+        if !self.gives_up_in_vain(moves, train, place, level) {
             return false;
         }
+        for other in inside {
+            if !self.stays_without_leg(moves, *other, train, place, level) {
+                return false;
+            }
+        }
+        true
+    }
+
+    /// Whether no other train gets a safe leg by what the train gives up on its way to the place: each section that it
+    /// needs no more then, and that two need, is left to one that has no safe leg then.
+    fn gives_up_in_vain(&self, moves: &Moves, train: TrainNo, place: u16, level: u8) -> bool
+        requires ready { IsReady moves.now self.now }
+        requires train { train < length moves.now }
+        requires settled { IsSettled (moves_in moves.now) self.now.places.positions self.now.stops level }
+        requires inside { IsTrue (is_inside (moves_in moves.now) self.now.places.positions train) }
+        requires ahead { place_of self.now.places.positions train < place }
+        requires within { place ≤ (moves_in moves.now).moves train }
+        ensures { IsTrue result → (i x : ℕ) → place_of self.now.places.positions train ≤ i → i < place
+            → IsTrue (is_in x ((moves_in moves.now).claim train i))
+            → GivesUpInVain (moves_in moves.now) self.now.places.positions self.now.needs train place x }
+    {
         let from = self.places.position(train);
-        self.leaves_none_alone(moves, train, from, place, 2)
+        let mut spared = train;
+        for section in self.ends.between(moves, train, from, place) {
+            let Some(other) = self.spared_by(moves, *section, train, place, level, spared) else {
+                return false;
+            };
+            spared = other;
+        }
+        true
+    }
+
+    /// The train that would be left alone in need of the section where the train that needs it as well gives it up,
+    /// if it has no safe leg then; or the one that is known to have none, if nobody would be left alone.
+    fn spared_by(
+        &self,
+        moves: &Moves,
+        section: SectionNo,
+        train: TrainNo,
+        place: u16,
+        level: u8,
+        spared: TrainNo,
+    ) -> Option<TrainNo>
+        requires ready { IsReady moves.now self.now }
+        requires section { section < SECTIONS }
+        requires train { train < length moves.now }
+        requires settled { IsSettled (moves_in moves.now) self.now.places.positions self.now.stops level }
+        requires inside { IsTrue (is_inside (moves_in moves.now) self.now.places.positions train) }
+        requires ahead { place_of self.now.places.positions train < place }
+        requires within { place ≤ (moves_in moves.now).moves train }
+        requires spared { spared ≢ train → HasNoSafeLegOf (moves_in moves.now) (set self.now.places.positions train place) spared }
+        ensures spared { IfSome result (λ other. other ≢ train → HasNoSafeLegOf (moves_in moves.now) (set self.now.places.positions train place) other) }
+        ensures vain { IfSome result (λ _. GivesUpInVain (moves_in moves.now) self.now.places.positions self.now.needs train place section) }
+    {
+        if self.needs.count(section) != 2 {
+            return Some(spared);
+        }
+        let other = self.other_needer(moves, train, section)?;
+        if other == spared || self.gets_no_leg(moves, other, train, place, level, false) {
+            return Some(other);
+        }
+        None
+    }
+
+    /// The other one of the two trains that need the section, of which this is one.
+    fn other_needer(&self, moves: &Moves, train: TrainNo, section: SectionNo) -> Option<TrainNo>
+        requires ready { IsReady moves.now self.now }
+        requires section { section < SECTIONS }
+        requires train { train < length moves.now }
+        ensures known { IfSome result (λ other. other < length moves.now) }
+        ensures only { IfSome result (λ other. (u : ℕ) → u ≢ train → u ≢ other
+            → needs_left (moves_in moves.now) u (place_of self.now.places.positions u) section ≡ false) }
+    {
+        let number = self.needs.lead(section).wrapping_sub(train.0);
+        if number >= moves.trains() || number == train.0 || self.needs.count(section) != 2 {
+            return None;
+        }
+        let other = TrainNo(number);
+        if !self.needs_left(moves, train, section) || !self.needs_left(moves, other, section) {
+            return None;
+        }
+        Some(other)
     }
 
     /// Whether another train is inside.
@@ -492,28 +571,208 @@ impl Worksheet {
         false
     }
 
-    /// Whether each other train inside is stopped still once the train has gone on to the place.
-    fn are_stopped_still(
+    /// Whether the one train, if it is another one and is not left alone in need of a section, has no safe leg once the
+    /// other has gone on to the place. Most trains are stopped by a third one.
+    fn stays_without_leg(
         &self,
         moves: &Moves,
-        inside: &[TrainNo],
+        stopped: TrainNo,
         train: TrainNo,
         place: u16,
         level: u8,
     ) -> bool
         requires ready { IsReady moves.now self.now }
-        requires listed { IsListing (moves_in moves.now) self.now.places.positions inside.now }
+        requires stopped { stopped < length moves.now }
         requires train { train < length moves.now }
+        requires settled { IsSettled (moves_in moves.now) self.now.places.positions self.now.stops level }
+        requires inside { IsTrue (is_inside (moves_in moves.now) self.now.places.positions train) }
+        requires ahead { place_of self.now.places.positions train < place }
         requires within { place ≤ (moves_in moves.now).moves train }
-        ensures { IsTrue result → (u : ℕ)
-            → StaysHeld (moves_in moves.now) self.now.places.positions self.now.stops level train place u }
+        ensures { IsTrue result → stopped ≢ train
+            → IsSpared (moves_in moves.now) self.now.places.positions self.now.needs train place stopped
+            → HasNoSafeLegOf (moves_in moves.now) (set self.now.places.positions train place) stopped }
     {
-        for other in inside {
-            if !self.is_stopped_still(moves, *other, train, place, level) {
+        let Some(section) = self.stops.get(level, stopped) else {
+            return self.gets_no_leg(moves, stopped, train, place, level, true);
+        };
+        if self.is_held_by_other(train, section) {
+            return true;
+        }
+        self.gets_no_leg(moves, stopped, train, place, level, true)
+    }
+
+    /// Whether the one train, if it is another one, has no safe leg once the other has gone on to the place: what is
+    /// noted to stop it does so then, or a look at its way shows it. It may be told to trust that it is not left alone
+    /// in need of a section on that way.
+    fn gets_no_leg(
+        &self,
+        moves: &Moves,
+        stopped: TrainNo,
+        train: TrainNo,
+        place: u16,
+        level: u8,
+        spares: bool,
+    ) -> bool
+        requires ready { IsReady moves.now self.now }
+        requires stopped { stopped < length moves.now }
+        requires train { train < length moves.now }
+        requires settled { IsSettled (moves_in moves.now) self.now.places.positions self.now.stops level }
+        requires inside { IsTrue (is_inside (moves_in moves.now) self.now.places.positions train) }
+        requires ahead { place_of self.now.places.positions train < place }
+        requires within { place ≤ (moves_in moves.now).moves train }
+        ensures { IsTrue result → stopped ≢ train
+            → (IsTrue spares → IsSpared (moves_in moves.now) self.now.places.positions self.now.needs train place stopped)
+            → HasNoSafeLegOf (moves_in moves.now) (set self.now.places.positions train place) stopped }
+    {
+        if stopped == train || !stands_inside(moves, &self.places, stopped) {
+            return true;
+        }
+        if !self.is_stopped_still(moves, stopped, train, place, level) {
+            return self.is_kept_from_legs(moves, stopped, train, place);
+        }
+        if spares {
+            return true;
+        }
+        if self.is_stopped_next(moves, stopped, level) {
+            return true;
+        }
+        self.is_kept_from_legs(moves, stopped, train, place)
+    }
+
+    /// Whether what is noted of the train stops it at its next move.
+    fn is_stopped_next(&self, moves: &Moves, stopped: TrainNo, level: u8) -> bool
+        requires ready { IsReady moves.now self.now }
+        requires stopped { stopped < length moves.now }
+        ensures { IsTrue result → (x : ℕ) → stop_at self.now.stops level stopped ≡ Some x
+            → IsTrue (is_in x ((moves_in moves.now).claim stopped (place_of self.now.places.positions stopped))) }
+    {
+        let Some(section) = self.stops.get(level, stopped) else {
+            return false;
+        };
+        let place = self.places.position(stopped);
+        place < moves.places(stopped) && moves.need(stopped, place + 1).contains(&section)
+    }
+
+    /// Whether a look at the way of the one train, which is inside, shows that it has no safe leg once the other one
+    /// has gone on to the place.
+    fn is_kept_from_legs(&self, moves: &Moves, stopped: TrainNo, train: TrainNo, place: u16) -> bool
+        requires ready { IsReady moves.now self.now }
+        requires stopped { stopped < length moves.now }
+        requires train { train < length moves.now }
+        requires other { stopped ≢ train }
+        requires later { 0 < place }
+        requires within { place ≤ (moves_in moves.now).moves train }
+        ensures { IsTrue result → HasNoSafeLegOf (moves_in moves.now) (set self.now.places.positions train place) stopped }
+    {
+        for made in self.places.position(stopped)..moves.places(stopped) {
+            if self.is_barred_then(moves, stopped, made, train, place) {
+                return true;
+            }
+            if !self.is_unsafe_then(moves, stopped, made + 1, train, place) {
                 return false;
             }
         }
-        true
+        false
+    }
+
+    /// Whether another train holds a section of the one train's move from this place, once the other one has gone
+    /// on to the place.
+    fn is_barred_then(
+        &self,
+        moves: &Moves,
+        stopped: TrainNo,
+        made: u16,
+        train: TrainNo,
+        place: u16,
+    ) -> bool
+        requires ready { IsReady moves.now self.now }
+        requires stopped { stopped < length moves.now }
+        requires train { train < length moves.now }
+        requires other { stopped ≢ train }
+        requires within { place ≤ (moves_in moves.now).moves train }
+        requires below { made < (moves_in moves.now).moves stopped }
+        ensures { IsTrue result → IsBarred (moves_in moves.now) (set self.now.places.positions train place) stopped made }
+    {
+        for section in moves.need(stopped, made + 1) {
+            if self.is_held_then(moves, stopped, *section, train, place) {
+                return true;
+            }
+        }
+        false
+    }
+
+    /// Whether another train than the one holds the section, once the other one has gone on to the place.
+    fn is_held_then(
+        &self,
+        moves: &Moves,
+        stopped: TrainNo,
+        section: SectionNo,
+        train: TrainNo,
+        place: u16,
+    ) -> bool
+        requires ready { IsReady moves.now self.now }
+        requires stopped { stopped < length moves.now }
+        requires train { train < length moves.now }
+        requires other { stopped ≢ train }
+        requires within { place ≤ (moves_in moves.now).moves train }
+        ensures { IsTrue result → IsHeldByOther (moves_in moves.now) (set self.now.places.positions train place) stopped section }
+    {
+        match self.places.holder(section) {
+            Some(holder) if holder != train => holder != stopped,
+            _ => stands_on(moves, train, place, section),
+        }
+    }
+
+    /// Whether a leg of the one train to this end is not safe once the other one has gone on to the place: it does
+    /// not end out, and a third train or that one needs a section of its standing set later.
+    fn is_unsafe_then(
+        &self,
+        moves: &Moves,
+        stopped: TrainNo,
+        end: u16,
+        train: TrainNo,
+        place: u16,
+    ) -> bool
+        requires ready { IsReady moves.now self.now }
+        requires stopped { stopped < length moves.now }
+        requires train { train < length moves.now }
+        requires other { stopped ≢ train }
+        requires later { 0 < place }
+        requires within { end ≤ (moves_in moves.now).moves stopped }
+        ensures { IsTrue result
+            → is_safe (moves_in moves.now) (set self.now.places.positions train place) (leg_to stopped end) ≡ false }
+    {
+        if end == moves.places(stopped) {
+            return false;
+        }
+        for section in moves.stand(stopped, end) {
+            if self.is_shared_then(moves, stopped, *section, train, place) {
+                return true;
+            }
+        }
+        false
+    }
+
+    /// Whether more trains need the section than the one, and the other one where it needs it for no move from the
+    /// place on.
+    fn is_shared_then(
+        &self,
+        moves: &Moves,
+        stopped: TrainNo,
+        section: SectionNo,
+        train: TrainNo,
+        place: u16,
+    ) -> bool
+        requires ready { IsReady moves.now self.now }
+        requires stopped { stopped < length moves.now }
+        requires train { train < length moves.now }
+        requires section { section < SECTIONS }
+        ensures { IsTrue result → IsSharedThen (moves_in moves.now) self.now.places.positions self.now.needs train place stopped section }
+    {
+        let own = self.needs_left(moves, stopped, section);
+        let gone = self.needs_left(moves, train, section)
+            && !moves.needs_after(train, place, section);
+        u16::from(own) + u16::from(gone) < self.needs.count(section)
     }
 
     /// Whether a section is noted that stops the one train, and is held once the other has gone on to the
@@ -537,66 +796,6 @@ impl Worksheet {
             return stopped == train || !stands_inside(moves, &self.places, stopped);
         };
         self.is_held_by_other(train, section) || stands_on(moves, train, place, section)
-    }
-
-    /// Whether each section that the train needs on its way from the one place to the other is one that it
-    /// needs later too, or is not needed by so many trains.
-    fn leaves_none_alone(
-        &self,
-        moves: &Moves,
-        train: TrainNo,
-        from: u16,
-        place: u16,
-        count: u16,
-    ) -> bool
-        requires train { train < length moves.now }
-        requires within { place ≤ (moves_in moves.now).moves train }
-        ensures { IsTrue result → LeavesNoneAlone (moves_in moves.now) self.now.needs count train from place }
-    {
-        for made in from..place {
-            if !self.leaves_none_of(moves, moves.need(train, made + 1), train, place, count) {
-                return false;
-            }
-        }
-        true
-    }
-
-    /// The same of these sections.
-    fn leaves_none_of(
-        &self,
-        moves: &Moves,
-        sections: &[SectionNo],
-        train: TrainNo,
-        place: u16,
-        count: u16,
-    ) -> bool
-        requires train { train < length moves.now }
-        requires in_range { (x : ℕ) → IsTrue (is_in x sections.now) → x < SECTIONS }
-        ensures { IsTrue result → (x : ℕ) → IsTrue (is_in x sections.now)
-            → IsNeededThen (moves_in moves.now) self.now.needs count train place x }
-    {
-        for section in sections {
-            if !self.leaves_no_one(moves, *section, train, place, count) {
-                return false;
-            }
-        }
-        true
-    }
-
-    /// The same of one section.
-    fn leaves_no_one(
-        &self,
-        moves: &Moves,
-        section: SectionNo,
-        train: TrainNo,
-        place: u16,
-        count: u16,
-    ) -> bool
-        requires train { train < length moves.now }
-        requires section { section < SECTIONS }
-        ensures { IsTrue result → IsNeededThen (moves_in moves.now) self.now.needs count train place section }
-    {
-        self.needs.count(section) != count || moves.needs_after(train, place, section)
     }
 
     /// Whether the train is inside and can go on to at least so many places while all others stand.
@@ -799,8 +998,8 @@ impl Worksheet {
     }
 
     /// After the train went on from this place, by a leg or taken out, notes for the one level what still
-    /// stops the trains of which it was noted for the other: the section is still held, and each section
-    /// that the train needs no more is needed by two others, so that none of them got a safe leg.
+    /// stops the trains of which it was noted for the other: the section is still held, and no section is left to
+    /// the train alone, so that it got no safe leg.
     fn settle(
         &mut self,
         moves: &Moves,
@@ -821,121 +1020,141 @@ impl Worksheet {
         ensures kept { KeepsOtherLevels level self.old.stops self.new.stops }
         ensures rest { self.new ≡ record self.old { stops = self.new.stops } }
     {
-        let place = self.places.position(train);
-        let fell = !self.leaves_none_alone(moves, train, from, place, 1);
         for other in inside {
-            self.settle_train(moves, *other, above, level, train, from, fell);
+            self.settle_train(*other, above, level, train);
         }
+        self.wake_left_alone(moves, inside, level, train, from);
     }
 
     /// Notes for the one level what stops this train still of what was noted for the other level, after another
-    /// train went on from the place. It is told whether a section that was needed on that way may be left to one
-    /// train alone.
-    fn settle_train(
-        &mut self,
-        moves: &Moves,
-        stopped: TrainNo,
-        above: u8,
-        level: u8,
-        train: TrainNo,
-        from: u16,
-        fell: bool,
-    )
-        requires ready { IsReady moves.now self.old }
-        requires stopped { stopped < length moves.now }
-        requires train { train < length moves.now }
-        requires fell { fell ≡ false → LeavesNoneAlone (moves_in moves.now) self.old.needs 1 train from (place_of self.old.places.positions train) }
+    /// train went on.
+    fn settle_train(&mut self, stopped: TrainNo, above: u8, level: u8, train: TrainNo)
+        requires stopped { stopped < TRAINS }
         ensures held { (x : ℕ) → stop_at self.new.stops level stopped ≡ Some x
-            → StillStops self.old.places.owners self.old.stops above stopped train x
-            × StaysUnsafe (moves_in moves.now) self.old.places.positions self.old.needs train from stopped x }
+            → StillStops self.old.places.owners self.old.stops above stopped train x }
         ensures others { KeepsOtherStops level stopped self.old.stops self.new.stops }
         ensures rest { self.new ≡ record self.old { stops = self.new.stops } }
     {
-        let stop = self.still_stops(moves, stopped, above, train, from, fell);
+        let stop = self.still_stops(stopped, above, train);
         self.stops.set(level, stopped, stop);
     }
 
-    /// What was noted of the train, if it is another than the one that went on, the section is held, and it got
-    /// no safe leg: it is stopped at its next move, or none of the sections on that way is left to it alone.
-    fn still_stops(
-        &self,
-        moves: &Moves,
-        stopped: TrainNo,
-        above: u8,
-        train: TrainNo,
-        from: u16,
-        fell: bool,
-    ) -> Option<SectionNo>
-        requires ready { IsReady moves.now self.now }
-        requires stopped { stopped < length moves.now }
-        requires train { train < length moves.now }
-        requires fell { fell ≡ false → LeavesNoneAlone (moves_in moves.now) self.now.needs 1 train from (place_of self.now.places.positions train) }
-        ensures held { IfSome result (λ x. StillStops self.now.places.owners self.now.stops above stopped train x) }
-        ensures untouched { IfSome result (λ x.
-            StaysUnsafe (moves_in moves.now) self.now.places.positions self.now.needs train from stopped x) }
+    /// What was noted of the train, if it is another than the one that went on, and the section is held.
+    fn still_stops(&self, stopped: TrainNo, above: u8, train: TrainNo) -> Option<SectionNo>
+        requires stopped { stopped < TRAINS }
+        ensures { IfSome result (λ x. StillStops self.now.places.owners self.now.stops above stopped train x) }
     {
         let section = self.stops.get(above, stopped)?;
         if stopped == train || self.places.holder(section).is_none() {
             return None;
         }
-        if !fell {
-            return Some(section);
-        }
-        let place = self.places.position(stopped);
-        if place >= moves.places(stopped) {
-            return None;
-        }
-        if moves.needs(stopped, place + 1, section) {
-            return Some(section);
-        }
-        if self.is_left_alone(moves, stopped, train, from) {
-            return None;
-        }
         Some(section)
     }
 
-    /// Whether a section that the train needed since this place is needed by the other one alone.
-    fn is_left_alone(&self, moves: &Moves, other: TrainNo, train: TrainNo, from: u16) -> bool
-        requires ready { IsReady moves.now self.now }
-        requires other { other < length moves.now }
+    /// Takes back what is noted of the trains that are left alone in need of a section which the train needed since
+    /// this place, and needs no more.
+    fn wake_left_alone(
+        &mut self,
+        moves: &Moves,
+        inside: &[TrainNo],
+        level: u8,
+        train: TrainNo,
+        from: u16,
+    )
+        requires ready { IsReady moves.now self.old }
+        requires listed { IsListing (moves_in moves.now) self.old.places.positions inside.now }
         requires train { train < length moves.now }
-        ensures { result ≡ false → (i y : ℕ) → from ≤ i → i < place_of self.now.places.positions train
-            → IsTrue (is_in y ((moves_in moves.now).claim train i)) → count_of self.now.needs y ≡ 1
-            → needs_left (moves_in moves.now) other (place_of self.now.places.positions other) y ≡ false }
+        ensures woken { (i y : ℕ) → from ≤ i → i < place_of self.old.places.positions train
+            → IsTrue (is_in y ((moves_in moves.now).claim train i))
+            → LeavesNoneToIts (moves_in moves.now) self.old.places.positions self.old.needs train inside.now self.new.stops level y }
+        ensures fewer { KeepsSome level self.old.stops self.new.stops }
+        ensures rest { self.new ≡ record self.old { stops = self.new.stops } }
     {
         for made in from..self.places.position(train) {
-            if self.is_alone_in(moves, moves.need(train, made + 1), other) {
-                return true;
-            }
+            self.wake_by_all(moves, inside, level, train, moves.need(train, made + 1));
         }
-        false
     }
 
-    /// Whether one of the sections is needed by the train alone.
-    fn is_alone_in(&self, moves: &Moves, sections: &[SectionNo], train: TrainNo) -> bool
-        requires made { IsMadeFor moves.now self.now.places }
+    /// The same for these sections.
+    fn wake_by_all(
+        &mut self,
+        moves: &Moves,
+        inside: &[TrainNo],
+        level: u8,
+        train: TrainNo,
+        sections: &[SectionNo],
+    )
+        requires ready { IsReady moves.now self.old }
+        requires listed { IsListing (moves_in moves.now) self.old.places.positions inside.now }
         requires train { train < length moves.now }
         requires in_range { (x : ℕ) → IsTrue (is_in x sections.now) → x < SECTIONS }
-        ensures { result ≡ false → (y : ℕ) → IsTrue (is_in y sections.now) → count_of self.now.needs y ≡ 1
-            → needs_left (moves_in moves.now) train (place_of self.now.places.positions train) y ≡ false }
+        ensures woken { (y : ℕ) → IsTrue (is_in y sections.now)
+            → LeavesNoneToIts (moves_in moves.now) self.old.places.positions self.old.needs train inside.now self.new.stops level y }
+        ensures fewer { KeepsSome level self.old.stops self.new.stops }
+        ensures rest { self.new ≡ record self.old { stops = self.new.stops } }
     {
         for section in sections {
-            if self.is_alone(moves, *section, train) {
-                return true;
-            }
+            self.wake_by(moves, inside, level, train, *section);
         }
-        false
     }
 
-    /// Whether the section is needed by the train alone.
-    fn is_alone(&self, moves: &Moves, section: SectionNo, train: TrainNo) -> bool
-        requires made { IsMadeFor moves.now self.now.places }
+    /// The same for one section.
+    fn wake_by(
+        &mut self,
+        moves: &Moves,
+        inside: &[TrainNo],
+        level: u8,
+        train: TrainNo,
+        section: SectionNo,
+    )
+        requires ready { IsReady moves.now self.old }
+        requires listed { IsListing (moves_in moves.now) self.old.places.positions inside.now }
         requires train { train < length moves.now }
         requires section { section < SECTIONS }
-        ensures { result ≡ false → count_of self.now.needs section ≡ 1
-            → needs_left (moves_in moves.now) train (place_of self.now.places.positions train) section ≡ false }
+        ensures woken { LeavesNoneToIts (moves_in moves.now) self.old.places.positions self.old.needs train inside.now self.new.stops level section }
+        ensures fewer { KeepsSome level self.old.stops self.new.stops }
+        ensures rest { self.new ≡ record self.old { stops = self.new.stops } }
     {
-        self.needs.count(section) == 1 && self.needs_left(moves, train, section)
+        if self.needs.count(section) != 1 || self.needs_left(moves, train, section) {
+            return;
+        }
+        match self.only_needer(moves, section) {
+            Some(other) => self.wake(moves, level, other),
+            None => self.stops.clear(level, inside),
+        }
+    }
+
+    /// Takes back what is noted of the train, if that does not stop it at its next move.
+    fn wake(&mut self, moves: &Moves, level: u8, train: TrainNo)
+        requires ready { IsReady moves.now self.old }
+        requires train { train < length moves.now }
+        ensures woken { (x : ℕ) → stop_at self.new.stops level train ≡ Some x
+            → IsTrue (is_in x ((moves_in moves.now).claim train (place_of self.old.places.positions train))) }
+        ensures fewer { KeepsSome level self.old.stops self.new.stops }
+        ensures rest { self.new ≡ record self.old { stops = self.new.stops } }
+    {
+        if !self.is_stopped_next(moves, train, level) {
+            self.stops.set(level, train, None);
+        }
+    }
+
+    /// The one train that needs the section.
+    fn only_needer(&self, moves: &Moves, section: SectionNo) -> Option<TrainNo>
+        requires ready { IsReady moves.now self.now }
+        requires section { section < SECTIONS }
+        ensures known { IfSome result (λ only. only < length moves.now) }
+        ensures only { IfSome result (λ only. (u : ℕ) → u ≢ only
+            → needs_left (moves_in moves.now) u (place_of self.now.places.positions u) section ≡ false) }
+    {
+        let number = self.needs.lead(section);
+        if number >= moves.trains() || self.needs.count(section) != 1 {
+            return None;
+        }
+        let only = TrainNo(number);
+        if !self.needs_left(moves, only, section) {
+            return None;
+        }
+        Some(only)
     }
 
     /// The train has entered, and needs the section for a move that it has left.
@@ -998,25 +1217,31 @@ impl Worksheet {
             → self.new.places.positions ≡ s }
     {
         while self.list.len() > mark {
-            self.step_back(moves);
+            self.take_run_back(moves, mark);
         }
     }
 
-    /// Takes the last move of the list back.
-    fn step_back(&mut self, moves: &Moves)
+    /// Takes the last moves of the list back that one train made in a row, but none of the first `mark`.
+    fn take_run_back(&mut self, moves: &Moves, mark: usize)
         requires ready { IsReady moves.now self.old }
-        requires played { (n : ℕ) × (n < length self.old.list) × IsPlayedFrom (moves_in moves.now) n self.old }
+        requires mark { mark < length self.old.list }
+        requires played { IsPlayedFrom (moves_in moves.now) mark self.old }
         ensures ready { IsReady moves.now self.new }
-        ensures list { self.new.list ≡ take (length self.old.list - 1) self.old.list }
+        ensures above { mark ≤ length self.new.list }
+        ensures fewer { length self.new.list < length self.old.list }
+        ensures list { self.new.list ≡ take (length self.new.list) self.old.list }
         ensures stops { self.new.stops ≡ self.old.stops }
-        ensures positions { (s : List ℕ) (n : ℕ) → n < length self.old.list
-            → IsPlayed (moves_in moves.now) s (drop n self.old.list) self.old.places.positions
-            → IsPlayed (moves_in moves.now) s (drop n self.new.list) self.new.places.positions }
+        ensures positions { (s : List ℕ)
+            → IsPlayed (moves_in moves.now) s (drop mark self.old.list) self.old.places.positions
+            → IsPlayed (moves_in moves.now) s (drop mark self.new.list) self.new.places.positions }
     {
-        let Some(train) = self.list.pop() else {
+        let made = &self.list[mark..];
+        let Some(train) = made.last().copied() else {
             return;
         };
-        self.needs.retreat(moves, &self.places, train);
-        self.places.retreat(moves, train);
+        let count = repeats_at_end(train, made);
+        self.list.truncate(self.list.len() - count);
+        let place = self.places.position(train) - count as u16;
+        self.put(moves, train, place);
     }
 }

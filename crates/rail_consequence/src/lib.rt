@@ -12,13 +12,15 @@
 //! and counts tell before it is made.
 //!
 //! An analyst belongs to the moves for which it was made. The counts are kept from one search to the
-//! next, and brought to the new places train by train where the place differs.
+//! next, and brought to the new places train by train where the place differs. Which sections a train needs
+//! no more after a run of its moves is read off a table that is made with the analyst.
 //!
 //! The order in which legs are tried, and so which list is found, may be changed. That no list is
 //! answered exactly where none can be found may not.
 #![tactic(auto)]
 
 mod analyst;
+mod ends;
 mod laws;
 mod needs;
 mod stops;

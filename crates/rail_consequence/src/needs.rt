@@ -5,9 +5,10 @@ ghost use Rattle.std.specs.List.{list_all};
 ghost use Rattle.rail_rules.specs.Numbers.{is_in};
 ghost use Rattle.rail_rules.specs.Places.{after, is_inside, place_of};
 ghost use Rattle.rail_place.specs.Made.{IsMadeFor};
-ghost use Rattle.rail_place.specs.Tables.{IsTable, moves_in};
-ghost use Rattle.rail_consequence.specs.Needs.{IsAmong, IsCounted, IsRecounted, count_of, is_last_need, needs_left, one_if};
+ghost use Rattle.rail_place.specs.Tables.{moves_in};
+ghost use Rattle.rail_consequence.specs.Needs.{IsAmong, IsCounted, IsEndsOf, IsRecounted, count_of, needs_left, one_if, times};
 
+use crate::ends::Ends;
 use rail_base::limits::SECTIONS;
 use rail_base::{OutOfMemory, SectionNo, TrainNo};
 use rail_place::{Moves, Places};
@@ -19,6 +20,9 @@ use std::marker::Model;
 #[derive(Debug, Drop)]
 pub struct Needs {
     trains: Vec<u16>,
+    /// For each section the sum of the numbers of these trains, of which the last bits are kept. Where few trains
+    /// need a section it leads to them; whoever follows it looks whether it does.
+    sums: Vec<u16>,
 }
 
 impl Model for Needs {
@@ -29,7 +33,7 @@ impl Model for Needs {
 
     ghost view = { λ needs. needs.trains.items };
 
-    ghost invariant = { λ needs. length needs.trains.items ≡ SECTIONS };
+    ghost invariant = { λ needs. (length needs.trains.items ≡ SECTIONS) × (length needs.sums.items ≡ SECTIONS) };
 }
 
 impl Needs {
@@ -39,6 +43,7 @@ impl Needs {
     {
         Ok(Needs {
             trains: vec![in alloc; 0u16; SECTIONS]?,
+            sums: vec![in alloc; 0u16; SECTIONS]?,
         })
     }
 
@@ -47,34 +52,24 @@ impl Needs {
         ensures { self.new ≡ other.now }
     {
         self.trains.copy_from_slice(&other.trains);
+        self.sums.copy_from_slice(&other.sums);
     }
 
     /// Counts the train, which stands where these places tell, as at the place.
-    pub fn put(&mut self, moves: &Moves, places: &Places, train: TrainNo, place: u16)
+    pub fn put(&mut self, moves: &Moves, ends: &Ends, places: &Places, train: TrainNo, place: u16)
         requires made { IsMadeFor moves.now places.now }
+        requires ends { IsEndsOf (moves_in moves.now) ends.now }
         requires train { train < length moves.now }
         requires within { place ≤ (moves_in moves.now).moves train }
         requires counted { IsCounted (moves_in moves.now) places.now.positions self.old }
         ensures { IsCounted (moves_in moves.now) (set places.now.positions train place) self.new }
     {
-        self.recount(moves, train, places.position(train), place);
-    }
-
-    /// Counts the train, which was inside before the move that led to these places, as before that move.
-    pub fn retreat(&mut self, moves: &Moves, places: &Places, train: TrainNo)
-        requires made { IsMadeFor moves.now places.now }
-        requires counted { IsCounted (moves_in moves.now) places.now.positions self.old }
-        requires train { train < length moves.now }
-        requires moved { 1 < place_of places.now.positions train }
-        ensures { IsCounted (moves_in moves.now)
-            (set places.now.positions train (place_of places.now.positions train - 1)) self.new }
-    {
-        self.put_on(moves, train, places.position(train) - 1);
+        self.recount(moves, ends, train, places.position(train), place);
     }
 
     /// Counts the train, which was counted as at the one place, as at the other.
-    pub fn recount(&mut self, moves: &Moves, train: TrainNo, from: u16, to: u16)
-        requires table { IsTable moves.now }
+    pub fn recount(&mut self, moves: &Moves, ends: &Ends, train: TrainNo, from: u16, to: u16)
+        requires ends { IsEndsOf (moves_in moves.now) ends.now }
         requires train { train < length moves.now }
         requires from { from ≤ (moves_in moves.now).moves train }
         requires to { to ≤ (moves_in moves.now).moves train }
@@ -84,94 +79,54 @@ impl Needs {
         let first = place_or_last(moves, train, from);
         let last = place_or_last(moves, train, to);
         if first < last {
-            self.go_on(moves, train, first, last);
+            self.take_off(train, ends.between(moves, train, first, last));
         } else if last < first {
-            self.go_back(moves, train, first, last);
+            self.put_on(train, ends.between(moves, train, last, first));
         }
     }
 
-    /// Counts the train as after the moves that lead from the one place to the other.
-    fn go_on(&mut self, moves: &Moves, train: TrainNo, from: u16, to: u16)
-        requires table { IsTable moves.now }
-        requires train { train < length moves.now }
-        requires entered { 0 < from }
-        requires ahead { from < to }
-        requires within { to ≤ (moves_in moves.now).moves train }
-        requires among { IsAmong (moves_in moves.now) train from self.old }
-        ensures { IsRecounted (moves_in moves.now) train from to self.old self.new }
+    /// Counts the train no longer for any of the sections.
+    fn take_off(&mut self, train: TrainNo, sections: &[SectionNo])
+        requires in_range { (x : ℕ) → IsTrue (is_in x sections.now) → x < SECTIONS }
+        requires some { (x : ℕ) → x < SECTIONS → times x sections.now ≤ count_of self.old x }
+        ensures { (x : ℕ) → count_of self.new x + times x sections.now ≡ count_of self.old x }
     {
-        for made in from..to {
-            self.take_off(moves, train, made);
+        for section in sections {
+            self.take_one_off(*section, train);
         }
     }
 
-    /// Counts the train as before the moves that lead to the one place from the other.
-    fn go_back(&mut self, moves: &Moves, train: TrainNo, from: u16, to: u16)
-        requires table { IsTable moves.now }
-        requires train { train < length moves.now }
-        requires entered { 0 < to }
-        requires behind { to < from }
-        requires within { from ≤ (moves_in moves.now).moves train }
-        requires among { IsAmong (moves_in moves.now) train from self.old }
-        ensures { IsRecounted (moves_in moves.now) train from to self.old self.new }
+    /// Counts the train for each of the sections.
+    fn put_on(&mut self, train: TrainNo, sections: &[SectionNo])
+        requires in_range { (x : ℕ) → IsTrue (is_in x sections.now) → x < SECTIONS }
+        requires few { (x : ℕ) → x < SECTIONS → count_of self.old x + times x sections.now < 2 ^ 16 }
+        ensures { (x : ℕ) → count_of self.new x ≡ count_of self.old x + times x sections.now }
     {
-        for made in (to..from).rev() {
-            self.put_on(moves, train, made);
+        for section in sections {
+            self.put_one_on(*section, train);
         }
     }
 
-    /// Counts the train no longer for the sections that it needs for its move from this place, and for no
-    /// later one.
-    fn take_off(&mut self, moves: &Moves, train: TrainNo, place: u16)
-        requires table { IsTable moves.now }
-        requires train { train < length moves.now }
-        requires entered { 0 < place }
-        requires within { place < (moves_in moves.now).moves train }
-        requires among { IsAmong (moves_in moves.now) train place self.old }
-        ensures { IsRecounted (moves_in moves.now) train place (place + 1) self.old self.new }
-    {
-        let sections = moves.need(train, place + 1);
-        for (index, section) in sections.iter().enumerate() {
-            if is_last_need(moves, train, place + 1, sections, index) {
-                self.take_one_off(*section);
-            }
-        }
-    }
-
-    /// Counts the train again for the sections that it needs for its move from this place, and for no
-    /// later one.
-    fn put_on(&mut self, moves: &Moves, train: TrainNo, place: u16)
-        requires table { IsTable moves.now }
-        requires train { train < length moves.now }
-        requires entered { 0 < place }
-        requires within { place < (moves_in moves.now).moves train }
-        requires among { IsAmong (moves_in moves.now) train (place + 1) self.old }
-        ensures { IsRecounted (moves_in moves.now) train (place + 1) place self.old self.new }
-    {
-        let sections = moves.need(train, place + 1);
-        for (index, section) in sections.iter().enumerate() {
-            if is_last_need(moves, train, place + 1, sections, index) {
-                self.put_one_on(*section);
-            }
-        }
-    }
-
-    /// Counts one train less for the section.
-    fn take_one_off(&mut self, section: SectionNo)
+    /// Counts the train no longer for the section.
+    fn take_one_off(&mut self, section: SectionNo, train: TrainNo)
         requires section { section < SECTIONS }
         requires some { 0 < count_of self.old section }
         ensures { (x : ℕ) → count_of self.new x + one_if (x == section) ≡ count_of self.old x }
     {
-        self.trains[usize::from(section.0)] -= 1;
+        let index = usize::from(section.0);
+        self.trains[index] -= 1;
+        self.sums[index] = self.sums[index].wrapping_sub(train.0);
     }
 
-    /// Counts one train more for the section.
-    fn put_one_on(&mut self, section: SectionNo)
+    /// Counts the train for the section.
+    fn put_one_on(&mut self, section: SectionNo, train: TrainNo)
         requires section { section < SECTIONS }
         requires few { count_of self.old section + 1 < 2 ^ 16 }
         ensures { (x : ℕ) → count_of self.new x ≡ count_of self.old x + one_if (x == section) }
     {
-        self.trains[usize::from(section.0)] += 1;
+        let index = usize::from(section.0);
+        self.trains[index] += 1;
+        self.sums[index] = self.sums[index].wrapping_add(train.0);
     }
 
     /// How many trains need the section.
@@ -180,6 +135,13 @@ impl Needs {
         ensures { result ≡ count_of self.now section }
     {
         self.trains[usize::from(section.0)]
+    }
+
+    /// A number that leads to who needs the section: the sum of the numbers of the trains, but for its first bits.
+    pub fn lead(&self, section: SectionNo) -> u16
+        requires { section < SECTIONS }
+    {
+        self.sums[usize::from(section.0)]
     }
 
     /// No other train than this one, which stands at the place, needs any of the sections.
@@ -216,23 +178,6 @@ pub fn needs_left(moves: &Moves, train: TrainNo, place: u16, section: SectionNo)
     ensures { result ≡ needs_left (moves_in moves.now) train place section }
 {
     0 < place && moves.needs_after(train, place, section)
-}
-
-/// The section at the index stands at no earlier one, and the train needs it for no move from the place on.
-fn is_last_need(
-    moves: &Moves,
-    train: TrainNo,
-    place: u16,
-    sections: &[SectionNo],
-    index: usize,
-) -> bool
-    requires train { train < length moves.now }
-    requires index { index < length sections.now }
-    requires in_range { (x : ℕ) → IsTrue (is_in x sections.now) → x < SECTIONS }
-    ensures { result ≡ is_last_need (moves_in moves.now) train place sections.now index }
-{
-    let section = sections[index];
-    !moves.needs_after(train, place, section) && !sections[..index].contains(&section)
 }
 
 /// The place, or the last one of a train that has not entered: both trains need nothing.

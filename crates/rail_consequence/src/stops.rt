@@ -1,8 +1,8 @@
 //! What stops each train, for each number of free legs that may be left.
 
-ghost use Rattle.std.specs.Prelude.{◌≡◌, ◌≢◌, ℕ, ◌+◌, ◌*◌, ◌<◌, ◌&&◌, ◌==◌, cond, length, get_or, set, None, Some, IsTrue};
+ghost use Rattle.std.specs.Prelude.{◌≡◌, ◌≢◌, ℕ, ◌+◌, ◌*◌, ◌<◌, ◌≤◌, ◌&&◌, ◌==◌, cond, length, get_or, set, vec_capacity, None, Some, IsTrue};
 ghost use Rattle.rail_rules.specs.Numbers.{is_in};
-ghost use Rattle.rail_consequence.specs.Stops.{KeepsOtherStops, stop_at};
+ghost use Rattle.rail_consequence.specs.Stops.{KeepsOtherStops, KeepsSome, stop_at};
 
 use rail_base::limits::TRAINS;
 use rail_base::{OutOfMemory, SectionNo, TrainNo};
@@ -20,21 +20,21 @@ pub struct Stops {
 }
 
 impl Model for Stops {
-    ghost use Rattle.std.specs.Prelude.{◌≡◌, ◌*◌, ℕ, List, Option, length};
+    ghost use Rattle.std.specs.Prelude.{◌≤◌, ◌*◌, ℕ, List, Option, vec_capacity};
     ghost use Rattle.rail_base.specs.declared.limits.TheConstants.{TRAINS};
 
     ghost Value = { List (Option ℕ) };
 
     ghost view = { λ stops. stops.sections.items };
 
-    ghost invariant = { λ stops. length stops.sections.items ≡ 256 * TRAINS };
+    ghost invariant = { λ stops. 256 * TRAINS ≤ vec_capacity stops.sections };
 }
 
 impl Stops {
-    /// Room for what stops any trains, of which nothing is known.
+    /// Room for what stops any trains, of which nothing is known. It is written only as far as something is noted.
     pub fn new(alloc: Global) -> Result<Stops, OutOfMemory> {
         Ok(Stops {
-            sections: vec![in alloc; None; LEVELS * TRAINS]?,
+            sections: Vec::with_capacity(alloc, LEVELS * TRAINS)?,
         })
     }
 
@@ -43,7 +43,7 @@ impl Stops {
         requires { train < TRAINS }
         ensures { result ≡ stop_at self.now level train }
     {
-        self.sections[slot(level, train)]
+        *self.sections.get(slot(level, train))?
     }
 
     /// Notes what stops the train.
@@ -52,13 +52,16 @@ impl Stops {
         ensures here { stop_at self.new level train ≡ stop }
         ensures others { KeepsOtherStops level train self.old self.new }
     {
-        self.sections[slot(level, train)] = stop;
+        let slot = slot(level, train);
+        reach(&mut self.sections, slot);
+        self.sections[slot] = stop;
     }
 
     /// Notes nothing of what stops these trains.
     pub fn clear(&mut self, level: u8, trains: &[TrainNo])
         requires { (u : ℕ) → IsTrue (is_in u trains.now) → u < TRAINS }
         ensures none { (u : ℕ) → IsTrue (is_in u trains.now) → stop_at self.new level u ≡ None }
+        ensures fewer { KeepsSome level self.old self.new }
     {
         for train in trains {
             self.set(level, *train, None);
@@ -73,4 +76,16 @@ fn slot(level: u8, train: TrainNo) -> usize
     ensures within { result < 256 * TRAINS }
 {
     usize::from(level) * TRAINS + usize::from(train.0)
+}
+
+/// Notes nothing at all places up to this one where nothing was written yet.
+fn reach(sections: &mut Vec<Option<SectionNo>>, slot: usize)
+    requires { slot < vec_capacity sections.old }
+    ensures same { (n : ℕ) → get_or sections.new.items n None ≡ get_or sections.old.items n None }
+    ensures there { slot < length sections.new.items }
+    ensures room { vec_capacity sections.new ≡ vec_capacity sections.old }
+{
+    for _added in sections.len()..slot + 1 {
+        sections.push_reserved(None);
+    }
 }

@@ -1,11 +1,15 @@
 //! The needs at the places from which the last search began.
 
-ghost use Rattle.std.specs.Prelude.{◌≡◌, ◌<◌, ◌≤◌, length, set, IfOk};
+ghost use Rattle.std.specs.Prelude.{◌≡◌, ◌<◌, ◌≤◌, length, set, vec_capacity, IfOk};
+ghost use Rattle.rail_rules.specs.Places.{is_inside};
 ghost use Rattle.rail_place.specs.Made.{IsMadeFor};
 ghost use Rattle.rail_place.specs.Tables.{IsTable, moves_in};
-ghost use Rattle.rail_consequence.specs.Needs.{IsAnalystFor};
+ghost use Rattle.rail_consequence.specs.Needs.{IsEndsOf, IsTallyFor};
+ghost use Rattle.rail_consequence.specs.Workspace.{IsListing};
 
+use crate::ends::Ends;
 use crate::needs::Needs;
+use rail_base::limits::TRAINS;
 use rail_base::{OutOfMemory, TrainNo};
 use rail_place::{Moves, Places};
 use std::alloc::Global;
@@ -20,9 +24,9 @@ pub struct Tally {
 }
 
 impl Model for Tally {
-    ghost use Rattle.rail_consequence.specs.Needs.{Tallied};
+    ghost use Rattle.rail_consequence.specs.Needs.{Placed};
 
-    ghost Value = { Tallied };
+    ghost Value = { Placed };
 
     ghost view = { λ tally. record { positions = tally.positions.items; counts = tally.needs } };
 }
@@ -30,7 +34,7 @@ impl Model for Tally {
 impl Tally {
     /// The needs with every train outside, which are none.
     pub fn new(alloc: Global, moves: &Moves) -> Result<Tally, OutOfMemory>
-        ensures { IfOk result (IsAnalystFor (moves_in moves.now)) }
+        ensures { IfOk result (IsTallyFor (moves_in moves.now)) }
     {
         Ok(Tally {
             positions: vec![in alloc; 0u16; usize::from(moves.trains())]?,
@@ -38,33 +42,43 @@ impl Tally {
         })
     }
 
-    /// Goes over to these places.
-    pub fn follow(&mut self, moves: &Moves, places: &Places)
+    /// Goes over to these places, and lists the trains that are inside there, by number.
+    pub fn follow(&mut self, moves: &Moves, ends: &Ends, places: &Places, inside: &mut Vec<TrainNo>)
         requires made { IsMadeFor moves.now places.now }
-        requires kept { IsAnalystFor (moves_in moves.now) self.old }
-        ensures kept { IsAnalystFor (moves_in moves.now) self.new }
+        requires ends { IsEndsOf (moves_in moves.now) ends.now }
+        requires kept { IsTallyFor (moves_in moves.now) self.old }
+        requires room { TRAINS ≤ vec_capacity inside.old }
+        ensures kept { IsTallyFor (moves_in moves.now) self.new }
         ensures positions { self.new.positions ≡ places.now.positions }
+        ensures listed { IsListing (moves_in moves.now) places.now.positions inside.new.items }
+        ensures room { TRAINS ≤ vec_capacity inside.new }
     {
+        inside.clear();
         for number in 0..moves.trains() {
             let train = TrainNo(number);
-            self.follow_train(moves, train, places.position(train));
+            let place = places.position(train);
+            if self.positions[usize::from(number)] != place {
+                self.follow_train(moves, ends, train, place);
+            }
+            if stands_inside(moves, places, train) {
+                inside.push_reserved(train);
+            }
         }
     }
 
-    /// Goes over to this place of the train.
-    fn follow_train(&mut self, moves: &Moves, train: TrainNo, place: u16)
+    /// Goes over to this place of the train, which stands at another.
+    fn follow_train(&mut self, moves: &Moves, ends: &Ends, train: TrainNo, place: u16)
         requires table { IsTable moves.now }
+        requires ends { IsEndsOf (moves_in moves.now) ends.now }
         requires train { train < length moves.now }
         requires within { place ≤ (moves_in moves.now).moves train }
-        requires kept { IsAnalystFor (moves_in moves.now) self.old }
-        ensures kept { IsAnalystFor (moves_in moves.now) self.new }
+        requires kept { IsTallyFor (moves_in moves.now) self.old }
+        ensures kept { IsTallyFor (moves_in moves.now) self.new }
         ensures positions { self.new.positions ≡ set self.old.positions train place }
     {
         let from = self.positions[usize::from(train.0)];
-        if from != place {
-            self.needs.recount(moves, train, from, place);
-            self.positions[usize::from(train.0)] = place;
-        }
+        self.needs.recount(moves, ends, train, from, place);
+        self.positions[usize::from(train.0)] = place;
     }
 
     /// The needs at the places.
@@ -73,4 +87,14 @@ impl Tally {
     {
         &self.needs
     }
+}
+
+/// The train is inside.
+pub fn stands_inside(moves: &Moves, places: &Places, train: TrainNo) -> bool
+    requires made { IsMadeFor moves.now places.now }
+    requires train { train < length moves.now }
+    ensures { result ≡ is_inside (moves_in moves.now) places.now.positions train }
+{
+    let place = places.position(train);
+    0 < place && place < moves.places(train)
 }

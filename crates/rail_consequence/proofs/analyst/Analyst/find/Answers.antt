@@ -14,7 +14,7 @@ search-requires-clause-listed c =
     let plan : Moves = moves_in c.args.moves.now in
     let s = c.args.places.now.positions in
     let P : List ℕ → Type 0 = λ xs. IsListing plan s xs in
-    listed_at plan s c.begin.new.self.places.positions c.as_slice-inside.result.now (sym c.begin.ensures.positions) (subst P (sym c.as_slice-inside.ensures.value) c.list_inside.ensures.listed)
+    listed_at plan s c.begin.new.self.places.positions c.as_slice-inside.result.now (sym c.begin.ensures.positions) (subst P (sym c.as_slice-inside.ensures.value) c.follow.ensures.listed)
 
 pub returns-then-search : goal.returns-then-search
 returns-then-search c =
@@ -25,7 +25,7 @@ returns-then-search c =
     let found = c.search.ensures.found c.if-search.true in
     let same : a.places.positions ≡ s = c.begin.ensures.positions in
     let list : c.list.result.now ≡ found.0.more = c.list.ensures ∙ found.0.list ∙ ap (λ xs. xs ++ found.0.more) c.begin.ensures.list in (
-      (refl, λ _. tt, c.follow.ensures.kept),
+      (refl, λ _. tt, record { tally = c.follow.ensures.kept; ends = c.search.ensures.ready.ends }),
       record {
         own = tt;
         some = ap (λ xs. completes plan s xs) list ∙ ap (λ r. completes plan r found.0.more) (sym same) ∙ played_completes plan a.places.positions found.0.more d.places.positions found.0.played found.1;

@@ -293,6 +293,16 @@ try_leg-returns-then-search-clause-found t c =
       found_front plan (c.args.depth + 1) c.args.depth a.places.positions leg c.requires.leg (omega (arith, cost_most plan a.places.positions leg)) (finds_at plan c.args.depth n.places.positions (after_leg a.places.positions leg) c.make_leg.ensures.positions found.2),
     )
 
+pub try_leg-go_back-requires-clause-played : goal.try_leg-go_back-requires-clause-played
+try_leg-go_back-requires-clause-played t c =
+    let table = c.args.moves.now in
+    let plan : Moves = moves_in table in
+    let a = c.args.self.now in
+    let n = c.make_leg.new.self in
+    let d = c.search.new.self in
+    let mark : c.len-mark.result ≡ length a.list = omega (arith, c.len-mark.ensures, c.self-2.inside.list.ok, ap (λ (w : Work). length w.list) c.self-2.view_is) in
+    goes_played table a d c.len-mark.result c.requires.ready (goes_further plan a n d c.make_leg.ensures.moves (goes_back plan n d (c.search.ensures.none c.if-search.false).0)) mark
+
 pub try_leg-returns-clause-none : goal.try_leg-returns-clause-none
 try_leg-returns-clause-none t c =
     let plan : Moves = moves_in c.args.moves.now in

@@ -4,7 +4,8 @@ use Rattle.rail_rules.specs.Moves.{Moves}
 use Rattle.rail_rules.specs.Places.{is_inside}
 use Rattle.rail_place.specs.Tables.{moves_in}
 use Rattle.rail_place.specs.Made.{State, IsMadeFor}
-use Rattle.rail_consequence.specs.Needs.{IsCounted}
+use Rattle.rail_consequence.specs.Needs.{EndsRow, IsCounted, IsEndsOf}
+use Rattle.rail_consequence.specs.Workspace.{Work}
 use Rattle.rail_consequence.proofs.Played.{left_few}
 use Rattle.rail_consequence.proofs.Listing.{listed_few}
 use Rattle.rail_consequence.proofs.analyst.Worksheet.begin.Goals as goal
@@ -25,7 +26,9 @@ returns-clause-ready c =
     let made : IsMadeFor table places = c.copy_from.ensures.made table c.requires.made in
     let C : List ℕ → Type 0 = λ s. IsCounted (moves_in table) s c.copy_from-2.new.self in
     let D : List ℕ → Type 0 = λ counts. IsCounted (moves_in table) c.args.places.now.positions counts in
+    let E : List EndsRow → Type 0 = λ rows. IsEndsOf (moves_in table) rows in
     record {
+      ends = subst E (sym (ap (λ (w : Work). w.ends) c.self.view_is)) c.requires.ends;
       made = made;
       counted = subst C (sym c.copy_from.ensures.positions) (subst D (sym c.copy_from-2.ensures) c.requires.counted);
       few = omega (arith, ap length c.clear.ensures.items, left_few table places.positions made.moves made.valid);

@@ -1,41 +1,17 @@
-use Rattle.std.proofs.Common.{◌≡◌, ℕ, ◌+◌, ◌<◌, List, true, refl, sym, ◌∙◌, arith}
-use Rattle.rail_base.specs.declared.limits.TheConstants.{SECTIONS}
-use Rattle.rail_rules.specs.Moves.{Moves}
-use Rattle.rail_place.specs.Tables.{moves_in}
-use Rattle.rail_consequence.specs.Needs.{is_last_need, needs_left}
-use Rattle.rail_consequence.proofs.Counts.{claimed_at, given_all, given_before, in_at, left_at, one_false, one_true}
+use Rattle.std.proofs.Common.{arith}
+use Rattle.rail_consequence.proofs.Counts.{in_at, times_read}
 use Rattle.rail_consequence.proofs.needs.Needs.take_off.Goals as goal
-
-pub overflow_add-place : goal.overflow_add-place
-overflow_add-place c = omega (arith, c.requires.within, c.requires.table.short c.args.train)
-
-pub overflow_add-place-in-loop-index : goal.overflow_add-place-in-loop-index
-overflow_add-place-in-loop-index c = omega (arith, c.requires.within, c.requires.table.short c.args.train)
 
 pub take_one_off-requires-clause-section : goal.take_one_off-requires-clause-section
 take_one_off-requires-clause-section c =
-    c.need-sections.ensures.in_range c.index-sections-index.result (in_at c.index-sections-index.result c.need-sections.result.now c.loop-index.index c.loop-index-test.true c.index-sections-index.is)
+    c.requires.in_range c.section-item.result (in_at c.section-item.result c.args.sections.now c.loop-section.section-index c.loop-section-test.true c.section-item.is)
 
 pub take_one_off-requires-clause-some : goal.take_one_off-requires-clause-some
 take_one_off-requires-clause-some c =
-    let plan : Moves = moves_in c.args.moves.now in
-    let t = c.args.train in
-    let p : ℕ = c.args.place in
-    let xs : List ℕ = c.need-sections.result.now in
-    let i = c.loop-index.index in
-    let y = c.index-sections-index.result in
-    let is_in_xs = in_at y xs i c.loop-index-test.true c.index-sections-index.is in
-    let within : y < SECTIONS = c.need-sections.ensures.in_range y is_in_xs in
-    let last : is_last_need plan t (p + 1) xs i ≡ true = sym c.is_last_need.ensures ∙ c.if-is_last_need.true in
-    let none = one_false _ (given_before plan t (p + 1) xs i y c.loop-index-test.true c.index-sections-index.is last) in
-    let some = one_true (needs_left plan t p y) (left_at plan t p y p c.requires.entered (omega arith) c.requires.within (claimed_at plan t p y xs c.need-sections.ensures.sections is_in_xs)) in
-    omega (arith, c.loop-index.invariant y within, none, some, c.requires.among.some y within)
-
-pub returns : goal.returns
-returns c = λ x lt.
-    let plan : Moves = moves_in c.args.moves.now in
-    let t = c.args.train in
-    let p : ℕ = c.args.place in
-    let xs : List ℕ = c.need-sections.result.now in
-    let all = given_all plan t p (p + 1) c.loop-index.index x xs refl c.requires.entered c.requires.within c.need-sections.ensures.sections (omega (arith, c.loop-index-test.false)) in
-    omega (arith, c.loop-index.invariant x lt, all)
+    let y = c.section-item.result in
+    omega (
+      arith,
+      c.loop-section.invariant y,
+      c.requires.some y (take_one_off-requires-clause-section c),
+      times_read y c.args.sections.now c.loop-section.section-index c.loop-section-test.true c.section-item.is,
+    )

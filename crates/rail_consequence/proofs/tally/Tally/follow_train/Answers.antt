@@ -3,7 +3,7 @@ use Rattle.std.proofs.lemmas.Grind.{get_or_default_zero}
 use Rattle.rail_rules.specs.Moves.{Moves}
 use Rattle.rail_rules.specs.Places.{place_of}
 use Rattle.rail_place.specs.Tables.{moves_in}
-use Rattle.rail_consequence.specs.Needs.{IsAmong, IsAnalystFor, IsRecounted, Tallied}
+use Rattle.rail_consequence.specs.Needs.{IsAmong, IsTallyFor, IsRecounted, Placed}
 use Rattle.rail_consequence.proofs.Counts.{among_counted, tallied_on}
 use Rattle.rail_consequence.proofs.tally.Tally.follow_train.Goals as goal
 
@@ -15,24 +15,24 @@ pub recount-requires-clause-among : goal.recount-requires-clause-among
 recount-requires-clause-among c =
     let plan : Moves = moves_in c.args.moves.now in
     let t = c.args.train in
-    let own : Tallied = record { positions = c.self.inside.positions.items; counts = c.self.inside.needs } in
-    let P : Tallied → Type 0 = λ a. IsAnalystFor plan a in
+    let own : Placed = record { positions = c.self.inside.positions.items; counts = c.self.inside.needs } in
+    let P : Placed → Type 0 = λ a. IsTallyFor plan a in
     let kept : P own = subst P (sym c.self.view_is) c.requires.kept in
     let listed : t < length own.positions = omega (arith, kept.long, c.requires.train) in
     let at = read_is own.positions t c.from.result c.index-from.result.now c.index-from.ensures (c.from.ensures ∙ c.train.view_is) listed in
     let Q : ℕ → Type 0 = λ p. IsAmong plan t p own.counts in
     subst Q at (among_counted plan own.positions own.counts kept.counted t listed (omega (arith, kept.long, c.requires.table.few)))
 
-pub returns-then-from-place-clause-kept : goal.returns-then-from-place-clause-kept
-returns-then-from-place-clause-kept c =
+pub returns-clause-kept : goal.returns-clause-kept
+returns-clause-kept c =
     let plan : Moves = moves_in c.args.moves.now in
     let t = c.args.train in
-    let own : Tallied = record { positions = c.self.inside.positions.items; counts = c.self.inside.needs } in
-    let P : Tallied → Type 0 = λ a. IsAnalystFor plan a in
+    let own : Placed = record { positions = c.self.inside.positions.items; counts = c.self.inside.needs } in
+    let P : Placed → Type 0 = λ a. IsTallyFor plan a in
     let kept : P own = subst P (sym c.self.view_is) c.requires.kept in
     let listed : t < length own.positions = omega (arith, kept.long, c.requires.train) in
     let at = read_is own.positions t c.from.result c.index-from.result.now c.index-from.ensures (c.from.ensures ∙ c.train.view_is) listed in
     let Q : ℕ → Type 0 = λ p. IsRecounted plan t p c.args.place own.counts c.recount.new.self in
-    let R : ℕ → Type 0 = λ i. IsAnalystFor plan (record { positions = set own.positions i c.args.place; counts = c.recount.new.self }) in
-    subst R (sym (c.from-then-from-place.ensures ∙ c.train-then-from-place.view_is))
+    let R : ℕ → Type 0 = λ i. IsTallyFor plan (record { positions = set own.positions i c.args.place; counts = c.recount.new.self }) in
+    subst R (sym (c.from-2.ensures ∙ c.train-2.view_is))
     (tallied_on plan own t c.args.place c.recount.new.self kept c.requires.train c.requires.within (subst Q (sym at) c.recount.ensures))

@@ -1,0 +1,10 @@
+use Rattle.std.proofs.Common.{◌≡◌, ◌≢◌, ℕ, true, set, take}
+use Rattle.rail_rules.specs.Numbers.{is_in}
+use Rattle.rail_place.specs.Tables.{moves_in}
+use Rattle.rail_consequence.specs.Freeing.{IsSpared}
+use Rattle.rail_consequence.specs.Searches.{HasNoSafeLegOf}
+use Rattle.rail_consequence.proofs.analyst.Worksheet.frees_nobody.Given as goal
+
+abbrev pub invariant-loop-other : goal.invariant-loop-other
+invariant-loop-other l = (u : ℕ) → is_in u (take l.other-index l.inside) ≡ true → u ≢ l.train
+    → IsSpared (moves_in l.moves) l.self.places.positions l.self.needs l.train l.place u → HasNoSafeLegOf (moves_in l.moves) (set l.self.places.positions l.train l.place) u
