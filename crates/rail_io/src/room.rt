@@ -1,15 +1,18 @@
-ghost use Rattle.std.specs.Prelude.{◌≡◌, ◌-◌, ◌≤◌, [], ◌++◌, IfOk, length, take, drop, min, vec_len};
+ghost use Rattle.std.specs.Prelude.{◌≡◌, ◌-◌, ◌≤◌, [], ◌++◌, IfOk, length, take, drop, min, vec_len, vec_capacity};
 
 use rail_base::OutOfMemory;
 use std::alloc::Global;
 
-/// Bytes that are kept in a room of a fixed size, to be handed on from their front.
+/// Bytes that are kept in a room of a fixed size, to be handed on from their front. The room is written only as
+/// far as bytes are kept.
 #[derive(Drop)]
 pub(crate) struct Room {
+    /// The bytes that are kept.
     bytes: Vec<u8>,
-    /// How many bytes are kept, at the front of the room.
-    len: usize,
-    ghost within: { len ≤ vec_len bytes },
+    /// How many bytes there is room for.
+    size: usize,
+    ghost within: { vec_len bytes ≤ size },
+    ghost taken: { size ≤ vec_capacity bytes },
 }
 
 impl Room {
@@ -20,15 +23,15 @@ impl Room {
         ensures none_kept { IfOk result (λ room. kept_in room ≡ []) }
         ensures size { IfOk result (λ room. size_of room ≡ size) }
     {
-        let bytes = vec![in alloc; 0; size]?;
-        Ok(Room { bytes, len: 0 })
+        let bytes = Vec::with_capacity(alloc, size)?;
+        Ok(Room { bytes, size })
     }
 
     /// The bytes that are kept.
     pub(crate) fn as_slice(&self) -> &[u8]
         ensures { result.now ≡ kept_in self.now }
     {
-        &self.bytes[..self.len]
+        &self.bytes
     }
 
     /// Keeps bytes from the front of the piece on, as many as there is room for, and says how many.
@@ -37,10 +40,8 @@ impl Room {
         ensures kept { kept_in self.new ≡ kept_in self.old ++ take result piece.now }
         ensures size { size_of self.new ≡ size_of self.old }
     {
-        let count = piece.len().min(self.bytes.len() - self.len);
-        let end = self.len + count;
-        self.bytes[self.len..end].copy_from_slice(&piece[..count]);
-        self.len = end;
+        let count = piece.len().min(self.size - self.bytes.len());
+        self.bytes.extend_from_slice(&piece[..count]).unwrap();
         count
     }
 
@@ -50,9 +51,8 @@ impl Room {
         ensures kept { kept_in self.new ≡ drop count (kept_in self.old) }
         ensures size { size_of self.new ≡ size_of self.old }
     {
-        if count < self.len {
-            self.bytes.rotate_left(count);
-        }
-        self.len -= count;
+        let left = self.bytes.len() - count;
+        self.bytes.rotate_left(count);
+        self.bytes.truncate(left);
     }
 }
