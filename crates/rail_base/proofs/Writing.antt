@@ -1,5 +1,7 @@
 -- The text of a time, and its parts.
-use Rattle.std.proofs.Common.{◌≡◌, ℕ, ◌+◌, ◌/◌, ◌%◌, ◌-◌, ◌≤◌, ◌≢◌, ◌⊎◌, inl, inr, Bool, true, List, [], ◌∷◌, ◌++◌, length, take, get_or, nat_lt, cond, decimal, refl, sym, ap, ◌∙◌, arith, append_assoc, length-append}
+use Rattle.std.proofs.Common.{◌≡◌, ℕ, ◌+◌, ◌/◌, ◌%◌, ◌-◌, ◌<◌, ◌≤◌, ◌≢◌, ◌⊎◌, inl, inr, Bool, true, false, List, [], ◌∷◌, ◌++◌, length, take, get_or, nat_lt, cond, decimal, refl, sym, ap, ◌∙◌, arith, append_assoc, length-append}
+use Rattle.std.proofs.lemmas.Bool.{ltb-true, ltb-false}
+use Rattle.std.proofs.lemmas.Fmt.{decimal_digit, decimal_step}
 use Rattle.std.proofs.lemmas.List.{take_at, get_or-append_right, same_from_push}
 use Rattle.rail_base.specs.Clock.{IsLenientTime, hours_text, seconds_text, time_text, two_digits}
 
@@ -7,6 +9,18 @@ use Rattle.rail_base.specs.Clock.{IsLenientTime, hours_text, seconds_text, time_
 pub hours_cases : (P : List ℕ → Type 0) (hours : ℕ) → P (48 ∷ decimal hours) → P (decimal hours) → P (hours_text hours)
 hours_cases P hours led plain =
     elim (nat_lt hours 10) as (λ (b : Bool). P (cond b (48 ∷ decimal hours) (decimal hours))) [ true ↦ led | _ ↦ plain ]
+
+-- hours below 100 have two digits
+pub hours_text-pair : (hours : ℕ) → hours < 100 → two_digits hours ≡ hours_text hours
+hours_text-pair hours short =
+    elim (nat_lt hours 10) as (λ (b : Bool). nat_lt hours 10 ≡ b → two_digits hours ≡ cond b (48 ∷ decimal hours) (decimal hours)) [
+      | true ↦ λ e. let low : hours < 10 = ltb-true hours 10 e in
+          let tens : hours / 10 ≡ 0 = omega (arith, low) in
+          let ones : hours % 10 ≡ hours = omega (arith, low) in
+          rw (decimal_digit hours low, tens, ones)
+      | false ↦ λ e. let high : 10 ≤ hours = ltb-false hours 10 e in
+          rw (decimal_step hours high (omega (arith, short)), decimal_digit (hours / 10) (omega (arith, short)))
+    ] refl
 
 -- a time is its whole seconds, and its tenths
 pub time_text-split : (time : ℕ) → time_text time ≡ seconds_text (time / 10) ++ (46 ∷ (48 + time % 10) ∷ [])

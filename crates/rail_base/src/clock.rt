@@ -24,10 +24,12 @@ pub fn write_time(time: Time, into: &mut [u8; 32]) -> usize
     ensures rest { drop result into.new ≡ drop result into.old }
 {
     let hours = time.0 / HOUR;
-    let mut digits = Buffer::new();
-    let zero: &[u8] = if hours < 10 { b"0" } else { b"" };
-    let lead = put(into, 0, zero);
-    let end = put(into, lead, digits.format(hours).as_bytes());
+    let end = if hours < 100 {
+        put(into, 0, &hours_pair(hours))
+    } else {
+        let mut digits = Buffer::new();
+        put(into, 0, digits.format(hours).as_bytes())
+    };
     put(into, end, &clock_text(time.0))
 }
 
@@ -65,6 +67,14 @@ fn clock_text(time: u64) -> [u8; 8]
     let [m1, m0] = pair(time / MINUTE % 60);
     let [s1, s0] = pair(time / SECOND % 60);
     [b':', m1, m0, b':', s1, s0, b'.', digit(time % 10)]
+}
+
+/// The text of hours below 100, which has two digits.
+fn hours_pair(hours: u64) -> [u8; 2]
+    requires { hours < 100 }
+    ensures { result ≡ hours_text hours }
+{
+    pair(hours)
 }
 
 /// The two digits of a number below 100.
