@@ -1,6 +1,5 @@
 -- The kept list and its room.
-use Rattle.std.specs.Prelude.{◌≡◌, ℕ, suc, ◌-◌, ◌==◌, Bool, true, ◌&&◌, cond, ◌≤◌, List, [], ◌∷◌, ◌++◌, length, drop, replicate}
-use Rattle.rail_base.specs.declared.limits.TheConstants.{LIST_TRAINS}
+use Rattle.std.specs.Prelude.{ℕ, suc, ◌-◌, ◌==◌, Bool, true, ◌&&◌, cond, ◌≤◌, List, [], ◌∷◌, ◌++◌, length, replicate}
 use Rattle.rail_rules.specs.Numbers.{sum_below, are_apart}
 use Rattle.rail_rules.specs.Moves.{Moves}
 use Rattle.rail_place.specs.Tables.{moves_in, MoveLists}
@@ -24,11 +23,6 @@ before_first t (u ∷ rest) = cond (u == t) [] (u ∷ before_first t rest)
 abbrev pub with_moves_left : Moves → ℕ → List ℕ → List ℕ
 with_moves_left plan t list = list ++ replicate (plan.moves t - 1) t
 
--- for each entry how many of the same train stand behind it
-abbrev pub entries_behind : List ℕ → List ℕ
-entries_behind [] = []
-entries_behind (u ∷ rest) = times u rest ∷ entries_behind rest
-
 -- no entry before the first of the train needs one of the sections for its move, where the list has an entry for each move that its trains have left
 abbrev pub is_free_before : Moves → ℕ → List ℕ → List ℕ → Bool
 is_free_before plan t sections [] = true
@@ -36,10 +30,7 @@ is_free_before plan t sections (u ∷ rest) =
     let later = is_free_before plan t sections rest in
     cond (u == t) true (are_apart sections (plan.claim u (plan.moves u - suc (times u rest))) && later)
 
--- the list begins at the front; behind each entry so many of its train are told; both have the same room
-pub record IsTold (trains behind : List ℕ) (front room room_behind : ℕ) : Type 0 where
+-- the list begins at the front, and the memory that was taken has room for so many entries
+pub record IsKeptIn (trains : List ℕ) (front room taken : ℕ) : Type 0 where
   pub within : front ≤ length trains
-  pub long : length behind ≡ length trains
-  pub told : drop front behind ≡ entries_behind (drop front trains)
-  pub few : room ≤ LIST_TRAINS
-  pub same_room : room_behind ≡ room
+  pub fits : room ≤ taken

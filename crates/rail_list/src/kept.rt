@@ -1,14 +1,13 @@
 ghost use Rattle.std.specs.Prelude.{◌≡◌, ◌<◌, ◌≤◌, [], if◌then◌else◌, length, IsTrue, IfOk};
-ghost use Rattle.rail_base.specs.declared.limits.TheConstants.{LIST_TRAINS};
 ghost use Rattle.rail_rules.specs.Fronts.{without_first};
 ghost use Rattle.rail_rules.specs.Numbers.{sum_below};
 ghost use Rattle.rail_rules.specs.Places.{after, completes, is_inside, is_legal, place_of};
 ghost use Rattle.rail_place.specs.Made.{IsMadeFor};
 ghost use Rattle.rail_place.specs.Tables.{moves_in};
-ghost use Rattle.rail_list.specs.KeptLists.{HasRoomFor, entries_behind, with_moves_left};
+ghost use Rattle.rail_list.specs.KeptLists.{HasRoomFor, with_moves_left};
 ghost use Rattle.rail_list.specs.Repairs.{is_repairable_for};
 
-use crate::entries::{add_all, add_times, close_gap, free_entries_before, make_room, set_behind};
+use crate::entries::{add_times, close_gap, free_entries_before, make_room};
 use crate::needers::is_needed_inside;
 use rail_base::{OutOfMemory, TrainNo};
 use rail_place::{Moves, Places};
@@ -21,32 +20,30 @@ use std::marker::Model;
 pub struct KeptList {
     /// The list, from `front` on.
     trains: Vec<TrainNo>,
-    /// For each entry how many of the same train stand behind it. Where the list has all the moves that its
-    /// trains have left, this tells which move of its train the entry is.
-    behind: Vec<u16>,
     front: usize,
+    /// For how many entries memory was taken.
+    room: usize,
 }
 
 impl Drop for KeptList {
     fn drop(self) {
         let KeptList {
             trains: _trains,
-            behind: _behind,
             front: _front,
+            room: _room,
         } = self;
     }
 }
 
 impl Model for KeptList {
     ghost use Rattle.std.specs.Prelude.{drop, vec_capacity};
-    ghost use Rattle.rail_list.specs.KeptLists.{IsTold, Kept};
+    ghost use Rattle.rail_list.specs.KeptLists.{IsKeptIn, Kept};
 
     ghost Value = { Kept };
 
-    ghost view = { λ kept. record { trains = drop kept.front kept.trains.items; room = vec_capacity kept.trains } };
+    ghost view = { λ kept. record { trains = drop kept.front kept.trains.items; room = kept.room } };
 
-    ghost invariant = { λ kept. IsTold kept.trains.items kept.behind.items kept.front
-        (vec_capacity kept.trains) (vec_capacity kept.behind) };
+    ghost invariant = { λ kept. IsKeptIn kept.trains.items kept.front kept.room (vec_capacity kept.trains) };
 }
 
 impl KeptList {
@@ -58,8 +55,8 @@ impl KeptList {
         let room = moves_of_all(moves);
         Ok(KeptList {
             trains: Vec::with_capacity(alloc, room)?,
-            behind: Vec::with_capacity(alloc, room)?,
             front: 0,
+            room,
         })
     }
 
@@ -79,10 +76,9 @@ impl KeptList {
         ensures room { self.new.room ≡ self.old.room }
     {
         let sections = moves.stand(train, places.position(train) + 1);
-        match free_entries_before(moves, self.as_slice(), self.behind(), train, sections) {
+        match free_entries_before(moves, places, self.as_slice(), train, sections) {
             Some(first) => {
                 close_gap(&mut self.trains, self.front, first);
-                close_gap(&mut self.behind, self.front, first);
                 self.front += 1;
                 true
             }
@@ -113,8 +109,8 @@ impl KeptList {
             return false;
         }
         let count = moves.places(train) - 1;
-        self.front = make_room(&mut self.trains, &mut self.behind, self.front, count);
-        add_times(&mut self.trains, &mut self.behind, train, count);
+        self.front = make_room(&mut self.trains, self.front, count);
+        add_times(&mut self.trains, train, count);
         true
     }
 
@@ -132,7 +128,7 @@ impl KeptList {
         if place == 0 {
             return !is_needed_inside(moves, places, sections);
         }
-        free_entries_before(moves, self.as_slice(), self.behind(), train, sections).is_some()
+        free_entries_before(moves, places, self.as_slice(), train, sections).is_some()
     }
 
     /// The list is then this one.
@@ -142,10 +138,8 @@ impl KeptList {
         ensures room { self.new.room ≡ self.old.room }
     {
         self.trains.clear();
-        self.behind.clear();
+        self.trains.extend_from_slice(list).unwrap();
         self.front = 0;
-        add_all(&mut self.trains, &mut self.behind, list);
-        set_behind(&mut self.behind, list);
     }
 
     /// The list.
@@ -154,19 +148,11 @@ impl KeptList {
     {
         &self.trains[self.front..]
     }
-
-    /// For each entry how many of the same train stand behind it.
-    fn behind(&self) -> &[u16]
-        ensures { result.now ≡ entries_behind self.now.trains }
-    {
-        &self.behind[self.front..]
-    }
 }
 
 /// How many moves all trains have.
 fn moves_of_all(moves: &Moves) -> usize
     ensures sum { result ≡ sum_below (moves_in moves.now).moves (length moves.now) }
-    ensures few { result ≤ LIST_TRAINS }
 {
     let mut sum = 0;
     for number in 0..moves.trains() {

@@ -8,8 +8,7 @@
 //! The list lies in one room from a front on, so that a pull moves only the entries before it. Only where the list
 //! can't be repaired is the analysis asked for a fresh one, and a move is made only where a list is known. So
 //! wherever the kept list completes before a call, it does so after it. `specs/` says for which moves a list has
-//! room, what is kept beside it, what the repaired list is, when a list is known, and which list goes with each
-//! note.
+//! room, what the repaired list is, when a list is known, and which list goes with each note.
 //!
 //! How the repaired list is tested and how a fresh one is found may be changed. That the answer is true exactly
 //! where it completes may not, nor that repair goes before a fresh list, that a move is made exactly where a list

@@ -1,11 +1,8 @@
-use Rattle.std.proofs.Common.{◌≡◌, ◌++◌, replicate, take, vec_capacity}
-use Rattle.rail_list.specs.KeptLists.{entries_behind}
+use Rattle.std.proofs.Common.{◌≡◌, ◌++◌, replicate, vec_capacity}
 use Rattle.rail_list.proofs.entries.add_times.Given as goal
 
-abbrev pub invariant-loop-added : goal.invariant-loop-added
-invariant-loop-added l = record {
-  trains : l.trains.items ≡ l.fn.trains.items ++ replicate l.added l.train;
-  behind : l.behind.items ≡ l.fn.behind.items ++ take l.added (entries_behind (replicate l.count l.train));
+abbrev pub invariant-loop : goal.invariant-loop
+invariant-loop l = record {
+  items : l.trains.items ≡ l.fn.trains.items ++ replicate l.counter l.train;
   room : vec_capacity l.trains ≡ vec_capacity l.fn.trains;
-  room_behind : vec_capacity l.behind ≡ vec_capacity l.fn.behind;
 }

@@ -1,115 +1,209 @@
-use Rattle.std.proofs.Common.{◌≡◌, ◌≢◌, ℕ, suc, ◌+◌, ◌-◌, ◌<◌, ◌≤◌, ◌&&◌, true, List, length, get_or, drop, sym, ap, ◌∙◌, subst, arith}
+use Rattle.std.proofs.Common.{rules, ◌≡◌, ◌≢◌, ℕ, suc, ◌+◌, ◌-◌, ◌<◌, ◌&&◌, true, List, length, get_or, drop, set, Option, Some, None, refl, sym, ap, ◌∙◌, subst, arith}
 use Rattle.std.proofs.lemmas.Bool.{not-false, not-true}
 use Rattle.std.proofs.lemmas.Grind.{common_steps}
+use Rattle.std.proofs.lemmas.List.{get_or-replicate, length-set}
+use Rattle.rail_base.specs.declared.limits.TheConstants.{TRAINS}
 use Rattle.rail_rules.specs.Moves.{Moves}
+use Rattle.rail_rules.specs.Places.{completes, place_of}
 use Rattle.rail_rules.specs.Numbers.{are_apart}
 use Rattle.rail_place.specs.Tables.{moves_in}
 use Rattle.rail_consequence.specs.Needs.{times}
-use Rattle.rail_list.specs.KeptLists.{before_first, entries_behind, is_free_before}
-use Rattle.rail_list.proofs.MovesLeft.{behind_told, length-behind, times_from}
+use Rattle.rail_list.specs.KeptLists.{is_free_before}
+use Rattle.rail_list.proofs.MovesLeft.{entries_fit}
 use Rattle.rail_list.proofs.Pulling.{before_later}
-use Rattle.rail_list.proofs.Turns.{IsClearOf, clear_from, clear_later, clear_passed, times_here, walk_next}
-use Rattle.rail_list.proofs.entries.free_entries_before.Goals.{then-not-does_need_from, else-not-does_need_from+else-does_need_one}
+use Rattle.rail_list.proofs.Turns.{IsClearOf, IsPassed, AreTold, clear_from, clear_later, clear_passed, told_later, told_still, reached, times_here, walk_next}
 use Rattle.rail_list.proofs.entries.free_entries_before.Goals as goal
 
-pub bounds-behind-place : goal.bounds-behind-place
-bounds-behind-place c = omega (arith, ap length c.requires.behind, length-behind c.args.list.now, c.loop-place-test.true)
+pub loop-index-init : goal.loop-index-init
+loop-index-init c =
+    let plan : Moves = moves_in c.args.moves.now in
+    let list = c.args.list.now in
+    record {
+      first = omega arith;
+      exact = refl;
+      long = search rules;
+      told = λ u below. subst (λ w. IsPassed plan c.args.sections.now list list u w) (sym (get_or-replicate TRAINS u (Some 0) None below)) (omega arith);
+    }
 
--- the entries behind one of a train are fewer than the train's moves
-fewer_behind : (list behind : List ℕ) (i u moves : ℕ) → behind ≡ entries_behind list → i < length list → u ≡ get_or list i u → times u list ≤ moves → get_or behind i 0 < moves
-fewer_behind list behind i u moves told lt is few =
-    omega (arith, behind_told list behind i u told lt is, times_from list i u u lt is, few)
+pub loop-index-preserved-in_default : goal.loop-index-preserved-in_default
+loop-index-preserved-in_default c =
+    let plan : Moves = moves_in c.args.moves.now in
+    let list = c.args.list.now in
+    let sections = c.args.sections.now in
+    let i = c.loop-index.index in
+    let u = c.index-list-index.result in
+    let ws = c.loop-index.passed in
+    let other : u ≢ c.args.train = λ e. grind (arith, common_steps) in
+    let number : c.from-number.result ≡ u = search rules in
+    let below : c.from-number.result < TRAINS = search rules in
+    let none : get_or ws u None ≡ None = ap (λ k. get_or ws k None) (sym number) ∙ c.in_default.is in
+    let P : Option ℕ → Type 0 = λ w. IsPassed plan sections list (drop i list) u w in
+    let clear : IsClearOf plan sections (drop i list) u = subst P none (c.loop-index.invariant.told u (omega (arith, below, number, c.loop-index.invariant.long))) in
+    record {
+      first = omega (arith, c.loop-index.invariant.first, before_later list i u c.args.train c.loop-index-test.true c.index-list-index.is other);
+      exact = sym (clear_passed plan list sections i u c.args.train c.loop-index-test.true c.index-list-index.is other (entries_fit plan c.args.places.now.positions list u c.requires.completes) clear)
+          ∙ c.loop-index.invariant.exact;
+      long = c.loop-index.invariant.long;
+      told = told_still plan list sections i u ws c.loop-index-test.true c.index-list-index.is none c.loop-index.invariant.told;
+    }
 
-pub overflow_sub-reached : goal.overflow_sub-reached
-overflow_sub-reached c =
-    let u = c.index-list-place.result in
-    let fewer = fewer_behind c.args.list.now c.args.behind.now c.loop-place.place u ((moves_in c.args.moves.now).moves u) c.requires.behind c.loop-place-test.true c.index-list-place.is (c.requires.few u) in
-    omega (arith, fewer, c.places.ensures)
+-- what was passed of an entry's train, and the moves that the train has left
+record IsHere (plan : Moves) (s list : List ℕ) (i u times-passed place : ℕ) : Type 0 where
+  passed : times-passed + times u (drop i list) ≡ times u list
+  left : place + times-passed + suc (times u (drop (i + 1) list)) ≡ plan.moves u
 
-pub overflow_sub-reached-in-loop-place : goal.overflow_sub-reached-in-loop-place
-overflow_sub-reached-in-loop-place c =
-    let u = c.index-list-place.result in
-    let fewer = fewer_behind c.args.list.now c.args.behind.now c.loop-place.place u ((moves_in c.args.moves.now).moves u) c.requires.behind c.loop-place-test.true c.index-list-place.is (c.requires.few u) in
-    omega (arith, fewer, c.places.ensures)
+here : (plan : Moves) (s list sections : List ℕ) (i u number n place : ℕ) (ws : List (Option ℕ)) → completes plan s list ≡ true → i < length list → u ≡ get_or list i u
+    → number ≡ u → number < TRAINS → length ws ≡ TRAINS → AreTold plan sections list (drop i list) ws → get_or ws number None ≡ Some n → place ≡ place_of s u
+    → IsHere plan s list i u n place
+here plan s list sections i u number n place ws done lt is named below long told some at =
+    let P : Option ℕ → Type 0 = λ w. IsPassed plan sections list (drop i list) u w in
+    let passed : n + times u (drop i list) ≡ times u list = subst P (ap (λ k. get_or ws k None) (sym named) ∙ some) (told u (omega (arith, below, named, long))) in
+    record { passed = passed; left = omega (arith, at, reached plan s list i u n done lt is passed) }
 
-pub does_need_one-requires-clause-first : goal.does_need_one-requires-clause-first
-does_need_one-requires-clause-first c =
-    let u = c.index-list-place.result in
-    let fewer = fewer_behind c.args.list.now c.args.behind.now c.loop-place.place u ((moves_in c.args.moves.now).moves u) c.requires.behind c.loop-place-test.true c.index-list-place.is (c.requires.few u) in
-    omega (arith, fewer, c.places.ensures)
+pub overflow_add-place : goal.overflow_add-place
+overflow_add-place c =
+    let plan : Moves = moves_in c.args.moves.now in
+    let s = c.args.places.now.positions in
+    let list = c.args.list.now in
+    let i = c.loop-index.index in
+    let u = c.index-list-index.result in
+    let number : c.from-number.result ≡ u = search rules in
+    let below : c.from-number.result < TRAINS = search rules in
+    let at : c.position.result ≡ place_of s u = search rules in
+    let now = here plan s list c.args.sections.now i u c.from-number.result c.in-Some.times c.position.result c.loop-index.passed
+    c.requires.completes c.loop-index-test.true c.index-list-index.is number below c.loop-index.invariant.long c.loop-index.invariant.told c.in-Some.is at in
+    omega (arith, now.left, c.requires.made.moves.short u)
 
--- the move that was looked at is the entry's
-turn : (plan : Moves) (sections rest : List ℕ) (u places behind : ℕ) → places ≡ plan.moves u → behind ≡ times u rest
-    → are_apart sections (plan.claim u (places - behind - 1)) ≡ are_apart sections (plan.claim u (plan.moves u - suc (times u rest)))
-turn plan sections rest u places behind all told =
-    let same : places - behind - 1 ≡ plan.moves u - suc (times u rest) = omega (arith, all, told) in
-    ap (λ m. are_apart sections (plan.claim u m)) same
+pub overflow_add-place-in-loop-index : goal.overflow_add-place-in-loop-index
+overflow_add-place-in-loop-index c =
+    let plan : Moves = moves_in c.args.moves.now in
+    let s = c.args.places.now.positions in
+    let list = c.args.list.now in
+    let i = c.loop-index.index in
+    let u = c.index-list-index.result in
+    let number : c.from-number.result ≡ u = search rules in
+    let below : c.from-number.result < TRAINS = search rules in
+    let at : c.position.result ≡ place_of s u = search rules in
+    let now = here plan s list c.args.sections.now i u c.from-number.result c.in-Some.times c.position.result c.loop-index.passed
+    c.requires.completes c.loop-index-test.true c.index-list-index.is number below c.loop-index.invariant.long c.loop-index.invariant.told c.in-Some.is at in
+    omega (arith, now.left, c.requires.made.moves.short u)
+
+pub does_need_one-requires-clause-last : goal.does_need_one-requires-clause-last
+does_need_one-requires-clause-last c =
+    let plan : Moves = moves_in c.args.moves.now in
+    let s = c.args.places.now.positions in
+    let list = c.args.list.now in
+    let i = c.loop-index.index in
+    let u = c.index-list-index.result in
+    let number : c.from-number.result ≡ u = search rules in
+    let below : c.from-number.result < TRAINS = search rules in
+    let at : c.position.result ≡ place_of s u = search rules in
+    let now = here plan s list c.args.sections.now i u c.from-number.result c.in-Some.times c.position.result c.loop-index.passed
+    c.requires.completes c.loop-index-test.true c.index-list-index.is number below c.loop-index.invariant.long c.loop-index.invariant.told c.in-Some.is at in
+    let other : c.other.inside.0 ≡ u = search rules in
+    omega (arith, now.left, ap plan.moves other)
+
+pub overflow_add-passed : goal.overflow_add-passed
+overflow_add-passed c =
+    let plan : Moves = moves_in c.args.moves.now in
+    let s = c.args.places.now.positions in
+    let list = c.args.list.now in
+    let i = c.loop-index.index in
+    let u = c.index-list-index.result in
+    let number : c.from-number.result ≡ u = search rules in
+    let below : c.from-number.result < TRAINS = search rules in
+    let at : c.position.result ≡ place_of s u = search rules in
+    let now = here plan s list c.args.sections.now i u c.from-number.result c.in-Some.times c.position.result c.loop-index.passed
+    c.requires.completes c.loop-index-test.true c.index-list-index.is number below c.loop-index.invariant.long c.loop-index.invariant.told c.in-Some.is at in
+    omega (arith, now.left, c.requires.made.moves.short u)
+
+-- the move that is looked at is the entry's
+turn : (plan : Moves) (sections rest : List ℕ) (u v place n : ℕ) → v ≡ u → place + n + suc (times u rest) ≡ plan.moves u
+    → are_apart sections (plan.claim v (place + n + 1 - 1)) ≡ are_apart sections (plan.claim u (plan.moves u - suc (times u rest)))
+turn plan sections rest u v place n same left =
+    let now : place + n + 1 - 1 ≡ plan.moves u - suc (times u rest) = omega (arith, left) in
+    ap (λ w. are_apart sections (plan.claim w (place + n + 1 - 1))) same ∙ ap (λ m. are_apart sections (plan.claim u m)) now
 
 pub returns-then-does_need_one-clause-exact : goal.returns-then-does_need_one-clause-exact
 returns-then-does_need_one-clause-exact c =
     let plan : Moves = moves_in c.args.moves.now in
+    let s = c.args.places.now.positions in
     let list = c.args.list.now in
+    let i = c.loop-index.index in
+    let u = c.index-list-index.result in
+    let number : c.from-number.result ≡ u = search rules in
+    let below : c.from-number.result < TRAINS = search rules in
+    let at : c.position.result ≡ place_of s u = search rules in
+    let now = here plan s list c.args.sections.now i u c.from-number.result c.in-Some.times c.position.result c.loop-index.passed
+    c.requires.completes c.loop-index-test.true c.index-list-index.is number below c.loop-index.invariant.long c.loop-index.invariant.told c.in-Some.is at in
     let sections = c.args.sections.now in
-    let i = c.loop-place.place in
-    let u = c.index-list-place.result in
     let rest : List ℕ = drop (i + 1) list in
+    let v = c.other.inside.0 in
+    let same : v ≡ u = search rules in
     let other : u ≢ c.args.train = λ e. grind (arith, common_steps) in
-    let told = behind_told list c.args.behind.now i u c.requires.behind c.loop-place-test.true c.index-list-place.is in
-    let seen = turn plan sections rest u c.places.result (get_or c.args.behind.now i 0) c.places.ensures told in
-    let meets = not-true (are_apart sections (plan.claim u (c.places.result - get_or c.args.behind.now i 0 - 1))) (sym c.does_need_one.ensures ∙ c.if-does_need_one.true) in
-    sym (sym c.loop-place.invariant.exact
-    ∙ walk_next plan list sections i u c.args.train c.loop-place-test.true c.index-list-place.is other
+    let seen = turn plan sections rest u v c.position.result c.in-Some.times same now.left in
+    let meets = not-true (are_apart sections (plan.claim v (c.position.result + c.in-Some.times + 1 - 1))) (sym c.does_need_one.ensures ∙ c.if-does_need_one.true) in
+    sym (sym c.loop-index.invariant.exact
+    ∙ walk_next plan list sections i u c.args.train c.loop-index-test.true c.index-list-index.is other
     ∙ ap (λ b. b && is_free_before plan c.args.train sections rest) (sym seen ∙ meets))
 
-pub loop-place-preserved-then-eq-2 : goal.loop-place-preserved-then-eq-2
-loop-place-preserved-then-eq-2 c =
+pub loop-index-preserved-then-not-does_need_from : goal.loop-index-preserved-then-not-does_need_from
+loop-index-preserved-then-not-does_need_from c =
     let plan : Moves = moves_in c.args.moves.now in
+    let s = c.args.places.now.positions in
     let list = c.args.list.now in
+    let i = c.loop-index.index in
+    let u = c.index-list-index.result in
+    let number : c.from-number.result ≡ u = search rules in
+    let below : c.from-number.result < TRAINS = search rules in
+    let at : c.position.result ≡ place_of s u = search rules in
+    let now = here plan s list c.args.sections.now i u c.from-number.result c.in-Some.times c.position.result c.loop-index.passed
+    c.requires.completes c.loop-index-test.true c.index-list-index.is number below c.loop-index.invariant.long c.loop-index.invariant.told c.in-Some.is at in
     let sections = c.args.sections.now in
-    let i = c.loop-place.place in
-    let u = c.index-list-place.result in
+    let v = c.other.inside.0 in
+    let same : v ≡ u = search rules in
     let other : u ≢ c.args.train = λ e. grind (arith, common_steps) in
-    let same : u ≡ c.loop-place.clear = grind (arith, common_steps) in
-    let P : ℕ → Type 0 = λ v. IsClearOf plan sections (drop i list) v in
-    let clear : IsClearOf plan sections (drop i list) u = subst P (sym same) (c.loop-place.invariant.clear (λ e. other (same ∙ e))) in
+    let P : ℕ → Type 0 = λ k. IsClearOf plan sections (drop i list) k in
+    let Q : ℕ → Type 0 = λ k. AreTold plan sections list (drop (i + 1) list) (set c.loop-index.passed k None) in
+    let clear : IsClearOf plan sections (drop i list) u = subst P same (clear_from plan sections (drop i list) v (c.position.result + c.in-Some.times)
+    (omega (arith, now.left, times_here list i u c.loop-index-test.true c.index-list-index.is, ap (λ k. times k (drop i list)) same, ap plan.moves same))
+    (sym c.does_need_from.ensures ∙ c.if-not-does_need_from.true)) in
     record {
-      first = omega (arith, c.loop-place.invariant.first, before_later list i u c.args.train c.loop-place-test.true c.index-list-place.is other);
-      exact = sym (clear_passed plan list sections i u c.args.train c.loop-place-test.true c.index-list-place.is other (c.requires.few u) clear) ∙ c.loop-place.invariant.exact;
-      clear = λ ne. clear_later plan list sections i c.loop-place.clear c.loop-place-test.true (c.loop-place.invariant.clear ne);
+      first = omega (arith, c.loop-index.invariant.first, before_later list i u c.args.train c.loop-index-test.true c.index-list-index.is other);
+      exact = sym (clear_passed plan list sections i u c.args.train c.loop-index-test.true c.index-list-index.is other (entries_fit plan s list u c.requires.completes) clear)
+          ∙ c.loop-index.invariant.exact;
+      long = length-set c.loop-index.passed c.from-number.result None ∙ c.loop-index.invariant.long;
+      told = subst Q (sym number) (told_later plan list sections i u c.loop-index.passed None c.loop-index-test.true c.index-list-index.is (omega (arith, below, number, c.loop-index.invariant.long)) c.loop-index.invariant.told
+          (clear_later plan list sections i u c.loop-index-test.true clear));
     }
 
-pub loop-place-preserved : goal.loop-place-preserved
-loop-place-preserved c =
+pub loop-index-preserved : goal.loop-index-preserved
+loop-index-preserved c =
     let plan : Moves = moves_in c.args.moves.now in
+    let s = c.args.places.now.positions in
     let list = c.args.list.now in
+    let i = c.loop-index.index in
+    let u = c.index-list-index.result in
+    let number : c.from-number.result ≡ u = search rules in
+    let below : c.from-number.result < TRAINS = search rules in
+    let at : c.position.result ≡ place_of s u = search rules in
+    let now = here plan s list c.args.sections.now i u c.from-number.result c.in-Some.times c.position.result c.loop-index.passed
+    c.requires.completes c.loop-index-test.true c.index-list-index.is number below c.loop-index.invariant.long c.loop-index.invariant.told c.in-Some.is at in
     let sections = c.args.sections.now in
-    let i = c.loop-place.place in
-    let u = c.index-list-place.result in
     let rest : List ℕ = drop (i + 1) list in
-    let reached : ℕ = c.places.result - get_or c.args.behind.now i 0 in
+    let v = c.other.inside.0 in
+    let same : v ≡ u = search rules in
     let other : u ≢ c.args.train = λ e. grind (arith, common_steps) in
-    let told = behind_told list c.args.behind.now i u c.requires.behind c.loop-place-test.true c.index-list-place.is in
-    let first : i + 1 + length (before_first c.args.train rest) ≡ length (before_first c.args.train list) =
-    omega (arith, c.loop-place.invariant.first, before_later list i u c.args.train c.loop-place-test.true c.index-list-place.is other) in
-    let P : ℕ → Type 0 = λ v. IsClearOf plan sections rest v in
-    elim c.if-not-does_need_from.branch [
-      | then-not-does_need_from w ↦
-          let clear : IsClearOf plan sections (drop i list) u = clear_from plan sections (drop i list) u (reached - 1)
-          (omega (arith, told, times_here list i u c.loop-place-test.true c.index-list-place.is, times_from list i u u c.loop-place-test.true c.index-list-place.is, c.requires.few u, c.places.ensures))
-          (sym c.does_need_from.ensures ∙ w.if-not-does_need_from.true) in
-          record {
-            first = first;
-            exact = sym (clear_passed plan list sections i u c.args.train c.loop-place-test.true c.index-list-place.is other (c.requires.few u) clear) ∙ c.loop-place.invariant.exact;
-            clear = λ _. subst P (sym w.clear-is) (clear_later plan list sections i u c.loop-place-test.true clear);
-          }
-      | else-not-does_need_from+else-does_need_one w ↦
-          let seen = turn plan sections rest u c.places.result (get_or c.args.behind.now i 0) c.places.ensures told in
-          let apart : are_apart sections (plan.claim u (reached - 1)) ≡ true = not-false (are_apart sections (plan.claim u (reached - 1))) (sym w.does_need_one.ensures ∙ w.if-does_need_one.false) in
-          record {
-            first = first;
-            exact = sym (ap (λ b. b && is_free_before plan c.args.train sections rest) (sym seen ∙ apart))
-                ∙ sym (walk_next plan list sections i u c.args.train c.loop-place-test.true c.index-list-place.is other)
-                ∙ c.loop-place.invariant.exact;
-            clear = λ ne. subst P (sym w.clear-is) (clear_later plan list sections i c.loop-place.clear c.loop-place-test.true (c.loop-place.invariant.clear (λ e. ne (w.clear-is ∙ e))));
-          }
-    ]
+    let seen = turn plan sections rest u v c.position.result c.in-Some.times same now.left in
+    let apart = not-false (are_apart sections (plan.claim v (c.position.result + c.in-Some.times + 1 - 1))) (sym c.does_need_one.ensures ∙ c.if-does_need_one.false) in
+    let more : Option ℕ = Some (c.in-Some.times + 1) in
+    let Q : ℕ → Type 0 = λ k. AreTold plan sections list rest (set c.loop-index.passed k more) in
+    let own : c.in-Some.times + 1 + times u rest ≡ times u list = omega (arith, now.passed, times_here list i u c.loop-index-test.true c.index-list-index.is) in
+    record {
+      first = omega (arith, c.loop-index.invariant.first, before_later list i u c.args.train c.loop-index-test.true c.index-list-index.is other);
+      exact = sym (ap (λ b. b && is_free_before plan c.args.train sections rest) (sym seen ∙ apart))
+          ∙ sym (walk_next plan list sections i u c.args.train c.loop-index-test.true c.index-list-index.is other)
+          ∙ c.loop-index.invariant.exact;
+      long = length-set c.loop-index.passed c.from-number.result more ∙ c.loop-index.invariant.long;
+      told = subst Q (sym number) (told_later plan list sections i u c.loop-index.passed more c.loop-index-test.true c.index-list-index.is (omega (arith, below, number, c.loop-index.invariant.long)) c.loop-index.invariant.told own);
+    }

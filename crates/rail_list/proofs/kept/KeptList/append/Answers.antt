@@ -1,5 +1,5 @@
-use Rattle.std.proofs.Common.{◌≡◌, ℕ, suc, ◌-◌, ◌<◌, ◌≤◌, ◌++◌, Bool, true, not, List, length, drop, replicate, sym, ap, ◌∙◌, arith}
-use Rattle.std.proofs.lemmas.List.{drop-append-le, length-append, length-drop, length-replicate, length-set}
+use Rattle.std.proofs.Common.{◌≡◌, ℕ, suc, ◌-◌, ◌<◌, ◌++◌, Bool, true, not, List, length, drop, replicate, sym, ap, ◌∙◌, arith}
+use Rattle.std.proofs.lemmas.List.{length-append, length-drop, length-replicate, length-set}
 use Rattle.rail_rules.specs.Analysis.{needs_later}
 use Rattle.rail_rules.specs.Moves.{Moves, stand}
 use Rattle.rail_rules.specs.Numbers.{any_below, sum_below}
@@ -7,9 +7,8 @@ use Rattle.rail_rules.specs.Places.{place_of, is_legal, after, completes}
 use Rattle.rail_place.specs.Tables.{moves_in, MoveLists}
 use Rattle.rail_place.specs.Made.{State, IsMadeFor}
 use Rattle.rail_place.proofs.CallerLemmas.{legal_ahead, made_long}
-use Rattle.rail_list.specs.KeptLists.{Kept, entries_behind}
-use Rattle.rail_list.proofs.Appending.{appended_where_unneeded, completing_fits, outside_has_none}
-use Rattle.rail_list.proofs.MovesLeft.{behind_append, length-behind}
+use Rattle.rail_list.specs.KeptLists.{Kept}
+use Rattle.rail_list.proofs.Appending.{appended_where_unneeded, completing_fits}
 use Rattle.rail_list.proofs.kept.KeptList.append.Goals as goal
 
 -- the answer is that of the appended list
@@ -50,31 +49,13 @@ make_room-self-inside-requires-clause-fits c =
     let fits = completing_fits plan (after now.positions t) (list ++ rest) done in
     let trains : length (after now.positions t) ≡ length table = length-set now.positions t (suc (place_of now.positions t)) ∙ made_long table now c.requires.made in
     let all : sum_below plan.moves (length (after now.positions t)) ≡ sum_below plan.moves (length table) = ap (sum_below plan.moves) trains in
-    omega (arith, fits, all, c.requires.room, ap (λ (k : Kept). k.room) c.self.view_is, length-append list rest, length-replicate (plan.moves t - 1) t, c.places-count.ensures, ap length view, length-drop c.self.inside.front own.items, own.ok)
+    omega (arith, fits, all, c.requires.room, c.self.invariant.fits, ap (λ (k : Kept). k.room) c.self.view_is, length-append list rest, length-replicate (plan.moves t - 1) t, c.places-count.ensures, ap length view, length-drop c.self.inside.front own.items, own.ok)
 
 pub invariant_of-self : goal.invariant_of-self
 invariant_of-self c =
-    let plan : Moves = moves_in c.args.moves.now in
-    let s = c.args.places.now.positions in
-    let list = c.args.self.now.trains in
-    let t = c.args.train in
-    let count : ℕ = c.places-count.result - 1 in
-    let front = c.make_room-self-inside.result in
     let trains = c.make_room-self-inside.new.trains in
-    let behind = c.make_room-self-inside.new.behind in
-    let rest : List ℕ = replicate count t in
-    let view : drop c.self.inside.front c.self.inside.trains.items ≡ list = ap (λ (k : Kept). k.trains) c.self.view_is in
-    let within : front ≤ length trains.items = omega (arith, c.make_room-self-inside.ensures.within, trains.ok) in
-    let long : length behind.items ≡ length trains.items = omega (arith, c.make_room-self-inside.ensures.long, trains.ok, behind.ok) in
-    let now_trains : drop front c.add_times.new.trains.items ≡ list ++ rest =
-    ap (drop front) c.add_times.ensures.trains ∙ drop-append-le front trains.items rest within ∙ ap (λ xs. xs ++ rest) (c.make_room-self-inside.ensures.trains ∙ view) in
-    let now_behind : drop front c.add_times.new.behind.items ≡ entries_behind list ++ entries_behind rest =
-    ap (drop front) c.add_times.ensures.behind ∙ drop-append-le front behind.items (entries_behind rest) (omega (arith, within, long))
-    ∙ ap (λ xs. xs ++ entries_behind rest) (c.make_room-self-inside.ensures.behind ∙ c.self.invariant.told ∙ ap entries_behind view) in
+    let count : ℕ = c.places-count.result - 1 in
     record {
-      within = omega (arith, within, ap length c.add_times.ensures.trains, length-append trains.items rest);
-      long = omega (arith, long, ap length c.add_times.ensures.trains, length-append trains.items rest, ap length c.add_times.ensures.behind, length-append behind.items (entries_behind rest), length-behind rest);
-      told = now_behind ∙ sym (behind_append t count list (outside_has_none plan s list t c.requires.outside c.requires.completes)) ∙ sym (ap entries_behind now_trains);
-      few = omega (arith, c.add_times.ensures.room, c.make_room-self-inside.ensures.room, c.self.invariant.few);
-      same_room = c.add_times.ensures.room_behind ∙ c.make_room-self-inside.ensures.room_behind ∙ c.self.invariant.same_room ∙ sym (c.add_times.ensures.room ∙ c.make_room-self-inside.ensures.room);
+      within = omega (arith, c.make_room-self-inside.ensures.within, trains.ok, ap length c.add_times.ensures.items, length-append trains.items (replicate count c.args.train));
+      fits = omega (arith, c.add_times.ensures.room, c.make_room-self-inside.ensures.room, c.self.invariant.fits);
     }

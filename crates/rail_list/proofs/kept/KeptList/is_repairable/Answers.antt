@@ -10,10 +10,8 @@ use Rattle.rail_rules.specs.Places.{after, completes, is_inside, is_legal, place
 use Rattle.rail_place.specs.Made.{State}
 use Rattle.rail_place.specs.Tables.{moves_in, MoveLists}
 use Rattle.rail_place.proofs.CallerLemmas.{legal_ahead, made_long}
-use Rattle.rail_consequence.specs.Needs.{times}
 use Rattle.rail_list.specs.KeptLists.{is_free_before, with_moves_left}
 use Rattle.rail_list.proofs.Appending.{appended_where_unneeded, completing_listed}
-use Rattle.rail_list.proofs.MovesLeft.{entries_fit}
 use Rattle.rail_list.proofs.Turns.{pulled_where_free}
 use Rattle.rail_list.proofs.kept.KeptList.is_repairable.Goals as goal
 
@@ -45,9 +43,9 @@ free_entries_before-requires-clause-known c =
     All-same (λ t. t < length table) c.as_slice.result.now list c.as_slice.ensures
     (completing_listed (moves_in table) c.args.places.now.positions list (length table) (made_long table c.args.places.now c.requires.made) c.requires.completes)
 
-pub free_entries_before-requires-clause-few : goal.free_entries_before-requires-clause-few
-free_entries_before-requires-clause-few c = λ u.
-    omega (arith, ap (times u) c.as_slice.ensures, entries_fit (moves_in c.args.moves.now) c.args.places.now.positions c.args.self.now.trains u c.requires.completes)
+pub free_entries_before-requires-clause-completes : goal.free_entries_before-requires-clause-completes
+free_entries_before-requires-clause-completes c =
+    ap (completes (moves_in c.args.moves.now) c.args.places.now.positions) c.as_slice.ensures ∙ c.requires.completes
 
 pub returns : goal.returns
 returns c =

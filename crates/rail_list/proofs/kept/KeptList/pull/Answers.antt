@@ -1,17 +1,15 @@
-use Rattle.std.proofs.Common.{◌≡◌, ℕ, suc, ◌+◌, ◌<◌, true, List, length, drop, sym, ap, ◌∙◌, arith}
+use Rattle.std.proofs.Common.{◌≡◌, ℕ, suc, ◌+◌, ◌<◌, true, List, ◌++◌, length, take, drop, sym, ap, ◌∙◌, arith}
 use Rattle.std.specs.List.{remove}
-use Rattle.std.proofs.lemmas.List.{length-drop}
+use Rattle.std.proofs.lemmas.List.{length-drop, take_at}
 use Rattle.std.proofs.lemmas.List.Elements.{All-same}
 use Rattle.rail_rules.specs.Fronts.{without_first}
 use Rattle.rail_rules.specs.Moves.{Moves, stand}
 use Rattle.rail_rules.specs.Places.{after, completes, is_inside, place_of}
 use Rattle.rail_place.specs.Tables.{moves_in}
 use Rattle.rail_place.proofs.CallerLemmas.{made_long}
-use Rattle.rail_consequence.specs.Needs.{times}
-use Rattle.rail_list.specs.KeptLists.{Kept, before_first, entries_behind, is_free_before}
+use Rattle.rail_list.specs.KeptLists.{Kept, before_first, is_free_before}
 use Rattle.rail_list.proofs.Pulling.{first_there, removed_is}
 use Rattle.rail_list.proofs.Appending.{completing_listed}
-use Rattle.rail_list.proofs.MovesLeft.{behind_without, entries_fit}
 use Rattle.rail_list.proofs.Turns.{pulled_where_free}
 use Rattle.rail_list.proofs.kept.KeptList.pull.Goals as goal
 
@@ -22,9 +20,9 @@ free_entries_before-requires-clause-known c =
     All-same (λ t. t < length table) c.as_slice.result.now list c.as_slice.ensures
     (completing_listed (moves_in table) c.args.places.now.positions list (length table) (made_long table c.args.places.now c.requires.made) c.requires.completes)
 
-pub free_entries_before-requires-clause-few : goal.free_entries_before-requires-clause-few
-free_entries_before-requires-clause-few c = λ u.
-    omega (arith, ap (times u) c.as_slice.ensures, entries_fit (moves_in c.args.moves.now) c.args.places.now.positions c.args.self.now.trains u c.requires.completes)
+pub free_entries_before-requires-clause-completes : goal.free_entries_before-requires-clause-completes
+free_entries_before-requires-clause-completes c =
+    ap (completes (moves_in c.args.moves.now) c.args.places.now.positions) c.as_slice.ensures ∙ c.requires.completes
 
 -- the entries before the first of the train end within the room
 within : (plan : Moves) (s list read room : List ℕ) (t front first : ℕ) → completes plan s list ≡ true → is_inside plan s t ≡ true
@@ -38,44 +36,36 @@ close_gap-requires c =
     let there = within (moves_in c.args.moves.now) c.args.places.now.positions c.args.self.now.trains c.as_slice.result.now own.items c.args.train c.self.inside.front c.in-Some.first c.requires.completes c.requires.inside c.as_slice.ensures (ap (λ (k : Kept). k.trains) c.self.view_is) c.in-Some.ensures.first in
     omega (arith, there, own.ok)
 
-pub close_gap-requires-in-Some : goal.close_gap-requires-in-Some
-close_gap-requires-in-Some c =
-    let own = c.self.inside.trains in
-    let there = within (moves_in c.args.moves.now) c.args.places.now.positions c.args.self.now.trains c.as_slice.result.now own.items c.args.train c.self.inside.front c.in-Some.first c.requires.completes c.requires.inside c.as_slice.ensures (ap (λ (k : Kept). k.trains) c.self.view_is) c.in-Some.ensures.first in
-    omega (arith, there, c.self.invariant.long, c.self.inside.behind.ok)
-
 -- the entry that is taken out is the first of the train
 first_is : (list read : List ℕ) (t first : ℕ) → read ≡ list → first ≡ length (before_first t read) → first ≡ length (before_first t list)
 first_is list read t first is told = told ∙ ap (λ xs. length (before_first t xs)) is
+
+-- as many entries written over the room's are the room's
+written_over : (new old : List ℕ) (n : ℕ) → length new ≡ n → take n (new ++ drop (length new) old) ≡ new
+written_over new old n long = take_at new (drop (length new) old) n long
 
 pub returns-in-Some-clause-trains : goal.returns-in-Some-clause-trains
 returns-in-Some-clause-trains c =
     let list = c.args.self.now.trains in
     let t = c.args.train in
-    c.close_gap.ensures.items
+    let front = c.self.inside.front in
+    let own = c.self.inside.trains in
+    ap (drop (front + 1)) (written_over c.close_gap.new.list own.items own.len (omega (arith, c.close_gap.ensures.len, c.deref_mut.ensures.len)))
+    ∙ c.close_gap.ensures.items
+    ∙ ap (λ xs. remove (drop front xs) c.in-Some.first) c.deref_mut.ensures.value
     ∙ ap (λ xs. remove xs c.in-Some.first) (ap (λ (k : Kept). k.trains) c.self.view_is)
     ∙ ap (remove list) (first_is list c.as_slice.result.now t c.in-Some.first c.as_slice.ensures c.in-Some.ensures.first)
     ∙ removed_is list t
 
 pub invariant_of-self : goal.invariant_of-self
 invariant_of-self c =
-    let list = c.args.self.now.trains in
-    let t = c.args.train in
     let front = c.self.inside.front in
     let own = c.self.inside.trains in
-    let there = within (moves_in c.args.moves.now) c.args.places.now.positions c.args.self.now.trains c.as_slice.result.now own.items c.args.train c.self.inside.front c.in-Some.first c.requires.completes c.requires.inside c.as_slice.ensures (ap (λ (k : Kept). k.trains) c.self.view_is) c.in-Some.ensures.first in
-    let view : drop front c.self.inside.trains.items ≡ list = ap (λ (k : Kept). k.trains) c.self.view_is in
-    let first = first_is list c.as_slice.result.now t c.in-Some.first c.as_slice.ensures c.in-Some.ensures.first in
+    let there = within (moves_in c.args.moves.now) c.args.places.now.positions c.args.self.now.trains c.as_slice.result.now own.items c.args.train front c.in-Some.first c.requires.completes c.requires.inside c.as_slice.ensures (ap (λ (k : Kept). k.trains) c.self.view_is) c.in-Some.ensures.first in
+    let same = written_over c.close_gap.new.list own.items own.len (omega (arith, c.close_gap.ensures.len, c.deref_mut.ensures.len)) in
     record {
-      within = omega (arith, there, own.ok, c.close_gap.ensures.length, c.close_gap.new.list.ok);
-      long = omega (arith, c.close_gap.ensures.length, c.close_gap-in-Some.ensures.length, c.self.invariant.long, c.self.inside.trains.ok, c.self.inside.behind.ok, c.close_gap.new.list.ok, c.close_gap-in-Some.new.list.ok);
-      told = c.close_gap-in-Some.ensures.items
-          ∙ ap (λ xs. remove xs c.in-Some.first) (c.self.invariant.told ∙ ap entries_behind view)
-          ∙ ap (remove (entries_behind list)) first
-          ∙ behind_without t list
-          ∙ sym (ap entries_behind (returns-in-Some-clause-trains c));
-      few = omega (arith, c.close_gap.ensures.room, c.self.invariant.few);
-      same_room = c.close_gap-in-Some.ensures.room ∙ c.self.invariant.same_room ∙ sym c.close_gap.ensures.room;
+      within = omega (arith, there, ap length same, c.close_gap.ensures.len, ap length c.deref_mut.ensures.value);
+      fits = c.self.invariant.fits;
     }
 
 -- what was looked at is what the train stands on after its move
