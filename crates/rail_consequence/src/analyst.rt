@@ -664,8 +664,9 @@ impl Worksheet {
         requires within { place ≤ (moves_in moves.now).moves train }
         ensures { IsTrue result → HasNoSafeLegOf (moves_in moves.now) (set self.now.places.positions train place) stopped }
     {
+        let standing = moves.stand(train, place);
         for made in self.places.position(stopped)..moves.places(stopped) {
-            if self.is_barred_then(moves, stopped, made, train, place) {
+            if self.is_barred_then(moves, stopped, made, train, place, standing) {
                 return true;
             }
             if !self.is_unsafe_then(moves, stopped, made + 1, train, place) {
@@ -676,7 +677,7 @@ impl Worksheet {
     }
 
     /// Whether another train holds a section of the one train's move from this place, once the other one has gone
-    /// on to the place.
+    /// on to the place, where it stands on these sections.
     fn is_barred_then(
         &self,
         moves: &Moves,
@@ -684,6 +685,7 @@ impl Worksheet {
         made: u16,
         train: TrainNo,
         place: u16,
+        standing: &[SectionNo],
     ) -> bool
         requires ready { IsReady moves.now self.now }
         requires stopped { stopped < length moves.now }
@@ -691,17 +693,19 @@ impl Worksheet {
         requires other { stopped ≢ train }
         requires within { place ≤ (moves_in moves.now).moves train }
         requires below { made < (moves_in moves.now).moves stopped }
+        requires standing { standing.now ≡ stand (moves_in moves.now) train place }
         ensures { IsTrue result → IsBarred (moves_in moves.now) (set self.now.places.positions train place) stopped made }
     {
         for section in moves.need(stopped, made + 1) {
-            if self.is_held_then(moves, stopped, *section, train, place) {
+            if self.is_held_then(moves, stopped, *section, train, place, standing) {
                 return true;
             }
         }
         false
     }
 
-    /// Whether another train than the one holds the section, once the other one has gone on to the place.
+    /// Whether another train than the one holds the section, once the other one has gone on to the place, where it
+    /// stands on these sections.
     fn is_held_then(
         &self,
         moves: &Moves,
@@ -709,17 +713,19 @@ impl Worksheet {
         section: SectionNo,
         train: TrainNo,
         place: u16,
+        standing: &[SectionNo],
     ) -> bool
         requires ready { IsReady moves.now self.now }
         requires stopped { stopped < length moves.now }
         requires train { train < length moves.now }
         requires other { stopped ≢ train }
         requires within { place ≤ (moves_in moves.now).moves train }
+        requires standing { standing.now ≡ stand (moves_in moves.now) train place }
         ensures { IsTrue result → IsHeldByOther (moves_in moves.now) (set self.now.places.positions train place) stopped section }
     {
         match self.places.holder(section) {
             Some(holder) if holder != train => holder != stopped,
-            _ => stands_on(moves, train, place, section),
+            _ => standing.contains(&section),
         }
     }
 
@@ -769,10 +775,18 @@ impl Worksheet {
         requires section { section < SECTIONS }
         ensures { IsTrue result → IsSharedThen (moves_in moves.now) self.now.places.positions self.now.needs train place stopped section }
     {
+        let trains = self.needs.count(section);
+        // Which trains need it matters only where there are one or two.
+        if trains == 0 {
+            return false;
+        }
+        if trains > 2 {
+            return true;
+        }
         let own = self.needs_left(moves, stopped, section);
         let gone = self.needs_left(moves, train, section)
             && !moves.needs_after(train, place, section);
-        u16::from(own) + u16::from(gone) < self.needs.count(section)
+        u16::from(own) + u16::from(gone) < trains
     }
 
     /// Whether a section is noted that stops the one train, and is held once the other has gone on to the
