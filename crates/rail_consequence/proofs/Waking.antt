@@ -1,10 +1,16 @@
 -- Notes that are taken back.
-use Rattle.std.proofs.Common.{◌≡◌, ℕ, ◌<◌, true, List, Option, None, is_some, sym, ap, ◌∙◌, ⊎_elim}
+use Rattle.std.proofs.Common.{◌≡◌, ℕ, ◌<◌, true, List, Option, None, is_some, refl, sym, ap, ◌∙◌, ⊎_elim}
 use Rattle.std.proofs.lemmas.Bool.{cases_eq, false≢true}
 use Rattle.rail_base.specs.declared.limits.TheConstants.{TRAINS}
 use Rattle.rail_rules.specs.Numbers.{is_in}
 use Rattle.rail_rules.specs.Moves.{Moves}
-use Rattle.rail_consequence.specs.Stops.{KeepsOtherStops, KeepsSome, LeavesNoneToIts, stop_at}
+use Rattle.rail_consequence.specs.Stops.{KeepsOtherStops, KeepsSome, NotesNoneAlone, stop_at}
+
+pub keeps_all : (level : ℕ) (a : List (Option ℕ)) → KeepsSome level a a
+keeps_all level a = record {
+  others = λ l u ne lt. refl;
+  fewer = λ u x lt is. is;
+}
 
 pub keeps_twice : (level : ℕ) (a b c : List (Option ℕ)) → KeepsSome level a b → KeepsSome level b c → KeepsSome level a c
 keeps_twice level a b c first later = record {
@@ -23,7 +29,7 @@ keeps_but level t a b none others = record {
       (cases_eq u t);
 }
 
--- a section that is left to none whose note was kept is left to none later
-pub leaves_none_still : (plan : Moves) (s counts : List ℕ) (t : ℕ) (inside : List ℕ) (a b : List (Option ℕ)) (level y : ℕ) → ((u : ℕ) → is_in u inside ≡ true → u < TRAINS) → KeepsSome level a b
-    → LeavesNoneToIts plan s counts t inside a level y → LeavesNoneToIts plan s counts t inside b level y
-leaves_none_still plan s counts t inside a b level y few keeps none gone one u x is noted far = none gone one u x is (keeps.fewer u x (few u is) noted) far
+-- where nothing is noted of the train that alone needs a section, nothing is later
+pub notes_none_still : (plan : Moves) (s counts inside : List ℕ) (a b : List (Option ℕ)) (level y : ℕ) → ((u : ℕ) → is_in u inside ≡ true → u < TRAINS) → KeepsSome level a b
+    → NotesNoneAlone plan s counts inside a level y → NotesNoneAlone plan s counts inside b level y
+notes_none_still plan s counts inside a b level y few keeps none one u x is noted far = none one u x is (keeps.fewer u x (few u is) noted) far

@@ -42,10 +42,14 @@ StaysUnsafe plan s counts t from u x = is_in x (plan.claim u (place_of s u)) ≡
     → (i y : ℕ) → from ≤ i → i < place_of s t → IsTrue (is_in y (plan.claim t i)) → needs_left plan t (place_of s t) y ≡ false
     → count_of counts y ≡ 1 → needs_left plan u (place_of s u) y ≡ false
 
--- the train that moved needs the section no more, and one train does: no train of the list of which something is noted is this one, but where that stops it at its next move
-abbrev pub LeavesNoneToIts : Moves → List ℕ → List ℕ → ℕ → List ℕ → List (Option ℕ) → ℕ → ℕ → Type 0
-LeavesNoneToIts plan s counts t inside stops level y = needs_left plan t (place_of s t) y ≡ false → count_of counts y ≡ 1
+-- where one train needs the section, no train of the list of which something is noted is this one, but where that stops it at its next move
+abbrev pub NotesNoneAlone : Moves → List ℕ → List ℕ → List ℕ → List (Option ℕ) → ℕ → ℕ → Type 0
+NotesNoneAlone plan s counts inside stops level y = count_of counts y ≡ 1
     → (u x : ℕ) → IsTrue (is_in u inside) → stop_at stops level u ≡ Some x → is_in x (plan.claim u (place_of s u)) ≡ false → needs_left plan u (place_of s u) y ≡ false
+
+-- this is so of the section, if the train that moved needs it no more
+abbrev pub LeavesNoneToIts : Moves → List ℕ → List ℕ → ℕ → List ℕ → List (Option ℕ) → ℕ → ℕ → Type 0
+LeavesNoneToIts plan s counts t inside stops level y = needs_left plan t (place_of s t) y ≡ false → NotesNoneAlone plan s counts inside stops level y
 
 -- another train holds the section
 pub record IsHeldByOther (plan : Moves) (s : List ℕ) (t x : ℕ) : Type 0 where

@@ -13,6 +13,7 @@ ghost use Rattle.rail_consequence.specs.Freeing.{FreesNobody, HasOther, IsBarred
 ghost use Rattle.rail_consequence.specs.Stops.{IsHeldByOther, IsSettled, KeepsLevelsAbove, KeepsOtherLevels, KeepsOtherStops, KeepsSome, LeavesNoneToIts, Shows, StillStops, stop_at};
 ghost use Rattle.rail_consequence.specs.Workspace.{GoesOn, IsBack, IsListing, IsPlayedFrom, IsReady, Work};
 
+use crate::alone::{is_stopped_next, wake_alone};
 use crate::ends::Ends;
 use crate::needs::{Needs, needs_left};
 use crate::stops::Stops;
@@ -633,24 +634,10 @@ impl Worksheet {
         if spares {
             return true;
         }
-        if self.is_stopped_next(moves, stopped, level) {
+        if is_stopped_next(&self.stops, moves, &self.places, level, stopped) {
             return true;
         }
         self.is_kept_from_legs(moves, stopped, train, place)
-    }
-
-    /// Whether what is noted of the train stops it at its next move.
-    fn is_stopped_next(&self, moves: &Moves, stopped: TrainNo, level: u8) -> bool
-        requires ready { IsReady moves.now self.now }
-        requires stopped { stopped < length moves.now }
-        ensures { IsTrue result → (x : ℕ) → stop_at self.now.stops level stopped ≡ Some x
-            → IsTrue (is_in x ((moves_in moves.now).claim stopped (place_of self.now.places.positions stopped))) }
-    {
-        let Some(section) = self.stops.get(level, stopped) else {
-            return false;
-        };
-        let place = self.places.position(stopped);
-        place < moves.places(stopped) && moves.need(stopped, place + 1).contains(&section)
     }
 
     /// Whether a look at the way of the one train, which is inside, shows that it has no safe leg once the other one
@@ -664,8 +651,9 @@ impl Worksheet {
         requires within { place ≤ (moves_in moves.now).moves train }
         ensures { IsTrue result → HasNoSafeLegOf (moves_in moves.now) (set self.now.places.positions train place) stopped }
     {
+        let standing = moves.stand(train, place);
         for made in self.places.position(stopped)..moves.places(stopped) {
-            if self.is_barred_then(moves, stopped, made, train, place) {
+            if self.is_barred_then(moves, stopped, made, train, place, standing) {
                 return true;
             }
             if !self.is_unsafe_then(moves, stopped, made + 1, train, place) {
@@ -676,7 +664,7 @@ impl Worksheet {
     }
 
     /// Whether another train holds a section of the one train's move from this place, once the other one has gone
-    /// on to the place.
+    /// on to the place, where it stands on these sections.
     fn is_barred_then(
         &self,
         moves: &Moves,
@@ -684,6 +672,7 @@ impl Worksheet {
         made: u16,
         train: TrainNo,
         place: u16,
+        standing: &[SectionNo],
     ) -> bool
         requires ready { IsReady moves.now self.now }
         requires stopped { stopped < length moves.now }
@@ -691,17 +680,19 @@ impl Worksheet {
         requires other { stopped ≢ train }
         requires within { place ≤ (moves_in moves.now).moves train }
         requires below { made < (moves_in moves.now).moves stopped }
+        requires standing { standing.now ≡ stand (moves_in moves.now) train place }
         ensures { IsTrue result → IsBarred (moves_in moves.now) (set self.now.places.positions train place) stopped made }
     {
         for section in moves.need(stopped, made + 1) {
-            if self.is_held_then(moves, stopped, *section, train, place) {
+            if self.is_held_then(moves, stopped, *section, train, place, standing) {
                 return true;
             }
         }
         false
     }
 
-    /// Whether another train than the one holds the section, once the other one has gone on to the place.
+    /// Whether another train than the one holds the section, once the other one has gone on to the place, where it
+    /// stands on these sections.
     fn is_held_then(
         &self,
         moves: &Moves,
@@ -709,17 +700,19 @@ impl Worksheet {
         section: SectionNo,
         train: TrainNo,
         place: u16,
+        standing: &[SectionNo],
     ) -> bool
         requires ready { IsReady moves.now self.now }
         requires stopped { stopped < length moves.now }
         requires train { train < length moves.now }
         requires other { stopped ≢ train }
         requires within { place ≤ (moves_in moves.now).moves train }
+        requires standing { standing.now ≡ stand (moves_in moves.now) train place }
         ensures { IsTrue result → IsHeldByOther (moves_in moves.now) (set self.now.places.positions train place) stopped section }
     {
         match self.places.holder(section) {
             Some(holder) if holder != train => holder != stopped,
-            _ => stands_on(moves, train, place, section),
+            _ => standing.contains(&section),
         }
     }
 
@@ -769,10 +762,18 @@ impl Worksheet {
         requires section { section < SECTIONS }
         ensures { IsTrue result → IsSharedThen (moves_in moves.now) self.now.places.positions self.now.needs train place stopped section }
     {
+        let trains = self.needs.count(section);
+        // Which trains need it matters only where there are one or two.
+        if trains == 0 {
+            return false;
+        }
+        if trains > 2 {
+            return true;
+        }
         let own = self.needs_left(moves, stopped, section);
         let gone = self.needs_left(moves, train, section)
             && !moves.needs_after(train, place, section);
-        u16::from(own) + u16::from(gone) < self.needs.count(section)
+        u16::from(own) + u16::from(gone) < trains
     }
 
     /// Whether a section is noted that stops the one train, and is held once the other has gone on to the
@@ -1064,97 +1065,25 @@ impl Worksheet {
         requires ready { IsReady moves.now self.old }
         requires listed { IsListing (moves_in moves.now) self.old.places.positions inside.now }
         requires train { train < length moves.now }
+        requires entered { 0 < from }
+        requires ahead { from ≤ place_of self.old.places.positions train }
         ensures woken { (i y : ℕ) → from ≤ i → i < place_of self.old.places.positions train
             → IsTrue (is_in y ((moves_in moves.now).claim train i))
             → LeavesNoneToIts (moves_in moves.now) self.old.places.positions self.old.needs train inside.now self.new.stops level y }
         ensures fewer { KeepsSome level self.old.stops self.new.stops }
         ensures rest { self.new ≡ record self.old { stops = self.new.stops } }
     {
-        for made in from..self.places.position(train) {
-            self.wake_by_all(moves, inside, level, train, moves.need(train, made + 1));
-        }
-    }
-
-    /// The same for these sections.
-    fn wake_by_all(
-        &mut self,
-        moves: &Moves,
-        inside: &[TrainNo],
-        level: u8,
-        train: TrainNo,
-        sections: &[SectionNo],
-    )
-        requires ready { IsReady moves.now self.old }
-        requires listed { IsListing (moves_in moves.now) self.old.places.positions inside.now }
-        requires train { train < length moves.now }
-        requires in_range { (x : ℕ) → IsTrue (is_in x sections.now) → x < SECTIONS }
-        ensures woken { (y : ℕ) → IsTrue (is_in y sections.now)
-            → LeavesNoneToIts (moves_in moves.now) self.old.places.positions self.old.needs train inside.now self.new.stops level y }
-        ensures fewer { KeepsSome level self.old.stops self.new.stops }
-        ensures rest { self.new ≡ record self.old { stops = self.new.stops } }
-    {
-        for section in sections {
-            self.wake_by(moves, inside, level, train, *section);
-        }
-    }
-
-    /// The same for one section.
-    fn wake_by(
-        &mut self,
-        moves: &Moves,
-        inside: &[TrainNo],
-        level: u8,
-        train: TrainNo,
-        section: SectionNo,
-    )
-        requires ready { IsReady moves.now self.old }
-        requires listed { IsListing (moves_in moves.now) self.old.places.positions inside.now }
-        requires train { train < length moves.now }
-        requires section { section < SECTIONS }
-        ensures woken { LeavesNoneToIts (moves_in moves.now) self.old.places.positions self.old.needs train inside.now self.new.stops level section }
-        ensures fewer { KeepsSome level self.old.stops self.new.stops }
-        ensures rest { self.new ≡ record self.old { stops = self.new.stops } }
-    {
-        if self.needs.count(section) != 1 || self.needs_left(moves, train, section) {
-            return;
-        }
-        match self.only_needer(moves, section) {
-            Some(other) => self.wake(moves, level, other),
-            None => self.stops.clear(level, inside),
-        }
-    }
-
-    /// Takes back what is noted of the train, if that does not stop it at its next move.
-    fn wake(&mut self, moves: &Moves, level: u8, train: TrainNo)
-        requires ready { IsReady moves.now self.old }
-        requires train { train < length moves.now }
-        ensures woken { (x : ℕ) → stop_at self.new.stops level train ≡ Some x
-            → IsTrue (is_in x ((moves_in moves.now).claim train (place_of self.old.places.positions train))) }
-        ensures fewer { KeepsSome level self.old.stops self.new.stops }
-        ensures rest { self.new ≡ record self.old { stops = self.new.stops } }
-    {
-        if !self.is_stopped_next(moves, train, level) {
-            self.stops.set(level, train, None);
-        }
-    }
-
-    /// The one train that needs the section.
-    fn only_needer(&self, moves: &Moves, section: SectionNo) -> Option<TrainNo>
-        requires ready { IsReady moves.now self.now }
-        requires section { section < SECTIONS }
-        ensures known { IfSome result (λ only. only < length moves.now) }
-        ensures only { IfSome result (λ only. (u : ℕ) → u ≢ only
-            → needs_left (moves_in moves.now) u (place_of self.now.places.positions u) section ≡ false) }
-    {
-        let number = self.needs.lead(section);
-        if number >= moves.trains() || self.needs.count(section) != 1 {
-            return None;
-        }
-        let only = TrainNo(number);
-        if !self.needs_left(moves, only, section) {
-            return None;
-        }
-        Some(only)
+        let place = self.places.position(train);
+        let ended = self.ends.between(moves, train, from, place);
+        wake_alone(
+            &mut self.stops,
+            moves,
+            &self.places,
+            &self.needs,
+            inside,
+            level,
+            ended,
+        );
     }
 
     /// The train has entered, and needs the section for a move that it has left.

@@ -19,6 +19,7 @@
 //! answered exactly where none can be found may not.
 #![tactic(auto)]
 
+mod alone;
 mod analyst;
 mod ends;
 mod laws;
