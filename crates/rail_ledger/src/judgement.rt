@@ -1,13 +1,14 @@
 //! A line is judged by what is kept.
 
-ghost use Rattle.std.specs.Prelude.{◌≡◌, ◌≢◌, ◌↔◌, ℕ, ◌<◌, ◌∷◌, [], cond, is_some, Some, true, false, IsTrue, IsNone, IsSome, IfSome};
-ghost use Rattle.rail_ledger.specs.Ledgers.{CouldGo, HasGiven, IsAdmissibleNow, IsAt, IsEnded, IsHoldDue, IsNextLine, IsRefused, IsRefusedWith, IsSettled, IsSomewhere, IsSomewhereWith, IsUnended, MayGoOn, StandsAsBefore, TakesLine, TakesLineWith, admission, is_forbidden_by, is_in_place, is_next_move, line_taken, line_with, list_with};
+ghost use Rattle.std.specs.Prelude.{◌≡◌, ◌≢◌, ◌↔◌, ℕ, ◌<◌, ◌≤◌, ◌∷◌, [], cond, is_some, Some, true, false, IsTrue, IsNone, IsSome, IfSome};
+ghost use Rattle.rail_ledger.specs.Ledgers.{AreAlike, CouldGo, HasGiven, IsAdmissibleNow, IsAt, IsEnded, IsHoldDue, IsNextLine, IsNextTrain, IsRefused, IsRefusedWith, IsSettled, IsSomewhere, IsSomewhereWith, IsUnended, MayGoOn, StandsAsBefore, TakesLine, TakesLineWith, admission, is_forbidden_by, is_in_place, is_next_move, line_taken, line_with, list_with, untried};
 ghost use Rattle.rail_ledger.specs.declared.judgement.Left.TheVariants.{Admission, Hold as HoldOf, Nothing};
 ghost use Rattle.rail_ledger.specs.declared.ledger.Listed.TheVariants as which;
 ghost use Rattle.rail_queue.specs.Order.{first_time_of, is_sorted};
 ghost use Rattle.rail_rules.specs.Fronts.{Front, Line, is_admission, is_hold, kept, places};
 ghost use Rattle.rail_laws_run.specs.HolderTables.{held_cause};
 ghost use Rattle.rail_list.specs.GivenLists.{may_be_given};
+ghost use Rattle.rail_state.specs.Representation.{AreAllKnown};
 ghost use Rattle.rail_state.specs.TrainStates.{state_of};
 ghost use Rattle.rail_rules.specs.Plant.{moves_of, needed};
 
@@ -47,7 +48,7 @@ impl Ledger {
             What::Admit { train, place, note } => {
                 self.take_admission(entry.at, train, place, note, trains, held)
             }
-            _ => self.take_other(entry, trains),
+            _ => self.take_other(entry, trains, held),
         }
     }
 
@@ -67,16 +68,18 @@ impl Ledger {
         if self.may_go_on() {
             return Some(7);
         }
-        match self.left_to_decide() {
+        match self.left_to_decide(false) {
             Left::Admission => Some(6),
             Left::Hold(_) => Some(6),
             Left::Nothing => Some(7),
         }
     }
 
-    /// What is left to decide at this instant, at which nothing is pending. No line is given.
-    fn left_to_decide(&mut self) -> Left
+    /// What is left to decide at this instant, at which nothing is pending. No line is given. Where the last line
+    /// was a hold line each train that waits has a known cause.
+    fn left_to_decide(&mut self, held: bool) -> Left
         requires running { IsSomewhere self.old }
+        requires known { held ≡ true → AreAllKnown self.old.input.plant self.old.state.trains }
         requires going { self.old.state.has_ended ≡ false }
         requires unsettled { self.old.state.is_settled ≡ false }
         requires none_due { first_time_of self.old.state.queue.events ≢ Some self.old.state.instant }
@@ -89,7 +92,7 @@ impl Ledger {
         ensures hold { (train : ℕ) → result ≡ HoldOf train → IsHoldDue self.new train }
         ensures nothing { result ≡ Nothing → IsSettled self.old self.new }
     {
-        while let Some(train) = self.look() {
+        while let Some(train) = self.look_unless(held) {
             if self.knows_list(train) {
                 return Left::Admission;
             }
@@ -103,10 +106,29 @@ impl Ledger {
         }
     }
 
-    /// Takes a line that is no admission: `None` where it may follow, and then what is kept stands for the
-    /// lines with it; else the law that it breaks, and then what is kept stands for the lines so far.
-    fn take_other(&mut self, entry: Entry, trains: &[TrainNo]) -> Option<u8>
+    /// Looks at the trains that wait, unless the cause of each is known: of those that nothing bars one, if there
+    /// is one.
+    fn look_unless(&mut self, are_known: bool) -> Option<TrainNo>
         requires running { IsSomewhere self.old }
+        requires known { are_known ≡ true → AreAllKnown self.old.input.plant self.old.state.trains }
+        ensures alike { AreAlike self.old self.new }
+        ensures at { StandsAsBefore self.old self.new }
+        ensures none { IsNone result → AreAllKnown self.new.input.plant self.new.state.trains }
+        ensures some { IsSome result → are_known ≡ false }
+        ensures next { IfSome result (IsNextTrain self.new) }
+        ensures fewer { untried self.new.state.trains ≤ untried self.old.state.trains }
+    {
+        if are_known {
+            return None;
+        }
+        self.look()
+    }
+
+    /// Takes a line that is no admission: `None` where it may follow, and then what is kept stands for the lines
+    /// with it; else the law that it breaks, and then what is kept stands for the lines so far. `held` tells whether
+    /// the last line was a hold line.
+    fn take_other(&mut self, entry: Entry, trains: &[TrainNo], held: bool) -> Option<u8>
+        requires running { IsSomewhereWith held self.old }
         requires other { is_admission entry.what ≡ false }
         ensures input { self.new.input ≡ self.old.input }
         ensures taken { IsNone result → TakesLine self.old self.new (line_with entry trains.now) }
@@ -120,7 +142,7 @@ impl Ledger {
         if self.may_go_on() {
             return self.take_next(entry, trains);
         }
-        match self.left_to_decide() {
+        match self.left_to_decide(held) {
             Left::Admission => Some(6),
             Left::Hold(train) => self.take_hold(entry, trains, train),
             Left::Nothing => self.take_next(entry, trains),

@@ -1,4 +1,5 @@
 use Rattle.std.proofs.Common.{◌≡◌, ◌<◌, ◌∷◌, ℕ, Some, false, refl, sym, ap, ◌∙◌, subst, true}
+use Rattle.std.proofs.lemmas.Bool.{false≢true}
 use Rattle.rail_queue.specs.Queue.{Queue}
 use Rattle.rail_queue.specs.Order.{first_time_of, is_sorted}
 use Rattle.rail_rules.specs.Causes.{could_go, is_deciding}
@@ -34,7 +35,7 @@ knows_list-requires-clause-running c = record { front = c.loop-train.invariant.r
 pub knows_list-requires-clause-deciding : goal.knows_list-requires-clause-deciding
 knows_list-requires-clause-deciding c =
     let inv = c.loop-train.invariant in
-    still_deciding c.loop-train.self c.look.new.self c.in-Some.ensures.alike inv.going inv.unsettled inv.none_due inv.sorted
+    still_deciding c.loop-train.self c.look_unless.new.self c.in-Some.ensures.alike inv.going inv.unsettled inv.none_due inv.sorted
 
 pub returns-then-knows_list-clause-stays : goal.returns-then-knows_list-clause-stays
 returns-then-knows_list-clause-stays c = λ front at. c.knows_list.ensures.at front (c.in-Some.ensures.at front (c.loop-train.invariant.at front at))
@@ -44,7 +45,7 @@ returns-then-knows_list-clause-admission c = λ _ front at.
     let inv = c.loop-train.invariant in
     let alike = c.in-Some.ensures.alike in
     let at_now = c.in-Some.ensures.at front (inv.at front at) in
-    let ledger : Ledger = c.look.new.self in
+    let ledger : Ledger = c.look_unless.new.self in
     let input_is = alike.input ∙ inv.input in
     let deciding : is_deciding (input_in ledger.input) front ≡ true = still_deciding c.loop-train.self ledger alike inv.going inv.unsettled inv.none_due inv.sorted front at_now in
     let could : could_go (input_in ledger.input) front c.in-Some.train ≡ true = c.knows_list.ensures.known c.if-knows_list.true front at_now in
@@ -63,6 +64,7 @@ loop-train-preserved c =
       sorted = ap (λ (q : Queue). is_sorted q.events) (second.queue ∙ first.queue) ∙ inv.sorted;
       unlisted = second.listed ∙ first.listed ∙ inv.unlisted;
       input = second.input ∙ first.input ∙ inv.input;
+      known = λ held. absurd (false≢true (sym (c.in-Some.ensures.some refl) ∙ held));
       at = λ front at. c.knows_list.ensures.at front (c.in-Some.ensures.at front (inv.at front at));
     }
 
@@ -73,7 +75,7 @@ pub returns-in-Some-first_lacking-clause-hold : goal.returns-in-Some-first_lacki
 returns-in-Some-first_lacking-clause-hold c = λ train same.
     let inv = c.loop-train.invariant in
     let alike = c.in_default.ensures.alike in
-    let ledger : Ledger = c.look.new.self in
+    let ledger : Ledger = c.look_unless.new.self in
     let found = c.in-Some-first_lacking.ensures in
     subst (IsHoldDue ledger) (ap (train_in c.in-Some-first_lacking.train) same)
     (record {
@@ -88,7 +90,7 @@ returns-in-Some-first_lacking-clause-hold c = λ train same.
 
 pub returns-in-None-clause-stays : goal.returns-in-None-clause-stays
 returns-in-None-clause-stays c = λ front at.
-    settled_at front c.look.new.self (c.in_default.ensures.at front (c.loop-train.invariant.at front at)) (c.in_default.ensures.none refl) c.in-None.ensures
+    settled_at front c.look_unless.new.self (c.in_default.ensures.at front (c.loop-train.invariant.at front at)) (c.in_default.ensures.none refl) c.in-None.ensures
 
 pub returns-in-None-clause-nothing : goal.returns-in-None-clause-nothing
 returns-in-None-clause-nothing c = λ _.

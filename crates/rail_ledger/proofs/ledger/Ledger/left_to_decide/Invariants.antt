@@ -1,6 +1,7 @@
-use Rattle.std.proofs.Common.{◌≡◌, ◌≢◌, false, Some, IsTrue}
+use Rattle.std.proofs.Common.{◌≡◌, ◌≢◌, true, false, Some, IsTrue}
 use Rattle.rail_rules.specs.Fronts.{Front}
 use Rattle.rail_queue.specs.Order.{first_time_of, is_sorted}
+use Rattle.rail_state.specs.Representation.{AreAllKnown}
 use Rattle.rail_ledger.specs.declared.ledger.Listed.TheVariants as listed
 use Rattle.rail_ledger.specs.Ledgers.{IsAt, IsSomewhere, untried}
 use Rattle.rail_ledger.proofs.ledger.Ledger.left_to_decide.Given as goal
@@ -13,6 +14,7 @@ invariant-loop-train l = record {
   none_due : first_time_of l.self.state.queue.events ≢ Some l.self.state.instant;
   sorted : IsTrue (is_sorted l.self.state.queue.events);
   unlisted : l.self.listed ≡ listed.Nothing;
+  known : l.held ≡ true → AreAllKnown l.self.input.plant l.self.state.trains;
   input : l.self.input ≡ l.fn.self.input;
   at : (front : Front) → IsAt front l.fn.self → IsAt front l.self;
 }
