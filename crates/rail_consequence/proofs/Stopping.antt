@@ -85,30 +85,22 @@ open_leads plan s t made valid known listed low from below free =
       legal = λ i at lt. free_legal plan s t i valid known listed (omega arith) (omega arith) (free i at (omega arith));
     })
 
--- the last place on the way so far to which a leg is safe, if there is one
-abbrev pub IsLastSafe : Moves → List ℕ → ℕ → ℕ → Option ℕ → Type 0
-IsLastSafe plan s t made None = (p : ℕ) → place_of s t < p → p ≤ made → is_safe plan s (record { train = t; place = p }) ≡ false
-IsLastSafe plan s t made (Some p) = (is_leg plan s (record { train = t; place = p }) ≡ true) × (is_safe plan s (record { train = t; place = p }) ≡ true)
-
--- one place further, to which a leg is not safe
-pub last_safe_on : (plan : Moves) (s : List ℕ) (t made : ℕ) (o : Option ℕ) → IsLastSafe plan s t made o → is_safe plan s (record { train = t; place = made + 1 }) ≡ false → IsLastSafe plan s t (made + 1) o
-last_safe_on plan s t made None before unsafe = λ p low high.
-    ⊎_elim
-    (λ earlier. before p low (omega (arith, earlier)))
-    (λ here. let last : p ≡ made + 1 = omega arith in ap (λ q. is_safe plan s (record { train = t; place = q })) last ∙ unsafe)
-    (cases_lt p (made + 1))
-last_safe_on plan s t made (Some p) before unsafe = before
+-- and to each place on the way
+pub free_leads : (plan : Moves) (s : List ℕ) (t place : ℕ) → is_valid plan ≡ true → t < plan.trains → t < length s → 0 < place_of s t → place_of s t < place → place ≤ plan.moves t → IsOpen plan s t place
+    → is_leg plan s (record { train = t; place = place }) ≡ true
+free_leads plan s t zero valid known listed low ahead within free = absurd (omega arith)
+free_leads plan s t (suc m) valid known listed low ahead within free =
+    let same : m + 1 ≡ suc m = omega arith in
+    let P : ℕ → Type 0 = λ n. IsOpen plan s t n in
+    ap (λ n. is_leg plan s (record { train = t; place = n })) (sym same) ∙ open_leads plan s t m valid known listed low (omega arith) (omega (arith, within)) (subst P (sym same) free)
 
 -- out, over moves that are all free
 pub leads_out_free : (plan : Moves) (s : List ℕ) (t last : ℕ) → is_valid plan ≡ true → t < plan.trains → t < length s → 0 < place_of s t → place_of s t < last → last ≡ plan.moves t → IsOpen plan s t last
     → (is_leg plan s (record { train = t; place = last }) ≡ true) × (is_safe plan s (record { train = t; place = last }) ≡ true)
-leads_out_free plan s t zero valid known listed low ahead out free = absurd (omega arith)
-leads_out_free plan s t (suc m) valid known listed low ahead out free =
-    let same : m + 1 ≡ suc m = omega arith in
-    let P : ℕ → Type 0 = λ n. IsOpen plan s t n in (
-      ap (λ n. is_leg plan s (record { train = t; place = n })) (sym same) ∙ open_leads plan s t m valid known listed low (omega arith) (omega (arith, out)) (subst P (sym same) free),
-      or_left (eqb (suc m) (plan.moves t)) (not (any_below (λ u. not (eqb u t) && needs_later plan s (stand plan t (suc m)) u) (length s))) (eq-eqb (suc m) (plan.moves t) out),
-    )
+leads_out_free plan s t last valid known listed low ahead out free = (
+  free_leads plan s t last valid known listed low ahead (omega (arith, out)) free,
+  or_left (eqb last (plan.moves t)) (not (any_below (λ u. not (eqb u t) && needs_later plan s (stand plan t last) u) (length s))) (eq-eqb last (plan.moves t) out),
+)
 
 -- another train went on: a section that it needed for that, and needs no more, is not left to the stopped train alone
 abbrev pub IsPassed : Moves → List ℕ → ℕ → ℕ → ℕ → Type 0

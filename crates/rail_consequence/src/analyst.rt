@@ -173,7 +173,19 @@ fn stands_on(moves: &Moves, train: TrainNo, place: u16, section: SectionNo) -> b
     requires last { place ≤ (moves_in moves.now).moves train }
     ensures { result ≡ is_in section (stand (moves_in moves.now) train place) }
 {
-    moves.stand(train, place).contains(&section)
+    is_among(section, moves.stand(train, place))
+}
+
+/// The section is one of these, which are few.
+fn is_among(section: SectionNo, sections: &[SectionNo]) -> bool
+    ensures { result ≡ is_in section sections.now }
+{
+    for other in sections {
+        if *other == section {
+            return true;
+        }
+    }
+    false
 }
 
 impl Worksheet {
@@ -712,7 +724,7 @@ impl Worksheet {
     {
         match self.places.holder(section) {
             Some(holder) if holder != train => holder != stopped,
-            _ => standing.contains(&section),
+            _ => is_among(section, standing),
         }
     }
 
@@ -934,20 +946,43 @@ impl Worksheet {
         if place == 0 || place >= last {
             return Look::Idle;
         }
-        let mut safe = None;
         for made in place..last {
             if let Some(section) = self.stop_of(moves, train, made) {
-                return match safe {
+                return match self.last_safe(moves, train, made) {
                     Some(end) => Look::Leads(end),
                     None => Look::Stopped(section),
                 };
             }
-            if self.is_safe_at(moves, train, made + 1) {
-                safe = Some(made + 1);
-            }
         }
         // A leg that ends out is safe.
         Look::Leads(last)
+    }
+
+    /// The last place on the train's way up to this one to which a leg is safe. No other train holds a section that
+    /// its moves up to there need.
+    fn last_safe(&self, moves: &Moves, train: TrainNo, most: u16) -> Option<u16>
+        requires ready { IsReady moves.now self.now }
+        requires train { train < length moves.now }
+        requires entered { 0 < place_of self.now.places.positions train }
+        requires within { most ≤ (moves_in moves.now).moves train }
+        requires free { (i : ℕ) → place_of self.now.places.positions train ≤ i → i < most
+            → (x : ℕ) → IsTrue (is_in x ((moves_in moves.now).claim train i))
+            → IsHeldByOther (moves_in moves.now) self.now.places.positions train x → ⊥ }
+        ensures { MatchOption result
+            ((p : ℕ) → place_of self.now.places.positions train < p → p ≤ most
+            → is_safe (moves_in moves.now) self.now.places.positions (leg_to train p) ≡ false)
+            (λ p. IsTrue (is_leg (moves_in moves.now) self.now.places.positions (leg_to train p))
+            × IsTrue (is_safe (moves_in moves.now) self.now.places.positions (leg_to train p))) }
+    {
+        let from = self.places.position(train);
+        let mut end = most;
+        while end > from {
+            if self.is_safe_at(moves, train, end) {
+                return Some(end);
+            }
+            end -= 1;
+        }
+        None
     }
 
     /// The first section of the train's move from this place that another train holds.

@@ -15,7 +15,7 @@ returns-in_default c =
     let x = c.args.section in
     let listed : t < length s = omega (arith, c.requires.train, (state_parts plan s c.requires.ready.made.valid).long) in
     λ yes.
-    let there : is_in x c.args.standing.now ≡ true = sym c.contains.ensures.value ∙ yes in
+    let there : is_in x c.args.standing.now ≡ true = sym c.is_among.ensures ∙ yes in
     record {
       holder = t;
       other = λ same. c.requires.other (sym same);

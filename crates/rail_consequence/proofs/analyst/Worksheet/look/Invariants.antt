@@ -1,9 +1,6 @@
 use Rattle.rail_place.specs.Tables.{moves_in}
-use Rattle.rail_consequence.proofs.Stopping.{IsLastSafe, IsOpen}
+use Rattle.rail_consequence.proofs.Stopping.{IsOpen}
 use Rattle.rail_consequence.proofs.analyst.Worksheet.look.Given as goal
 
 abbrev pub invariant-loop-made : goal.invariant-loop-made
-invariant-loop-made l = record {
-  free : IsOpen (moves_in l.moves) l.self.places.positions l.train l.made;
-  safe : IsLastSafe (moves_in l.moves) l.self.places.positions l.train l.made l.safe;
-}
+invariant-loop-made l = IsOpen (moves_in l.moves) l.self.places.positions l.train l.made
