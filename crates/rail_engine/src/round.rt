@@ -14,7 +14,7 @@ ghost use Rattle.rail_rules.specs.Orders.{orders_of};
 ghost use Rattle.rail_state.specs.Representation.{AreAllKnown};
 
 use crate::attempt::attempt;
-use crate::offers::{fill, pick};
+use crate::offers::{offer, pick};
 use rail_base::{Command, Entry, Order, PolicyKind, What};
 use rail_ledger::{Ledger, Listed};
 use rail_policy::{Desk, Offer, Seen};
@@ -158,8 +158,7 @@ fn decide(ledger: &mut Ledger, round: &mut Round, desk: &mut Desk, all: bool) ->
     if round.is_over {
         return ledger.hold();
     }
-    ledger.look();
-    fill(&mut round.offers, ledger, all);
+    offer(&mut round.offers, ledger, all);
     while !round.offers.is_empty() {
         let train = pick(&mut round.offers, desk);
         if let Some(entry) = attempt(ledger, train) {
