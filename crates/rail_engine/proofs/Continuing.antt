@@ -1,5 +1,5 @@
 -- Lines that continue a run.
-use Rattle.std.proofs.Common.{◌≡◌, ℕ, suc, true, false, List, [], ◌∷◌, Option, Some, None, refl, sym, ap, ◌∙◌, subst}
+use Rattle.std.proofs.Common.{◌≡◌, ℕ, suc, Bool, true, false, List, [], ◌∷◌, Option, Some, None, refl, sym, ap, ◌∙◌, subst}
 use Rattle.std.specs.Prelude.{IfSome}
 use Rattle.std.proofs.lemmas.Bool.{and_parts, false≢true}
 use Rattle.rail_base.specs.declared.history.Entry.{Entry}
@@ -15,6 +15,7 @@ use Rattle.rail_rules.specs.Lawful.{is_lawful, may_follow}
 use Rattle.rail_rules.specs.Orders.{orders_of}
 use Rattle.rail_rules.specs.RunHistories.{Seat, is_run}
 use Rattle.rail_laws_run.proofs.CallerLemmas.{run_idle}
+use Rattle.rail_state.specs.Representation.{AreAllKnown}
 use Rattle.rail_state.specs.TrainStates.{state_of}
 use Rattle.rail_ledger.specs.declared.input.RunInput.{RunInput}
 use Rattle.rail_ledger.specs.declared.ledger.Ledger.{Ledger}
@@ -71,6 +72,12 @@ held_on first old new before after same then_same stands stays (Some entry) line
     (record { of_run = run.of_run; desk = stays seats front at run.desk }) in
     subst (λ (orders : List Order). IsOfRun seats new.input (line_in new entry ∷ front) (after_orders orders after)) (hold_tells new.input.commands.items entry.what kind.0)
     (run_on seats front new entry after (line front (stands front at)) (hold_none entry.what kind.0) now)
+
+-- behind a hold line the cause of each train that waits is known
+pub held_known : (front : Front) (old new : Ledger) (is_over : Bool) → IsAt front old → (entry : Option Entry) → IfSome entry (GivesEntry old new)
+    → IfSome entry (λ e. (is_hold e.what ≡ true) × (new.listed ≡ listed.Nothing)) → IfSome entry (λ e. is_over ≡ true → AreAllKnown new.input.plant new.state.trains)
+held_known front old new is_over at None line kind = tt
+held_known front old new is_over at (Some entry) line kind = λ _. (line front at).rep.known.no_more kind.0
 
 -- the admission of the train that was picked
 pub admitted_on : (first old new : Ledger) (before asked_of asked noted : Table) (offers rest : List Offer) (t : ℕ) (entry : Entry) → old.input ≡ first.input → new.input ≡ old.input

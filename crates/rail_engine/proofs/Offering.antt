@@ -1,7 +1,7 @@
 -- The offers, train by train.
 use Rattle.std.proofs.Common.{◌≡◌, ℕ, ◌+◌, ◌<◌, ◌≤◌, Bool, true, false, not, ◌&&◌, cond, is_some, List, [], ◌∷◌, ◌++◌, length, get_or, sym, ap, ◌∙◌, subst, ⊎_elim, arith}
 use Rattle.std.specs.List.{All, Contains}
-use Rattle.std.proofs.lemmas.Bool.{and_parts, cases_lt, false≢true}
+use Rattle.std.proofs.lemmas.Bool.{and_parts, cases_lt, false≢true, not-true}
 use Rattle.std.proofs.lemmas.List.{get_or_default, length-append}
 use Rattle.std.proofs.lemmas.List.Elements.{All-push, Contains-append_left, Contains-push}
 use Rattle.rail_base.specs.declared.limits.TheConstants.{TRAINS}
@@ -9,6 +9,7 @@ use Rattle.rail_policy.specs.declared.offer.Offer.{Offer}
 use Rattle.rail_rules.specs.Fronts.{Front}
 use Rattle.rail_rules.proofs.CallerLemmas.{accepted_parts}
 use Rattle.rail_state.specs.declared.train.TrainState.{TrainState}
+use Rattle.rail_state.specs.Representation.{AreAllKnown}
 use Rattle.rail_state.specs.TrainStates.{is_untried, state_of}
 use Rattle.rail_ledger.specs.declared.ledger.Ledger.{Ledger}
 use Rattle.rail_ledger.specs.Ledgers.{IsAt}
@@ -85,3 +86,15 @@ offered_all ledger watched upto offers all there are = record {
       subst (λ n. Contains offers (offer_in ledger n)) found.2
       (are.untried found.0 t (omega (arith, all, found.1)) (ap (λ n. is_untried (state_of ledger.state.trains n)) found.2 ∙ untried));
 }
+
+-- where the cause of each train that waits is known, no offers are enough
+pub none_offered : (front : Front) (ledger : Ledger) → IsAt front ledger → AreAllKnown ledger.input.plant ledger.state.trains → (offers : List Offer) → offers ≡ []
+    → AreOffers ledger offers
+none_offered front ledger at known offers empty =
+    subst (AreOffers ledger) (sym empty) (record {
+      each = λ k d lt. absurd (omega (arith, lt));
+      untried = λ t lt untried.
+          let train_state : TrainState = state_of ledger.state.trains t in
+          let parts = and_parts train_state.waits (not (is_some train_state.known)) untried in
+          absurd (false≢true (sym (not-true (is_some train_state.known) parts.1) ∙ known t (omega (arith, lt, at.rep.times.many)) parts.0));
+    })

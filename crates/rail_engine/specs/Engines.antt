@@ -1,16 +1,16 @@
 -- The front for which an engine stands.
-use Rattle.std.specs.Prelude.{◌≡◌, ◌≤◌, ◌∷◌, IsTrue, List, vec_capacity}
-use Rattle.std.specs.Global.{Vec}
+use Rattle.std.specs.Prelude.{◌≡◌, ◌≤◌, ◌∷◌, true, IsTrue, List, vec_capacity}
 use Rattle.rail_base.specs.declared.history.Entry.{Entry}
 use Rattle.rail_base.specs.declared.limits.TheConstants.{TRAINS}
 use Rattle.rail_rules.specs.Fronts.{Front}
 use Rattle.rail_rules.specs.RunHistories.{Seat, is_run}
-use Rattle.rail_policy.specs.declared.offer.Offer.{Offer}
 use Rattle.rail_policy.specs.Desks.{Table}
 use Rattle.rail_ledger.specs.declared.input.RunInput.{RunInput}
 use Rattle.rail_ledger.specs.declared.ledger.Ledger.{Ledger}
 use Rattle.rail_ledger.specs.Inputs.{input_in}
 use Rattle.rail_ledger.specs.Ledgers.{IsAt, IsSomewhere, line_in, list_in, list_of}
+use Rattle.rail_state.specs.Representation.{AreAllKnown}
+use Rattle.rail_engine.specs.declared.round.Round.{Round}
 use Rattle.rail_engine.specs.Desks.{IsDesk}
 
 -- the front is one of a run with the policies that were handed in, and the desk belongs to it
@@ -35,7 +35,9 @@ pub record StandsFor (seats : List Seat) (front : Front) (ledger : Ledger) (tabl
   pub run : IsOfRun seats ledger.input front table
   pub list : list_in ledger ≡ list_of front
 
--- what the engine keeps stands for some front, and there is room to offer every train
-pub record IsRunning (ledger : Ledger) (offers : Vec Offer) : Type 0 where
+-- what the engine keeps stands for some front, there is room to offer every train, and once a round is over each train that
+-- waits has a known cause
+pub record IsRunning (ledger : Ledger) (round : Round) : Type 0 where
   pub somewhere : IsSomewhere ledger
-  pub room : TRAINS ≤ vec_capacity offers
+  pub room : TRAINS ≤ vec_capacity round.offers
+  pub over : round.is_over ≡ true → AreAllKnown ledger.input.plant ledger.state.trains

@@ -62,7 +62,7 @@ impl Model for Core {
 
     ghost view = { λ core. core.ledger };
 
-    ghost invariant = { λ core. IsRunning core.ledger core.round.offers };
+    ghost invariant = { λ core. IsRunning core.ledger core.round };
 }
 
 impl Core {

@@ -5,7 +5,7 @@ ghost use Rattle.rail_base.specs.declared.limits.TheConstants.{TRAINS};
 ghost use Rattle.rail_engine.specs.Asked.{IsTurn};
 ghost use Rattle.rail_engine.specs.Engines.{StaysDesk};
 ghost use Rattle.rail_engine.specs.Rounds.{AreOffers, IsPicked, is_offered, offer_in};
-ghost use Rattle.rail_ledger.specs.Ledgers.{IsSomewhere};
+ghost use Rattle.rail_ledger.specs.Ledgers.{AreAlike, AreUnbarred, IsSomewhere, StandsAsBefore};
 ghost use Rattle.rail_policy.specs.Desks.{seat_in_force};
 ghost use Rattle.rail_state.specs.TrainStates.{state_of};
 
@@ -14,8 +14,27 @@ use rail_ledger::Ledger;
 use rail_policy::{Desk, Offer, Seen};
 use rail_state::TrainState;
 
+/// Looks at the trains that wait, and offers those without a known cause, or all that wait, by number.
+pub(crate) fn offer(offers: &mut Vec<Offer>, ledger: &mut Ledger, all: bool)
+    requires running { IsSomewhere ledger.old }
+    requires room { TRAINS ≤ vec_capacity offers.old }
+    ensures alike { AreAlike ledger.old ledger.new }
+    ensures at { StandsAsBefore ledger.old ledger.new }
+    ensures unbarred { AreUnbarred ledger.new }
+    ensures offers { AreOffers ledger.new offers.new.items }
+    ensures few { length offers.new.items ≤ TRAINS }
+    ensures room { vec_capacity offers.new ≡ vec_capacity offers.old }
+{
+    let untried = ledger.look();
+    if all || untried.is_some() {
+        fill(offers, ledger, all);
+    } else {
+        offers.clear();
+    }
+}
+
 /// Offers the trains that wait without a known cause, or all that wait, by number.
-pub(crate) fn fill(offers: &mut Vec<Offer>, ledger: &Ledger, all: bool)
+fn fill(offers: &mut Vec<Offer>, ledger: &Ledger, all: bool)
     requires running { IsSomewhere ledger.now }
     requires room { TRAINS ≤ vec_capacity offers.old }
     ensures offers { AreOffers ledger.now offers.new.items }

@@ -11,9 +11,10 @@ ghost use Rattle.rail_ledger.specs.declared.ledger.Listed.TheVariants as which;
 ghost use Rattle.rail_queue.specs.Order.{first_time_of, is_sorted};
 ghost use Rattle.rail_rules.specs.Fronts.{is_admission};
 ghost use Rattle.rail_rules.specs.Orders.{orders_of};
+ghost use Rattle.rail_state.specs.Representation.{AreAllKnown};
 
 use crate::attempt::attempt;
-use crate::offers::{fill, pick};
+use crate::offers::{offer, pick};
 use rail_base::{Command, Entry, Order, PolicyKind, What};
 use rail_ledger::{Ledger, Listed};
 use rail_policy::{Desk, Offer, Seen};
@@ -22,7 +23,8 @@ use rail_policy::{Desk, Offer, Seen};
 pub(crate) struct Round {
     /// The trains that are offered; between two lines it means nothing.
     pub(crate) offers: Vec<Offer>,
-    /// Whether every train was offered at this instant since the last admission.
+    /// Whether every train was offered at this instant since the last admission. Then each one that waits has a
+    /// known cause, which no hold line changes: nobody is looked at or offered until the next event.
     pub(crate) is_over: bool,
 }
 
@@ -40,8 +42,10 @@ impl Drop for Round {
 pub(crate) fn next_line(ledger: &mut Ledger, round: &mut Round, desk: &mut Desk) -> Option<Entry>
     requires running { IsSomewhere ledger.old }
     requires room { TRAINS ≤ vec_capacity round.old.offers }
+    requires over { round.old.is_over ≡ true → AreAllKnown ledger.old.input.plant ledger.old.state.trains }
     ensures input { ledger.new.input ≡ ledger.old.input }
     ensures room { vec_capacity round.new.offers ≡ vec_capacity round.old.offers }
+    ensures over { round.new.is_over ≡ true → AreAllKnown ledger.new.input.plant ledger.new.state.trains }
     ensures ended { IsNone result → (ledger.old.state.has_ended ≡ true) × (ledger.new ≡ ledger.old) }
     ensures desk { let table = ⟦<Desk as Seen>⟧.table in IsNone result → table desk.new ≡ table desk.old }
     ensures going { IfSome result (λ entry. ledger.old.state.has_ended ≡ false) }
@@ -73,6 +77,7 @@ fn offers_all(ledger: &mut Ledger, round: &Round, desk: &Desk) -> bool
     ensures ended { ledger.new.state.has_ended ≡ ledger.old.state.has_ended }
     ensures listed { ledger.new.listed ≡ ledger.old.listed }
     ensures at { StandsAsBefore ledger.old ledger.new }
+    ensures over { round.now.is_over ≡ true → ledger.new ≡ ledger.old }
 {
     if round.is_over {
         return false;
@@ -94,6 +99,7 @@ fn go_on(ledger: &mut Ledger, round: &mut Round, desk: &mut Desk) -> Entry
     requires unlisted { ledger.old.listed ≡ which.Nothing }
     ensures input { ledger.new.input ≡ ledger.old.input }
     ensures room { vec_capacity round.new.offers ≡ vec_capacity round.old.offers }
+    ensures over { round.new.is_over ≡ false }
     ensures line { GivesEntry ledger.old ledger.new result }
     ensures run { let table = ⟦<Desk as Seen>⟧.table in ContinuesRuns ledger.old ledger.new (table desk.old) (table desk.new) result }
     ensures kind { is_admission result.what ≡ false }
@@ -137,8 +143,10 @@ fn decide(ledger: &mut Ledger, round: &mut Round, desk: &mut Desk, all: bool) ->
     requires sorted { IsTrue (is_sorted ledger.old.state.queue.events) }
     requires unlisted { ledger.old.listed ≡ which.Nothing }
     requires room { TRAINS ≤ vec_capacity round.old.offers }
+    requires over { round.old.is_over ≡ true → AreAllKnown ledger.old.input.plant ledger.old.state.trains }
     ensures input { ledger.new.input ≡ ledger.old.input }
     ensures room { vec_capacity round.new.offers ≡ vec_capacity round.old.offers }
+    ensures over { IfSome result (λ entry. round.new.is_over ≡ true → AreAllKnown ledger.new.input.plant ledger.new.state.trains) }
     ensures line { IfSome result (GivesEntry ledger.old ledger.new) }
     ensures run { let table = ⟦<Desk as Seen>⟧.table in
         IfSome result (ContinuesRuns ledger.old ledger.new (table desk.old) (table desk.new)) }
@@ -147,8 +155,10 @@ fn decide(ledger: &mut Ledger, round: &mut Round, desk: &mut Desk, all: bool) ->
     ensures none { IsNone result → IsSettled ledger.old ledger.new }
     ensures desk { let table = ⟦<Desk as Seen>⟧.table in IsNone result → StaysDesk ledger.old (table desk.old) (table desk.new) }
 {
-    ledger.look();
-    fill(&mut round.offers, ledger, all);
+    if round.is_over {
+        return ledger.hold();
+    }
+    offer(&mut round.offers, ledger, all);
     while !round.offers.is_empty() {
         let train = pick(&mut round.offers, desk);
         if let Some(entry) = attempt(ledger, train) {

@@ -5,7 +5,7 @@ use Rattle.rail_queue.specs.Queue.{Queue}
 use Rattle.rail_queue.specs.Order.{first_time_of, is_sorted}
 use Rattle.rail_ledger.proofs.CallerLemmas.{deciding_at}
 use Rattle.rail_engine.proofs.Asking.{admitted_asked, held_asks, turns_on}
-use Rattle.rail_engine.proofs.Continuing.{admitted_on, held_lines, held_on}
+use Rattle.rail_engine.proofs.Continuing.{admitted_on, held_known, held_lines, held_on}
 use Rattle.rail_engine.proofs.Trying.{all_known, offers_left, picked_known, unbarred_left}
 use Rattle.rail_engine.proofs.round.decide.Goals as goal
 
@@ -50,28 +50,51 @@ loop-round-preserved g c =
       unbarred = unbarred_left c.loop-round.ledger c.attempt.new.ledger c.pick-train.result tried inv.unbarred;
       offers = offers_left c.loop-round.ledger c.attempt.new.ledger _ _ c.loop-round.round.offers.items c.pick-train.new.offers.items c.pick-train.result c.pick-train.ensures.picked tried inv.offers;
       room = c.pick-train.ensures.room ∙ inv.room;
+      fresh = inv.fresh;
       desk = λ seats front at desk. c.pick-train.ensures.desk c.args.ledger.now seats front at (inv.desk seats front at desk);
       turns = turns_on _ _ _ c.loop-round.round.offers.items c.pick-train.result (length c.pick-train.new.offers.items) c.pick-train.ensures.fewer inv.turns c.pick-train.ensures.turn;
     }
 
 pub hold-requires-clause-deciding : goal.hold-requires-clause-deciding
 hold-requires-clause-deciding g c = λ front at.
-    let inv = c.loop-round.invariant in deciding_at front c.loop-round.ledger at inv.going inv.unsettled inv.none_due inv.sorted
+    deciding_at front c.args.ledger.now at c.requires.going c.requires.unsettled c.requires.none_due c.requires.sorted
 
 pub hold-requires-clause-known : goal.hold-requires-clause-known
-hold-requires-clause-known g c =
+hold-requires-clause-known g c = c.requires.over c.if-round.true
+
+pub returns-then-round-clause-run : goal.returns-then-round-clause-run
+returns-then-round-clause-run g c =
+    held_on c.args.ledger.now c.args.ledger.now c.hold.new.self _ _ refl c.hold.ensures.input (λ front at. at) (λ seats front at desk. desk) c.hold.result c.hold.ensures.line c.hold.ensures.kind
+
+pub returns-then-round-clause-asked : goal.returns-then-round-clause-asked
+returns-then-round-clause-asked g c = held_asks c.args.ledger.now c.hold.new.self _ _ c.hold.result c.hold.ensures.kind
+
+pub returns-then-round-clause-over : goal.returns-then-round-clause-over
+returns-then-round-clause-over g c = held_known c.requires.running.front c.args.ledger.now c.hold.new.self _ c.requires.running.at c.hold.result c.hold.ensures.line c.hold.ensures.kind
+
+pub hold-requires-2-clause-deciding : goal.hold-requires-2-clause-deciding
+hold-requires-2-clause-deciding g c = λ front at.
+    let inv = c.loop-round.invariant in deciding_at front c.loop-round.ledger at inv.going inv.unsettled inv.none_due inv.sorted
+
+pub hold-requires-2-clause-known : goal.hold-requires-2-clause-known
+hold-requires-2-clause-known g c =
     let inv = c.loop-round.invariant in
     let sized : vec_len c.loop-round.round.offers ≡ length c.loop-round.round.offers.items = grind arith in
     all_known inv.running.front c.loop-round.ledger inv.running.at c.loop-round.round.offers.items inv.offers
     (sym sized ∙ eqb-true (vec_len c.loop-round.round.offers) 0 (sym c.is_empty.ensures ∙ c.loop-round-test.false))
 
 pub returns-clause-line : goal.returns-clause-line
-returns-clause-line g c = held_lines c.args.ledger.now c.loop-round.ledger c.hold.new.self c.loop-round.invariant.at c.hold.result c.hold.ensures.line
+returns-clause-line g c = held_lines c.args.ledger.now c.loop-round.ledger c.hold-2.new.self c.loop-round.invariant.at c.hold-2.result c.hold-2.ensures.line
 
 pub returns-clause-run : goal.returns-clause-run
 returns-clause-run g c =
     let inv = c.loop-round.invariant in
-    held_on c.args.ledger.now c.loop-round.ledger c.hold.new.self _ _ inv.input c.hold.ensures.input inv.at inv.desk c.hold.result c.hold.ensures.line c.hold.ensures.kind
+    held_on c.args.ledger.now c.loop-round.ledger c.hold-2.new.self _ _ inv.input c.hold-2.ensures.input inv.at inv.desk c.hold-2.result c.hold-2.ensures.line c.hold-2.ensures.kind
+
+pub returns-clause-over : goal.returns-clause-over
+returns-clause-over g c =
+    let inv = c.loop-round.invariant in
+    held_known inv.running.front c.loop-round.ledger c.hold-2.new.self _ inv.running.at c.hold-2.result c.hold-2.ensures.line c.hold-2.ensures.kind
 
 pub returns-clause-asked : goal.returns-clause-asked
-returns-clause-asked g c = held_asks c.args.ledger.now c.hold.new.self _ _ c.hold.result c.hold.ensures.kind
+returns-clause-asked g c = held_asks c.args.ledger.now c.hold-2.new.self _ _ c.hold-2.result c.hold-2.ensures.kind

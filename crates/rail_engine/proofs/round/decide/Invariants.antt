@@ -34,6 +34,7 @@ invariant-loop-round g l =
       unbarred : AreUnbarred l.ledger;
       offers : AreOffers l.ledger l.round.offers.items;
       room : vec_capacity l.round.offers ≡ vec_capacity l.fn.round.offers;
+      fresh : l.round.is_over ≡ false;
       desk : StaysDesk l.fn.ledger before now;
       turns : IsAfterTurns before now (length l.round.offers.items);
     }

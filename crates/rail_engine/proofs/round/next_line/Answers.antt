@@ -1,9 +1,15 @@
-use Rattle.std.proofs.Common.{Some, refl}
+use Rattle.std.proofs.Common.{Some, refl, subst, sym}
+use Rattle.rail_state.specs.Representation.{AreAllKnown}
+use Rattle.rail_ledger.specs.declared.ledger.Ledger.{Ledger}
 use Rattle.rail_ledger.specs.declared.ledger.Listed.TheVariants.{Nothing}
 use Rattle.rail_ledger.proofs.CallerLemmas.{listed_as}
 use Rattle.rail_engine.proofs.Asking.{asked_before}
 use Rattle.rail_engine.proofs.Continuing.{gone_after}
 use Rattle.rail_engine.proofs.round.next_line.Goals as goal
+
+pub decide-requires-clause-over : goal.decide-requires-clause-over
+decide-requires-clause-over g c = λ over.
+    subst (λ (ledger : Ledger). AreAllKnown ledger.input.plant ledger.state.trains) (sym (c.offers_all-all.ensures.over over)) (c.requires.over over)
 
 pub returns-in-None-clause-line : goal.returns-in-None-clause-line
 returns-in-None-clause-line g c = λ front at.
