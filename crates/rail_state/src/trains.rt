@@ -11,8 +11,8 @@ ghost use Rattle.rail_state.specs.TrainStates.{IsAnyWaiting, IsReadyFirst, bar_b
 
 use crate::train::{TrainState, head_behind, push_outside, section_at};
 use crate::watched::{
-    first_lacking, forget_causes, heed_each, is_any_waiting, keep_waiting, look_again_at_each,
-    look_at_each, watch,
+    forget_causes, heed_each, is_any_waiting, keep_waiting, look_again_at_each, look_at_each,
+    place_lacking, watch,
 };
 use rail_base::{Cause, Order, OutOfMemory, SectionNo, Time, TrainNo};
 use rail_block::MoveTimes;
@@ -29,6 +29,9 @@ pub struct TrainStates {
     /// By number, the trains that wait, and those with a known cause: `note_no_list` gives one to any train.
     /// The others need no look.
     watched: Vec<TrainNo>,
+    /// So many of the watched trains, from the first on, lack no hold line: hold lines are given by number, and the
+    /// next one begins here. What may change a cause or the watched trains sets it back to 0.
+    told: usize,
 }
 
 impl Drop for TrainStates {
@@ -36,6 +39,7 @@ impl Drop for TrainStates {
         let TrainStates {
             rows: _rows,
             watched: _watched,
+            told: _,
         } = self;
     }
 }
@@ -43,13 +47,13 @@ impl Drop for TrainStates {
 impl Model for TrainStates {
     ghost use Rattle.std.specs.Prelude.{List};
     ghost use Rattle.rail_state.specs.declared.train.TrainState.{TrainState};
-    ghost use Rattle.rail_state.specs.Watched.{AreWatched};
+    ghost use Rattle.rail_state.specs.Watched.{AreKept};
 
     ghost Value = { List TrainState };
 
     ghost view = { λ states. states.rows.items };
 
-    ghost invariant = { λ states. AreWatched states.rows.items states.watched };
+    ghost invariant = { λ states. AreKept states.rows.items states.watched states.told };
 }
 
 impl TrainStates {
@@ -63,7 +67,11 @@ impl TrainStates {
         for number in 0..trains {
             push_outside(&mut rows, plant, TrainNo(number));
         }
-        Ok(TrainStates { rows, watched })
+        Ok(TrainStates {
+            rows,
+            watched,
+            told: 0,
+        })
     }
 
     /// By number, the trains that wait, and those with a known cause.
@@ -150,6 +158,7 @@ impl TrainStates {
         ensures length { length self.new ≡ length self.old }
         ensures trains { (plant : Plant) (m t : ℕ) → state_of self.new t ≡ state_after plant (Ready train m) t (state_of self.old t) }
     {
+        self.told = 0;
         watch(&mut self.watched, &self.rows, train);
         let train_state = &mut self.rows[usize::from(train.0)];
         train_state.waits = true;
@@ -163,6 +172,7 @@ impl TrainStates {
         ensures any { result ≡ false → (t : ℕ) → is_blocked_at section (state_of self.old t).known ≡ false }
         ensures some { result ≡ true → (t : ℕ) × (is_blocked_at section (state_of self.old t).known ≡ true) }
     {
+        self.told = 0;
         look_again_at_each(&mut self.rows, &self.watched, section)
     }
 
@@ -179,6 +189,7 @@ impl TrainStates {
         ensures first { MatchOption result ((t : ℕ) → is_untried (state_of self.new t) ≡ false)
             (λ train. (train < length self.new) × IsReadyFirst self.new train) }
     {
+        self.told = 0;
         look_at_each(&mut self.rows, &self.watched, plant, orders, holders)
     }
 
@@ -193,6 +204,7 @@ impl TrainStates {
         ensures trains { (t : ℕ) → t < length self.old → state_of self.new t
             ≡ state_told plant.now (order.now ∷ []) t (state_of self.old t) }
     {
+        self.told = 0;
         heed_each(&mut self.rows, &self.watched, plant, order);
         keep_waiting(&mut self.watched, &self.rows);
     }
@@ -202,6 +214,7 @@ impl TrainStates {
         requires { train < length self.old }
         ensures { self.new ≡ set self.old train (record (state_of self.old train) { known = Some NoList }) }
     {
+        self.told = 0;
         watch(&mut self.watched, &self.rows, train);
         let train_state = &mut self.rows[usize::from(train.0)];
         train_state.known = Some(Cause::NoList);
@@ -213,7 +226,8 @@ impl TrainStates {
             (λ train. (train < length self.now) × (lacks_hold_line (state_of self.now train) ≡ true)
             × ((u : ℕ) → u < train → lacks_hold_line (state_of self.now u) ≡ false)) }
     {
-        first_lacking(&self.rows, &self.watched)
+        let place = place_lacking(&self.rows, &self.watched, self.told);
+        self.watched.get(place).copied()
     }
 
     /// The hold line of the train's next move was given, with its known cause. No arrival is deferred then: the one that was is the answer.
@@ -223,7 +237,9 @@ impl TrainStates {
         ensures arrival { result ≡ (state_of self.old train).deferred }
     {
         let train_state = &mut self.rows[usize::from(train.0)];
-        train_state.tell()
+        let arrival = train_state.tell();
+        self.told = place_lacking(&self.rows, &self.watched, self.told);
+        arrival
     }
 
     /// The train's next move is admitted, with these times; `arrival` is deferred. No cause is known then.
@@ -234,6 +250,7 @@ impl TrainStates {
         ensures trains { (t : ℕ) → t < length self.old → state_of self.new t
             ≡ state_admitted train times arrival t (state_of self.old t) }
     {
+        self.told = 0;
         forget_causes(&mut self.rows, &self.watched);
         let train_state = &mut self.rows[usize::from(train.0)];
         train_state.admit(times, arrival);

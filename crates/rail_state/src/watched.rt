@@ -1,13 +1,13 @@
 //! The trains that a run watches: those that wait, and those with a known cause.
 
-ghost use Rattle.std.specs.Prelude.{◌≡◌, ℕ, ◌<◌, [], ◌∷◌, true, false, cond, length, vec_len, vec_capacity, IsTrue, None};
+ghost use Rattle.std.specs.Prelude.{◌≡◌, ℕ, ◌<◌, [], ◌∷◌, true, false, cond, length, slice_get, vec_len, vec_capacity, IsTrue, None};
 ghost use Rattle.std.specs.List.{All, filter, find, fold};
 ghost use Rattle.std.specs.List.Sorted.{IsNonDecreasing};
 ghost use Rattle.std.specs.Option.{ForSome};
 ghost use Rattle.rail_rules.specs.Plant.{moves, trains};
 ghost use Rattle.rail_state.specs.TrainStates.{IsAnyWaiting, bar_by, lacks_hold_line, state_of};
 ghost use Rattle.rail_state.specs.FirstUntried.{first_with};
-ghost use Rattle.rail_state.specs.Watched.{AreWatched, forget, heed, inserted, is_watched, look_again, look_at};
+ghost use Rattle.rail_state.specs.Watched.{AreTold, AreWatched, forget, heed, inserted, is_watched, look_again, look_at};
 
 use crate::train::TrainState;
 use rail_base::{Order, SectionNo, Time, TrainNo};
@@ -134,17 +134,21 @@ pub(crate) fn look_again_at_each(
     any
 }
 
-/// The first of these trains that has a known cause which its last hold line doesn't name.
-pub(crate) fn first_lacking(rows: &[TrainState], watched: &[TrainNo]) -> Option<TrainNo>
-    requires { All (λ t. t < length rows.now) watched.now }
-    ensures { result ≡ find (λ t. lacks_hold_line (state_of rows.now t)) watched.now }
+/// The place of the first of these trains that has a known cause which its last hold line doesn't name, where none of
+/// the first `told` of them has one; the number of the trains where there is none.
+pub(crate) fn place_lacking(rows: &[TrainState], watched: &[TrainNo], told: usize) -> usize
+    requires watched { All (λ t. t < length rows.now) watched.now }
+    requires told { AreTold rows.now watched.now told }
+    ensures told { AreTold rows.now watched.now result }
+    ensures first { slice_get watched.now result ≡ find (λ t. lacks_hold_line (state_of rows.now t)) watched.now }
 {
-    for train in watched {
+    for place in told..watched.len() {
+        let train = watched[place];
         if rows[usize::from(train.0)].lacks_hold_line() {
-            return Some(*train);
+            return place;
         }
     }
-    None
+    watched.len()
 }
 
 /// The order was told: each of these trains heeds it.

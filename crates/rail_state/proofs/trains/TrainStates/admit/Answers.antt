@@ -6,10 +6,11 @@ use Rattle.rail_state.specs.Watched.{unknown}
 use Rattle.rail_state.proofs.TrainsChanged.{IsChanged}
 use Rattle.rail_state.proofs.WatchedKept.{shown_below, train_read, written_back}
 use Rattle.rail_state.proofs.Turns.{admitted_each, admitted_kept, forgotten_each, forgotten_now}
+use Rattle.rail_state.proofs.Told.{kept_anew}
 use Rattle.rail_state.proofs.trains.TrainStates.admit.Goals as goal
 
 pub forget_causes-requires : goal.forget_causes-requires
-forget_causes-requires c = shown_below c.self.inside.rows.items c.deref_mut.result.now c.self.inside.watched c.deref.result.now c.self.invariant c.deref_mut.ensures.value c.deref.ensures.value
+forget_causes-requires c = shown_below c.self.inside.rows.items c.deref_mut.result.now c.self.inside.watched c.deref.result.now c.self.invariant.watched c.deref_mut.ensures.value c.deref.ensures.value
 
 pub admit-requires : goal.admit-requires
 admit-requires c =
@@ -17,7 +18,7 @@ admit-requires c =
     let mid = c.forget_causes.new.rows in
     let i = c.from.result in
     let train_state : TrainState = c.index_mut-train_state.result.now in
-    let forgotten : IsChanged (λ _. unknown) old mid (length old) = forgotten_now old c.deref_mut.result.now mid c.self.inside.watched c.deref.result.now c.self.invariant c.deref_mut.ensures.value c.deref.ensures.value c.forget_causes.ensures in
+    let forgotten : IsChanged (λ _. unknown) old mid (length old) = forgotten_now old c.deref_mut.result.now mid c.self.inside.watched c.deref.result.now c.self.invariant.watched c.deref_mut.ensures.value c.deref.ensures.value c.forget_causes.ensures in
     let back : take c.self.inside.rows.len (mid ++ drop (length mid) old) ≡ mid = written_back mid old c.self.inside.rows.len (omega arith) in
     let within : i < length mid = omega (arith, forgotten.long, ap length c.self.view_is) in
     let read : train_state ≡ state_of mid i = train_read mid i train_state within (c.index_mut-train_state.ensures.value ∙ ap (λ (rows : List TrainState). get_or rows i train_state) back) in
@@ -28,7 +29,7 @@ admit-requires c =
 
 -- all causes are forgotten
 forgotten : (c : goal.After-keep_waiting) → IsChanged (λ _. unknown) c.self.inside.rows.items c.forget_causes.new.rows (length c.self.inside.rows.items)
-forgotten c = forgotten_now c.self.inside.rows.items c.deref_mut.result.now c.forget_causes.new.rows c.self.inside.watched c.deref.result.now c.self.invariant c.deref_mut.ensures.value c.deref.ensures.value c.forget_causes.ensures
+forgotten c = forgotten_now c.self.inside.rows.items c.deref_mut.result.now c.forget_causes.new.rows c.self.inside.watched c.deref.result.now c.self.invariant.watched c.deref_mut.ensures.value c.deref.ensures.value c.forget_causes.ensures
 
 -- what was written back
 new_rows : (c : goal.After-keep_waiting) → take c.self.inside.rows.len (c.forget_causes.new.rows ++ drop (length c.forget_causes.new.rows) c.self.inside.rows.items) ≡ c.forget_causes.new.rows
@@ -40,11 +41,12 @@ invariant_of-self c =
     let train_state : TrainState = c.admit.new.self in
     let waiting : List TrainState → List ℕ = λ rows. filter (λ t. (state_of rows t).waits) c.self.inside.watched.items in
     rw (new_rows c)
-    (admitted_kept c.self.inside.rows.items c.forget_causes.new.rows c.self.inside.watched c.keep_waiting.new.trains i train_state c.self.invariant (forgotten c) (omega (arith, ap length c.self.view_is))
+    (kept_anew _ _
+    (admitted_kept c.self.inside.rows.items c.forget_causes.new.rows c.self.inside.watched c.keep_waiting.new.trains i train_state c.self.invariant.watched (forgotten c) (omega (arith, ap length c.self.view_is))
     (ap (λ (r : TrainState). r.waits) c.admit.ensures)
     (ap (λ (r : TrainState). r.known) c.admit.ensures)
     (c.keep_waiting.ensures.trains ∙ ap waiting (c.deref-2.ensures.value ∙ ap (λ (rows : List TrainState). set rows i train_state) (new_rows c)))
-    c.keep_waiting.ensures.room)
+    c.keep_waiting.ensures.room))
 
 pub returns-clause-trains : goal.returns-clause-trains
 returns-clause-trains c = λ t _.

@@ -1,6 +1,7 @@
-use Rattle.std.proofs.Common.{◌≡◌, ◌<◌, length, ap, arith}
+use Rattle.std.proofs.Common.{◌≡◌, ◌<◌, length, ap, ◌∙◌, arith}
 use Rattle.rail_state.specs.declared.train.TrainState.{TrainState}
-use Rattle.rail_state.specs.TrainStates.{state_of}
+use Rattle.rail_state.specs.TrainStates.{lacks_hold_line, state_of}
+use Rattle.rail_state.proofs.Told.{told_at}
 use Rattle.rail_state.proofs.WatchedKept.{still_watched_at, train_read}
 use Rattle.rail_state.proofs.trains.TrainStates.enter.Goals as goal
 
@@ -11,4 +12,8 @@ invariant_of-self c =
     let train_state : TrainState = c.index_mut-train_state.result.now in
     let within : t < length old = omega (arith, ap length c.self.view_is) in
     let read : train_state ≡ state_of old t = train_read old t train_state within c.index_mut-train_state.ensures.value in
-    still_watched_at old c.self.inside.watched t (record train_state { head = c.head_behind-train_state.result }) c.self.invariant within (ap (λ (r : TrainState). r.waits) read) (ap (λ (r : TrainState). r.known) read)
+    let new : TrainState = record train_state { head = c.head_behind-train_state.result } in
+    record {
+      watched = still_watched_at old c.self.inside.watched t new c.self.invariant.watched within (ap (λ (r : TrainState). r.waits) read) (ap (λ (r : TrainState). r.known) read);
+      told = told_at old c.self.inside.watched.items c.self.inside.told t new within (λ off. ap lacks_hold_line read ∙ off) c.self.invariant.told;
+    }

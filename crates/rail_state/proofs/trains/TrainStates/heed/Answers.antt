@@ -5,14 +5,15 @@ use Rattle.rail_state.specs.TrainStates.{state_of, state_told}
 use Rattle.rail_state.proofs.TrainsChanged.{IsChanged}
 use Rattle.rail_state.proofs.WatchedKept.{shown_below, written_back}
 use Rattle.rail_state.proofs.Turns.{heeded_kept, heeded_now, touched_by_cancel}
+use Rattle.rail_state.proofs.Told.{kept_anew}
 use Rattle.rail_state.proofs.trains.TrainStates.heed.Goals as goal
 
 pub heed_each-requires-clause-watched : goal.heed_each-requires-clause-watched
-heed_each-requires-clause-watched c = shown_below c.self.inside.rows.items c.deref_mut.result.now c.self.inside.watched c.deref.result.now c.self.invariant c.deref_mut.ensures.value c.deref.ensures.value
+heed_each-requires-clause-watched c = shown_below c.self.inside.rows.items c.deref_mut.result.now c.self.inside.watched c.deref.result.now c.self.invariant.watched c.deref_mut.ensures.value c.deref.ensures.value
 
 -- each train heeds the order
 heeded : (c : goal.After-keep_waiting) → IsChanged (state_told c.args.plant.now (c.args.order.now ∷ [])) c.self.inside.rows.items c.heed_each.new.rows (length c.self.inside.rows.items)
-heeded c = heeded_now c.args.plant.now (c.args.order.now ∷ []) c.self.inside.rows.items c.deref_mut.result.now c.heed_each.new.rows c.self.inside.watched c.deref.result.now c.self.invariant c.deref_mut.ensures.value c.deref.ensures.value c.heed_each.ensures
+heeded c = heeded_now c.args.plant.now (c.args.order.now ∷ []) c.self.inside.rows.items c.deref_mut.result.now c.heed_each.new.rows c.self.inside.watched c.deref.result.now c.self.invariant.watched c.deref_mut.ensures.value c.deref.ensures.value c.heed_each.ensures
 
 -- what was written back
 new_rows : (c : goal.After-keep_waiting) → take c.self.inside.rows.len (c.heed_each.new.rows ++ drop (length c.heed_each.new.rows) c.self.inside.rows.items) ≡ c.heed_each.new.rows
@@ -22,11 +23,12 @@ pub invariant_of-self : goal.invariant_of-self
 invariant_of-self c =
     let waiting : List TrainState → List ℕ = λ rows. filter (λ t. (state_of rows t).waits) c.self.inside.watched.items in
     rw (new_rows c)
-    (heeded_kept c.args.plant.now (c.args.order.now ∷ []) c.self.inside.rows.items c.heed_each.new.rows c.self.inside.watched c.keep_waiting.new.trains c.self.invariant (heeded c)
+    (kept_anew _ _
+    (heeded_kept c.args.plant.now (c.args.order.now ∷ []) c.self.inside.rows.items c.heed_each.new.rows c.self.inside.watched c.keep_waiting.new.trains c.self.invariant.watched (heeded c)
     (subst (λ (rows : List TrainState). (t : ℕ) → (state_of rows t).waits ≡ false → (state_of rows t).known ≡ None) (sym c.self.view_is) c.requires.waits)
     (λ t cancelled. touched_by_cancel c.args.plant.now (c.args.order.now ∷ []) t (state_of c.self.inside.rows.items t) cancelled)
     (c.keep_waiting.ensures.trains ∙ ap waiting (c.deref-2.ensures.value ∙ new_rows c))
-    c.keep_waiting.ensures.room)
+    c.keep_waiting.ensures.room))
 
 pub returns-clause-trains : goal.returns-clause-trains
 returns-clause-trains c = λ t lt.

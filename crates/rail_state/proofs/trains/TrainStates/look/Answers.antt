@@ -5,22 +5,23 @@ use Rattle.rail_state.proofs.TrainsChanged.{changed_all}
 use Rattle.rail_state.proofs.First.{IsFirstOf, IsLookedAt, first_of_all}
 use Rattle.rail_state.proofs.WatchedKept.{shown_below, written_back}
 use Rattle.rail_state.proofs.Turns.{looked_at_kept, looked_now}
+use Rattle.rail_state.proofs.Told.{kept_anew}
 use Rattle.rail_state.proofs.trains.TrainStates.look.Goals as goal
 
 pub look_at_each-requires-clause-watched : goal.look_at_each-requires-clause-watched
-look_at_each-requires-clause-watched c = shown_below c.self.inside.rows.items c.deref_mut.result.now c.self.inside.watched c.deref.result.now c.self.invariant c.deref_mut.ensures.value c.deref.ensures.value
+look_at_each-requires-clause-watched c = shown_below c.self.inside.rows.items c.deref_mut.result.now c.self.inside.watched c.deref.result.now c.self.invariant.watched c.deref_mut.ensures.value c.deref.ensures.value
 
 -- all trains were looked at
-looked : (c : goal.After-self-1) → IsLookedAt c.args.plant.now (bar_by c.args.orders.now c.args.holders.now) c.self.inside.rows.items c.look_at_each.new.rows (length c.self.inside.rows.items) c.look_at_each.result
-looked c = looked_now c.args.plant.now (bar_by c.args.orders.now c.args.holders.now) c.self.inside.rows.items c.deref_mut.result.now c.look_at_each.new.rows c.self.inside.watched c.deref.result.now c.look_at_each.result c.self.invariant c.deref_mut.ensures.value c.deref.ensures.value c.look_at_each.ensures
+looked : (c : goal.After-self-2-1) → IsLookedAt c.args.plant.now (bar_by c.args.orders.now c.args.holders.now) c.self.inside.rows.items c.look_at_each.new.rows (length c.self.inside.rows.items) c.look_at_each.result
+looked c = looked_now c.args.plant.now (bar_by c.args.orders.now c.args.holders.now) c.self.inside.rows.items c.deref_mut.result.now c.look_at_each.new.rows c.self.inside.watched c.deref.result.now c.look_at_each.result c.self.invariant.watched c.deref_mut.ensures.value c.deref.ensures.value c.look_at_each.ensures
 
 -- what was written back
-new_rows : (c : goal.After-self-1) → take c.self.inside.rows.len (c.look_at_each.new.rows ++ drop (length c.look_at_each.new.rows) c.self.inside.rows.items) ≡ c.look_at_each.new.rows
+new_rows : (c : goal.After-self-2-1) → take c.self.inside.rows.len (c.look_at_each.new.rows ++ drop (length c.look_at_each.new.rows) c.self.inside.rows.items) ≡ c.look_at_each.new.rows
 new_rows c = written_back c.look_at_each.new.rows c.self.inside.rows.items c.self.inside.rows.len (omega arith)
 
 pub invariant_of-self : goal.invariant_of-self
 invariant_of-self c =
-    rw (new_rows c) (looked_at_kept c.args.plant.now (bar_by c.args.orders.now c.args.holders.now) c.self.inside.rows.items c.look_at_each.new.rows c.self.inside.watched c.look_at_each.result c.self.invariant (looked c))
+    rw (new_rows c) (kept_anew _ _ (looked_at_kept c.args.plant.now (bar_by c.args.orders.now c.args.holders.now) c.self.inside.rows.items c.look_at_each.new.rows c.self.inside.watched c.look_at_each.result c.self.invariant.watched (looked c)))
 
 pub returns-clause-trains : goal.returns-clause-trains
 returns-clause-trains c = λ t _.

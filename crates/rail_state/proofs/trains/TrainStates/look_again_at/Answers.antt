@@ -4,22 +4,23 @@ use Rattle.rail_state.specs.TrainStates.{is_blocked_at, state_of, without_known}
 use Rattle.rail_state.proofs.TrainsChanged.{changed_all}
 use Rattle.rail_state.proofs.WatchedKept.{shown_below, written_back}
 use Rattle.rail_state.proofs.Turns.{IsLookedAgain, looked_again_kept, looked_again_now, none_blocked}
+use Rattle.rail_state.proofs.Told.{kept_anew}
 use Rattle.rail_state.proofs.trains.TrainStates.look_again_at.Goals as goal
 
 pub look_again_at_each-requires : goal.look_again_at_each-requires
-look_again_at_each-requires c = shown_below c.self.inside.rows.items c.deref_mut.result.now c.self.inside.watched c.deref.result.now c.self.invariant c.deref_mut.ensures.value c.deref.ensures.value
+look_again_at_each-requires c = shown_below c.self.inside.rows.items c.deref_mut.result.now c.self.inside.watched c.deref.result.now c.self.invariant.watched c.deref_mut.ensures.value c.deref.ensures.value
 
 -- all trains were looked at again
-looked : (c : goal.After-self-1) → IsLookedAgain c.args.section c.self.inside.rows.items c.look_again_at_each.new.rows (length c.self.inside.rows.items) c.look_again_at_each.result
-looked c = looked_again_now c.args.section c.self.inside.rows.items c.deref_mut.result.now c.look_again_at_each.new.rows c.self.inside.watched c.deref.result.now c.look_again_at_each.result c.self.invariant c.deref_mut.ensures.value c.deref.ensures.value c.look_again_at_each.ensures
+looked : (c : goal.After-self-2-1) → IsLookedAgain c.args.section c.self.inside.rows.items c.look_again_at_each.new.rows (length c.self.inside.rows.items) c.look_again_at_each.result
+looked c = looked_again_now c.args.section c.self.inside.rows.items c.deref_mut.result.now c.look_again_at_each.new.rows c.self.inside.watched c.deref.result.now c.look_again_at_each.result c.self.invariant.watched c.deref_mut.ensures.value c.deref.ensures.value c.look_again_at_each.ensures
 
 -- what was written back
-new_rows : (c : goal.After-self-1) → take c.self.inside.rows.len (c.look_again_at_each.new.rows ++ drop (length c.look_again_at_each.new.rows) c.self.inside.rows.items) ≡ c.look_again_at_each.new.rows
+new_rows : (c : goal.After-self-2-1) → take c.self.inside.rows.len (c.look_again_at_each.new.rows ++ drop (length c.look_again_at_each.new.rows) c.self.inside.rows.items) ≡ c.look_again_at_each.new.rows
 new_rows c = written_back c.look_again_at_each.new.rows c.self.inside.rows.items c.self.inside.rows.len (omega arith)
 
 pub invariant_of-self : goal.invariant_of-self
 invariant_of-self c =
-    rw (new_rows c) (looked_again_kept c.args.section c.self.inside.rows.items c.look_again_at_each.new.rows c.self.inside.watched c.look_again_at_each.result c.self.invariant (looked c))
+    rw (new_rows c) (kept_anew _ _ (looked_again_kept c.args.section c.self.inside.rows.items c.look_again_at_each.new.rows c.self.inside.watched c.look_again_at_each.result c.self.invariant.watched (looked c)))
 
 pub returns-clause-trains : goal.returns-clause-trains
 returns-clause-trains c = λ _ _ t.

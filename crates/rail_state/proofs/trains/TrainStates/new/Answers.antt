@@ -5,13 +5,15 @@ use Rattle.rail_laws_front.proofs.CallerLemmas.{length-listed}
 use Rattle.rail_state.specs.declared.train.TrainState.{TrainState}
 use Rattle.rail_state.specs.Watched.{AreWatched}
 use Rattle.rail_state.proofs.WatchedKept.{watched_none}
+use Rattle.rail_state.proofs.Told.{kept_anew}
 use Rattle.rail_state.proofs.trains.TrainStates.new.Goals as goal
 
 pub invariant_of-result : goal.invariant_of-result
 invariant_of-result c =
     let watched = c.in_ok-watched.watched in
-    subst (λ (states : List TrainState). AreWatched states watched) (sym c.loop-number.invariant.rows)
-    (watched_none c.args.plant.now c.loop-number.number watched (omega arith) c.in_ok-watched.ensures.items (omega (arith, c.in_ok-watched.ensures.exact)))
+    kept_anew _ watched
+    (subst (λ (states : List TrainState). AreWatched states watched) (sym c.loop-number.invariant.rows)
+    (watched_none c.args.plant.now c.loop-number.number watched (omega arith) c.in_ok-watched.ensures.items (omega (arith, c.in_ok-watched.ensures.exact))))
 
 pub loop-number-preserved : goal.loop-number-preserved
 loop-number-preserved c =

@@ -1,0 +1,19 @@
+use Rattle.std.proofs.Common.{◌≡◌, ◌<◌, true, length, ap, ◌∙◌, arith}
+use Rattle.rail_state.specs.declared.train.TrainState.{TrainState}
+use Rattle.rail_state.specs.TrainStates.{lacks_hold_line, state_of}
+use Rattle.rail_state.proofs.Told.{told_at}
+use Rattle.rail_state.proofs.WatchedKept.{still_watched_at, train_read}
+use Rattle.rail_state.proofs.trains.TrainStates.leave.Goals as goal
+
+pub invariant_of-self : goal.invariant_of-self
+invariant_of-self c =
+    let old = c.self.inside.rows.items in
+    let t = c.from.result in
+    let train_state : TrainState = c.index_mut-train_state.result.now in
+    let within : t < length old = omega (arith, ap length c.self.view_is) in
+    let read : train_state ≡ state_of old t = train_read old t train_state within c.index_mut-train_state.ensures.value in
+    let new : TrainState = record train_state { is_out = true } in
+    record {
+      watched = still_watched_at old c.self.inside.watched t new c.self.invariant.watched within (ap (λ (r : TrainState). r.waits) read) (ap (λ (r : TrainState). r.known) read);
+      told = told_at old c.self.inside.watched.items c.self.inside.told t new within (λ off. ap lacks_hold_line read ∙ off) c.self.invariant.told;
+    }
