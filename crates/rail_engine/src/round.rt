@@ -135,6 +135,8 @@ fn heed(desk: &mut Desk, commands: &[Command], what: &What)
 }
 
 /// An admission or a hold line, where there is one at this instant, at which nothing is pending.
+// Out of line: most lines are of events, and should not pay for the room of a round.
+#[inline(never)]
 fn decide(ledger: &mut Ledger, round: &mut Round, desk: &mut Desk, all: bool) -> Option<Entry>
     requires running { IsSomewhere ledger.old }
     requires going { ledger.old.state.has_ended ≡ false }
