@@ -55,15 +55,15 @@ words_are plant names named at kept (Hold t m cause) = sym (append-nil (codes "h
 words_are plant names named at kept End = ap (λ (words : List (List ℕ)). codes "end" ∷ words) (names_are plant names named kept)
 
 -- a line that was put together from its time, the words of a bare line, those for its trains and a line feed
-pub text_together : (plant : Plant) (names : Names) → HasNames plant names → (entry : Entry) (kept : List ℕ) {said begun empty : List ℕ} → said ≡ begun ++ behind (what_words plant (bare entry) entry.what) → begun ≡ empty ++ time_text entry.at → empty ≡ []
+pub text_together : (plant : Plant) (names : Names) → HasNames plant names → (entry : Entry) (kept : List ℕ) {said begun : List ℕ} → said ≡ begun ++ behind (what_words plant (bare entry) entry.what) → begun ≡ time_text entry.at
     → (said ++ behind (brought_words names entry.what kept)) ++ 10 ∷ [] ≡ line_text plant (line_of entry kept)
-text_together plant names named entry kept {said} {begun} {empty} a b c =
+text_together plant names named entry kept {said} {begun} a b =
     let time : List ℕ = time_text entry.at in
     let first : List (List ℕ) = what_words plant (bare entry) entry.what in
     let more : List (List ℕ) = brought_words names entry.what kept in
     let words : List (List ℕ) = what_words plant (line_of entry kept) entry.what in
     let e : behind words ≡ behind first ++ behind more = ap behind (words_are plant names named entry.at kept entry.what) ∙ behind_append first more in
-    let all : said ≡ time ++ behind first = rw (a, b, c) refl in
+    let all : said ≡ time ++ behind first = rw (a, b) refl in
     ap (λ (xs : List ℕ). (xs ++ behind more) ++ 10 ∷ []) all
     ∙ ap (λ (xs : List ℕ). xs ++ 10 ∷ []) (append_assoc time (behind first) (behind more))
     ∙ sym (ap (λ (xs : List ℕ). (time ++ xs) ++ 10 ∷ []) e)

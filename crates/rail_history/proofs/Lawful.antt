@@ -1,11 +1,11 @@
 -- The lines of a lawful front are lines of a history file.
-use Rattle.std.proofs.Common.{◌≡◌, ℕ, ◌+◌, ◌<◌, ◌≤◌, Bool, true, false, ◌&&◌, cond, leb, ltb, List, [], ◌∷◌, ◌++◌, refl, sym, ap, ◌∙◌, arith}
+use Rattle.std.proofs.Common.{◌≡◌, ℕ, ◌<◌, ◌≤◌, Bool, true, ◌&&◌, cond, leb, List, [], ◌∷◌, refl, ap, ◌∙◌, arith}
 use Rattle.std.specs.Prelude.{reverse}
 use Rattle.std.specs.List.{count_by, list_all}
 use Rattle.std.proofs.lemmas.Bool.{and_parts, and_from, leb-true, lt-ltb}
 use Rattle.std.proofs.lemmas.List.{reverse-append}
 use Rattle.std.proofs.lemmas.List.Folds.{list_all-append}
-use Rattle.rail_base.specs.Limits.{most, FreshLines, ItineraryRoutes, Commands}
+use Rattle.rail_base.specs.Limits.{most, ItineraryRoutes, Commands}
 use Rattle.rail_base.specs.declared.history.What.{What}
 use Rattle.rail_base.specs.declared.history.What.TheVariants.{Free, Arrive, Enter, Out, Ready, Told, Untold, Admit, Hold, End}
 use Rattle.rail_base.specs.declared.history.Note.TheVariants.{Pulled, Appended, Fresh}
@@ -14,8 +14,7 @@ use Rattle.rail_rules.specs.Fronts.{Front, Line, is_admission}
 use Rattle.rail_rules.specs.Lawful.{is_lawful, may_follow}
 use Rattle.rail_rules.specs.LineCounts.{lines_that}
 use Rattle.rail_rules.specs.Orders.{Input}
-use Rattle.rail_rules.specs.Plant.{Plant}
-use Rattle.rail_rules.specs.Writable.{does_fit_counter, is_writable, is_writable_what}
+use Rattle.rail_rules.specs.Writable.{does_fit_counter, is_writable_what}
 use Rattle.rail_laws_text.specs.Limited.{is_limited_note, is_limited_what}
 use Rattle.rail_laws_text.proofs.CallerLemmas.{few_admitted, line_limited, line_writable}
 use Rattle.rail_history.specs.HistoryLines.{AreHistoryLines, is_fresh, is_history_line, is_list_within}

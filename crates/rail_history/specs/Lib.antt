@@ -1,5 +1,6 @@
 -- What the contracts of this crate, and of the crates above it, speak of.
 pub mod Lines
+pub mod Minutes
 pub mod Pieces
 -- Lines of a history that are read.
 pub mod HistoryLines

@@ -1,5 +1,6 @@
-ghost use Rattle.std.specs.Prelude.{◌≡◌, ◌+◌, ◌≤◌, [], ◌∷◌, ◌++◌, decimal, length};
+ghost use Rattle.std.specs.Prelude.{◌≡◌, ◌+◌, ◌<◌, ◌≤◌, [], ◌∷◌, ◌++◌, decimal, length};
 ghost use Rattle.rail_base.specs.Clock.{time_text};
+ghost use Rattle.rail_history.specs.Minutes.{tenths_text};
 ghost use Rattle.rail_history.specs.declared.line.TheConstants.{ROOM};
 
 use itoa::Buffer;
@@ -9,22 +10,32 @@ use std::marker::Model;
 /// The bytes that a line has room for.
 pub const ROOM: usize = 512;
 
+/// A minute in tenths of a second.
+const MINUTE: u64 = 600;
+
 /// The text of a line so far, which contracts see as its bytes.
+///
+/// Most lines begin with a time of the same minute as the line before, whose text is kept.
 #[derive(Drop)]
 pub struct Line {
     bytes: [u8; ROOM],
     len: usize,
+    /// How many bytes at the front are the text of `minute`, to be kept for the next line; 0 where they are not.
+    kept: usize,
+    /// The minute with which a line began, counted from 0.
+    minute: u64,
 }
 
 impl Model for Line {
     ghost use Rattle.std.specs.Prelude.{List, ℕ, ◌≤◌, take};
+    ghost use Rattle.rail_history.specs.Minutes.{IsKept};
     ghost use Rattle.rail_history.specs.declared.line.TheConstants.{ROOM};
 
     ghost Value = { List ℕ };
 
     ghost view = { λ line. take line.len line.bytes };
 
-    ghost invariant = { λ line. line.len ≤ ROOM };
+    ghost invariant = { λ line. (line.len ≤ ROOM) × IsKept line.bytes line.len line.kept line.minute };
 }
 
 impl Line {
@@ -35,6 +46,8 @@ impl Line {
         Line {
             bytes: [0; ROOM],
             len: 0,
+            kept: 0,
+            minute: 0,
         }
     }
 
@@ -43,6 +56,36 @@ impl Line {
         ensures { self.new ≡ [] }
     {
         self.len = 0;
+        self.kept = 0;
+    }
+
+    /// Takes all bytes away, and puts the time. Where the line began with a time of the same minute, only what
+    /// follows the minute is written.
+    pub(crate) fn begin(&mut self, time: Time)
+        ensures text { self.new ≡ time_text time }
+        ensures short { length self.new ≤ 32 }
+    {
+        if self.kept > 0 && time.0 / MINUTE == self.minute {
+            self.len = self.kept;
+            self.put(&tenths_text(time.0 % MINUTE));
+        } else {
+            self.begin_minute(time);
+        }
+    }
+
+    /// Takes all bytes away, and puts the time.
+    #[cold]
+    #[inline(never)]
+    fn begin_minute(&mut self, time: Time)
+        ensures text { self.new ≡ time_text time }
+        ensures short { length self.new ≤ 32 }
+    {
+        let mut text = [0; 32];
+        let len = write_time(time, &mut text);
+        self.clear();
+        self.put(&text[..len]);
+        self.kept = self.len - 4;
+        self.minute = time.0 / MINUTE;
     }
 
     /// The bytes so far.
@@ -77,8 +120,14 @@ impl Line {
         ensures text { self.new ≡ self.old ++ 32 ∷ decimal number }
         ensures short { length self.new ≤ length self.old + 41 }
     {
-        let mut digits = Buffer::new();
-        self.put_word(digits.format(number).as_bytes());
+        if number < 10 {
+            self.put(&[b' ', digit(number)]);
+        } else if number < 100 {
+            self.put(&[b' ', digit(number / 10), digit(number % 10)]);
+        } else {
+            let mut digits = Buffer::new();
+            self.put_word(digits.format(number).as_bytes());
+        }
     }
 
     /// Puts a star and the count in decimal digits at the end.
@@ -111,4 +160,26 @@ impl Line {
     {
         self.put_word(name.as_bytes());
     }
+}
+
+/// What follows the minute in the canonical form of a time, by the tenths of a second since then.
+fn tenths_text(tenths: u64) -> [u8; 4]
+    requires { tenths < 600 }
+    ensures { result ≡ tenths_text tenths }
+{
+    let seconds = tenths / 10;
+    [
+        digit(seconds / 10),
+        digit(seconds % 10),
+        b'.',
+        digit(tenths % 10),
+    ]
+}
+
+/// The digit of a number below 10.
+fn digit(n: u64) -> u8
+    requires { n < 10 }
+    ensures { result ≡ 48 + n }
+{
+    b'0' + n as u8
 }

@@ -1,7 +1,6 @@
 //! The words of a line behind its time, put at the end of the line one after another.
 
 ghost use Rattle.std.specs.Prelude.{◌≡◌, ◌+◌, ◌≤◌, ◌<◌, [], ◌∷◌, ◌++◌, length, decimal, IsTrue};
-ghost use Rattle.rail_base.specs.Clock.{time_text};
 ghost use Rattle.rail_rules.specs.Plant.{Plant};
 ghost use Rattle.rail_rules.specs.Texts.{cause_words, section_word, train_word, what_words};
 ghost use Rattle.rail_rules.specs.Writable.{is_writable_cause, is_writable_what};
@@ -10,18 +9,7 @@ ghost use Rattle.rail_history.specs.Lines.{HasNames, bare, note_word, train_name
 ghost use Rattle.rail_history.specs.declared.line.TheConstants.{ROOM};
 
 use crate::line::Line;
-use rail_base::{Cause, Entry, Names, Note, SectionNo, Time, TrainNo, What, write_time};
-
-/// Puts the time.
-pub(crate) fn put_time(line: &mut Line, time: Time)
-    requires { length line.old + 32 ≤ ROOM }
-    ensures text { line.new ≡ line.old ++ time_text time }
-    ensures short { length line.new ≤ length line.old + 32 }
-{
-    let mut text = [0; 32];
-    let len = write_time(time, &mut text);
-    line.put(&text[..len]);
-}
+use rail_base::{Cause, Entry, Names, Note, SectionNo, TrainNo, What};
 
 /// Puts the name of a train.
 pub(crate) fn put_train(line: &mut Line, names: &Names, train: TrainNo)

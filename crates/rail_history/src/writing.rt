@@ -8,7 +8,7 @@ ghost use Rattle.rail_history.specs.Lines.{HasNames, line_of};
 
 use crate::line::Line;
 use crate::trains::put_brought;
-use crate::words::{put_time, put_what};
+use crate::words::put_what;
 use rail_base::{Entry, Names, TrainNo};
 use rail_io::{Failed, Sink, write_whole};
 
@@ -31,8 +31,7 @@ pub fn write_entry<O: Sink>(
     ensures failed_rose { OnErr result (Rose (O.faults out.old) (O.faults out.new)) }
     ensures faults_never_fall { O.faults out.old ≤ O.faults out.new }
 {
-    line.clear();
-    put_time(line, entry.at);
+    line.begin(entry.at);
     put_what(line, names, &entry);
     put_brought(line, names, &entry, kept, out)?;
     line.put(b"\n");

@@ -11,14 +11,14 @@ use Rattle.rail_history.proofs.writing.write_entry.Goals as goal
 pub returns-in_err-put_brought-clause-failed_adds_prefix :
     goal.returns-in_err-put_brought-clause-failed_adds_prefix
 returns-in_err-put_brought-clause-failed_adds_prefix g c = λ plant named.
-    let text = text_together plant c.args.names.now named c.args.entry c.args.kept.now (c.put_what.ensures.text plant named) c.put_time.ensures.text c.clear.ensures in
+    let text = text_together plant c.args.names.now named c.args.entry c.args.kept.now (c.put_what.ensures.text plant named) c.begin.ensures.text in
     let part : AddsPrefix (g.O.Sink.written c.args.out.now) (g.O.Sink.written c.put_brought.new.out) (line_text plant (line_of c.args.entry c.args.kept.now)) =
     subst (AddsPrefix _ _) text (AddsPrefix-more (10 ∷ []) c.in_err-put_brought.ensures.failed_adds_prefix) in
     grind (arith, part)
 
 pub returns-clause-adds : goal.returns-clause-adds
 returns-clause-adds g c = λ plant named.
-    let text = text_together plant c.args.names.now named c.args.entry c.args.kept.now (c.put_what.ensures.text plant named) c.put_time.ensures.text c.clear.ensures in
+    let text = text_together plant c.args.names.now named c.args.entry c.args.kept.now (c.put_what.ensures.text plant named) c.begin.ensures.text in
     let piece = c.as_slice.ensures ∙ c.put.ensures in
     on_ok_weaker c.write_whole.result
     (λ d. subst (Adds (g.O.Sink.written c.args.out.now) (g.O.Sink.written c.write_whole.new.sink)) text (ended_then c.in_ok-put_brought.ensures.adds (10 ∷ []) (subst (Adds (g.O.Sink.written c.put_brought.new.out) (g.O.Sink.written c.write_whole.new.sink)) piece d)))
@@ -26,7 +26,7 @@ returns-clause-adds g c = λ plant named.
 
 pub returns-clause-failed_adds_prefix : goal.returns-clause-failed_adds_prefix
 returns-clause-failed_adds_prefix g c = λ plant named.
-    let text = text_together plant c.args.names.now named c.args.entry c.args.kept.now (c.put_what.ensures.text plant named) c.put_time.ensures.text c.clear.ensures in
+    let text = text_together plant c.args.names.now named c.args.entry c.args.kept.now (c.put_what.ensures.text plant named) c.begin.ensures.text in
     let piece = c.as_slice.ensures ∙ c.put.ensures in
     on_err_weaker c.write_whole.result
     (λ d. subst (AddsPrefix (g.O.Sink.written c.args.out.now) (g.O.Sink.written c.write_whole.new.sink)) text (failed_then c.in_ok-put_brought.ensures.adds (10 ∷ []) (subst (AddsPrefix (g.O.Sink.written c.put_brought.new.out) (g.O.Sink.written c.write_whole.new.sink)) piece d)))
