@@ -1,17 +1,23 @@
-ghost use Rattle.std.specs.Prelude.{◌≡◌, ◌-◌, ◌≤◌, [], ◌++◌, IfOk, length, take, drop, min, vec_len, vec_capacity};
+ghost use Rattle.std.specs.Prelude.{◌≡◌, ◌-◌, ◌<◌, ◌≤◌, [], ◌++◌, IfOk, length, take, drop, min, vec_len, vec_capacity};
 
 use rail_base::OutOfMemory;
 use std::alloc::Global;
 
-/// Bytes that are kept in a room of a fixed size, to be handed on from their front. The room is written only as
-/// far as bytes are kept.
+/// How many bytes more than wanted are cleared at once.
+const BLOCK: usize = 4096;
+
+/// Bytes that are kept in a room of a fixed size, to be handed on from their front. The room is cleared little by
+/// little, only as far as it is used.
 #[derive(Drop)]
 pub(crate) struct Room {
-    /// The bytes that are kept.
+    /// The bytes that are kept, and those behind them that were cleared already.
     bytes: Vec<u8>,
+    /// How many bytes are kept.
+    kept: usize,
     /// How many bytes there is room for.
     size: usize,
-    ghost within: { vec_len bytes ≤ size },
+    ghost within: { kept ≤ vec_len bytes },
+    ghost cleared: { vec_len bytes ≤ size },
     ghost taken: { size ≤ vec_capacity bytes },
 }
 
@@ -24,14 +30,18 @@ impl Room {
         ensures size { IfOk result (λ room. size_of room ≡ size) }
     {
         let bytes = Vec::with_capacity(alloc, size)?;
-        Ok(Room { bytes, size })
+        Ok(Room {
+            bytes,
+            kept: 0,
+            size,
+        })
     }
 
     /// The bytes that are kept.
     pub(crate) fn as_slice(&self) -> &[u8]
         ensures { result.now ≡ kept_in self.now }
     {
-        &self.bytes
+        &self.bytes[..self.kept]
     }
 
     /// Keeps bytes from the front of the piece on, as many as there is room for, and says how many.
@@ -40,9 +50,29 @@ impl Room {
         ensures kept { kept_in self.new ≡ kept_in self.old ++ take result piece.now }
         ensures size { size_of self.new ≡ size_of self.old }
     {
-        let count = piece.len().min(self.size - self.bytes.len());
-        self.bytes.extend_from_slice(&piece[..count]).unwrap();
+        let count = piece.len().min(self.size - self.kept);
+        let end = self.kept + count;
+        if self.bytes.len() < end {
+            self.clear_past(end);
+        }
+        self.bytes[self.kept..end].copy_from_slice(&piece[..count]);
+        self.kept = end;
         count
+    }
+
+    /// Clears the room as far as `end`, and a block more where there is one.
+    #[cold]
+    #[inline(never)]
+    fn clear_past(&mut self, end: usize)
+        requires beyond { vec_len self.old.bytes < end }
+        requires within { end ≤ size_of self.old }
+        ensures cleared { end ≤ vec_len self.new.bytes }
+        ensures kept { kept_in self.new ≡ kept_in self.old }
+        ensures size { size_of self.new ≡ size_of self.old }
+        ensures count { self.new.kept ≡ self.old.kept }
+    {
+        let size = end.saturating_add(BLOCK).min(self.size);
+        self.bytes.resize(size, 0).unwrap();
     }
 
     /// Keeps so many bytes at the front no more.
@@ -51,8 +81,7 @@ impl Room {
         ensures kept { kept_in self.new ≡ drop count (kept_in self.old) }
         ensures size { size_of self.new ≡ size_of self.old }
     {
-        let left = self.bytes.len() - count;
-        self.bytes.rotate_left(count);
-        self.bytes.truncate(left);
+        self.bytes.copy_within(count..self.kept, 0);
+        self.kept -= count;
     }
 }
