@@ -64,6 +64,23 @@ impl<S: Sink + Drop> GatheredSink<S> {
             Err(Failed)
         }
     }
+
+    /// Takes what there is room for once all that is gathered is handed on.
+    #[cold]
+    #[inline(never)]
+    fn write_anew(&mut self, piece: &[u8]) -> Result<usize, Failed>
+        requires some { 0 < length piece.now }
+        ensures room_stays { room_of self.new ≡ room_of self.old }
+        ensures some { IfOk result (λ n. 0 < n) }
+        ensures within { IfOk result (λ n. n ≤ length piece.now) }
+        ensures adds { IfOk result (λ n. Adds (told_by S.written self.old) (told_by S.written self.new) (take n piece.now)) }
+        ensures failed_adds_none { OnErr result (Adds (told_by S.written self.old) (told_by S.written self.new) []) }
+        ensures failed_rose { OnErr result (Rose (S.faults (behind_of self.old)) (S.faults (behind_of self.new))) }
+        ensures faults_never_fall { S.faults (behind_of self.old) ≤ S.faults (behind_of self.new) }
+    {
+        self.finish()?;
+        Ok(self.room.put(piece))
+    }
 }
 
 impl<S: Sink + Drop> Sink for GatheredSink<S> {
@@ -94,7 +111,6 @@ impl<S: Sink + Drop> Sink for GatheredSink<S> {
         if count > 0 {
             return Ok(count);
         }
-        self.finish()?;
-        Ok(self.room.put(piece))
+        self.write_anew(piece)
     }
 }

@@ -4,7 +4,7 @@ use rail_base::OutOfMemory;
 use std::alloc::Global;
 
 /// How many bytes more than wanted are cleared at once.
-const BLOCK: usize = 4096;
+const BLOCK: usize = 1024;
 
 /// Bytes that are kept in a room of a fixed size, to be handed on from their front. The room is cleared little by
 /// little, only as far as it is used.

@@ -155,7 +155,27 @@ pub fn write_whole<O: Sink>(sink: &mut O, piece: &[u8]) -> Result<(), Failed>
     ensures empty_takes_no_call { piece.now ≡ [] → sink.new ≡ sink.old }
     ensures faults_never_fall { O.faults sink.old ≤ O.faults sink.new }
 {
-    if write_front(sink, piece) == piece.len() {
+    if piece.is_empty() {
+        return Ok(());
+    }
+    let count = sink.write(piece)?;
+    if count == piece.len() {
+        return Ok(());
+    }
+    write_rest(sink, &piece[count..])
+}
+
+/// Writes the whole rest of a piece of which a call took the front.
+#[cold]
+#[inline(never)]
+fn write_rest<O: Sink>(sink: &mut O, rest: &[u8]) -> Result<(), Failed>
+    ensures adds { OnOk result (Adds (O.written sink.old) (O.written sink.new) rest.now) }
+    ensures failed_adds_prefix { OnErr result
+        (AddsPrefix (O.written sink.old) (O.written sink.new) rest.now) }
+    ensures failed_rose { OnErr result (Rose (O.faults sink.old) (O.faults sink.new)) }
+    ensures faults_never_fall { O.faults sink.old ≤ O.faults sink.new }
+{
+    if write_front(sink, rest) == rest.len() {
         Ok(())
     } else {
         Err(Failed)
