@@ -152,13 +152,18 @@ impl Line {
         self.put_word(&text[..len]);
     }
 
-    /// Puts a space and the name at the end.
+    /// Puts a space and the name at the end. Most names have two to four bytes, which are put at once.
     pub fn put_name(&mut self, name: &Name)
         requires { length self.old + 17 ≤ ROOM }
         ensures text { self.new ≡ self.old ++ 32 ∷ name.now }
         ensures short { length self.new ≤ length self.old + 17 }
     {
-        self.put_word(name.as_bytes());
+        match name.as_bytes() {
+            [a, b] => self.put(&[b' ', *a, *b]),
+            [a, b, c] => self.put(&[b' ', *a, *b, *c]),
+            [a, b, c, d] => self.put(&[b' ', *a, *b, *c, *d]),
+            word => self.put_word(word),
+        }
     }
 }
 
