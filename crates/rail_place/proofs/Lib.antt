@@ -2,6 +2,7 @@
 pub mod CallerLemmas
 -- Lemmas on tables of moves, places and the player.
 mod Tables
+mod Spans
 mod Giving
 mod Firsts
 mod Making

@@ -1,7 +1,7 @@
 -- Reading a table of moves, and adding a train to it.
 use Rattle.std.proofs.Common.{◌≡◌, ℕ, zero, suc, ◌+◌, ◌-◌, ◌<◌, ◌≤◌, Bool, true, ◌&&◌, cond, ltb, List, [], ◌∷◌, ◌++◌, length, get_or, map, refl, sym, ap, ◌∙◌, subst, ⊎_elim, arith}
 use Rattle.std.proofs.lemmas.Bool.{and_parts, cases_lt, cases_eq, false≢true, ltb-true, lt-ltb, cond-true}
-use Rattle.std.proofs.lemmas.List.{get_or_past, get_or_push, get_or_append_left, get_or-map, get_or_read, length-map, length_push}
+use Rattle.std.proofs.lemmas.List.{get_or_past, get_or_push, get_or_append_left, get_or-map, length-map, length_push}
 use Rattle.std.specs.List.{list_all}
 use Rattle.rail_base.specs.declared.limits.TheConstants.{ITINERARY_ROUTES, ROUTE_SECTIONS, SECTIONS, TRAINS}
 use Rattle.rail_rules.specs.Numbers.{all_below, is_in, are_apart}
@@ -12,7 +12,7 @@ use Rattle.rail_place.specs.declared.moves.Row.{Row}
 
 -- a row as contracts see it
 abbrev pub row_of : Row → MoveLists
-row_of row = record { needs = row.needs.items; stands = row.stands.items }
+row_of row = record { needs = row.needs; stands = row.stands }
 
 -- what the code reads of a row
 pub row_read : (rows : List Row) (t : ℕ) (row : Row) → t < length rows → row ≡ get_or rows t row → get_or (map row_of rows) t no_lists ≡ row_of row
@@ -139,25 +139,24 @@ pub table_at : (now : List MoveLists) (rows : List Row) → map row_of rows ≡ 
 table_at now rows view h = let P : List MoveLists → Type 0 = λ n. IsTable n in subst P view h
 
 -- the moves of a train, as its row tells them
-pub moves_at : (now : List MoveLists) (t : ℕ) (row : Row) → get_or now t no_lists ≡ row_of row → (moves_in now).moves t ≡ length row.needs.items
+pub moves_at : (now : List MoveLists) (t : ℕ) (row : Row) → get_or now t no_lists ≡ row_of row → (moves_in now).moves t ≡ length row.needs
 moves_at now t row at = ap (λ (r : MoveLists). length r.needs) at
 
-pub need_at : (now : List MoveLists) (t m : ℕ) (row : Row) (sections : List ℕ) → get_or now t no_lists ≡ row_of row → m < length row.needs.items → sections ≡ get_or row.needs.items m sections → sections ≡ (moves_in now).claim t m
-need_at now t m row sections at lt is = get_or_read row.needs.items m sections lt is [] ∙ ap (λ (r : MoveLists). get_or r.needs m []) (sym at)
+pub need_at : (now : List MoveLists) (t m : ℕ) (row : Row) (sections : List ℕ) → get_or now t no_lists ≡ row_of row → sections ≡ get_or row.needs m [] → sections ≡ (moves_in now).claim t m
+need_at now t m row sections at is = is ∙ ap (λ (r : MoveLists). get_or r.needs m []) (sym at)
 
-pub need_range : (now : List MoveLists) (t m : ℕ) (row : Row) (sections : List ℕ) → IsTable now → get_or now t no_lists ≡ row_of row → m < length row.needs.items → sections ≡ get_or row.needs.items m sections → (x : ℕ) → is_in x sections ≡ true → x < SECTIONS
-need_range now t m row sections h at lt is x stands = h.in_range t m x (ap (is_in x) (sym (need_at now t m row sections at lt is)) ∙ stands)
+pub need_range : (now : List MoveLists) (t m : ℕ) (row : Row) (sections : List ℕ) → IsTable now → get_or now t no_lists ≡ row_of row → sections ≡ get_or row.needs m [] → (x : ℕ) → is_in x sections ≡ true → x < SECTIONS
+need_range now t m row sections h at is x stands = h.in_range t m x (ap (is_in x) (sym (need_at now t m row sections at is)) ∙ stands)
 
 -- the standing set at a place inside, as the train's row tells it
 pub stand_at : (now : List MoveLists) (t p : ℕ) (row : Row) (sections : List ℕ)
-    → get_or now t no_lists ≡ row_of row → 0 < p → p < length row.needs.items
-    → p - 1 < length row.stands.items → sections ≡ get_or row.stands.items (p - 1) sections
+    → get_or now t no_lists ≡ row_of row → 0 < p → p < length row.needs → sections ≡ get_or row.stands (p - 1) []
     → sections ≡ stand (moves_in now) t p
-stand_at now t p row sections at low high lt is =
-    get_or_read row.stands.items (p - 1) sections lt is []
+stand_at now t p row sections at low high is =
+    is
     ∙ ap (λ (r : MoveLists). get_or r.stands (p - 1) []) (sym at)
     ∙ sym (stand-inner (moves_in now) t p low (omega (arith, moves_at now t row at)))
 
-pub stand_room : (now : List MoveLists) (t p : ℕ) (row : Row) → IsTable now → t < length now → get_or now t no_lists ≡ row_of row → 0 < p → p < length row.needs.items → p - 1 < length row.stands.items
+pub stand_room : (now : List MoveLists) (t p : ℕ) (row : Row) → IsTable now → t < length now → get_or now t no_lists ≡ row_of row → 0 < p → p < length row.needs → p - 1 < length row.stands
 stand_room now t p row h lt at low high =
     omega (arith, stand_listed now t p h lt low (omega (arith, moves_at now t row at)), ap (λ (r : MoveLists). length r.stands) at)

@@ -8,3 +8,4 @@ pub mod Overlaps
 pub mod Holdings
 pub mod Room
 pub mod Lasts
+pub mod Lists

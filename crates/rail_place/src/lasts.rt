@@ -5,19 +5,20 @@ ghost use Rattle.rail_rules.specs.Numbers.{is_in};
 ghost use Rattle.rail_place.specs.Lasts.{TellsLasts};
 ghost use Rattle.rail_place.specs.Owners.{given};
 
+use crate::section_lists::SectionLists;
+use rail_base::SectionNo;
 use rail_base::limits::{ITINERARY_ROUTES, SECTIONS};
-use rail_base::{SectionNo, Seq};
 use std::alloc::{AllocError, Global};
 
 /// The last of the moves that needs each section, counted from 1, and 0 where none does.
-pub fn last_needs(alloc: Global, need: &[Seq<SectionNo>]) -> Result<Vec<u16>, AllocError>
+pub fn last_needs(alloc: Global, need: &SectionLists) -> Result<Vec<u16>, AllocError>
     requires short { length need.now ≤ ITINERARY_ROUTES }
     requires in_range { (m x : ℕ) → IsTrue (is_in x (get_or need.now m [])) → x < SECTIONS }
     ensures { IfOk result (λ lasts. TellsLasts need.now lasts.items) }
 {
     let mut lasts = vec![in alloc; 0u16; SECTIONS]?;
-    for (made, sections) in need.iter().enumerate() {
-        note(&mut lasts, sections.as_slice(), made as u16 + 1);
+    for made in 0..need.len() {
+        note(&mut lasts, need.at(made), made as u16 + 1);
     }
     Ok(lasts)
 }

@@ -18,7 +18,9 @@ mod moves;
 mod owners;
 mod places;
 mod player;
+mod section_lists;
 
 pub use barring::{Barred, PlacesFault, Played};
 pub use moves::Moves;
 pub use places::Places;
+pub use section_lists::SectionLists;

@@ -4,16 +4,17 @@ ghost use Rattle.rail_rules.specs.Moves.{is_valid, stand};
 ghost use Rattle.rail_place.specs.Lasts.{last_need};
 
 use crate::lasts::last_needs;
+use crate::section_lists::SectionLists;
 use rail_base::limits::{ITINERARY_ROUTES, ROUTE_SECTIONS, SECTIONS, TRAINS};
-use rail_base::{OutOfMemory, SectionNo, Seq, TrainNo};
+use rail_base::{OutOfMemory, SectionNo, TrainNo};
 use std::alloc::Global;
 use std::marker::Model;
 
 /// The moves of one train.
 #[derive(Debug, Drop)]
 struct Row {
-    needs: Vec<Seq<SectionNo>>,
-    stands: Vec<Seq<SectionNo>>,
+    needs: SectionLists,
+    stands: SectionLists,
     /// For each section the last move that needs it, so that no moves are looked through for it.
     lasts: Vec<u16>,
 }
@@ -41,10 +42,10 @@ impl Model for Moves {
 
     ghost Value = { List MoveLists };
 
-    ghost view = { λ moves. map (λ row. lists_of row.needs.items row.stands.items) moves.rows.items };
+    ghost view = { λ moves. map (λ row. lists_of row.needs row.stands) moves.rows.items };
 
-    ghost invariant = { λ moves. IsTable (map (λ row. lists_of row.needs.items row.stands.items) moves.rows.items)
-        × All (λ row. TellsLasts row.needs.items row.lasts.items) moves.rows.items };
+    ghost invariant = { λ moves. IsTable (map (λ row. lists_of row.needs row.stands) moves.rows.items)
+        × All (λ row. TellsLasts row.needs row.lasts.items) moves.rows.items };
 }
 
 impl Moves {
@@ -65,15 +66,15 @@ impl Moves {
     pub fn push_train(
         &mut self,
         alloc: Global,
-        need: Vec<Seq<SectionNo>>,
-        stand: Vec<Seq<SectionNo>>,
+        need: SectionLists,
+        stand: SectionLists,
     ) -> Result<(), OutOfMemory>
         requires room { length self.old < TRAINS }
-        requires short { length need.items ≤ ITINERARY_ROUTES }
-        requires narrow { (m : ℕ) → length (get_or need.items m []) ≤ ROUTE_SECTIONS }
-        requires in_range { (m x : ℕ) → IsTrue (is_in x (get_or need.items m [])) → x < SECTIONS }
-        requires valid { IsTrue (is_valid (moves_in (lists_of need.items stand.items ∷ []))) }
-        ensures ok { OnOk result (self.new ≡ self.old ++ lists_of need.items stand.items ∷ []) }
+        requires short { length need ≤ ITINERARY_ROUTES }
+        requires narrow { (m : ℕ) → length (get_or need m []) ≤ ROUTE_SECTIONS }
+        requires in_range { (m x : ℕ) → IsTrue (is_in x (get_or need m [])) → x < SECTIONS }
+        requires valid { IsTrue (is_valid (moves_in (lists_of need stand ∷ []))) }
+        ensures ok { OnOk result (self.new ≡ self.old ++ lists_of need stand ∷ []) }
         ensures err { OnErr result (self.new ≡ self.old) }
     {
         let Ok(lasts) = last_needs(alloc, &need) else {
@@ -114,7 +115,9 @@ impl Moves {
         ensures sections { result.now ≡ (moves_in self.now).claim train (place - 1) }
         ensures in_range { (x : ℕ) → IsTrue (is_in x result.now) → x < SECTIONS }
     {
-        self.rows[usize::from(train.0)].needs[usize::from(place) - 1].as_slice()
+        self.rows[usize::from(train.0)]
+            .needs
+            .at(usize::from(place) - 1)
     }
 
     /// The sections on which the train stands at this place: none at place 0 and at the last one.
@@ -127,7 +130,7 @@ impl Moves {
         let row = &self.rows[usize::from(train.0)];
         let place = usize::from(place);
         if 0 < place && place < row.needs.len() {
-            row.stands[place - 1].as_slice()
+            row.stands.at(place - 1)
         } else {
             &[]
         }

@@ -1,9 +1,8 @@
 -- Standing sets: ends of routes.
-use Rattle.std.proofs.Common.{◌≡◌, ℕ, ◌+◌, ◌<◌, ◌≤◌, min, leb, ltb, List, [], ◌∷◌, length, get_or, drop, sym, ap, ◌∙◌, ⊎_elim, arith}
-use Rattle.std.proofs.lemmas.Bool.{cases_lt, cond-true, cond-false, le-leb, lt-leb, lt-ltb, le-ltb}
-use Rattle.std.proofs.lemmas.List.{drop_more, length-drop}
-use Rattle.rail_rules.specs.Plant.{Plant, shortest_end, longer}
-use Rattle.rail_plan.specs.PlanFaults.{metres_of}
+use Rattle.std.proofs.Common.{◌≡◌, ℕ, ◌≤◌, min, ltb, List, [], length, drop, sym, ap, ◌∙◌, ⊎_elim, arith}
+use Rattle.std.proofs.lemmas.Bool.{cases_lt, cond-true, cond-false, lt-ltb, le-ltb}
+use Rattle.std.proofs.lemmas.List.{length-drop}
+use Rattle.rail_rules.specs.Plant.{longer}
 
 -- the longer of two ends begins first
 pub longer-drops : (xs : List ℕ) (a b : ℕ) → a ≤ length xs → longer (drop a xs) (drop b xs) ≡ drop (min a b) xs

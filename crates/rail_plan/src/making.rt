@@ -1,6 +1,6 @@
 //! What a plant keeps beside its tables: the moves and the names that they spell.
 
-ghost use Rattle.std.specs.Prelude.{◌≡◌, ◌<◌, List, Option, None, IsTrue, IfOk, length, map};
+ghost use Rattle.std.specs.Prelude.{◌≡◌, ◌-◌, ◌<◌, ◌^◌, List, Option, None, IsTrue, IfOk, length, map, min, sum_by};
 ghost use Rattle.rail_base.specs.declared.plant.MoveRow.{MoveRow};
 ghost use Rattle.rail_base.specs.declared.plant.SectionRow.{SectionRow};
 ghost use Rattle.rail_base.specs.declared.plant.TrainRow.{TrainRow};
@@ -12,8 +12,8 @@ ghost use Rattle.rail_plan.specs.PlanFaults.{IsPlannable, bare, fault_of, standi
 use crate::rows::train_row;
 use crate::standing::standing;
 use indexmap::IndexSet;
-use rail_base::{Name, Names, OutOfMemory, SectionNo, SectionRow, Seq, Tables, TrainNo, TrainRow};
-use rail_place::Moves;
+use rail_base::{MoveRow, Name, Names, OutOfMemory, SectionRow, Tables, TrainNo, TrainRow};
+use rail_place::{Moves, SectionLists};
 use std::alloc::{AllocError, Global};
 
 /// The moves of the trains: the needed sections of each, and where the train stands after it. Nothing is
@@ -34,42 +34,43 @@ pub fn moves_of(alloc: Global, tables: &Tables) -> Result<Moves, OutOfMemory>
 }
 
 /// The needed sections of each move of the train.
-fn needs_of(alloc: Global, train: &TrainRow) -> Result<Vec<Seq<SectionNo>>, AllocError>
-    ensures { IfOk result (λ needs. needs.items ≡ map (λ (row : MoveRow). row.sections) train.now.moves) }
+fn needs_of(alloc: Global, train: &TrainRow) -> Result<SectionLists, AllocError>
+    ensures { IfOk result (λ needs. needs ≡ map (λ (row : MoveRow). row.sections) train.now.moves) }
 {
-    let mut needs = Vec::new(alloc);
-    for row in train.moves.as_slice() {
-        needs.push(sequence_of(alloc, row.sections.as_slice())?)?;
+    let moves = train.moves.as_slice();
+    let mut needs = SectionLists::with_capacity(alloc, moves.len(), sections_in(moves))?;
+    for row in moves {
+        needs.push(row.sections.as_slice())?;
     }
     Ok(needs)
 }
 
 /// Where the train stands after each of its moves.
-fn stands_of(
-    alloc: Global,
-    tables: &Tables,
-    number: TrainNo,
-) -> Result<Vec<Seq<SectionNo>>, AllocError>
+fn stands_of(alloc: Global, tables: &Tables, number: TrainNo) -> Result<SectionLists, AllocError>
     requires tables { IsPlannable tables.now }
     requires train { number < length tables.now.trains }
-    ensures { IfOk result (λ stands. stands.items
+    ensures { IfOk result (λ stands. stands
         ≡ map (standing_of (bare tables.now) (train (bare tables.now) number).kind.length)
         (train (bare tables.now) number).moves) }
 {
     let train = train_row(tables, number);
-    let mut stands = Vec::new(alloc);
-    for row in train.moves.as_slice() {
-        let stand = standing(tables, train.kind.length, row);
-        stands.push(sequence_of(alloc, stand)?)?;
+    let moves = train.moves.as_slice();
+    let mut stands = SectionLists::with_capacity(alloc, moves.len(), sections_in(moves))?;
+    for row in moves {
+        stands.push(standing(tables, train.kind.length, row))?;
     }
     Ok(stands)
 }
 
-/// The sections as a sequence of their own.
-fn sequence_of(alloc: Global, sections: &[SectionNo]) -> Result<Seq<SectionNo>, AllocError>
-    ensures { IfOk result (λ sequence. sequence ≡ sections.now) }
+/// How many sections the moves need, each counted as often as a move needs it.
+fn sections_in(moves: &[MoveRow]) -> usize
+    ensures { result ≡ min (sum_by (λ (row : MoveRow). length row.sections) moves.now) (2 ^ 64 - 1) }
 {
-    Ok(Seq::from_vec(Vec::from_slice(alloc, sections)?))
+    let mut count: usize = 0;
+    for row in moves {
+        count = count.saturating_add(row.sections.as_slice().len());
+    }
+    count
 }
 
 /// The names of the sections and of the trains.

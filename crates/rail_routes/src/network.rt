@@ -144,10 +144,14 @@ impl Network {
     pub fn post(&self, name: Name) -> Option<Post>
         ensures { result ≡ post_named name self.now }
     {
-        self.portals
-            .get(name)
-            .or(self.signals.get(name))
-            .or(self.boards.get(name))
+        // Most posts are signals, so that few names are looked up three times.
+        if let Some(portal) = self.portals.get(name) {
+            return Some(portal);
+        }
+        if let Some(signal) = self.signals.get(name) {
+            return Some(signal);
+        }
+        self.boards.get(name)
     }
 
     /// The section of this name.

@@ -78,6 +78,10 @@ impl<K: Eq + Hash + Drop, T: Keyed<K> + Drop> Roll<K, T> {
     pub fn get(&self, key: &K) -> Option<&T>
         ensures { option_copied result ≡ find (λ item. K.eq key.now (T.key_of item)) self.now }
     {
+        // Where there is no item, the key is not hashed.
+        if self.items.is_empty() {
+            return None;
+        }
         let index = self.keys.get_index_of(key)?;
         Some(&self.items[index])
     }

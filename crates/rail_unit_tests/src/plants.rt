@@ -8,7 +8,7 @@ ghost use Rattle.rail_place.specs.Tables.{moves_in, lists_of};
 
 use rail_base::limits::{ITINERARY_ROUTES, ROUTE_SECTIONS, SECTIONS, TRAINS};
 use rail_base::{SectionNo, Seq, TrainNo};
-use rail_place::{Moves, Places, PlacesFault};
+use rail_place::{Moves, Places, PlacesFault, SectionLists};
 use std::alloc::{AllocError, Global};
 
 /// The moves of the trains of the text. For each train it has the sections that each move needs, a slash,
@@ -54,10 +54,43 @@ fn push_rows(
 ) -> bool {
     let fits = usize::from(moves.trains()) < TRAINS && need.len() <= ITINERARY_ROUTES;
     if fits && row_is_small(&need) && row_is_valid(&need, &stand) {
-        moves.push_train(alloc, need, stand).is_ok()
+        push_lists(alloc, moves, &need, &stand)
     } else {
         false
     }
+}
+
+/// Adds the train of these valid rows. False where memory is not found.
+fn push_lists(
+    alloc: Global,
+    moves: &mut Moves,
+    need: &[Seq<SectionNo>],
+    stand: &[Seq<SectionNo>],
+) -> bool
+    requires room { length moves.old < TRAINS }
+    requires short { length need.now ≤ ITINERARY_ROUTES }
+    requires narrow { (m : ℕ) → length (get_or need.now m []) ≤ ROUTE_SECTIONS }
+    requires in_range { (m x : ℕ) → IsTrue (is_in x (get_or need.now m [])) → x < SECTIONS }
+    requires valid { IsTrue (is_valid (moves_in (lists_of need.now stand.now ∷ []))) }
+{
+    match lists(alloc, need) {
+        Ok(need) => match lists(alloc, stand) {
+            Ok(stand) => moves.push_train(alloc, need, stand).is_ok(),
+            Err(_) => false,
+        },
+        Err(_) => false,
+    }
+}
+
+/// The rows as lists in one vector.
+fn lists(alloc: Global, rows: &[Seq<SectionNo>]) -> Result<SectionLists, AllocError>
+    ensures { IfOk result (λ lists. lists ≡ rows.now) }
+{
+    let mut lists = SectionLists::with_capacity(alloc, rows.len(), rows.len())?;
+    for row in rows {
+        lists.push(row.as_slice())?;
+    }
+    Ok(lists)
 }
 
 fn rows(alloc: Global, words: &str) -> Result<Vec<Seq<SectionNo>>, AllocError> {

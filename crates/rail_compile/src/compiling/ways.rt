@@ -1,16 +1,17 @@
 //! The routes of a network, with what each gives to the itineraries over it looked up once.
 
-ghost use Rattle.std.specs.Prelude.{◌≡◌, map, None, IsTrue, IfOk};
+ghost use Rattle.std.specs.Prelude.{◌≡◌, map, Some, None, IsTrue, IfOk};
 ghost use Rattle.rail_routes.specs.declared.items.Route.{Route};
 ghost use Rattle.rail_routes.specs.declared.items.Step.{Step};
+ghost use Rattle.rail_routes.specs.Net.{post_named};
 ghost use Rattle.rail_routes.specs.Sound.{is_sound_route};
-ghost use Rattle.rail_compile.specs.Itineraries.{is_portal, is_signal, move_over, number_of};
+ghost use Rattle.rail_compile.specs.Itineraries.{move_over, number_of};
 ghost use Rattle.rail_compile.specs.Ways.{AreWays, way_over};
 
 use indexmap::IndexSet;
 use rail_base::limits::SECTIONS;
 use rail_base::{MoveRow, Name, SectionNo, Seq};
-use rail_routes::{Network, Role, Route};
+use rail_routes::{Network, Post, Role, Route};
 use std::alloc::{AllocError, Global};
 
 /// What a route gives to each itinerary over it.
@@ -66,27 +67,34 @@ fn way_over(alloc: Global, network: &Network, route: &Route) -> Result<Way, Allo
     requires { IsTrue (is_sound_route network.now route.now) }
     ensures { IfOk result (λ way. way ≡ way_over network.now route.now) }
 {
-    let row = move_over(alloc, network, route)?;
+    let begin = network.post(route.from).unwrap();
+    let end = network.post(route.to).unwrap();
+    let row = move_over(alloc, network, route, &begin)?;
     Ok(Way {
         row,
-        begins_at_portal: is_portal(network, route.from),
-        ends_at_portal: is_portal(network, route.to),
-        ends_at_signal: is_signal(network, route.to),
+        begins_at_portal: matches!(begin.role, Role::Portal),
+        ends_at_portal: matches!(end.role, Role::Portal),
+        ends_at_signal: matches!(end.role, Role::Signal),
     })
 }
 
-/// The move over a route, from the post at which it begins, without a turn.
-fn move_over(alloc: Global, network: &Network, route: &Route) -> Result<MoveRow, AllocError>
-    requires { IsTrue (is_sound_route network.now route.now) }
+/// The move over a route that begins at the post, without a turn.
+fn move_over(
+    alloc: Global,
+    network: &Network,
+    route: &Route,
+    begin: &Post,
+) -> Result<MoveRow, AllocError>
+    requires route { IsTrue (is_sound_route network.now route.now) }
+    requires begin { post_named route.now.from network.now ≡ Some begin.now }
     ensures { IfOk result (λ row. row ≡ move_over network.now route.now None) }
 {
     let sections = numbers_of(alloc, network, route)?;
-    let post = network.post(route.from).unwrap();
     Ok(MoveRow {
         sections: Seq::from_vec(sections),
-        setting: post.setting,
-        watching: post.watching,
-        approach: post.approach,
+        setting: begin.setting,
+        watching: begin.watching,
+        approach: begin.approach,
         turn: None,
     })
 }
@@ -104,24 +112,4 @@ fn numbers_of(alloc: Global, network: &Network, route: &Route) -> Result<Vec<Sec
         numbers.push(SectionNo(index as u16))?;
     }
     Ok(numbers)
-}
-
-/// Whether the post of this name is a portal.
-fn is_portal(network: &Network, name: Name) -> bool
-    ensures { result ≡ is_portal network.now name }
-{
-    match network.post(name) {
-        Some(post) => matches!(post.role, Role::Portal),
-        None => false,
-    }
-}
-
-/// Whether the post of this name is a signal.
-fn is_signal(network: &Network, name: Name) -> bool
-    ensures { result ≡ is_signal network.now name }
-{
-    match network.post(name) {
-        Some(post) => matches!(post.role, Role::Signal),
-        None => false,
-    }
 }

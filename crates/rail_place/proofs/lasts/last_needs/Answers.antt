@@ -1,5 +1,4 @@
 use Rattle.std.proofs.Common.{◌≡◌, ℕ, ◌+◌, ◌<◌, [], List, length, get_or, sym, ap, ◌∙◌, subst, arith}
-use Rattle.std.proofs.lemmas.List.{get_or_read}
 use Rattle.rail_base.specs.declared.limits.TheConstants.{SECTIONS}
 use Rattle.rail_rules.specs.Numbers.{is_in}
 use Rattle.rail_place.specs.Lasts.{last_below}
@@ -7,25 +6,17 @@ use Rattle.rail_place.proofs.Giving.{length-given}
 use Rattle.rail_place.proofs.LastMoves.{noted_on}
 use Rattle.rail_place.proofs.lasts.last_needs.Goals as goal
 
--- the sections that are noted are those of this move
-here : (need : List (List ℕ)) (read item : List ℕ) (n : ℕ) → read ≡ item → n < length need → item ≡ get_or need n item → read ≡ get_or need n []
-here need read item n read_is lt is = read_is ∙ get_or_read need n item lt is []
-
 pub note-requires : goal.note-requires
 note-requires c = λ x named.
-    let need = c.args.need.now in
-    let is = here need c.as_slice.result.now c.index-need-made.result c.loop-made.made c.as_slice.ensures c.loop-made-test.true c.index-need-made.is in
-    omega (arith, c.requires.in_range c.loop-made.made x (ap (is_in x) (sym is) ∙ named), c.loop-made.invariant.wide)
+    omega (arith, c.requires.in_range c.loop-made.made x (ap (is_in x) (sym c.at.ensures) ∙ named), c.loop-made.invariant.wide)
 
 pub loop-made-preserved : goal.loop-made-preserved
 loop-made-preserved c =
     let need = c.args.need.now in
     let lasts = c.loop-made.lasts.items in
     let n = c.loop-made.made in
-    let sections = c.as_slice.result.now in
-    let is = here need sections c.index-need-made.result n c.as_slice.ensures c.loop-made-test.true c.index-need-made.is in
     let P : List ℕ → Type 0 = λ new. (x : ℕ) → x < SECTIONS → get_or new x 0 ≡ last_below (λ m. is_in x (get_or need m [])) (n + 1) in
     record {
-      wide = ap length c.note.ensures ∙ length-given lasts sections (n + 1) ∙ c.loop-made.invariant.wide;
-      told = subst P (sym c.note.ensures) (noted_on need lasts sections n c.loop-made.invariant.wide c.loop-made.invariant.told is);
+      wide = ap length c.note.ensures ∙ length-given lasts c.at.result.now (n + 1) ∙ c.loop-made.invariant.wide;
+      told = subst P (sym c.note.ensures) (noted_on need lasts c.at.result.now n c.loop-made.invariant.wide c.loop-made.invariant.told c.at.ensures);
     }

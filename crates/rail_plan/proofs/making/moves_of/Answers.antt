@@ -15,7 +15,7 @@ push_train-requires-clause-narrow c =
     let tables = c.args.tables.now in
     let t = c.loop-index.index in
     let within : t < length tables.trains = omega (arith, ap length c.as_slice-index-end.ensures) in
-    let need : c.in_ok-need.need.items ≡ map needs (train (bare tables) t).moves = c.in_ok-need.ensures ∙ ap (λ (r : TrainRow). map needs r.moves) c.train_row.ensures.row in
+    let need : c.in_ok-need.need ≡ map needs (train (bare tables) t).moves = c.in_ok-need.ensures ∙ ap (λ (r : TrainRow). map needs r.moves) c.train_row.ensures.row in
     let P : List (List ℕ) → Type 0 = λ n. (m : ℕ) → length (get_or n m []) ≤ ROUTE_SECTIONS in
     subst P (sym need) (spelled_row tables c.requires.tables c.requires.faultless t within).narrow
 
@@ -24,7 +24,7 @@ push_train-requires-clause-in_range c =
     let tables = c.args.tables.now in
     let t = c.loop-index.index in
     let within : t < length tables.trains = omega (arith, ap length c.as_slice-index-end.ensures) in
-    let need : c.in_ok-need.need.items ≡ map needs (train (bare tables) t).moves = c.in_ok-need.ensures ∙ ap (λ (r : TrainRow). map needs r.moves) c.train_row.ensures.row in
+    let need : c.in_ok-need.need ≡ map needs (train (bare tables) t).moves = c.in_ok-need.ensures ∙ ap (λ (r : TrainRow). map needs r.moves) c.train_row.ensures.row in
     let P : List (List ℕ) → Type 0 = λ n. (m x : ℕ) → is_in x (get_or n m []) ≡ true → x < SECTIONS in
     subst P (sym need) (spelled_row tables c.requires.tables c.requires.faultless t within).in_range
 
@@ -34,9 +34,9 @@ push_train-requires-clause-valid c =
     let t = c.loop-index.index in
     let within : t < length tables.trains = omega (arith, ap length c.as_slice-index-end.ensures) in
     let row : TrainRow = train (bare tables) t in
-    let need : c.in_ok-need.need.items ≡ map needs row.moves = c.in_ok-need.ensures ∙ ap (λ (r : TrainRow). map needs r.moves) c.train_row.ensures.row in
-    let stand : c.in_ok-stand.stand.items ≡ map (standing_of (bare tables) row.kind.length) row.moves = c.in_ok-stand.ensures in
-    let P : List (List ℕ) → Type 0 = λ n. is_valid (moves_in (lists_of n c.in_ok-stand.stand.items ∷ [])) ≡ true in
+    let need : c.in_ok-need.need ≡ map needs row.moves = c.in_ok-need.ensures ∙ ap (λ (r : TrainRow). map needs r.moves) c.train_row.ensures.row in
+    let stand : c.in_ok-stand.stand ≡ map (standing_of (bare tables) row.kind.length) row.moves = c.in_ok-stand.ensures in
+    let P : List (List ℕ) → Type 0 = λ n. is_valid (moves_in (lists_of n c.in_ok-stand.stand ∷ [])) ≡ true in
     let Q : List (List ℕ) → Type 0 = λ n. is_valid (moves_in (lists_of (map needs row.moves) n ∷ [])) ≡ true in
     subst P (sym need) (subst Q (sym stand) (spelled_row tables c.requires.tables c.requires.faultless t within).valid)
 

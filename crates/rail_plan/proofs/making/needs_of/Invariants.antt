@@ -3,4 +3,4 @@ use Rattle.rail_base.specs.declared.plant.MoveRow.{MoveRow}
 use Rattle.rail_plan.proofs.making.needs_of.Given as goal
 
 abbrev pub invariant-loop-row : goal.invariant-loop-row
-invariant-loop-row l = l.needs.items ≡ map (λ (row : MoveRow). row.sections) (take l.row-index l.row-items)
+invariant-loop-row l = l.needs ≡ map (λ (row : MoveRow). row.sections) (take l.row-index l.moves)

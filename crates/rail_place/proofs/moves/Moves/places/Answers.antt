@@ -8,4 +8,4 @@ overflow_cast-result c =
     let row = c.index.result.now in
     let at = row_at now c.self.inside.rows.items c.args.train c.from.result row c.self.view_is (c.from.ensures ∙ c.train.view_is) c.requires c.index.ensures in
     let h = table_at now c.self.inside.rows.items c.self.view_is c.self.invariant.0 in
-    omega (arith, moves_at now c.args.train row at, h.short c.args.train, row.needs.ok, c.len.ensures)
+    omega (arith, moves_at now c.args.train row at, h.short c.args.train, c.len.ensures)

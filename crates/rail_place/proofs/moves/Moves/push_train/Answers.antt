@@ -16,9 +16,8 @@ invariant_of-self-2 c =
     let room : length (map row_of rows) < TRAINS = omega (arith, ap length c.self.view_is, c.requires.room) in
     let pushed = table_pushed (map row_of rows) (row_of row) c.self.invariant.0 room c.requires.short c.requires.narrow c.requires.in_range c.requires.valid in
     let P : List MoveLists → Type 0 = λ n. IsTable n in
-    let T : Row → Type 0 = λ r. TellsLasts r.needs.items r.lasts.items in
-    let told : T row = subst (λ needs. TellsLasts needs c.in-Ok.lasts.items) c.deref.ensures.value c.in-Ok.ensures in
+    let T : Row → Type 0 = λ r. TellsLasts r.needs r.lasts.items in
     let items : c.push.new.self.items ≡ rows ++ row ∷ [] = c.in-Ok-push.ensures.items in (
       subst P (sym (map_push row_of rows row) ∙ ap (map row_of) (sym items)) pushed,
-      subst (All T) (sym items) (All-push T rows row c.self.invariant.1 told),
+      subst (All T) (sym items) (All-push T rows row c.self.invariant.1 c.in-Ok.ensures),
     )

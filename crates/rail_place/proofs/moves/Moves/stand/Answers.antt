@@ -5,13 +5,13 @@ use Rattle.rail_place.specs.Tables.{moves_in}
 use Rattle.rail_place.proofs.Tables.{row_at, table_at, stand_at, stand_room, stand_in_range}
 use Rattle.rail_place.proofs.moves.Moves.stand.Goals as goal
 
-pub index-requires : goal.index-requires
-index-requires c =
+pub at-requires : goal.at-requires
+at-requires c =
     let now = c.args.self.now in
     let row = c.index-row.result.now in
     let at = row_at now c.self.inside.rows.items c.args.train c.from.result row c.self.view_is (c.from.ensures ∙ c.train.view_is) c.requires.train c.index-row.ensures in
     let h = table_at now c.self.inside.rows.items c.self.view_is c.self.invariant.0 in
-    let high : c.from-place.result < length row.needs.items = omega arith in
+    let high : c.from-place.result < length row.needs = omega arith in
     omega (arith, stand_room now c.args.train c.from-place.result row h c.requires.train at c.if-place-gt0.true high)
 
 pub returns-then-place-len-clause-sections : goal.returns-then-place-len-clause-sections
@@ -19,11 +19,8 @@ returns-then-place-len-clause-sections c =
     let now = c.args.self.now in
     let row = c.index-row.result.now in
     let at = row_at now c.self.inside.rows.items c.args.train c.from.result row c.self.view_is (c.from.ensures ∙ c.train.view_is) c.requires.train c.index-row.ensures in
-    let h = table_at now c.self.inside.rows.items c.self.view_is c.self.invariant.0 in
-    let high : c.from-place.result < length row.needs.items = omega arith in
-    let room = stand_room now c.args.train c.from-place.result row h c.requires.train at c.if-place-gt0.true high in
-    c.as_slice.ensures
-    ∙ stand_at now c.args.train c.from-place.result row c.index.result.now at c.if-place-gt0.true high room c.index.ensures
+    let high : c.from-place.result < length row.needs = omega arith in
+    stand_at now c.args.train c.from-place.result row c.at.result.now at c.if-place-gt0.true high c.at.ensures
     ∙ ap (λ p. stand (moves_in now) c.args.train p) c.from-place.ensures
 
 pub returns-then-place-len-clause-in_range : goal.returns-then-place-len-clause-in_range

@@ -1,6 +1,4 @@
-use Rattle.std.proofs.Common.{◌-◌, ◌≤◌, arith}
-use Rattle.rail_rules.specs.Places.{place_of}
-use Rattle.rail_place.specs.Tables.{moves_in}
+use Rattle.std.proofs.Common.{arith}
 use Rattle.rail_place.proofs.Making.{made_within}
 use Rattle.rail_place.proofs.places.Places.retreat.Goals as goal
 
