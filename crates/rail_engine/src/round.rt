@@ -92,6 +92,8 @@ fn offers_all(ledger: &mut Ledger, round: &Round, desk: &Desk) -> bool
 }
 
 /// The line of the next event, or the end line where there is none. The desk heeds the order that it tells.
+// In line down to the queue: most lines are made here, and then none is handed on through memory.
+#[inline(always)]
 fn go_on(ledger: &mut Ledger, round: &mut Round, desk: &mut Desk) -> Entry
     requires running { IsSomewhere ledger.old }
     requires going { ledger.old.state.has_ended ≡ false }
@@ -135,8 +137,6 @@ fn heed(desk: &mut Desk, commands: &[Command], what: &What)
 }
 
 /// An admission or a hold line, where there is one at this instant, at which nothing is pending.
-// Out of line: most lines are of events, and should not pay for the room of a round.
-#[inline(never)]
 fn decide(ledger: &mut Ledger, round: &mut Round, desk: &mut Desk, all: bool) -> Option<Entry>
     requires running { IsSomewhere ledger.old }
     requires going { ledger.old.state.has_ended ≡ false }

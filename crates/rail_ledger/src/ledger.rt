@@ -129,6 +129,7 @@ impl Ledger {
     }
 
     /// The line of the next event, or the end line where there is none.
+    #[inline(always)]
     pub fn go_on(&mut self) -> Entry
         requires running { IsSomewhere self.old }
         requires going { self.old.state.has_ended ≡ false }
@@ -289,6 +290,7 @@ impl Ledger {
     }
 
     /// The line of the next event, where there is one.
+    #[inline(always)]
     fn next_event(&mut self) -> Option<Entry>
         requires running { IsSomewhere self.old }
         requires going { self.old.state.has_ended ≡ false }

@@ -36,13 +36,13 @@ pub fn free_entries_before(
     // For each train how many of its entries were passed, and `None` where it needs none of the sections any more.
     let mut passed = [Some(0); TRAINS];
     for (index, other) in list.iter().enumerate() {
-        if *other == train {
-            return Some(index);
-        }
         let number = usize::from(other.0);
         let Some(times) = passed[number] else {
             continue;
         };
+        if *other == train {
+            return Some(index);
+        }
         let place = places.position(*other) + times;
         if times == 0 && !does_need_from(moves, *other, place, sections) {
             passed[number] = None;

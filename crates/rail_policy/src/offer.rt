@@ -30,7 +30,10 @@ impl Offer {
                 (self.priority, self.entry, self.train) < (other.priority, other.entry, other.train)
             }
             PolicyKind::Timetable => (self.due, self.train) < (other.due, other.train),
-            PolicyKind::Fcfs => (self.ready, self.train) < (other.ready, other.train),
+            // Written out: it is asked of each offer in each turn, and most are ready later.
+            PolicyKind::Fcfs => {
+                self.ready < other.ready || (self.ready == other.ready && self.train < other.train)
+            }
             PolicyKind::Rotating => {
                 self.train.0.wrapping_sub(mark) < other.train.0.wrapping_sub(mark)
             }

@@ -26,6 +26,7 @@ pub(crate) fn first_event(slots: &Slots<Event>, chain: usize) -> Option<Event>
 ///
 /// It looks at the first events of two chains, however far time jumps: the nearest one of the ring, found by the
 /// marks, and the far one.
+#[inline(always)]
 pub(crate) fn earliest(slots: &Slots<Event>, marks: &Marks, base: u64) -> Option<usize>
     requires ringed { IsRing ring base slots.now.chains }
     requires marked { AreMarked marks.now.words slots.now.chains 1024 }

@@ -70,6 +70,7 @@ impl Marks {
     }
 
     /// The first marked chain from this one on, around the ring. It reads no more than 17 words.
+    #[inline(always)]
     pub(crate) fn first_from(&self, start: usize) -> Option<usize>
         requires { start < 1024 }
         ensures some { IfSome result (λ chain. IsFirstMarked self.now.words start chain) }

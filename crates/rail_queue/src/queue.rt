@@ -144,6 +144,7 @@ impl EventQueue {
     }
 
     /// Takes out the next event, if there is one.
+    #[inline(always)]
     pub fn pop(&mut self) -> Option<Event>
         ensures none { IsNone result ↔ (self.old.events ≡ []) }
         ensures next { MatchOption result (self.new ≡ self.old) (λ event. self.old.events ≡ event ∷ self.new.events) }

@@ -128,6 +128,7 @@ impl RunState {
 
     /// The event happens: the instant is its time, the section that it frees has no holder, and what is kept
     /// of the trains is as its line leaves it. What the line says.
+    #[inline(always)]
     pub fn happen(&mut self, plant: &Plant, event: Event) -> What
         requires ready { IsReadyFor plant.now self.old event }
         requires many { length self.old.trains ≡ trains plant.now }

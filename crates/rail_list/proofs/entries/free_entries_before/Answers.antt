@@ -1,7 +1,8 @@
 use Rattle.std.proofs.Common.{rules, ◌≡◌, ◌≢◌, ℕ, suc, ◌+◌, ◌-◌, ◌<◌, ◌&&◌, true, List, length, get_or, drop, set, Option, Some, None, refl, sym, ap, ◌∙◌, subst, arith}
 use Rattle.std.proofs.lemmas.Bool.{not-false, not-true}
 use Rattle.std.proofs.lemmas.Grind.{common_steps}
-use Rattle.std.proofs.lemmas.List.{get_or-replicate, length-set}
+use Rattle.std.proofs.lemmas.List.{get_or-replicate, get_or-set_other, length-set}
+use Rattle.std.proofs.lemmas.Option.{none-some}
 use Rattle.rail_base.specs.declared.limits.TheConstants.{TRAINS}
 use Rattle.rail_rules.specs.Moves.{Moves}
 use Rattle.rail_rules.specs.Places.{completes, place_of}
@@ -22,6 +23,7 @@ loop-index-init c =
       first = omega arith;
       exact = refl;
       long = search rules;
+      own = λ below. get_or-replicate TRAINS c.args.train (Some 0) None below;
       told = λ u below. subst (λ w. IsPassed plan c.args.sections.now list list u w) (sym (get_or-replicate TRAINS u (Some 0) None below)) (omega arith);
     }
 
@@ -33,10 +35,10 @@ loop-index-preserved-in_default c =
     let i = c.loop-index.index in
     let u = c.index-list-index.result in
     let ws = c.loop-index.passed in
-    let other : u ≢ c.args.train = λ e. grind (arith, common_steps) in
     let number : c.from-number.result ≡ u = search rules in
     let below : c.from-number.result < TRAINS = search rules in
     let none : get_or ws u None ≡ None = ap (λ k. get_or ws k None) (sym number) ∙ c.in_default.is in
+    let other : u ≢ c.args.train = λ e. none-some 0 (sym none ∙ ap (λ k. get_or ws k None) e ∙ c.loop-index.invariant.own (omega (arith, below, number, e))) in
     let P : Option ℕ → Type 0 = λ w. IsPassed plan sections list (drop i list) u w in
     let clear : IsClearOf plan sections (drop i list) u = subst P none (c.loop-index.invariant.told u (omega (arith, below, number, c.loop-index.invariant.long))) in
     record {
@@ -44,6 +46,7 @@ loop-index-preserved-in_default c =
       exact = sym (clear_passed plan list sections i u c.args.train c.loop-index-test.true c.index-list-index.is other (entries_fit plan c.args.places.now.positions list u c.requires.completes) clear)
           ∙ c.loop-index.invariant.exact;
       long = c.loop-index.invariant.long;
+      own = c.loop-index.invariant.own;
       told = told_still plan list sections i u ws c.loop-index-test.true c.index-list-index.is none c.loop-index.invariant.told;
     }
 
@@ -173,6 +176,7 @@ loop-index-preserved-then-not-does_need_from c =
       exact = sym (clear_passed plan list sections i u c.args.train c.loop-index-test.true c.index-list-index.is other (entries_fit plan s list u c.requires.completes) clear)
           ∙ c.loop-index.invariant.exact;
       long = length-set c.loop-index.passed c.from-number.result None ∙ c.loop-index.invariant.long;
+      own = λ known. get_or-set_other c.loop-index.passed c.from-number.result c.args.train None None (λ e. other (sym (e ∙ number))) ∙ c.loop-index.invariant.own known;
       told = subst Q (sym number) (told_later plan list sections i u c.loop-index.passed None c.loop-index-test.true c.index-list-index.is (omega (arith, below, number, c.loop-index.invariant.long)) c.loop-index.invariant.told
           (clear_later plan list sections i u c.loop-index-test.true clear));
     }
@@ -205,5 +209,6 @@ loop-index-preserved c =
           ∙ sym (walk_next plan list sections i u c.args.train c.loop-index-test.true c.index-list-index.is other)
           ∙ c.loop-index.invariant.exact;
       long = length-set c.loop-index.passed c.from-number.result more ∙ c.loop-index.invariant.long;
+      own = λ known. get_or-set_other c.loop-index.passed c.from-number.result c.args.train more None (λ e. other (sym (e ∙ number))) ∙ c.loop-index.invariant.own known;
       told = subst Q (sym number) (told_later plan list sections i u c.loop-index.passed more c.loop-index-test.true c.index-list-index.is (omega (arith, below, number, c.loop-index.invariant.long)) c.loop-index.invariant.told own);
     }
