@@ -1,0 +1,2 @@
+-- Bits of words.
+mod Words
