@@ -1,9 +1,9 @@
 -- Bits of words.
-use Rattle.std.proofs.Common.{◌≡◌, ◌≢◌, ℕ, ◌+◌, ◌-◌, ◌*◌, ◌/◌, ◌%◌, ◌^◌, ◌<◌, ◌≤◌, min, max, Bool, List, length, get_or, eqb, true, false, not, ◌&&◌, ◌||◌, set, refl, sym, ap, ◌∙◌, ⊎_elim, arith, eq-eqb, eqb-true, w64}
+use Rattle.std.proofs.Common.{◌≡◌, ◌≢◌, ℕ, ◌+◌, ◌-◌, ◌*◌, ◌/◌, ◌%◌, ◌^◌, ◌<◌, ◌≤◌, min, max, Bool, List, length, get_or, replicate, take, true, false, not, ◌&&◌, ◌||◌, set, refl, sym, ap, ◌∙◌, ⊎_elim, arith, eq-eqb, eqb-true, w64}
 use Rattle.std.proofs.lemmas.Bool.{cases_Bool, cases_eq, cases_lt, false≢true, ne_eqb, or_right}
-use Rattle.std.proofs.lemmas.List.{get_or_past, get_or-set_same, get_or-set_other}
+use Rattle.std.proofs.lemmas.List.{get_or_past, get_or-set_same, get_or-set_other, get_or-replicate, get_or-take, length-replicate, length-take}
 use Rattle.std.proofs.lemmas.Nat.{and_le_l}
-use Rattle.std.proofs.lemmas.Nat.Bits.{bit_at_or, bit_at_and, bit_at-lt, bit_at-zero, bit_at_not, bit_at_set_same, bit_at_set_other, bit_at-trailing_zeros}
+use Rattle.std.proofs.lemmas.Nat.Bits.{bit_at_and, bit_at-lt, bit_at-zero, bit_at_not, bit_at_set_same, bit_at_set_other, bit_at-trailing_zeros}
 use Rattle.std.specs.Prelude.{bit_and, bit_or, ◌==◌}
 use Rattle.std.specs.Int.{bit_at, bit_not, trailing_zeros}
 use Rattle.rail_sets.specs.Sets.{has}
@@ -111,7 +111,7 @@ or_by_bits p q r a b c is_p is_q is_r low_a low_b made = grind (arith, is_p, is_
 pub replaced_by_bits : (p q r s : Bool) (a b c d : ℕ) → (p ≡ (a == 1)) → (q ≡ (b == 1)) → (r ≡ (c == 1)) → (s ≡ (d == 1)) → a < 2 → b < 2 → c < 2 → d ≡ max (min a (1 - b)) c → s ≡ ((p && not q) || r)
 replaced_by_bits p q r s a b c d is_p is_q is_r is_s low_a low_b low_c made = grind (arith, is_p, is_q, is_r, is_s, low_a, low_b, low_c, made)
 
-or_out : (p q : Bool) → q ≡ false → (p || q) ≡ p
+pub or_out : (p q : Bool) → q ≡ false → (p || q) ≡ p
 or_out true q none = refl
 or_out false q none = none
 
@@ -145,3 +145,40 @@ pub added_at : (words : List ℕ) (y x k bit : ℕ) → k ≡ y / 64 → bit ≡
 added_at words y x k bit at place within =
     let F : ℕ → ℕ → Bool = λ j b. has (set words j (bit_or (get_or words j 0) (1 * 2 ^ b % 2 ^ 64))) x in
     ap (λ j. F j bit) at ∙ ap (F (y / 64)) place ∙ added words y x (bit_or (get_or words (y / 64) 0) (1 * 2 ^ (y % 64) % 2 ^ 64)) (omega (arith, at, within)) refl
+
+-- a set with a section has a word that is not 0
+pub has_some : (words : List ℕ) (x : ℕ) → has words x ≡ true → get_or words (x / 64) 0 ≢ 0
+has_some words x is none = omega (arith, has_bit words x is, ap (λ n. bit_at n (x % 64)) none, bit_at-zero (x % 64))
+
+zeros_at : (n i : ℕ) → get_or {A = ℕ} (replicate n 0) i 0 ≡ 0
+zeros_at n i =
+    ⊎_elim
+    (λ within. get_or-replicate n i 0 0 within)
+    (λ past. get_or_past (replicate n 0) i 0 (omega (arith, past, length-replicate {A = ℕ} n 0)))
+    (cases_lt i n)
+
+-- a set of words that are all 0 has no section
+pub none_in_zeros : (n x : ℕ) → has (replicate n 0) x ≡ false
+none_in_zeros n x = has_no_bit (replicate n 0) x (ap (λ w. bit_at w (x % 64)) (zeros_at n (x / 64)) ∙ bit_at-zero (x % 64))
+
+-- the first so many words of a set whose sections all stand there
+pub has_first : (words : List ℕ) (n x : ℕ) → (has words x ≡ true → x < 64 * n) → has (take n words) x ≡ has words x
+has_first words n x narrow =
+    ⊎_elim
+    (λ low. ap (λ w. bit_at w (x % 64) == 1) (get_or-take n words (x / 64) 0 low))
+    (λ high.
+    let past : has (take n words) x ≡ false = ⊎_elim (λ is. absurd (omega (arith, has_within (take n words) x is, high, length-take n words))) (λ out. out) (cases_Bool (has (take n words) x)) in
+    past ∙ sym (⊎_elim (λ is. absurd (omega (arith, narrow is, high))) (λ out. out) (cases_Bool (has words x))))
+    (cases_lt (x / 64) n)
+
+-- a set has no section behind its words
+pub has_past : (words : List ℕ) (x : ℕ) → length words ≤ x / 64 → has words x ≡ false
+has_past words x past = has_no_bit words x (ap (λ n. bit_at n (x % 64)) (get_or_past words (x / 64) 0 past) ∙ bit_at-zero (x % 64))
+
+-- sets with the same word have the same sections there
+pub same_word : (old new : List ℕ) (x : ℕ) → get_or new (x / 64) 0 ≡ get_or old (x / 64) 0 → has new x ≡ has old x
+same_word old new x same = ap (λ n. bit_at n (x % 64) == 1) same
+
+pub kept_by : (p q r : Bool) → q ≡ false → r ≡ false → ((p && not q) || r) ≡ p
+kept_by true q r none_q none_r = or_out (true && not q) r none_r ∙ ap not none_q
+kept_by false q r none_q none_r = none_r

@@ -9,4 +9,4 @@
 
 mod sets;
 
-pub use sets::{WORDS, add_all, first_common, join, meet, meet_beyond, replace};
+pub use sets::{WORDS, add_all, first_common, join, meet, meet_beyond, replace, width_of};

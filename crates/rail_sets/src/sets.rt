@@ -59,24 +59,24 @@ pub fn first_common(first: &[u64], second: &[u64], third: &[u64]) -> Option<Sect
 
 /// Adds the sections of the other set.
 pub fn join(set: &mut [u64], other: &[u64])
-    requires { length set.old ≤ length other.now }
-    ensures set { (x : ℕ) → x < 64 * length set.old → has set.new x ≡ (has set.old x || has other.now x) }
+    requires { length other.now ≤ length set.old }
+    ensures set { (x : ℕ) → has set.new x ≡ (has set.old x || has other.now x) }
     ensures long { length set.new ≡ length set.old }
 {
-    for (index, word) in set.iter_mut().enumerate() {
-        *word |= other[index];
+    for (index, word) in other.iter().enumerate() {
+        set[index] |= *word;
     }
 }
 
 /// Takes the sections of the one set away, and then adds those of the other.
 pub fn replace(set: &mut [u64], gone: &[u64], come: &[u64])
-    requires gone { length set.old ≤ length gone.now }
-    requires come { length set.old ≤ length come.now }
-    ensures set { (x : ℕ) → x < 64 * length set.old → has set.new x ≡ ((has set.old x && not (has gone.now x)) || has come.now x) }
+    requires gone { length gone.now ≤ length set.old }
+    requires come { length come.now ≡ length gone.now }
+    ensures set { (x : ℕ) → has set.new x ≡ ((has set.old x && not (has gone.now x)) || has come.now x) }
     ensures long { length set.new ≡ length set.old }
 {
-    for (index, word) in set.iter_mut().enumerate() {
-        *word = *word & !gone[index] | come[index];
+    for (index, word) in gone.iter().enumerate() {
+        set[index] = set[index] & !*word | come[index];
     }
 }
 
@@ -98,4 +98,18 @@ fn add(set: &mut [u64], section: SectionNo)
     ensures long { length set.new ≡ length set.old }
 {
     set[usize::from(section.0 / 64)] |= 1u64 << (section.0 % 64);
+}
+
+/// How many words from the first one on have all sections of the set.
+pub fn width_of(set: &[u64]) -> usize
+    ensures all { (x : ℕ) → IsTrue (has set.now x) → x < 64 * result }
+    ensures few { result ≤ length set.now }
+{
+    let mut width = 0;
+    for (index, word) in set.iter().enumerate() {
+        if *word != 0 {
+            width = index + 1;
+        }
+    }
+    width
 }

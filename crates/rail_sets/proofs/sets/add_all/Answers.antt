@@ -1,4 +1,4 @@
-use Rattle.std.proofs.Common.{◌≡◌, ◌*◌, ◌<◌, ◌∙◌, length, eqb, eq-eqb, sym, ap, refl, arith}
+use Rattle.std.proofs.Common.{◌∙◌, eqb, eq-eqb, sym, ap, refl, arith}
 use Rattle.std.proofs.lemmas.List.Folds.{list_any_at}
 use Rattle.rail_sets.proofs.sets.add_all.Goals as goal
 
