@@ -7,6 +7,8 @@ mod Played
 mod Walks
 mod Counts
 mod LastNeeds
+mod SetLemmas
+mod Holding
 mod Clear
 mod Backward
 mod Stopping

@@ -1,8 +1,10 @@
--- For how many trains each section is needed by moves that they have left.
-use Rattle.std.specs.Prelude.{◌≡◌, ℕ, ◌+◌, ◌<◌, ◌≤◌, ◌==◌, Bool, not, ◌&&◌, cond, nat_lt, nat_le, List, [], length, get_or, take, count_by, IsTrue}
+-- For how many trains each section is needed by moves that they have left, and what each train needs as sets.
+use Rattle.std.specs.Prelude.{◌≡◌, ℕ, ◌+◌, ◌*◌, ◌-◌, ◌<◌, ◌≤◌, ◌==◌, Bool, not, ◌&&◌, cond, nat_lt, nat_le, List, [], length, get_or, take, count_by, IsTrue}
 use Rattle.rail_base.specs.declared.limits.TheConstants.{SECTIONS, TRAINS}
 use Rattle.rail_rules.specs.Numbers.{any_below, is_in, sum_below}
-use Rattle.rail_rules.specs.Moves.{Moves}
+use Rattle.rail_rules.specs.Moves.{Moves, stand}
+use Rattle.rail_sets.specs.Sets.{has}
+use Rattle.rail_consequence.specs.declared.rows.PlaceSets.{PlaceSets}
 use Rattle.rail_rules.specs.Places.{place_of}
 
 -- how often the number stands in the list
@@ -86,12 +88,49 @@ pub record IsTallyFor (plan : Moves) (placed : Placed) : Type 0 where
   pub within : (t : ℕ) → t < plan.trains → place_of placed.positions t ≤ plan.moves t
   pub counted : IsCounted plan placed.positions placed.counts
 
--- what an analyst keeps from search to search: a tally, and the rows of the sections that the trains need for the last time
+-- the set has exactly the sections of which this is so
+abbrev pub IsSet : List ℕ → (ℕ → Bool) → Type 0
+IsSet set is = (x : ℕ) → has set x ≡ is x
+
+-- the sets are those of the train at the place
+pub record IsPlaceSets (plan : Moves) (t place : ℕ) (sets : PlaceSets) : Type 0 where
+  pub need : IsSet sets.need (λ x. is_in x (plan.claim t place))
+  pub rest : IsSet sets.rest (needs_from plan t place)
+  pub stand : IsSet sets.stand (λ x. is_in x (stand plan t place))
+
+-- what stands for a place that a row doesn't have
+abbrev pub no_sets : PlaceSets
+no_sets = record { need = []; rest = []; stand = [] }
+
+-- the row tells so many places of the train, from the last one back
+pub record IsSetRow (plan : Moves) (t n : ℕ) (row : List PlaceSets) : Type 0 where
+  pub long : length row ≡ n
+  pub told : (i : ℕ) → i < n → IsPlaceSets plan t (plan.moves t - i) (get_or row i no_sets)
+
+-- the rows of the trains, and how many words have all their sections
+pub record SetRows : Type 0 where
+  pub width : ℕ
+  pub rows : List (List PlaceSets)
+
+-- each of the first so many trains has a row that tells all its places, of whose sets the words have all sections
+pub record AreRows (plan : Moves) (n : ℕ) (table : SetRows) : Type 0 where
+  pub long : length table.rows ≡ n
+  pub told : (t : ℕ) → t < n → IsSetRow plan t (plan.moves t + 1) (get_or table.rows t [])
+  pub wide : 64 * table.width ≤ SECTIONS
+  pub narrow : (t i x : ℕ) → t < n → IsTrue (is_in x (plan.claim t i)) → x < 64 * table.width
+
+-- each train has such a row
+abbrev pub IsRowsOf : Moves → SetRows → Type 0
+IsRowsOf plan table = AreRows plan plan.trains table
+
+-- what an analyst keeps from search to search: a tally, the rows of the sections that the trains need for the last time, and their sets at each place
 pub record Tallied : Type 0 where
   pub tally : Placed
   pub ends : List EndsRow
+  pub rows : SetRows
 
--- both belong to the moves
+-- all three belong to the moves
 pub record IsAnalystFor (plan : Moves) (tallied : Tallied) : Type 0 where
   pub tally : IsTallyFor plan tallied.tally
   pub ends : IsEndsOf plan tallied.ends
+  pub rows : IsRowsOf plan tallied.rows

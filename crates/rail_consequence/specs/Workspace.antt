@@ -1,5 +1,5 @@
 -- What the analyst works on: places of its own, and the moves that it has made on them.
-use Rattle.std.specs.Prelude.{◌≡◌, ℕ, ◌+◌, ◌<◌, ◌≤◌, List, length, drop, ◌++◌, IsTrue, Option}
+use Rattle.std.specs.Prelude.{◌≡◌, ℕ, ◌+◌, ◌<◌, ◌≤◌, List, length, drop, ◌++◌, IsTrue, Option, None, is_some, get_or}
 use Rattle.rail_base.specs.declared.limits.TheConstants.{LIST_TRAINS}
 use Rattle.rail_rules.specs.Analysis.{moves_left}
 use Rattle.rail_rules.specs.Moves.{Moves}
@@ -9,19 +9,25 @@ use Rattle.rail_place.specs.Tables.{moves_in, MoveLists}
 use Rattle.rail_place.specs.Made.{State, IsMadeFor}
 use Rattle.rail_place.specs.Plays.{IsPlayed}
 use Rattle.rail_consequence.specs.Needs.{EndsRow, IsCounted, IsEndsOf}
+use Rattle.rail_consequence.specs.Needs.{IsRowsOf, IsSet, SetRows}
 
--- the sections that each train needs for the last time, places, for each section how many trains need it, what stops the trains, and the moves that were made
+-- the sections that each train needs for the last time, and at each place as sets, places, the sections that are held, for each section how many trains need it, what stops the trains, and the moves that were made
 pub record Work : Type 0 where
   pub ends : List EndsRow
+  pub rows : SetRows
   pub places : State
+  pub held : List ℕ
   pub needs : List ℕ
   pub stops : List (Option ℕ)
   pub list : List ℕ
 
--- the ends are those of the moves, for which the places were made, the trains are counted that need each section there, and the list has room for the moves that are left
+-- the ends and the sets are those of the moves, for which the places were made, the sections are held that a train holds, the trains are counted that need each section there, and the list has room for the moves that are left
 pub record IsReady (table : List MoveLists) (work : Work) : Type 0 where
   pub ends : IsEndsOf (moves_in table) work.ends
+  pub rows : IsRowsOf (moves_in table) work.rows
   pub made : IsMadeFor table work.places
+  pub held : IsSet work.held (λ x. is_some (get_or work.places.owners x None))
+  pub wide : length work.held ≡ 8
   pub counted : IsCounted (moves_in table) work.places.positions work.needs
   pub few : length work.list + moves_left (moves_in table) work.places.positions ≤ LIST_TRAINS
 

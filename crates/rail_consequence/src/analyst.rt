@@ -1,4 +1,4 @@
-ghost use Rattle.std.specs.Prelude.{◌≡◌, ℕ, ◌+◌, ◌-◌, ◌<◌, ◌≤◌, ◌≢◌, ◌↔◌, [], ◌∷◌, ◌++◌, List, Some, None, true, false, get_or, ◌&&◌, length, take, drop, set, IsTrue, IsNone, IfOk, IsOk, IfSome, MatchOption, replicate, vec_capacity, vec_len, nat_eq};
+ghost use Rattle.std.specs.Prelude.{◌≡◌, ℕ, ◌+◌, ◌-◌, ◌<◌, ◌≤◌, ◌≢◌, ◌↔◌, [], ◌∷◌, ◌++◌, List, Some, None, true, false, get_or, ◌&&◌, length, take, drop, set, IsTrue, IsNone, IfOk, IsOk, IfSome, MatchOption, is_some, replicate, vec_capacity, vec_len, nat_eq};
 ghost use Rattle.std.specs.List.{suffix_len};
 ghost use Rattle.rail_rules.specs.Analysis.{Finds, Leg, after_leg, is_leg, is_safe, moves_left};
 ghost use Rattle.rail_rules.specs.Places.{after, completes, is_inside, is_legal, is_valid_state, nobody_inside, place_of};
@@ -8,6 +8,7 @@ ghost use Rattle.rail_place.specs.Tables.{moves_in};
 ghost use Rattle.rail_rules.specs.Moves.{stand};
 ghost use Rattle.rail_rules.specs.Numbers.{are_apart, is_in};
 ghost use Rattle.rail_consequence.specs.Needs.{IsAnalystFor, IsCounted, IsEndsOf, count_of, needs_left};
+ghost use Rattle.rail_consequence.specs.Needs.{IsRowsOf, IsSet};
 ghost use Rattle.rail_consequence.specs.Searches.{FindsByNoLeg, FindsByNoLegOf, FindsSame, HasNoSafeLeg, HasNoSafeLegOf, IsCleared, leg_to};
 ghost use Rattle.rail_consequence.specs.Freeing.{FreesNobody, HasOther, IsBarred, GivesUpInVain, IsSharedThen, IsSpared, StaysHeld};
 ghost use Rattle.rail_consequence.specs.Stops.{IsHeldByOther, IsSettled, KeepsLevelsAbove, KeepsOtherLevels, KeepsOtherStops, KeepsSome, LeavesNoneToIts, Shows, StillStops, stop_at};
@@ -16,11 +17,13 @@ ghost use Rattle.rail_consequence.specs.Workspace.{GoesOn, IsBack, IsListing, Is
 use crate::alone::{is_stopped_next, wake_alone};
 use crate::ends::Ends;
 use crate::needs::{Needs, needs_left};
+use crate::rows::Rows;
 use crate::stops::Stops;
 use crate::tally::{Tally, stands_inside};
 use rail_base::limits::{LIST_TRAINS, SECTIONS, TRAINS};
 use rail_base::{OutOfMemory, SectionNo, TrainNo};
 use rail_place::{Moves, Places};
+use rail_sets::{WORDS, first_common, join, meet_beyond, replace};
 use std::alloc::Global;
 use std::marker::Model;
 
@@ -64,7 +67,7 @@ impl Model for Analyst {
 
     ghost Value = { Tallied };
 
-    ghost view = { λ analyst. record { tally = analyst.tally; ends = analyst.sheet.ends } };
+    ghost view = { λ analyst. record { tally = analyst.tally; ends = analyst.sheet.ends; rows = analyst.sheet.rows } };
 
     ghost invariant = { λ analyst. TRAINS ≤ vec_capacity analyst.inside };
 }
@@ -74,7 +77,10 @@ impl Model for Analyst {
 #[derive(Debug, Drop)]
 struct Worksheet {
     ends: Ends,
+    rows: Rows,
     places: Places,
+    /// The sections that are held at the places.
+    held: [u64; WORDS],
     needs: Needs,
     stops: Stops,
     list: Vec<TrainNo>,
@@ -87,7 +93,7 @@ impl Model for Worksheet {
 
     ghost Value = { Work };
 
-    ghost view = { λ sheet. record { ends = sheet.ends; places = sheet.places; needs = sheet.needs; stops = sheet.stops; list = sheet.list.items } };
+    ghost view = { λ sheet. record { ends = sheet.ends; rows = sheet.rows; places = sheet.places; held = sheet.held; needs = sheet.needs; stops = sheet.stops; list = sheet.list.items } };
 
     ghost invariant = { λ sheet. LIST_TRAINS ≤ vec_capacity sheet.list };
 }
@@ -188,14 +194,34 @@ fn is_among(section: SectionNo, sections: &[SectionNo]) -> bool
     false
 }
 
+/// The sections that the trains hold at the places.
+fn held_by(moves: &Moves, rows: &Rows, places: &Places, inside: &[TrainNo]) -> [u64; WORDS]
+    requires made { IsMadeFor moves.now places.now }
+    requires rows { IsRowsOf (moves_in moves.now) rows.now }
+    requires listed { IsListing (moves_in moves.now) places.now.positions inside.now }
+    ensures { IsSet result (λ x. is_some (get_or places.now.owners x None)) }
+{
+    let mut held = [0u64; WORDS];
+    for train in inside {
+        join(
+            &mut held,
+            rows.stand(moves, *train, places.position(*train)),
+        );
+    }
+    held
+}
+
 impl Worksheet {
     /// A worksheet, with all the memory that it ever takes.
     fn new(alloc: Global, moves: &Moves) -> Result<Worksheet, OutOfMemory>
-        ensures { IfOk result (λ sheet. IsEndsOf (moves_in moves.now) sheet.ends) }
+        ensures ends { IfOk result (λ sheet. IsEndsOf (moves_in moves.now) sheet.ends) }
+        ensures rows { IfOk result (λ sheet. IsRowsOf (moves_in moves.now) sheet.rows) }
     {
         Ok(Worksheet {
             ends: Ends::new(alloc, moves)?,
+            rows: Rows::new(alloc, moves)?,
             places: Places::outside(alloc, moves)?,
+            held: [0; WORDS],
             needs: Needs::new(alloc)?,
             stops: Stops::new(alloc)?,
             list: Vec::with_capacity(alloc, LIST_TRAINS)?,
@@ -221,6 +247,7 @@ impl Worksheet {
     )
         requires made { IsMadeFor moves.now places.now }
         requires ends { IsEndsOf (moves_in moves.now) self.old.ends }
+        requires rows { IsRowsOf (moves_in moves.now) self.old.rows }
         requires counted { IsCounted (moves_in moves.now) places.now.positions needs.now }
         requires listed { IsListing (moves_in moves.now) places.now.positions inside.now }
         ensures ready { IsReady moves.now self.new }
@@ -229,6 +256,7 @@ impl Worksheet {
         ensures list { self.new.list ≡ [] }
     {
         self.places.copy_from(places);
+        self.held = held_by(moves, &self.rows, places, inside);
         self.needs.copy_from(needs);
         self.list.clear();
         self.stops.clear(depth, inside);
@@ -456,6 +484,9 @@ impl Worksheet {
         ensures list { self.new.list ≡ self.old.list }
         ensures stops { self.new.stops ≡ self.old.stops }
     {
+        let gone = self.rows.stand(moves, train, self.places.position(train));
+        let come = self.rows.stand(moves, train, place);
+        replace(&mut self.held, gone, come);
         self.needs
             .put(moves, &self.ends, &self.places, train, place);
         self.places.put(moves, train, place);
@@ -663,9 +694,16 @@ impl Worksheet {
         requires within { place ≤ (moves_in moves.now).moves train }
         ensures { IsTrue result → HasNoSafeLegOf (moves_in moves.now) (set self.now.places.positions train place) stopped }
     {
-        let standing = moves.stand(train, place);
-        for made in self.places.position(stopped)..moves.places(stopped) {
-            if self.is_barred_then(moves, stopped, made, train, place, standing) {
+        let mut then = self.held;
+        let gone = self.rows.stand(moves, train, self.places.position(train));
+        replace(&mut then, gone, self.rows.stand(moves, train, place));
+        let at = self.places.position(stopped);
+        let own = self.rows.stand(moves, stopped, at);
+        if !meet_beyond(self.rows.rest(moves, stopped, at), &then, own) {
+            return false;
+        }
+        for made in at..moves.places(stopped) {
+            if meet_beyond(self.rows.need(moves, stopped, made), &then, own) {
                 return true;
             }
             if !self.is_unsafe_then(moves, stopped, made + 1, train, place) {
@@ -673,59 +711,6 @@ impl Worksheet {
             }
         }
         false
-    }
-
-    /// Whether another train holds a section of the one train's move from this place, once the other one has gone
-    /// on to the place, where it stands on these sections.
-    fn is_barred_then(
-        &self,
-        moves: &Moves,
-        stopped: TrainNo,
-        made: u16,
-        train: TrainNo,
-        place: u16,
-        standing: &[SectionNo],
-    ) -> bool
-        requires ready { IsReady moves.now self.now }
-        requires stopped { stopped < length moves.now }
-        requires train { train < length moves.now }
-        requires other { stopped ≢ train }
-        requires within { place ≤ (moves_in moves.now).moves train }
-        requires below { made < (moves_in moves.now).moves stopped }
-        requires standing { standing.now ≡ stand (moves_in moves.now) train place }
-        ensures { IsTrue result → IsBarred (moves_in moves.now) (set self.now.places.positions train place) stopped made }
-    {
-        for section in moves.need(stopped, made + 1) {
-            if self.is_held_then(moves, stopped, *section, train, place, standing) {
-                return true;
-            }
-        }
-        false
-    }
-
-    /// Whether another train than the one holds the section, once the other one has gone on to the place, where it
-    /// stands on these sections.
-    fn is_held_then(
-        &self,
-        moves: &Moves,
-        stopped: TrainNo,
-        section: SectionNo,
-        train: TrainNo,
-        place: u16,
-        standing: &[SectionNo],
-    ) -> bool
-        requires ready { IsReady moves.now self.now }
-        requires stopped { stopped < length moves.now }
-        requires train { train < length moves.now }
-        requires other { stopped ≢ train }
-        requires within { place ≤ (moves_in moves.now).moves train }
-        requires standing { standing.now ≡ stand (moves_in moves.now) train place }
-        ensures { IsTrue result → IsHeldByOther (moves_in moves.now) (set self.now.places.positions train place) stopped section }
-    {
-        match self.places.holder(section) {
-            Some(holder) if holder != train => holder != stopped,
-            _ => is_among(section, standing),
-        }
     }
 
     /// Whether a leg of the one train to this end is not safe once the other one has gone on to the place: it does
@@ -946,6 +931,11 @@ impl Worksheet {
         if place == 0 || place >= last {
             return Look::Idle;
         }
+        let own = self.rows.stand(moves, train, place);
+        if !meet_beyond(self.rows.rest(moves, train, place), &self.held, own) {
+            // A leg that ends out is safe.
+            return Look::Leads(last);
+        }
         for made in place..last {
             if let Some(section) = self.stop_of(moves, train, made) {
                 return match self.last_safe(moves, train, made) {
@@ -954,7 +944,6 @@ impl Worksheet {
                 };
             }
         }
-        // A leg that ends out is safe.
         Look::Leads(last)
     }
 
@@ -985,7 +974,7 @@ impl Worksheet {
         None
     }
 
-    /// The first section of the train's move from this place that another train holds.
+    /// A section of the train's move from this place that another train holds.
     fn stop_of(&self, moves: &Moves, train: TrainNo, made: u16) -> Option<SectionNo>
         requires ready { IsReady moves.now self.now }
         requires train { train < length moves.now }
@@ -996,13 +985,8 @@ impl Worksheet {
             (λ x. IsTrue (is_in x ((moves_in moves.now).claim train made))
             × IsHeldByOther (moves_in moves.now) self.now.places.positions train x) }
     {
-        let needed = moves.need(train, made + 1);
-        for section in needed {
-            if self.is_held_by_other(train, *section) {
-                return Some(*section);
-            }
-        }
-        None
+        let own = self.rows.stand(moves, train, self.places.position(train));
+        first_common(self.rows.need(moves, train, made), &self.held, own)
     }
 
     /// Another train holds the section.

@@ -24,6 +24,7 @@ mod analyst;
 mod ends;
 mod laws;
 mod needs;
+mod rows;
 mod stops;
 mod tally;
 

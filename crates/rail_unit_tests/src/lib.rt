@@ -35,6 +35,8 @@ mod policies;
 #[cfg(test)]
 mod reports;
 #[cfg(test)]
+mod sets;
+#[cfg(test)]
 mod shelves;
 #[cfg(test)]
 mod times;

@@ -25,7 +25,7 @@ returns-then-search c =
     let found = c.search.ensures.found c.if-search.true in
     let same : a.places.positions ≡ s = c.begin.ensures.positions in
     let list : c.list.result.now ≡ found.0.more = c.list.ensures ∙ found.0.list ∙ ap (λ xs. xs ++ found.0.more) c.begin.ensures.list in (
-      (refl, λ _. tt, record { tally = c.follow.ensures.kept; ends = c.search.ensures.ready.ends }),
+      (refl, λ _. tt, record { tally = c.follow.ensures.kept; ends = c.search.ensures.ready.ends; rows = c.search.ensures.ready.rows }),
       record {
         own = tt;
         some = ap (λ xs. completes plan s xs) list ∙ ap (λ r. completes plan r found.0.more) (sym same) ∙ played_completes plan a.places.positions found.0.more d.places.positions found.0.played found.1;

@@ -15,7 +15,7 @@ returns-else-place-places c =
     let table = c.args.moves.now in
     let plan : Moves = moves_in table in
     let t = c.args.train in
-    let own : Work = record { ends = c.self.inside.ends; places = c.self.inside.places; needs = c.self.inside.needs; stops = c.self.inside.stops; list = c.self.inside.list.items } in
+    let own : Work = record { ends = c.self.inside.ends; rows = c.self.inside.rows; places = c.self.inside.places; held = c.self.inside.held; needs = c.self.inside.needs; stops = c.self.inside.stops; list = c.self.inside.list.items } in
     let ready = ready_as table own c.args.self.now c.self.view_is c.requires.ready in
     let listed : t < length own.places.positions = omega (arith, c.requires.train, (state_parts plan own.places.positions ready.made.valid).long) in
     safe_at plan own.places.positions t c.args.place c.stand-sections.result.now c.are_own.result c.stand-sections.ensures.sections (λ same. absurd (omega (arith, same, c.places.ensures, c.if-place-places.false)))

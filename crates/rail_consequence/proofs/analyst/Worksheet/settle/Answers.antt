@@ -17,7 +17,7 @@ use Rattle.rail_consequence.proofs.analyst.Worksheet.settle.Goals as goal
 
 -- the same but for what is noted
 ready_rest : (table : List MoveLists) (a b : Work) → b ≡ record a { stops = b.stops } → IsReady table a → IsReady table b
-ready_rest table a b rest ready = let P : Work → Type 0 = λ w. IsReady table w in subst P (sym rest) (record { ends = ready.ends; made = ready.made; counted = ready.counted; few = ready.few })
+ready_rest table a b rest ready = let P : Work → Type 0 = λ w. IsReady table w in subst P (sym rest) (record { ends = ready.ends; rows = ready.rows; made = ready.made; held = ready.held; wide = ready.wide; counted = ready.counted; few = ready.few })
 
 pub settle_train-requires : goal.settle_train-requires
 settle_train-requires c = record { stopped = listed_few c.args.moves.now c.args.self.now.places.positions c.args.inside.now c.requires.ready.made.moves c.requires.listed c.other-item.result (in_at c.other-item.result c.args.inside.now c.loop-other.other-index c.loop-other-test.true c.other-item.is) }

@@ -1,8 +1,0 @@
-use Rattle.std.proofs.Common.{◌≡◌, ℕ, true, take}
-use Rattle.rail_rules.specs.Numbers.{is_in}
-use Rattle.rail_place.specs.Tables.{moves_in}
-use Rattle.rail_consequence.specs.Stops.{IsHeldByOther}
-use Rattle.rail_consequence.proofs.analyst.Worksheet.stop_of.Given as goal
-
-abbrev pub invariant-loop-section : goal.invariant-loop-section
-invariant-loop-section l = (x : ℕ) → is_in x (take l.section-index l.needed) ≡ true → IsHeldByOther (moves_in l.moves) l.self.places.positions l.train x → ⊥

@@ -1,0 +1,198 @@
+//! What each train needs and where it stands, as sets: for each of its places.
+
+ghost use Rattle.std.specs.Prelude.{◌≡◌, ℕ, ◌+◌, ◌*◌, ◌<◌, ◌≤◌, length, IfOk, IsTrue};
+ghost use Rattle.rail_rules.specs.Moves.{stand};
+ghost use Rattle.rail_rules.specs.Numbers.{is_in};
+ghost use Rattle.rail_place.specs.Tables.{IsTable, moves_in};
+ghost use Rattle.rail_sets.specs.declared.sets.TheConstants.{WORDS};
+ghost use Rattle.rail_consequence.specs.Needs.{needs_from};
+ghost use Rattle.rail_consequence.specs.Needs.{IsPlaceSets, IsRowsOf, IsSet, IsSetRow};
+
+use rail_base::{OutOfMemory, TrainNo};
+use rail_place::Moves;
+use rail_sets::{WORDS, add_all, join, width_of};
+use std::alloc::{AllocError, Global};
+use std::marker::Model;
+
+/// The sections of a train at one of its places, as sets.
+#[derive(Clone, Copy, Debug)]
+pub struct PlaceSets {
+    /// Those that its next move needs.
+    need: [u64; WORDS],
+    /// Those that the moves need that it has left.
+    rest: [u64; WORDS],
+    /// Those on which it stands.
+    stand: [u64; WORDS],
+}
+
+/// The sets of one train, from its last place back to place 0.
+#[derive(Debug, Drop)]
+struct Row {
+    places: Vec<PlaceSets>,
+}
+
+impl Model for Row {
+    ghost use Rattle.std.specs.Prelude.{List};
+    ghost use Rattle.rail_consequence.specs.declared.rows.PlaceSets.{PlaceSets};
+
+    ghost Value = { List PlaceSets };
+
+    ghost view = { λ row. row.places.items };
+}
+
+/// The sets of all trains, and the words that such a set takes.
+#[derive(Debug)]
+pub struct Rows {
+    width: usize,
+    rows: Vec<Row>,
+}
+
+impl Drop for Rows {
+    fn drop(self) {
+        let Rows {
+            width: _width,
+            rows: _rows,
+        } = self;
+    }
+}
+
+impl Model for Rows {
+    ghost use Rattle.rail_consequence.specs.Needs.{SetRows};
+
+    ghost Value = { SetRows };
+
+    ghost view = { λ rows. record { width = rows.width; rows = rows.rows.items } };
+}
+
+impl Rows {
+    /// The sets of the moves, with all the memory that they ever take.
+    pub fn new(alloc: Global, moves: &Moves) -> Result<Rows, OutOfMemory>
+        ensures { IfOk result (IsRowsOf (moves_in moves.now)) }
+    {
+        let mut rows = Vec::with_capacity(alloc, usize::from(moves.trains()))?;
+        let mut width = 0;
+        for number in 0..moves.trains() {
+            let row = Row::new(alloc, moves, TrainNo(number))?;
+            width = row.width(moves, TrainNo(number)).max(width);
+            rows.push_reserved(row);
+        }
+        Ok(Rows { width, rows })
+    }
+
+    /// The words that a set takes.
+    pub fn width(&self) -> usize
+        ensures { result ≡ self.now.width }
+    {
+        self.width
+    }
+
+    /// The sections that the train's next move needs at the place.
+    #[inline(always)]
+    pub fn need(&self, moves: &Moves, train: TrainNo, place: u16) -> &[u64]
+        requires rows { IsRowsOf (moves_in moves.now) self.now }
+        requires train { train < length moves.now }
+        requires within { place ≤ (moves_in moves.now).moves train }
+        ensures set { IsSet result.now (λ x. is_in x ((moves_in moves.now).claim train place)) }
+        ensures long { length result.now ≡ self.now.width }
+    {
+        &self.at(moves, train, place).need[..self.width]
+    }
+
+    /// The sections that the moves need that the train has left at the place.
+    #[inline(always)]
+    pub fn rest(&self, moves: &Moves, train: TrainNo, place: u16) -> &[u64]
+        requires rows { IsRowsOf (moves_in moves.now) self.now }
+        requires train { train < length moves.now }
+        requires within { place ≤ (moves_in moves.now).moves train }
+        ensures set { IsSet result.now (needs_from (moves_in moves.now) train place) }
+        ensures long { length result.now ≡ self.now.width }
+    {
+        &self.at(moves, train, place).rest[..self.width]
+    }
+
+    /// The sections on which the train stands at the place.
+    #[inline(always)]
+    pub fn stand(&self, moves: &Moves, train: TrainNo, place: u16) -> &[u64]
+        requires rows { IsRowsOf (moves_in moves.now) self.now }
+        requires table { IsTable moves.now }
+        requires train { train < length moves.now }
+        requires within { place ≤ (moves_in moves.now).moves train }
+        ensures set { IsSet result.now (λ x. is_in x (stand (moves_in moves.now) train place)) }
+        ensures long { length result.now ≡ self.now.width }
+    {
+        &self.at(moves, train, place).stand[..self.width]
+    }
+
+    /// The sets of the train at the place.
+    #[inline(always)]
+    fn at(&self, moves: &Moves, train: TrainNo, place: u16) -> &PlaceSets
+        requires rows { IsRowsOf (moves_in moves.now) self.now }
+        requires train { train < length moves.now }
+        requires within { place ≤ (moves_in moves.now).moves train }
+        ensures { IsPlaceSets (moves_in moves.now) train place result.now }
+    {
+        let row = &self.rows[usize::from(train.0)];
+        &row.places[usize::from(moves.places(train) - place)]
+    }
+}
+
+impl Row {
+    /// The sets of the train.
+    fn new(alloc: Global, moves: &Moves, train: TrainNo) -> Result<Row, AllocError>
+        requires table { IsTable moves.now }
+        requires train { train < length moves.now }
+        ensures { IfOk result (IsSetRow (moves_in moves.now) train ((moves_in moves.now).moves train + 1)) }
+    {
+        let last = moves.places(train);
+        let mut places = Vec::with_capacity(alloc, usize::from(last) + 1)?;
+        let mut later = [0u64; WORDS];
+        for back in 0..last + 1 {
+            let sets = PlaceSets::new(moves, train, last - back, &later);
+            later = sets.rest;
+            places.push_reserved(sets);
+        }
+        Ok(Row { places })
+    }
+
+    /// The words that the sets of the train take.
+    fn width(&self, moves: &Moves, train: TrainNo) -> usize
+        requires row { IsSetRow (moves_in moves.now) train ((moves_in moves.now).moves train + 1) self.now }
+        requires train { train < length moves.now }
+        ensures all { (i x : ℕ) → IsTrue (is_in x ((moves_in moves.now).claim train i)) → x < 64 * result }
+        ensures few { result ≤ WORDS }
+    {
+        width_of(&self.places[usize::from(moves.places(train))].rest)
+    }
+}
+
+impl PlaceSets {
+    /// The sets of the train at the place, of which behind it the moves that are left need the sections `later`.
+    fn new(moves: &Moves, train: TrainNo, place: u16, later: &[u64; WORDS]) -> PlaceSets
+        requires table { IsTable moves.now }
+        requires train { train < length moves.now }
+        requires within { place ≤ (moves_in moves.now).moves train }
+        requires later { IsSet later.now (needs_from (moves_in moves.now) train (place + 1)) }
+        ensures { IsPlaceSets (moves_in moves.now) train place result }
+    {
+        let need = need_at(moves, train, place);
+        let mut rest = need;
+        join(&mut rest, later);
+        let mut stand = [0u64; WORDS];
+        add_all(&mut stand, moves.stand(train, place));
+        PlaceSets { need, rest, stand }
+    }
+}
+
+/// The sections that the train's next move needs at the place.
+fn need_at(moves: &Moves, train: TrainNo, place: u16) -> [u64; WORDS]
+    requires train { train < length moves.now }
+    requires within { place ≤ (moves_in moves.now).moves train }
+    ensures { IsSet result (λ x. is_in x ((moves_in moves.now).claim train place)) }
+{
+    let mut need = [0u64; WORDS];
+    if place == moves.places(train) {
+        return need;
+    }
+    add_all(&mut need, moves.need(train, place + 1));
+    need
+}

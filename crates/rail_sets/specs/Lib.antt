@@ -1,0 +1,2 @@
+-- What callers see of sets of sections.
+pub mod Sets
