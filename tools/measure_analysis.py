@@ -23,7 +23,7 @@ import subprocess
 import sys
 import tomllib
 
-LIBRARIES = ("rail_base", "rail_rules", "rail_place", "rail_consequence")
+LIBRARIES = ("rail_base", "rail_rules", "rail_sets", "rail_place", "rail_consequence")
 
 # The checks of moves and places that the tests have, with their proofs.
 HELPERS = ("push_rows", "share_one", "stands_in", "move_is_valid", "all_in", "row_is_valid", "row_is_small", "all_small",
