@@ -15,5 +15,6 @@ mod Stopping
 mod Listing
 mod Without
 mod Freeing
+mod Chained
 mod Going
 mod Waking

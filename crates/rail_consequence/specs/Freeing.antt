@@ -1,5 +1,6 @@
 -- What is left of what stops the other trains, once a train has gone on.
-use Rattle.std.specs.Prelude.{◌≡◌, ◌≢◌, ℕ, ◌+◌, ◌<◌, ◌≤◌, ◌&&◌, not, false, List, Option, Some, set, IsTrue}
+use Rattle.std.specs.Prelude.{◌≡◌, ◌≢◌, ℕ, zero, suc, ◌+◌, ◌-◌, ◌<◌, ◌≤◌, ◌&&◌, not, false, List, Option, None, Some, get_or, length, set, take, IsTrue}
+use Rattle.rail_base.specs.declared.limits.TheConstants.{TRAINS}
 use Rattle.rail_rules.specs.Numbers.{is_in}
 use Rattle.rail_rules.specs.Moves.{Moves}
 use Rattle.rail_rules.specs.Places.{holds, is_inside, place_of}
@@ -49,3 +50,42 @@ GivesUpInVain plan s counts t p x = needs_from plan t p x ≡ false → count_of
 pub record FreesNobody (plan : Moves) (s : List ℕ) (t p : ℕ) : Type 0 where
   pub other : HasOther plan s t
   pub none : (u : ℕ) → u ≢ t → HasNoSafeLegOf plan (set s t p) u
+
+-- for each train a chain of numbers that begins at the last one, a chain of the same kind for no train, and for each number the one before it in its chain; numbers count from 1, and 0 ends a chain
+pub record Chains : Type 0 where
+  pub last : List ℕ
+  pub unknown : ℕ
+  pub before : List ℕ
+
+-- the number before this one in its chain
+abbrev pub link : Chains → ℕ → ℕ
+link chains n = get_or chains.before (n - 1) 0
+
+-- the last number of the chain of the train, or of the chain for no train
+abbrev pub end_of : Chains → Option ℕ → ℕ
+end_of chains None = chains.unknown
+end_of chains (Some h) = get_or chains.last h 0
+
+-- so many numbers before this one in its chain is the number at which the train stands in the list
+abbrev pub IsMet : Chains → List ℕ → ℕ → ℕ → ℕ → Type 0
+IsMet chains inside zero n u = (0 < n) × (get_or inside (n - 1) 0 ≡ u)
+IsMet chains inside (suc k) n u = (0 < n) × IsMet chains inside k (link chains n) u
+
+-- the train stands in the list at a number of the chain
+abbrev pub IsChained : Chains → List ℕ → Option ℕ → ℕ → Type 0
+IsChained chains inside key u = (k : ℕ) × IsMet chains inside k (end_of chains key) u
+
+-- the train waits for this one, which holds a section that is noted to stop it; or for none, since nothing is noted of it
+abbrev pub WaitsFor : Moves → List ℕ → List (Option ℕ) → ℕ → ℕ → Option ℕ → Type 0
+WaitsFor plan s stops level u None = stop_at stops level u ≡ None
+WaitsFor plan s stops level u (Some h) = (x : ℕ) × (stop_at stops level u ≡ Some x) × IsTrue (holds plan s h x)
+
+-- of the first so many trains of the list each that is inside stands in the chain of the one for which it waits; the way along a chain goes down
+pub record IsIndex (plan : Moves) (s : List ℕ) (stops : List (Option ℕ)) (level : ℕ) (inside : List ℕ) (n : ℕ) (chains : Chains) : Type 0 where
+  pub lower : (m : ℕ) → 0 < m → link chains m < m
+  pub within : (key : Option ℕ) → end_of chains key ≤ n
+  pub chained : (u : ℕ) (key : Option ℕ) → IsTrue (is_in u (take n inside)) → IsTrue (is_inside plan s u) → WaitsFor plan s stops level u key → IsChained chains inside key u
+
+-- where one free leg may be made, and the list names no more than there may be trains, its trains stand in the chains
+abbrev pub IsIndexOf : Moves → List ℕ → List (Option ℕ) → ℕ → List ℕ → Chains → Type 0
+IsIndexOf plan s stops depth inside chains = depth ≡ 0 → length inside ≤ TRAINS → IsIndex plan s stops (depth + 1) inside (length inside) chains

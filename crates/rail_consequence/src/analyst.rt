@@ -10,7 +10,7 @@ ghost use Rattle.rail_rules.specs.Numbers.{are_apart, is_in};
 ghost use Rattle.rail_consequence.specs.Needs.{IsAnalystFor, IsCounted, IsEndsOf, count_of, needs_left};
 ghost use Rattle.rail_consequence.specs.Needs.{IsRowsOf, IsSet};
 ghost use Rattle.rail_consequence.specs.Searches.{FindsByNoLeg, FindsByNoLegOf, FindsSame, HasNoSafeLeg, HasNoSafeLegOf, IsCleared, leg_to};
-ghost use Rattle.rail_consequence.specs.Freeing.{FreesNobody, HasOther, IsBarred, GivesUpInVain, IsSharedThen, IsSpared, StaysHeld};
+ghost use Rattle.rail_consequence.specs.Freeing.{FreesNobody, HasOther, IsBarred, GivesUpInVain, IsIndex, IsIndexOf, IsMet, IsSharedThen, IsSpared, StaysHeld, link};
 ghost use Rattle.rail_consequence.specs.Stops.{IsHeldByOther, IsSettled, KeepsLevelsAbove, KeepsOtherLevels, KeepsOtherStops, KeepsSome, LeavesNoneToIts, Shows, StillStops, stop_at};
 ghost use Rattle.rail_consequence.specs.Workspace.{GoesOn, IsBack, IsListing, IsPlayedFrom, IsReady, Work};
 
@@ -20,6 +20,7 @@ use crate::needs::{Needs, needs_left};
 use crate::rows::Rows;
 use crate::stops::Stops;
 use crate::tally::{Tally, stands_inside};
+use crate::waiting::Waiting;
 use rail_base::limits::{LIST_TRAINS, SECTIONS, TRAINS};
 use rail_base::{OutOfMemory, SectionNo, TrainNo};
 use rail_place::{Moves, Places};
@@ -311,20 +312,41 @@ impl Worksheet {
         ensures found { IsTrue result → IsCleared (moves_in moves.now) (depth + 1) self.old self.new }
         ensures none { result ≡ false → IsBack self.old self.new × FindsByNoLeg (moves_in moves.now) depth self.old.places.positions }
     {
+        let waiting = self.waiting(moves, inside, depth);
         for train in inside {
-            if self.try_legs_of(moves, inside, *train, depth) {
+            if self.try_legs_of(moves, inside, &waiting, *train, depth) {
                 return true;
             }
         }
         false
     }
 
+    /// Which trains wait for which where one free leg may be made: otherwise nobody asks.
+    fn waiting(&self, moves: &Moves, inside: &[TrainNo], depth: u8) -> Waiting
+        requires ready { IsReady moves.now self.now }
+        requires listed { IsListing (moves_in moves.now) self.now.places.positions inside.now }
+        ensures { IsIndexOf (moves_in moves.now) self.now.places.positions self.now.stops depth inside.now result }
+    {
+        if depth > 0 || inside.len() > TRAINS {
+            return Waiting::none();
+        }
+        Waiting::new(moves, &self.places, &self.stops, inside, depth + 1)
+    }
+
     /// As `search`, with a first leg of this train: each place that it can go on to is tried, but where it
     /// shows before that none helps.
     #[cycle(search)]
-    fn try_legs_of(&mut self, moves: &Moves, inside: &[TrainNo], train: TrainNo, depth: u8) -> bool
+    fn try_legs_of(
+        &mut self,
+        moves: &Moves,
+        inside: &[TrainNo],
+        waiting: &Waiting,
+        train: TrainNo,
+        depth: u8,
+    ) -> bool
         requires ready { IsReady moves.now self.old }
         requires listed { IsListing (moves_in moves.now) self.old.places.positions inside.now }
+        requires waiting { IsIndexOf (moves_in moves.now) self.old.places.positions self.old.stops depth inside.now waiting.now }
         requires train { train < length moves.now }
         requires room { depth < 255 }
         requires none { HasNoSafeLeg (moves_in moves.now) self.old.places.positions }
@@ -335,7 +357,7 @@ impl Worksheet {
         ensures none { result ≡ false
             → IsBack self.old self.new × FindsByNoLegOf (moves_in moves.now) depth self.old.places.positions train }
     {
-        if self.is_hopeless(moves, inside, train, depth) {
+        if self.is_hopeless(moves, inside, waiting, train, depth) {
             return false;
         }
         let from = self.places.position(train);
@@ -344,7 +366,7 @@ impl Worksheet {
             if self.stop_of(moves, train, made).is_some() {
                 return false;
             }
-            if self.try_leg(moves, inside, train, made + 1, depth) {
+            if self.try_leg(moves, inside, waiting, train, made + 1, depth) {
                 return true;
             }
         }
@@ -357,12 +379,14 @@ impl Worksheet {
         &mut self,
         moves: &Moves,
         inside: &[TrainNo],
+        waiting: &Waiting,
         train: TrainNo,
         place: u16,
         depth: u8,
     ) -> bool
         requires ready { IsReady moves.now self.old }
         requires listed { IsListing (moves_in moves.now) self.old.places.positions inside.now }
+        requires waiting { IsIndexOf (moves_in moves.now) self.old.places.positions self.old.stops depth inside.now waiting.now }
         requires train { train < length moves.now }
         requires room { depth < 255 }
         requires none { HasNoSafeLeg (moves_in moves.now) self.old.places.positions }
@@ -374,7 +398,7 @@ impl Worksheet {
         ensures none { result ≡ false
             → IsBack self.old self.new × (Finds (moves_in moves.now) depth (set self.old.places.positions train place) → ⊥) }
     {
-        if depth == 0 && self.frees_nobody(moves, inside, train, place, depth + 1) {
+        if depth == 0 && self.frees_nobody(moves, inside, waiting, train, place, depth + 1) {
             return false;
         }
         let mark = self.list.len();
@@ -390,9 +414,17 @@ impl Worksheet {
     /// is found with the train out of the way, since what can be found can be found without a train. For the
     /// last free leg, and where the train has few legs, a look at what that would free is all that pays.
     #[cycle(search)]
-    fn is_hopeless(&mut self, moves: &Moves, inside: &[TrainNo], train: TrainNo, depth: u8) -> bool
+    fn is_hopeless(
+        &mut self,
+        moves: &Moves,
+        inside: &[TrainNo],
+        waiting: &Waiting,
+        train: TrainNo,
+        depth: u8,
+    ) -> bool
         requires ready { IsReady moves.now self.old }
         requires listed { IsListing (moves_in moves.now) self.old.places.positions inside.now }
+        requires waiting { IsIndexOf (moves_in moves.now) self.old.places.positions self.old.stops depth inside.now waiting.now }
         requires train { train < length moves.now }
         requires room { depth < 255 }
         requires settled { IsSettled (moves_in moves.now) self.old.places.positions self.old.stops (depth + 1) }
@@ -406,7 +438,7 @@ impl Worksheet {
             return true;
         }
         let last = moves.places(train);
-        if depth == 0 && self.frees_nobody(moves, inside, train, last, depth + 1) {
+        if depth == 0 && self.frees_nobody(moves, inside, waiting, train, last, depth + 1) {
             return true;
         }
         if !self.has_ends(moves, train, ends_for(depth)) {
@@ -493,17 +525,21 @@ impl Worksheet {
     }
 
     /// Whether no other train inside gets a safe leg where the train goes on to the place: there is another, and
-    /// each stays without one, as the notes for the level or a look tell.
+    /// each stays without one. A train that is stopped by a third one does: a look at those that wait for the train,
+    /// and at those of which nothing is noted, is enough.
     fn frees_nobody(
         &self,
         moves: &Moves,
         inside: &[TrainNo],
+        waiting: &Waiting,
         train: TrainNo,
         place: u16,
         level: u8,
     ) -> bool
         requires ready { IsReady moves.now self.now }
         requires listed { IsListing (moves_in moves.now) self.now.places.positions inside.now }
+        requires waiting { length inside.now ≤ TRAINS
+            → IsIndex (moves_in moves.now) self.now.places.positions self.now.stops level inside.now (length inside.now) waiting.now }
         requires train { train < length moves.now }
         requires settled { IsSettled (moves_in moves.now) self.now.places.positions self.now.stops level }
         requires inside { IsTrue (is_inside (moves_in moves.now) self.now.places.positions train) }
@@ -511,16 +547,54 @@ impl Worksheet {
         requires within { place ≤ (moves_in moves.now).moves train }
         ensures { IsTrue result → FreesNobody (moves_in moves.now) self.now.places.positions train place }
     {
-        if !self.has_other_inside(moves, inside, train) {
+        // No more are numbered.
+        if inside.len() > TRAINS || !self.has_other_inside(moves, inside, train) {
             return false;
         }
         if !self.gives_up_in_vain(moves, train, place, level) {
             return false;
         }
-        for other in inside {
-            if !self.stays_without_leg(moves, *other, train, place, level) {
+        let last = waiting.end(Some(train));
+        if !self.stay_without_leg(moves, inside, waiting, last, train, place, level) {
+            return false;
+        }
+        let unknown = waiting.end(None);
+        self.stay_without_leg(moves, inside, waiting, unknown, train, place, level)
+    }
+
+    /// Whether each train of a chain, from this number on, if it is another one and is not left alone in need of a
+    /// section, has no safe leg once the one has gone on to the place.
+    fn stay_without_leg(
+        &self,
+        moves: &Moves,
+        inside: &[TrainNo],
+        waiting: &Waiting,
+        last: u16,
+        train: TrainNo,
+        place: u16,
+        level: u8,
+    ) -> bool
+        requires ready { IsReady moves.now self.now }
+        requires listed { IsListing (moves_in moves.now) self.now.places.positions inside.now }
+        requires few { length inside.now ≤ TRAINS }
+        requires last { last ≤ length inside.now }
+        requires lower { (n : ℕ) → 0 < n → link waiting.now n < n }
+        requires train { train < length moves.now }
+        requires settled { IsSettled (moves_in moves.now) self.now.places.positions self.now.stops level }
+        requires inside { IsTrue (is_inside (moves_in moves.now) self.now.places.positions train) }
+        requires ahead { place_of self.now.places.positions train < place }
+        requires within { place ≤ (moves_in moves.now).moves train }
+        ensures { IsTrue result → (k u : ℕ) → IsMet waiting.now inside.now k last u → u ≢ train
+            → IsSpared (moves_in moves.now) self.now.places.positions self.now.needs train place u
+            → HasNoSafeLegOf (moves_in moves.now) (set self.now.places.positions train place) u }
+    {
+        let mut number = last;
+        while number > 0 {
+            let stopped = inside[usize::from(number - 1)];
+            if !self.gets_no_leg(moves, stopped, train, place, level, true) {
                 return false;
             }
+            number = waiting.before(number);
         }
         true
     }
@@ -613,36 +687,6 @@ impl Worksheet {
             }
         }
         false
-    }
-
-    /// Whether the one train, if it is another one and is not left alone in need of a section, has no safe leg once the
-    /// other has gone on to the place. Most trains are stopped by a third one.
-    fn stays_without_leg(
-        &self,
-        moves: &Moves,
-        stopped: TrainNo,
-        train: TrainNo,
-        place: u16,
-        level: u8,
-    ) -> bool
-        requires ready { IsReady moves.now self.now }
-        requires stopped { stopped < length moves.now }
-        requires train { train < length moves.now }
-        requires settled { IsSettled (moves_in moves.now) self.now.places.positions self.now.stops level }
-        requires inside { IsTrue (is_inside (moves_in moves.now) self.now.places.positions train) }
-        requires ahead { place_of self.now.places.positions train < place }
-        requires within { place ≤ (moves_in moves.now).moves train }
-        ensures { IsTrue result → stopped ≢ train
-            → IsSpared (moves_in moves.now) self.now.places.positions self.now.needs train place stopped
-            → HasNoSafeLegOf (moves_in moves.now) (set self.now.places.positions train place) stopped }
-    {
-        let Some(section) = self.stops.get(level, stopped) else {
-            return self.gets_no_leg(moves, stopped, train, place, level, true);
-        };
-        if self.is_held_by_other(train, section) {
-            return true;
-        }
-        self.gets_no_leg(moves, stopped, train, place, level, true)
     }
 
     /// Whether the one train, if it is another one, has no safe leg once the other has gone on to the place: what is

@@ -9,7 +9,8 @@
 //! safe; and it notes which section stops each train, so that a train is looked at again only where that
 //! may have changed. Two looks spare it most free legs: where nothing is found with a train out of the
 //! way, none of its legs helps; and a last free leg helps only where it frees another train, which notes
-//! and counts tell before it is made.
+//! and counts tell before it is made. For that look the trains that wait for each train are listed once, in
+//! chains, before the last free legs are tried.
 //!
 //! An analyst belongs to the moves for which it was made. The counts are kept from one search to the
 //! next, and brought to the new places train by train where the place differs. Which sections a train needs
@@ -27,6 +28,7 @@ mod needs;
 mod rows;
 mod stops;
 mod tally;
+mod waiting;
 
 pub use analyst::Analyst;
 pub use laws::{

@@ -9,10 +9,11 @@ use Rattle.rail_rules.specs.Analysis.{Finds, Leg, after_leg, is_leg}
 use Rattle.rail_place.specs.Tables.{moves_in, MoveLists}
 use Rattle.rail_rules.proofs.CallerLemmas.{state_parts}
 use Rattle.rail_base.specs.declared.limits.TheConstants.{TRAINS}
-use Rattle.rail_consequence.specs.Freeing.{FreesNobody}
+use Rattle.rail_consequence.specs.Freeing.{Chains, FreesNobody, IsIndexOf}
 use Rattle.rail_consequence.specs.Searches.{HasNoSafeLeg, IsCleared}
 use Rattle.rail_consequence.specs.Stops.{IsHeldByOther, IsSettled, stop_at}
 use Rattle.rail_consequence.specs.Workspace.{Work, GoesOn, IsBack, IsListing, IsReady}
+use Rattle.rail_consequence.proofs.Chained.{index_still}
 use Rattle.rail_consequence.proofs.Counts.{in_at, in_take_all}
 use Rattle.rail_consequence.proofs.Freeing.{leg_finds_none, no_leg_helps}
 use Rattle.rail_consequence.proofs.Legs.{goes_parts, inside_listed, inside_parts}
@@ -136,6 +137,13 @@ module _ (table : List MoveLists) (depth : ℕ) (inside : List ℕ) (a b : Work)
   pub listed_still : IsListing plan a.places.positions inside → IsListing plan b.places.positions inside
   listed_still listed = listed_at plan a.places.positions b.places.positions inside (sym back.positions) listed
 
+  pub index_back : (chains : Chains) → IsIndexOf plan a.places.positions a.stops depth inside chains → IsIndexOf plan b.places.positions b.stops depth inside chains
+  index_back chains index last few =
+      let state = state_parts plan b.places.positions ready.made.valid in
+      index_still plan a.places.positions b.places.positions a.stops b.stops (depth + 1) inside (length inside) chains back.positions
+      (λ u is. kept (depth + 1) u (omega arith) (omega (arith, inside_listed plan a.places.positions u is, ap length back.positions, state.long, ready.made.moves.few)))
+      (index last few)
+
 pub try_free_legs-try_legs_of-requires : goal.try_free_legs-try_legs_of-requires
 try_free_legs-try_legs_of-requires t c =
     let table = c.args.moves.now in
@@ -148,12 +156,15 @@ try_free_legs-try_legs_of-requires t c =
         (
           listed_still table c.args.depth c.args.inside.now a b inv.ready inv.back inv.kept c.requires.listed,
           (
-            c.requires.listed.trains c.train-item.result (in_at c.train-item.result c.args.inside.now c.loop-train.train-index c.loop-train-test.true c.train-item.is),
+            index_back table c.args.depth c.args.inside.now a b inv.ready inv.back inv.kept c.waiting-waiting.result c.waiting-waiting.ensures,
             (
-              c.requires.room,
+              c.requires.listed.trains c.train-item.result (in_at c.train-item.result c.args.inside.now c.loop-train.train-index c.loop-train-test.true c.train-item.is),
               (
-                none_still table c.args.depth c.args.inside.now a b inv.ready inv.back inv.kept c.requires.none,
-                settled_back table c.args.depth c.args.inside.now a b inv.ready inv.back inv.kept c.requires.settled,
+                c.requires.room,
+                (
+                  none_still table c.args.depth c.args.inside.now a b inv.ready inv.back inv.kept c.requires.none,
+                  settled_back table c.args.depth c.args.inside.now a b inv.ready inv.back inv.kept c.requires.settled,
+                ),
               ),
             ),
           ),
@@ -353,12 +364,15 @@ try_legs_of-try_leg-requires t c =
         (
           listed_still table c.args.depth c.args.inside.now a b inv.ready inv.back inv.kept c.requires.listed,
           (
-            c.requires.train,
+            index_back table c.args.depth c.args.inside.now a b inv.ready inv.back inv.kept c.args.waiting.now c.requires.waiting,
             (
-              c.requires.room,
+              c.requires.train,
               (
-                none_still table c.args.depth c.args.inside.now a b inv.ready inv.back inv.kept c.requires.none,
-                (settled_back table c.args.depth c.args.inside.now a b inv.ready inv.back inv.kept c.requires.settled, subst L (sym inv.back.positions) leg),
+                c.requires.room,
+                (
+                  none_still table c.args.depth c.args.inside.now a b inv.ready inv.back inv.kept c.requires.none,
+                  (settled_back table c.args.depth c.args.inside.now a b inv.ready inv.back inv.kept c.requires.settled, subst L (sym inv.back.positions) leg),
+                ),
               ),
             ),
           ),

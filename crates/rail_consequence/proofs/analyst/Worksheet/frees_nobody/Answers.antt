@@ -1,29 +1,21 @@
-use Rattle.std.proofs.Common.{◌≡◌, ◌≢◌, ℕ, true, set, sym, subst, ⊎_elim}
+use Rattle.std.proofs.Common.{◌≡◌, ℕ, List, None, Some, set, true, sym, ap, ◌∙◌, subst, arith}
 use Rattle.std.proofs.lemmas.List.{get_or-set_other}
-use Rattle.rail_rules.specs.Moves.{Moves}
+use Rattle.rail_rules.specs.Moves.{Moves, stand}
+use Rattle.rail_rules.specs.Numbers.{is_in}
 use Rattle.rail_rules.specs.Places.{is_inside}
-use Rattle.rail_consequence.specs.Freeing.{IsSpared}
-use Rattle.rail_consequence.specs.Searches.{HasNoSafeLegOf}
 use Rattle.rail_place.specs.Tables.{moves_in}
-use Rattle.rail_consequence.proofs.Counts.{in_at, in_take_more, in_take_all}
-use Rattle.rail_consequence.proofs.Freeing.{none_in_vain}
+use Rattle.rail_consequence.specs.Freeing.{IsMet}
+use Rattle.rail_consequence.specs.Searches.{HasNoSafeLegOf}
+use Rattle.rail_consequence.proofs.Chained.{met_or_held}
+use Rattle.rail_consequence.proofs.Freeing.{kept_spared, none_in_vain}
 use Rattle.rail_consequence.proofs.Legs.{goes_parts, inside_same}
 use Rattle.rail_consequence.proofs.analyst.Worksheet.frees_nobody.Goals as goal
 
-pub stays_without_leg-requires-clause-stopped : goal.stays_without_leg-requires-clause-stopped
-stays_without_leg-requires-clause-stopped c = c.requires.listed.trains c.other-item.result (in_at c.other-item.result c.args.inside.now c.loop-other.other-index c.loop-other-test.true c.other-item.is)
+pub stay_without_leg-requires-clause-last : goal.stay_without_leg-requires-clause-last
+stay_without_leg-requires-clause-last c = omega (arith, c.end-last.ensures, (c.requires.waiting c.if-inside-gt-TRAINS.false).within (Some c.args.train))
 
-pub loop-other-preserved : goal.loop-other-preserved
-loop-other-preserved c = λ u found ne spared.
-    let plan : Moves = moves_in c.args.moves.now in
-    let w = c.args.self.now in
-    let t = c.args.train in
-    let p = c.args.place in
-    let P : ℕ → Type 0 = λ v. v ≢ t → IsSpared plan w.places.positions w.needs t p v → HasNoSafeLegOf plan (set w.places.positions t p) v in
-    ⊎_elim
-    (λ earlier. c.loop-other.invariant u earlier ne spared)
-    (λ same. subst P same (c.stays_without_leg.ensures c.if-not-stays_without_leg.false) ne spared)
-    (in_take_more u c.other-item.result c.args.inside.now c.loop-other.other-index c.loop-other-test.true c.other-item.is found)
+pub stay_without_leg-requires-2-clause-last : goal.stay_without_leg-requires-2-clause-last
+stay_without_leg-requires-2-clause-last c = omega (arith, c.end-unknown.ensures, (c.requires.waiting c.if-inside-gt-TRAINS.false).within None)
 
 pub returns : goal.returns
 returns c =
@@ -32,10 +24,25 @@ returns c =
     let s = w.places.positions in
     let t = c.args.train in
     let p = c.args.place in
-    λ _. record {
+    let inside : List ℕ = c.args.inside.now in
+    let chains = c.args.waiting.now in
+    let made = c.requires.ready.made in
+    λ yes. record {
       other = c.has_other_inside.ensures c.if-not-has_other_inside.false;
       none = λ u ne q is.
-          let inside : is_inside plan s u ≡ true = inside_same plan (set s t p) s u (sym (get_or-set_other s t u p 0 ne)) (goes_parts plan (set s t p) (record { train = u; place = q }) is).inside in
+          let here : is_inside plan s u ≡ true = inside_same plan (set s t p) s u (sym (get_or-set_other s t u p 0 ne)) (goes_parts plan (set s t p) (record { train = u; place = q }) is).inside in
           none_in_vain plan s w.needs t p u (c.gives_up_in_vain.ensures c.if-not-gives_up_in_vain.false) ne
-          (c.loop-other.invariant u (in_take_all u c.args.inside.now c.loop-other.other-index c.loop-other-test.false (c.requires.listed.all u inside)) ne) q is;
+          (λ spared.
+          met_or_held plan s w.stops c.args.level inside chains t u (HasNoSafeLegOf plan (set s t p) u) (c.requires.waiting c.if-inside-gt-TRAINS.false) c.requires.settled (c.requires.listed.all u here) here
+          (λ k met. c.stay_without_leg.ensures c.if-not-stay_without_leg.false k u (subst (λ n. IsMet chains inside k n u) (sym c.end-last.ensures) met) ne spared)
+          (λ k met. c.stay_without_leg-2.ensures yes k u (subst (λ n. IsMet chains inside k n u) (sym c.end-unknown.ensures) met) ne spared)
+          (λ x h noted other held.
+          kept_spared plan s w.stops w.needs c.args.level t p u made.moves.valid made.valid c.requires.inside c.requires.ahead c.requires.within c.requires.ready.counted (λ v i y at. made.moves.in_range v i y at) ne spared c.requires.settled here
+          (record {
+            section = x;
+            noted = noted;
+            holder = h;
+            held = ap (λ k. is_in x (stand plan h k)) (get_or-set_other s t h p 0 other) ∙ held;
+          })))
+          q is;
     }
