@@ -1,8 +1,8 @@
 -- The tests of the trains, train by train.
-use Rattle.std.proofs.Common.{◌≡◌, ℕ, zero, suc, ◌+◌, ◌<◌, ◌≤◌, Bool, true, false, not, cond, List, [], ◌∷◌, length, get_or, drop, map, is_some, Option, Some, None, refl, sym, ap, ◌∙◌, subst, arith}
+use Rattle.std.proofs.Common.{◌≡◌, ℕ, zero, suc, ◌+◌, ◌-◌, ◌<◌, ◌≤◌, Bool, true, false, not, cond, List, [], ◌∷◌, ◌++◌, length, get_or, drop, map, take, is_some, Option, Some, None, refl, sym, ap, ◌∙◌, subst, arith}
 use Rattle.std.specs.List.{list_any}
 use Rattle.std.specs.Option.{option_or}
-use Rattle.std.proofs.lemmas.List.{drop_more, drop_all}
+use Rattle.std.proofs.lemmas.List.{drop_more, drop_all, get_or-take, get_or_default, length-take}
 use Rattle.rail_base.specs.NameForms.{same_name}
 use Rattle.rail_base.specs.declared.plant.TrainKind.{TrainKind}
 use Rattle.rail_base.specs.declared.refusals.Fault.{Fault}
@@ -11,12 +11,16 @@ use Rattle.rail_base.specs.declared.refusals.Refusal.{Refusal}
 use Rattle.rail_base.specs.Refusals.{AnswersFirst}
 use Rattle.rail_base.specs.declared.refusals.Reason.TheVariants as reason
 use Rattle.rail_base.specs.FirstRefusals.{first_failing}
-use Rattle.rail_base.proofs.CallerLemmas.{first_failing-append}
+use Rattle.rail_base.specs.declared.plant.TrainRow.{TrainRow}
+use Rattle.rail_base.proofs.CallerLemmas.{AllPassed, all_passed, first_failing-append, none_failing}
 use Rattle.rail_track.proofs.CallerLemmas.{list_any-map}
 use Rattle.rail_scene.specs.declared.scene.Scene.{Scene}
 use Rattle.rail_scene.specs.declared.scene.SceneTrain.{SceneTrain}
-use Rattle.rail_compile.specs.Itineraries.{routes_of}
-use Rattle.rail_compile.specs.Refusals.{are_known, of_train, route_tests, train_tests, trains_tests}
+use Rattle.rail_routes.specs.declared.items.Route.{Route}
+use Rattle.rail_routes.specs.Net.{Net}
+use Rattle.rail_compile.specs.Itineraries.{routes_of, train_row}
+use Rattle.rail_compile.specs.Refusals.{are_known, ends_at_portal, of_train, place_tests, route_tests, train_refused, train_tests, trains_tests}
+use Rattle.rail_compile.proofs.Finds.{mapped_read}
 use Rattle.rail_compile.proofs.Places.{or-some, or-none}
 
 -- a train in front of those after it
@@ -91,3 +95,43 @@ unrefused_at scene item (first ∷ rest) zero train none lt is =
 unrefused_at scene item (first ∷ rest) (suc i) train none lt is =
     let parts = or-none-parts (first_failing (train_tests scene item first)) (first_failing (trains_tests scene (suc item) rest)) (sym (first_failing-append (train_tests scene item first) (trains_tests scene (suc item) rest)) ∙ none) in
     unrefused_at scene (suc item) rest i train parts.1 (omega arith) is
+
+-- which places and which end are passed does not depend on the number of the train
+ends_passed : (net : Net) (item other place next_place count : ℕ) (fails : Bool) (routes : List Route) →
+    AllPassed (place_tests net item place routes ++ train_refused reason.NotPortal item count fails ∷ []) →
+    AllPassed (place_tests net other next_place routes ++ train_refused reason.NotPortal other count fails ∷ [])
+ends_passed net item other place next_place count fails [] passed = (passed.0, tt)
+ends_passed net item other place next_place count fails (route ∷ []) passed = (passed.0, tt)
+ends_passed net item other place next_place count fails (route ∷ next ∷ rest) passed =
+    (passed.0, ends_passed net item other (suc place) (suc next_place) count fails (next ∷ rest) passed.1)
+
+-- a train that is not refused is not refused under another number
+pub passed_under : (scene : Scene) (item other : ℕ) (train : SceneTrain) → first_failing (train_tests scene item train) ≡ None → first_failing (train_tests scene other train) ≡ None
+passed_under scene item other train none =
+    let routes = routes_of scene.network train.routes in
+    let passed = all_passed (train_tests scene item train) none in
+    none_failing (train_tests scene other train)
+    (passed.0, (passed.1.0, (passed.1.1.0, ends_passed scene.network item other 1 1 (length routes) (not (ends_at_portal scene.network routes)) routes passed.1.1.1)))
+
+-- a train of a known kind with the itinerary of one that is not refused is not refused
+pub passed_behind : (scene : Scene) (item : ℕ) (train before : SceneTrain) → list_any (λ (k : TrainKind). same_name train.kind k.name) scene.kinds ≡ true →
+    before.routes ≡ train.routes → first_failing (train_tests scene item before) ≡ None → first_failing (train_tests scene item train) ≡ None
+passed_behind scene item train before kind same none =
+    let P : List (List ℕ) → Type 0 = λ names. AllPassed (train_refused reason.Unknown item 5 (not (are_known scene.network names)) ∷ route_tests scene.network item (routes_of scene.network names)) in
+    none_failing (train_tests scene item train) (ap not kind, subst P same (all_passed (train_tests scene item before) none).1)
+
+-- the last of the rows is that of the train before
+pub row_before : (scene : Scene) (rows : List TrainRow) (i : ℕ) (before : SceneTrain) (row : TrainRow) → rows ≡ map (train_row scene) (take i scene.trains) →
+    0 < i → i < length scene.trains → before ≡ get_or scene.trains (i - 1) before → row ≡ get_or rows (i - 1) row → row ≡ train_row scene before
+row_before scene rows i before row are some within is here =
+    here
+    ∙ ap (λ rs. get_or rs (i - 1) row) are
+    ∙ mapped_read (train_row scene) (take i scene.trains) (i - 1) before row (omega (arith, length-take i scene.trains)) (is ∙ sym (get_or-take i scene.trains (i - 1) before (omega arith)))
+
+-- the train that was looked at last is not refused
+pub last_passed : (scene : Scene) (i : ℕ) (train before : SceneTrain) → i < length scene.trains → train ≡ get_or scene.trains i train →
+    first_failing (train_tests scene (i + 1) train) ≡ None → before ≡ get_or scene.trains (i + 1 - 1) before → first_failing (train_tests scene (i + 1 + 1) before) ≡ None
+last_passed scene i train before within here none is =
+    let back : i + 1 - 1 ≡ i = omega arith in
+    let same : before ≡ train = is ∙ ap (λ k. get_or scene.trains k before) back ∙ get_or_default scene.trains i before train within ∙ sym here in
+    ap (λ t. first_failing (train_tests scene (i + 1 + 1) t)) same ∙ passed_under scene (i + 1) (i + 1 + 1) train none

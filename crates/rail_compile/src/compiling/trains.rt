@@ -1,10 +1,12 @@
 //! The trains of the plant, or which of them is refused for its kind or its itinerary.
 
-ghost use Rattle.std.specs.Prelude.{◌≡◌, map, None, IsTrue, IfOk, IfErr, OnOk};
+ghost use Rattle.std.specs.Prelude.{◌≡◌, ◌+◌, ◌-◌, ◌<◌, get_or, length, map, take, None, IsTrue, IfOk, IfErr, OnOk};
+ghost use Rattle.std.specs.Bool.{Decides};
 ghost use Rattle.std.specs.List.{list_all};
 ghost use Rattle.rail_base.specs.declared.plant.TrainKind.{TrainKind};
 ghost use Rattle.rail_base.specs.FirstRefusals.{first_failing};
 ghost use Rattle.rail_base.specs.Refusals.{AnswersFirst};
+ghost use Rattle.rail_scene.specs.declared.scene.SceneTrain.{SceneTrain};
 ghost use Rattle.rail_scene.specs.Scenes.{IsScene, is_fit_train};
 ghost use Rattle.rail_compile.specs.Itineraries.{routes_of, train_row};
 ghost use Rattle.rail_compile.specs.Refusals.{train_tests, trains_tests};
@@ -13,7 +15,7 @@ ghost use Rattle.rail_compile.specs.Ways.{AreWays, are_numbers, routes_at};
 
 use crate::compiling::itineraries::{of_train, route_numbers, route_refusal};
 use crate::compiling::kinds::kind_of;
-use crate::compiling::moves::moves_over;
+use crate::compiling::moves::{copied, moves_over};
 use crate::compiling::ways::Ways;
 use indexmap::IndexSet;
 use rail_base::{Fault, MoveRow, Name, Reason, Seq, Time, TrainKind, TrainRow};
@@ -37,12 +39,79 @@ pub fn train_rows(
 {
     let mut rows = Vec::with_capacity(alloc, scene.trains.as_slice().len())?;
     for (index, train) in scene.trains.as_slice().iter().enumerate() {
-        let row = train_row(alloc, scene, kinds, ways, index as u32 + 1, train)?;
+        let row = row_at(alloc, scene, kinds, ways, index, train, rows.as_slice())?;
         if rows.push(row).is_err() {
             return Err(Fault::OutOfMemory);
         }
     }
     Ok(rows)
+}
+
+/// The row of the train at the index behind the rows before it, or its first refusal.
+fn row_at(
+    alloc: Global,
+    scene: &Scene,
+    kinds: &IndexSet<Name>,
+    ways: &Ways,
+    index: usize,
+    train: &SceneTrain,
+    rows: &[TrainRow],
+) -> Result<TrainRow, Fault>
+    requires scene { IsScene scene.now }
+    requires kinds { kinds.now.keys ≡ map (λ (kind : TrainKind). kind.name) scene.now.kinds }
+    requires ways { AreWays scene.now.network ways.now }
+    requires train { IsTrue (is_fit_train train.now) }
+    requires within { index < length scene.now.trains }
+    requires rows { rows.now ≡ map (train_row scene.now) (take index scene.now.trains) }
+    requires passed { (before : SceneTrain) → 0 < index → before ≡ get_or scene.now.trains (index - 1) before →
+        first_failing (train_tests scene.now (index + 1) before) ≡ None }
+    ensures accepted { OnOk result (first_failing (train_tests scene.now (index + 1) train.now) ≡ None) }
+    ensures row { IfOk result (λ row. row ≡ train_row scene.now train.now) }
+    ensures typed { IfOk result (λ row. IsTrue (is_typed_row row)) }
+    ensures refused { IfErr result (AnswersFirst (first_failing (train_tests scene.now (index + 1) train.now))) }
+{
+    let item = index as u32 + 1;
+    if index > 0 {
+        let before = &scene.trains.as_slice()[index - 1];
+        if are_same(before.routes.as_slice(), train.routes.as_slice()) {
+            return row_behind(alloc, scene, kinds, item, train, before, &rows[index - 1]);
+        }
+    }
+    train_row(alloc, scene, kinds, ways, item, train)
+}
+
+/// The row of a train that has the itinerary and so the moves of the one before it, or its first refusal.
+fn row_behind(
+    alloc: Global,
+    scene: &Scene,
+    kinds: &IndexSet<Name>,
+    item: u32,
+    train: &SceneTrain,
+    before: &SceneTrain,
+    row: &TrainRow,
+) -> Result<TrainRow, Fault>
+    requires kinds { kinds.now.keys ≡ map (λ (kind : TrainKind). kind.name) scene.now.kinds }
+    requires same { before.now.routes ≡ train.now.routes }
+    requires row { row.now ≡ train_row scene.now before.now }
+    requires passed { first_failing (train_tests scene.now item before.now) ≡ None }
+    ensures accepted { OnOk result (first_failing (train_tests scene.now item train.now) ≡ None) }
+    ensures row { IfOk result (λ row. row ≡ train_row scene.now train.now) }
+    ensures typed { IfOk result (λ row. IsTrue (is_typed_row row)) }
+    ensures refused { IfErr result (AnswersFirst (first_failing (train_tests scene.now item train.now))) }
+{
+    if !kinds.contains(&train.kind) {
+        return Err(Fault::Refused(of_train(Reason::Unknown, item, 2)));
+    }
+    let kind = kind_of(scene.kinds.as_slice(), kinds, train.kind);
+    let moves = copied(alloc, row.moves.as_slice())?;
+    Ok(typed_row(train.name, kind, train.entry, train.priority, moves))
+}
+
+/// Whether the names are the same, in the same order.
+fn are_same(names: &[Name], others: &[Name]) -> bool
+    ensures { Decides result (names.now ≡ others.now) }
+{
+    names == others
 }
 
 /// The row of a train, or its first refusal.
