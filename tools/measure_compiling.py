@@ -63,8 +63,8 @@ def main():
             file.write_text(scene(trains))
             subprocess.run(["valgrind", "--tool=callgrind", "--callgrind-out-file=%s" % counts, program, "infra", file], capture_output=True, check=True)
             listing = subprocess.run(["callgrind_annotate", "--inclusive=yes", "--threshold=100", counts], capture_output=True, text=True, check=True).stdout
-            compiled = inclusive(listing, r"rail_scene::[\w:]*compile\b")
-            read = inclusive(listing, r"rail_cli::[\w:]*read_plant\b") - compiled
+            compiled = inclusive(listing, r"rail_compile::[\w:]*compile\b")
+            read = inclusive(listing, r"rail_input::[\w:]*read_plant\b") - compiled
             print("%d trains of %d routes, %d bytes: read %d, compile %d" % (trains, LEGS, file.stat().st_size, read, compiled))
             good = good and (before is None or compiled <= 2.2 * before)
             before = compiled
