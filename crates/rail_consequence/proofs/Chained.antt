@@ -7,7 +7,8 @@ use Rattle.std.proofs.lemmas.Option.{none-some, same_Some}
 use Rattle.rail_rules.specs.Moves.{Moves}
 use Rattle.rail_rules.specs.Numbers.{is_in}
 use Rattle.rail_rules.specs.Places.{holds, is_inside}
-use Rattle.rail_consequence.specs.Stops.{IsSettled, stop_at}
+use Rattle.rail_consequence.specs.Stops.{IsSettled, section_of, stop_of}
+use Rattle.rail_consequence.specs.declared.notes.Stop.{Stop}
 use Rattle.rail_consequence.specs.Freeing.{Chains, IsChained, IsIndex, IsMet, WaitsFor, end_of, link}
 use Rattle.rail_consequence.proofs.Counts.{in_take_all, in_take_more}
 
@@ -17,9 +18,9 @@ cases_key None (Some y) = inr (λ same. none-some y same)
 cases_key (Some x) None = inr (λ same. none-some x (sym same))
 cases_key (Some x) (Some y) = ⊎_elim (λ same. inl (ap Some same)) (λ ne. inr (λ same. ne (same_Some x y same))) (cases_eq x y)
 
-module _ (plan : Moves) (s : List ℕ) (stops : List (Option ℕ)) (level : ℕ) (inside : List ℕ) where
+module _ (plan : Moves) (s : List ℕ) (stops : List Stop) (inside : List ℕ) where
   -- before the first train
-  pub index_none : (chains : Chains) → ((key : Option ℕ) → end_of chains key ≡ 0) → ((n : ℕ) → link chains n ≡ 0) → IsIndex plan s stops level inside 0 chains
+  pub index_none : (chains : Chains) → ((key : Option ℕ) → end_of chains key ≡ 0) → ((n : ℕ) → link chains n ≡ 0) → IsIndex plan s stops inside 0 chains
   index_none chains ends links = record {
     lower = λ m low. omega (arith, links m, low);
     within = λ key. omega (arith, ends key);
@@ -27,7 +28,7 @@ module _ (plan : Moves) (s : List ℕ) (stops : List (Option ℕ)) (level : ℕ)
   }
 
   -- a train that is not inside stands in no chain
-  pub index_no : (chains : Chains) (i y : ℕ) → i < length inside → y ≡ get_or inside i y → is_inside plan s y ≡ false → IsIndex plan s stops level inside i chains → IsIndex plan s stops level inside (i + 1) chains
+  pub index_no : (chains : Chains) (i y : ℕ) → i < length inside → y ≡ get_or inside i y → is_inside plan s y ≡ false → IsIndex plan s stops inside i chains → IsIndex plan s stops inside (i + 1) chains
   index_no chains i y lt at out index = record {
     lower = index.lower;
     within = λ key. omega (arith, index.within key);
@@ -40,8 +41,8 @@ module _ (plan : Moves) (s : List ℕ) (stops : List (Option ℕ)) (level : ℕ)
 
   -- one that is stands at the end of the chain of the one for which it waits
   module _ (old new : Chains) (i y : ℕ) (key : Option ℕ) (lt : i < length inside) (at : y ≡ get_or inside i y) (room : i < length old.before)
-      (waits : (other : Option ℕ) → WaitsFor plan s stops level y other → other ≡ key) (here : end_of new key ≡ i + 1)
-      (others : (other : Option ℕ) → other ≢ key → end_of new other ≡ end_of old other) (links : new.before ≡ set old.before i (end_of old key)) (index : IsIndex plan s stops level inside i old) where
+      (waits : (other : Option ℕ) → WaitsFor plan s stops y other → other ≡ key) (here : end_of new key ≡ i + 1)
+      (others : (other : Option ℕ) → other ≢ key → end_of new other ≡ end_of old other) (links : new.before ≡ set old.before i (end_of old key)) (index : IsIndex plan s stops inside i old) where
     link_new : (m : ℕ) → m - 1 ≡ i → link new m ≡ end_of old key
     link_new m same = ap (λ xs. get_or xs (m - 1) 0) links ∙ get_or-set_at old.before i (m - 1) (end_of old key) 0 same room
 
@@ -69,7 +70,7 @@ module _ (plan : Moves) (s : List ℕ) (stops : List (Option ℕ)) (level : ℕ)
         (chain.0, subst P (sym (others other ne)) (met_still chain.0 (end_of old other) u (index.within other) chain.1)))
         (cases_key other key)
 
-    pub index_one : IsIndex plan s stops level inside (i + 1) new
+    pub index_one : IsIndex plan s stops inside (i + 1) new
     index_one = record {
       lower = λ m low.
           ⊎_elim
@@ -81,28 +82,13 @@ module _ (plan : Moves) (s : List ℕ) (stops : List (Option ℕ)) (level : ℕ)
           ⊎_elim
           (λ earlier. chained_still u other (index.chained u other earlier is wait))
           (λ same.
-          let W : ℕ → Type 0 = λ v. WaitsFor plan s stops level v other in
+          let W : ℕ → Type 0 = λ v. WaitsFor plan s stops v other in
           let end : end_of new other ≡ i + 1 = ap (end_of new) (waits other (subst W (sym same) wait)) ∙ here in
           let Q : ℕ → Type 0 = λ n. IsMet new inside zero n u in
           let back : i + 1 - 1 ≡ i = omega arith in
           (zero, subst Q (sym end) (omega arith, ap (λ m. get_or inside m 0) back ∙ get_or_default inside i 0 y lt ∙ sym at ∙ same)))
           (in_take_more u y inside i lt at found);
     }
-
--- what is noted of a train alone matters, and the places
-pub waits_still : (plan : Moves) (s : List ℕ) (old new : List (Option ℕ)) (level u : ℕ) (key : Option ℕ) → stop_at new level u ≡ stop_at old level u → WaitsFor plan s new level u key → WaitsFor plan s old level u key
-waits_still plan s old new level u None same waits = sym same ∙ waits
-waits_still plan s old new level u (Some h) same waits = (waits.0, sym same ∙ waits.1, waits.2)
-
-pub index_still : (plan : Moves) (s r : List ℕ) (old new : List (Option ℕ)) (level : ℕ) (inside : List ℕ) (n : ℕ) (chains : Chains) → r ≡ s → ((u : ℕ) → is_inside plan s u ≡ true → stop_at new level u ≡ stop_at old level u)
-    → IsIndex plan s old level inside n chains → IsIndex plan r new level inside n chains
-index_still plan s r old new level inside n chains same kept index =
-    let P : List ℕ → Type 0 = λ q. IsIndex plan q new level inside n chains in
-    subst P (sym same) (record {
-      lower = index.lower;
-      within = index.within;
-      chained = λ u key found is waits. index.chained u key found is (waits_still plan s old new level u key (kept u is) waits);
-    })
 
 -- what holds of the train at a number and of all that are met from the number before it on holds of all that are met from it on
 pub met_on : (P : ℕ → Type 0) (chains : Chains) (inside : List ℕ) (n y : ℕ) → get_or inside (n - 1) 0 ≡ y → P y → ((k u : ℕ) → IsMet chains inside k (link chains n) u → P u) → (k u : ℕ) → IsMet chains inside k n u → P u
@@ -115,21 +101,21 @@ met_none chains inside n zero u none met = omega (arith, none, met.0)
 met_none chains inside n (suc k) u none met = omega (arith, none, met.0)
 
 -- a train inside is met from the last number of the train's chain on, or of that for no train; or another one than that train holds what is noted of it
-pub met_or_held : (plan : Moves) (s : List ℕ) (stops : List (Option ℕ)) (level : ℕ) (inside : List ℕ) (chains : Chains) (t u : ℕ) (A : Type 0) → IsIndex plan s stops level inside (length inside) chains → IsSettled plan s stops level
+pub met_or_held : (plan : Moves) (s : List ℕ) (stops : List Stop) (inside : List ℕ) (chains : Chains) (t u : ℕ) (A : Type 0) → IsIndex plan s stops inside (length inside) chains → IsSettled plan s stops
     → is_in u inside ≡ true → is_inside plan s u ≡ true
     → ((k : ℕ) → IsMet chains inside k (end_of chains (Some t)) u → A)
     → ((k : ℕ) → IsMet chains inside k (end_of chains None) u → A)
-    → ((x h : ℕ) → stop_at stops level u ≡ Some x → h ≢ t → holds plan s h x ≡ true → A)
+    → ((x h : ℕ) → section_of (stop_of stops u) ≡ Some x → h ≢ t → holds plan s h x ≡ true → A)
     → A
-met_or_held plan s stops level inside chains t u A index settled listed is own unknown third = by (stop_at stops level u) refl
+met_or_held plan s stops inside chains t u A index settled listed is own unknown third = by (section_of (stop_of stops u)) refl
   where
     found : is_in u (take (length inside) inside) ≡ true
     found = in_take_all u inside (length inside) (omega arith) listed
 
-    by : (o : Option ℕ) → stop_at stops level u ≡ o → A
+    by : (o : Option ℕ) → section_of (stop_of stops u) ≡ o → A
     by None none = let chain = index.chained u None found is none in unknown chain.0 chain.1
     by (Some x) noted =
-        let held = (settled u x is noted).held in
+        let held = (settled.stopped u x is noted).held in
         ⊎_elim
         (λ same.
         let chain = index.chained u (Some t) found is (x, noted, ap (λ h. holds plan s h x) (sym same) ∙ held.held) in

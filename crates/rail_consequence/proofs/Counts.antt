@@ -1,15 +1,18 @@
 -- Counting the trains that need a section for a move that they have left.
-use Rattle.std.proofs.Common.{◌≡◌, ◌≢◌, ℕ, zero, suc, ◌+◌, ◌*◌, ◌<◌, ◌≤◌, Bool, true, false, cond, ◌&&◌, ◌||◌, eqb, ltb, leb, List, [], ◌∷◌, length, get_or, set, take, replicate, refl, sym, ap, ◌∙◌, subst, ◌⊎◌, inl, inr, ⊎_elim, arith}
-use Rattle.std.proofs.lemmas.Bool.{cases_lt, cases_eq, cases_Bool, false≢true, eqb-true, eq-eqb, ne_eqb, le-leb, leb-true, lt-leb, lt-ltb, le-ltb, cond-true, cond-false, and_from, and_left, and_right, and_parts, or_cases, or_from, or_left, or_right}
+use Rattle.std.proofs.Common.{◌≡◌, ◌≢◌, ℕ, zero, suc, ◌+◌, ◌*◌, ◌<◌, ◌≤◌, Bool, true, false, cond, not, ◌&&◌, ◌||◌, eqb, ltb, leb, List, [], ◌∷◌, ◌++◌, length, get_or, set, take, replicate, refl, sym, ap, ◌∙◌, subst, ◌⊎◌, inl, inr, ⊎_elim, arith}
+use Rattle.std.proofs.lemmas.Bool.{cases_lt, cases_eq, cases_Bool, false≢true, eqb-true, eq-eqb, le-leb, leb-true, lt-leb, lt-ltb, le-ltb, cond-true, cond-false, and_from, and_left, and_right, and_parts, or_cases, or_from, or_left, or_right}
 use Rattle.std.proofs.lemmas.List.{get_or-set_same, get_or-set_other, length-set, get_or_past, get_or-replicate, length-replicate, take_all}
-use Rattle.std.proofs.lemmas.List.Folds.{list_any_at, list_any_more}
-use Rattle.std.proofs.lemmas.List.Sums.{sum_by-cons, sum_by-take-le, count_by_more_no, count_by_more_yes}
+use Rattle.std.proofs.lemmas.List.Folds.{list_any_at, list_any_more, list_any-append}
+use Rattle.std.proofs.Math.Bool.{or-false}
+use Rattle.std.proofs.lemmas.List.Sums.{sum_by-cons}
 use Rattle.rail_base.specs.declared.limits.TheConstants.{TRAINS}
 use Rattle.rail_rules.specs.Numbers.{sum_below, is_in}
+use Rattle.rail_sets.specs.Counts.{Columns}
+use Rattle.rail_sets.specs.Sets.{has}
 use Rattle.rail_rules.specs.Moves.{Moves}
 use Rattle.rail_rules.specs.Places.{place_of, after}
 use Rattle.rail_rules.proofs.CallerLemmas.{any_below_at, any_below_found, any_below_from, any_below_none, sum_below_same}
-use Rattle.rail_consequence.specs.Needs.{count_of, needs_from, needs_left, one_if, times, IsAmong, IsCounted, IsRecounted, IsTallyFor, Placed}
+use Rattle.rail_consequence.specs.Needs.{count_of, needs_from, needs_left, one_if, times, IsAmong, IsCounted, IsRecounted, IsSet, IsTallyFor, Placed}
 
 -- one where it is so
 pub one_true : (is : Bool) → is ≡ true → one_if is ≡ 1
@@ -43,31 +46,11 @@ in_take_earlier x y xs i lt is ne found = ⊎_elim (λ earlier. earlier) (λ her
 pub in_take_all : (x : ℕ) (xs : List ℕ) (i : ℕ) → length xs ≤ i → is_in x xs ≡ true → is_in x (take i xs) ≡ true
 in_take_all x xs i le is = ap (is_in x) (take_all i xs le) ∙ is
 
--- one number more of a list
-pub times_more : (x y : ℕ) (xs : List ℕ) (i : ℕ) → i < length xs → y ≡ get_or xs i y → times x (take (i + 1) xs) ≡ times x (take i xs) + one_if (eqb x y)
-times_more x y xs i lt is =
-    ⊎_elim
-    (λ same. omega (arith, count_by_more_yes (λ z. eqb z x) xs i y lt (ap (λ z. eqb z x) (sym is) ∙ eq-eqb y x (sym same)), one_true (eqb x y) (eq-eqb x y same)))
-    (λ ne. omega (arith, count_by_more_no (λ z. eqb z x) xs i y lt (ap (λ z. eqb z x) (sym is) ∙ ne_eqb y x (λ e. ne (sym e))), one_false (eqb x y) (ne_eqb x y ne)))
-    (cases_eq x y)
-
--- a number that is read of a list stands there beside those before it
-pub times_read : (y : ℕ) (xs : List ℕ) (i : ℕ) → i < length xs → y ≡ get_or xs i y → times y (take i xs) + 1 ≤ times y xs
-times_read y xs i lt is =
-    omega (arith, times_more y y xs i lt is, one_true (eqb y y) (eq-eqb y y refl), sum_by-take-le (λ z. cond (eqb z y) 1 0) xs (i + 1))
-
--- a number that is not there stands there no time
-pub times_none : (x : ℕ) (xs : List ℕ) → is_in x xs ≡ false → times x xs ≡ 0
-times_none x [] none = refl
-times_none x (y ∷ ys) none =
-    ⊎_elim
-    (λ same. absurd (false≢true (sym none ∙ or_left (eqb y x) (is_in x ys) (eq-eqb y x same))))
-    (λ ne.
-    ⊎_elim
-    (λ there. absurd (false≢true (sym none ∙ or_right (eqb y x) (is_in x ys) there)))
-    (λ out. omega (arith, times-cons x y ys, cond-false {A = ℕ} (eqb y x) 1 0 (ne_eqb y x ne), times_none x ys out))
-    (cases_Bool (is_in x ys)))
-    (cases_eq y x)
+-- a list with one number more
+pub in_push : (x y : ℕ) (xs : List ℕ) → is_in x (xs ++ y ∷ []) ≡ true → (is_in x xs ≡ true) ⊎ (y ≡ x)
+in_push x y xs found =
+    let split = or_cases (is_in x xs) (eqb y x) (sym (list_any-append (λ z. eqb z x) xs (y ∷ []) ∙ ap (λ b. is_in x xs || b) (or-false (eqb y x))) ∙ found) in
+    ⊎_elim (λ earlier. inl earlier) (λ here. inr (eqb-true y x here)) split
 
 -- counts that are all 0
 pub zeros_at : (n i : ℕ) → get_or {A = ℕ} (replicate n 0) i 0 ≡ 0
@@ -182,25 +165,62 @@ module _ (plan : Moves) (t p x : ℕ) where
       (λ zero. and_left (ltb 0 p) (needs_from plan t p x) (le-ltb 0 p zero))
       (cases_lt 0 p)
 
+-- what is needed from a place on is needed from each place before it on
+pub from_earlier : (plan : Moves) (t p q x : ℕ) → p ≤ q → needs_from plan t q x ≡ true → needs_from plan t p x ≡ true
+from_earlier plan t p q x earlier needs =
+    let found = any_below_found (λ m. leb q m && is_in x (plan.claim t m)) (plan.moves t) needs in
+    let parts = and_parts (leb q found.0) (is_in x (plan.claim t found.0)) found.2 in
+    any_below_from (λ m. leb p m && is_in x (plan.claim t m)) (plan.moves t) found.0 found.1
+    (and_from (leb p found.0) (is_in x (plan.claim t found.0)) (le-leb p found.0 (omega (arith, earlier, leb-true q found.0 parts.0))) parts.1)
+
+-- what is so, and was not, is counted once more
+one_more : (was is : Bool) → (was ≡ true → is ≡ true) → one_if (is && not was) + one_if was ≡ one_if is
+one_more true true still = refl
+one_more true false still = absurd (false≢true (still refl))
+one_more false true still = refl
+one_more false false still = refl
+
+-- sets of what a train needs from a place on, and from a later one on
+module _ (plan : Moves) (t p q : ℕ) (low : 0 < p) (earlier : p ≤ q) (early late : List ℕ) (is_early : IsSet early (needs_from plan t p)) (is_late : IsSet late (needs_from plan t q)) where
+  -- the needs at the two places differ by what is in the one set alone
+  left_differs : (x : ℕ) → one_if (has early x && not (has late x)) + one_if (needs_left plan t q x) ≡ one_if (needs_left plan t p x)
+  left_differs x =
+      omega (
+        arith,
+        one_more (has late x) (has early x) (λ is. is_early x ∙ from_earlier plan t p q x earlier (sym (is_late x) ∙ is)),
+        ap one_if (left_entered plan t p x low ∙ sym (is_early x)),
+        ap one_if (left_entered plan t q x (omega (arith, low, earlier)) ∙ sym (is_late x)),
+      )
+
+  -- counted once less is what the train needs no more at the later place
+  pub recounted_down : (from to : ℕ) (old new : Columns) → ((x : ℕ) → needs_left plan t p x ≡ needs_left plan t from x) → ((x : ℕ) → needs_left plan t q x ≡ needs_left plan t to x)
+      → ((x : ℕ) → count_of new x + one_if (has early x && not (has late x)) ≡ count_of old x) → IsRecounted plan t from to old new
+  recounted_down from to old new first last less = λ x. omega (arith, less x, left_differs x, ap one_if (first x), ap one_if (last x))
+
+  -- and counted once more, where it goes back
+  pub recounted_up : (from to : ℕ) (old new : Columns) → ((x : ℕ) → needs_left plan t q x ≡ needs_left plan t from x) → ((x : ℕ) → needs_left plan t p x ≡ needs_left plan t to x)
+      → ((x : ℕ) → count_of new x ≡ count_of old x + one_if (has early x && not (has late x))) → IsRecounted plan t from to old new
+  recounted_up from to old new first last more = λ x. omega (arith, more x, left_differs x, ap one_if (first x), ap one_if (last x))
+
 -- the counts of a state
-module _ (plan : Moves) (s : List ℕ) (a : List ℕ) (counted : IsCounted plan s a) (t : ℕ) (listed : t < length s) where
+module _ (plan : Moves) (s : List ℕ) (a : Columns) (counted : IsCounted plan s a) (t : ℕ) (listed : t < length s) where
   abbrev needy : ℕ → ℕ → ℕ
   needy x u = one_if (needs_left plan u (place_of s u) x)
 
   pub among_counted : length s ≤ TRAINS → IsAmong plan t (place_of s t) a
   among_counted few = record {
-    some = λ x lt. omega (arith, counted x lt, item_within (needy x) (length s) t listed);
-    few = λ x lt. omega (arith, counted x lt, sum_most (needy x) (length s) 1 (λ u below. one_few (needs_left plan u (place_of s u) x)), few);
+    some = λ x. omega (arith, counted x, item_within (needy x) (length s) t listed);
+    few = λ x. omega (arith, counted x, sum_most (needy x) (length s) 1 (λ u below. one_few (needs_left plan u (place_of s u) x)), few);
   }
 
-  pub counted_on : (p : ℕ) (b : List ℕ) → IsRecounted plan t (place_of s t) p a b → IsCounted plan (set s t p) b
-  counted_on p b moved = λ x lt.
+  pub counted_on : (p : ℕ) (b : Columns) → IsRecounted plan t (place_of s t) p a b → IsCounted plan (set s t p) b
+  counted_on p b moved = λ x.
       let next : ℕ → ℕ = λ u. one_if (needs_left plan u (place_of (set s t p) u) x) in
       let there : next t ≡ one_if (needs_left plan t p x) = ap (λ q. one_if (needs_left plan t q x)) (get_or-set_same s t p 0 listed) in
       omega (
         arith,
-        counted x lt,
-        moved x lt,
+        counted x,
+        moved x,
         there,
         sum_shift (needy x) next (length s) t (next t) (needy x t) listed (omega arith)
             (λ u ne. ap (λ q. one_if (needs_left plan u q x)) (sym (get_or-set_other s t u p 0 ne))),
@@ -208,7 +228,7 @@ module _ (plan : Moves) (s : List ℕ) (a : List ℕ) (counted : IsCounted plan 
       )
 
 -- one train of a tally at another place
-pub tallied_on : (plan : Moves) (a : Placed) (t p : ℕ) (counts : List ℕ) → IsTallyFor plan a → t < plan.trains → p ≤ plan.moves t
+pub tallied_on : (plan : Moves) (a : Placed) (t p : ℕ) (counts : Columns) → IsTallyFor plan a → t < plan.trains → p ≤ plan.moves t
     → IsRecounted plan t (place_of a.positions t) p a.counts counts → IsTallyFor plan (record { positions = set a.positions t p; counts = counts })
 tallied_on plan a t p counts kept listed within moved = record {
   long = length-set a.positions t p ∙ kept.long;
@@ -223,6 +243,6 @@ tallied_on plan a t p counts kept listed within moved = record {
 }
 
 -- nobody has entered
-pub counted_none : (plan : Moves) (s a : List ℕ) → ((t : ℕ) → place_of s t ≡ 0) → ((x : ℕ) → count_of a x ≡ 0) → IsCounted plan s a
-counted_none plan s a outside none = λ x lt.
+pub counted_none : (plan : Moves) (s : List ℕ) (a : Columns) → ((t : ℕ) → place_of s t ≡ 0) → ((x : ℕ) → count_of a x ≡ 0) → IsCounted plan s a
+counted_none plan s a outside none = λ x.
     none x ∙ sym (sum_zero (λ t. one_if (needs_left plan t (place_of s t) x)) (length s) (λ t below. ap (λ q. one_if (needs_left plan t q x)) (outside t)))

@@ -1,18 +1,25 @@
 -- Where a train's going on frees nobody, nothing is found by safe legs alone.
-use Rattle.std.proofs.Common.{◌≡◌, ◌≢◌, ℕ, ◌+◌, ◌<◌, ◌≤◌, Bool, ◌&&◌, not, true, false, List, Option, length, set, refl, sym, ap, ◌∙◌, subst, ⊎_elim, arith}
-use Rattle.std.proofs.lemmas.Bool.{cases_Bool, cases_eq, cases_lt, false≢true}
+use Rattle.std.proofs.Common.{◌≡◌, ◌≢◌, ℕ, ◌+◌, ◌<◌, ◌≤◌, Bool, ◌&&◌, not, eqb, true, false, List, None, Some, length, set, refl, sym, ap, ◌∙◌, subst, ◌⊎◌, ⊎_elim, arith}
+use Rattle.std.proofs.lemmas.Bool.{and_from, cases_Bool, cases_eq, cases_lt, eq-eqb, false≢true, not_from_false}
 use Rattle.std.proofs.lemmas.List.{get_or-set_same, get_or-set_other, length-set, set-set}
-use Rattle.rail_base.specs.declared.limits.TheConstants.{SECTIONS}
+use Rattle.std.proofs.lemmas.Option.{none-some, same_Some}
 use Rattle.rail_rules.specs.Numbers.{is_in, sum_below}
 use Rattle.rail_rules.specs.Moves.{Moves, is_valid, stand}
-use Rattle.rail_rules.specs.Places.{place_of, is_inside, is_legal, is_valid_state, nobody_inside}
+use Rattle.rail_rules.specs.Places.{holds, place_of, is_inside, is_legal, is_valid_state, nobody_inside}
 use Rattle.rail_rules.specs.Analysis.{Leg, is_leg, is_safe, Finds}
-use Rattle.rail_consequence.specs.Needs.{AreEnds, IsCounted, count_of, needs_from, needs_left, one_if}
+use Rattle.rail_sets.specs.Counts.{Columns}
+use Rattle.rail_sets.specs.Sets.{has}
+use Rattle.rail_consequence.specs.Needs.{IsCounted, count_of, needs_from, needs_left, one_if}
 use Rattle.rail_consequence.specs.Searches.{HasNoSafeLeg, HasNoSafeLegOf}
-use Rattle.rail_consequence.specs.Stops.{IsSettled}
-use Rattle.rail_consequence.specs.Freeing.{FreesNobody, IsBarred, GivesUpInVain, IsHeldStill, IsSharedThen, IsSpared}
+use Rattle.rail_consequence.specs.Stops.{IsSettled, IsStopped, IsUntouched, section_of, stop_of}
+use Rattle.rail_consequence.specs.declared.notes.Stop.{Stop}
+use Rattle.rail_consequence.specs.declared.notes.Stop.TheVariants.{Unknown, Next, Later}
+use Rattle.rail_consequence.specs.Freeing.{Chains, FreesNobody, HasFalls, IsBarred, IsIndex, IsMet, IsSharedThen, end_of}
+use Rattle.rail_consequence.specs.Workspace.{IsListing}
+use Rattle.rail_consequence.proofs.Chained.{met_or_held}
 use Rattle.rail_consequence.proofs.Clear.{none_from_clear, sum_alone}
-use Rattle.rail_consequence.proofs.Counts.{left_at, left_entered, one_false, one_true, sum_shift, times_none}
+use Rattle.rail_consequence.proofs.Counts.{left_entered, one_false, one_few, sum_shift}
+use Rattle.rail_consequence.proofs.Falls.{passed_by}
 use Rattle.rail_consequence.proofs.Stopping.{IsPassed, leg_short, stopped_next, stopped_still, stopped_unsafe}
 use Rattle.rail_consequence.proofs.Legs.{goes_parts, leg_from, inside_listed, inside_parts, inside_same, nobody_at}
 use Rattle.rail_consequence.proofs.Safe.{safe_from_clear, clear_from_safe, found_past_leg}
@@ -85,51 +92,100 @@ no_leg_helps plan s t k q zero frees is found =
     let P : ℕ → Type 0 = λ j. Finds plan j (set s t q) in
     out_finds_none plan s t (plan.moves t) frees goes.inside refl (found_past_leg plan 0 s t q is (subst P zero found))
 
--- what is noted and counted tells that a train has no safe leg once another has gone on
-module _ (plan : Moves) (s : List ℕ) (stops : List (Option ℕ)) (counts : List ℕ) (level t p u : ℕ) (valid : is_valid plan ≡ true) (state : is_valid_state plan s ≡ true)
-    (was : is_inside plan s t ≡ true) (ahead : place_of s t < p) (within : p ≤ plan.moves t) (counted : IsCounted plan s counts)
-    (in_range : (v i x : ℕ) → is_in x (plan.claim v i) ≡ true → x < SECTIONS) (ne : u ≢ t) (spared : IsSpared plan s counts t p u) where
-  abbrev later : List ℕ
-  later = set s t p
+-- a stopped train whose section a third one holds has no safe leg once another has gone on
+module _ (plan : Moves) (s : List ℕ) (t p u x v : ℕ) (valid : is_valid plan ≡ true) (state : is_valid_state plan s ≡ true) (was : is_inside plan s t ≡ true) (ahead : place_of s t < p)
+    (ne : u ≢ t) (stop : IsStopped plan s u x) (holder : holds plan s v x ≡ true) (third : v ≢ t) where
+  abbrev then : List ℕ
+  then = set s t p
 
-  -- a section that the train needs no more is not left to it alone
-  passed : IsPassed plan later t u (place_of s t)
-  passed i x from below needed gone one =
-      let here : place_of later t ≡ p = get_or-set_same s t p 0 (inside_listed plan s t was) in
-      let entered : 0 < place_of s t = (inside_parts plan s t was).0 in
-      let f : ℕ → ℕ = λ v. one_if (needs_left plan v (place_of later v) x) in
-      let g : ℕ → ℕ = λ v. one_if (needs_left plan v (place_of s v) x) in
-      let lt : t < length s = inside_listed plan s t was in
-      let before : needs_left plan t (place_of s t) x ≡ true = left_at plan t (place_of s t) x i entered from (omega (arith, below, here, within)) needed in
-      let shift : sum_below f (length s) + 1 ≡ sum_below g (length s) + 0 =
-      sum_shift f g (length s) t 1 0 lt (omega (arith, one_false (needs_left plan t (place_of later t) x) gone, one_true (needs_left plan t (place_of s t) x) before))
-      (λ v other. ap (λ q. one_if (needs_left plan v q x)) (get_or-set_other s t v p 0 other)) in
-      let two : count_of counts x ≡ 2 = omega (arith, counted x (in_range t i x needed), shift, one, ap (sum_below f) (length-set s t p)) in
-      let past : needs_from plan t p x ≡ false = sym (left_entered plan t p x (omega (arith, ahead))) ∙ ap (λ k. needs_left plan t k x) (sym here) ∙ gone in
-      ap (λ k. needs_left plan u k x) (get_or-set_other s t u p 0 ne) ∙ spared i x from (omega (arith, below, here)) needed past two
+  known : u < length s
+  known = inside_listed plan s u stop.inside
 
-  -- so one whose section is still held has no safe leg
-  pub kept_spared : IsSettled plan s stops level → is_inside plan s u ≡ true → IsHeldStill plan s stops level u t p → HasNoSafeLegOf plan later u
-  kept_spared settled inside held = λ q is.
-      stopped_unsafe plan later u held.section q (stopped_still plan s t p u valid state was ahead ne passed held.section held.holder (inside_listed plan s u inside) (settled u held.section inside held.noted) held.held) is
+  held : holds plan then v x ≡ true
+  held = ap (λ k. is_in x (stand plan v k)) (get_or-set_other s t v p 0 third) ∙ holder
 
--- and so has one that it stops at its next move, whatever is left to it alone
-pub kept_next : (plan : Moves) (s : List ℕ) (stops : List (Option ℕ)) (level t p u : ℕ) → is_valid plan ≡ true → is_valid_state plan s ≡ true → is_inside plan s t ≡ true → place_of s t < p
-    → IsSettled plan s stops level → u ≢ t → is_inside plan s u ≡ true → (held : IsHeldStill plan s stops level u t p) → is_in held.section (plan.claim u (place_of s u)) ≡ true → HasNoSafeLegOf plan (set s t p) u
-kept_next plan s stops level t p u valid state was ahead settled ne inside held near = λ q is.
-    let there : place_of (set s t p) u ≡ place_of s u = get_or-set_other s t u p 0 ne in
-    stopped_unsafe plan (set s t p) u held.section q
-    (stopped_next plan s t p u valid state was ahead ne held.section held.holder (inside_listed plan s u inside) (settled u held.section inside held.noted) held.held
-    (ap (λ k. is_in held.section (plan.claim u k)) there ∙ near)) is
+  -- where its next move needs the section
+  pub next_kept : is_in x (plan.claim u (place_of s u)) ≡ true → HasNoSafeLegOf plan then u
+  next_kept near = λ q is.
+      stopped_unsafe plan then u x q
+      (stopped_next plan s t p u valid state was ahead ne x v known stop held (ap (λ k. is_in x (plan.claim u k)) (get_or-set_other s t u p 0 ne) ∙ near)) is
+
+  -- or where it needs none of the sections that fall to one train
+  pub later_kept : (counts : Columns) (fell : List ℕ) → IsCounted plan s counts → HasFalls plan s counts t p fell → IsUntouched plan s fell u → HasNoSafeLegOf plan then u
+  later_kept counts fell counted falls untouched = λ q is.
+      let passed : IsPassed plan then t u (place_of s t) = passed_by plan s counts t p u fell counted was ahead
+      (λ y before past two.
+      falls y
+      ∙ and_from (needs_from plan t (place_of s t) y && not (needs_from plan t p y)) (eqb (count_of counts y) 2)
+      (and_from (needs_from plan t (place_of s t) y) (not (needs_from plan t p y)) before (not_from_false (needs_from plan t p y) past))
+      (eq-eqb (count_of counts y) 2 two))
+      untouched ne in
+      stopped_unsafe plan then u x q (stopped_still plan s t p u valid state was ahead ne passed x v known stop held) is
+
+-- what is noted of a train is at its next move, or none of the sections that it needs falls to one train, or it has no safe leg
+abbrev pub IsWatched : Moves → List ℕ → List Stop → List ℕ → ℕ → ℕ → ℕ → Type 0
+IsWatched plan s stops fell t p u = (x : ℕ) → stop_of stops u ≡ Later x → IsUntouched plan s fell u ⊎ HasNoSafeLegOf plan (set s t p) u
+
+-- so a train that waits for a third one has no safe leg
+pub waits_on : (plan : Moves) (s : List ℕ) (stops : List Stop) (counts : Columns) (fell : List ℕ) (t p u x v : ℕ) → is_valid plan ≡ true → is_valid_state plan s ≡ true → is_inside plan s t ≡ true → place_of s t < p
+    → IsCounted plan s counts → IsSettled plan s stops → HasFalls plan s counts t p fell → IsWatched plan s stops fell t p u → u ≢ t → is_inside plan s u ≡ true
+    → section_of (stop_of stops u) ≡ Some x → holds plan s v x ≡ true → v ≢ t → HasNoSafeLegOf plan (set s t p) u
+waits_on plan s stops counts fell t p u x v valid state was ahead counted settled falls watched ne inside noted holder third = by (stop_of stops u) refl
+  where
+    stop : IsStopped plan s u x
+    stop = settled.stopped u x inside noted
+
+    by : (n : Stop) → stop_of stops u ≡ n → HasNoSafeLegOf plan (set s t p) u
+    by Unknown at = absurd (none-some x (ap section_of (sym at) ∙ noted))
+    by (Next y) at =
+        let same : y ≡ x = same_Some y x (ap section_of (sym at) ∙ noted) in
+        next_kept plan s t p u x v valid state was ahead ne stop holder third (ap (λ z. is_in z (plan.claim u (place_of s u))) (sym same) ∙ settled.next u y inside at)
+    by (Later y) at =
+        ⊎_elim
+        (λ untouched. later_kept plan s t p u x v valid state was ahead ne stop holder third counts fell counted falls untouched)
+        (λ none. none)
+        (watched y at)
+
+-- no other train has a safe leg where none has that waits for the train or for none, nor any to which a section falls
+pub none_freed : (plan : Moves) (s : List ℕ) (stops : List Stop) (counts : Columns) (fell inside : List ℕ) (chains : Chains) (t p : ℕ) → is_valid plan ≡ true → is_valid_state plan s ≡ true → is_inside plan s t ≡ true → place_of s t < p
+    → IsCounted plan s counts → IsSettled plan s stops → HasFalls plan s counts t p fell → IsListing plan s inside → IsIndex plan s stops inside (length inside) chains
+    → ((k u : ℕ) → IsMet chains inside k (end_of chains (Some t)) u → u ≢ t → HasNoSafeLegOf plan (set s t p) u)
+    → ((k u : ℕ) → IsMet chains inside k (end_of chains None) u → u ≢ t → HasNoSafeLegOf plan (set s t p) u)
+    → ((u : ℕ) → is_in u inside ≡ true → u ≢ t → IsWatched plan s stops fell t p u)
+    → (u : ℕ) → u ≢ t → HasNoSafeLegOf plan (set s t p) u
+none_freed plan s stops counts fell inside chains t p valid state was ahead counted settled falls listed index own unknown watched u ne = λ q is.
+    let here : is_inside plan s u ≡ true = inside_same plan (set s t p) s u (sym (get_or-set_other s t u p 0 ne)) (goes_parts plan (set s t p) (record { train = u; place = q }) is).inside in
+    let found : is_in u inside ≡ true = listed.all u here in
+    met_or_held plan s stops inside chains t u (HasNoSafeLegOf plan (set s t p) u) index settled found here
+    (λ k met. own k u met ne)
+    (λ k met. unknown k u met ne)
+    (λ x h noted third held. waits_on plan s stops counts fell t p u x h valid state was ahead counted settled falls (watched u found ne) ne here noted held third)
+    q is
 
 and_yes : (b : Bool) → (b && true) ≡ b
 and_yes true = refl
 and_yes false = refl
 
+-- a section that is counted more than once, and does not fall to one train, is shared then
+pub shared_then : (plan : Moves) (s : List ℕ) (counts : Columns) (t p u x : ℕ) (fell : List ℕ) → is_inside plan s t ≡ true → HasFalls plan s counts t p fell → 2 ≤ count_of counts x → has fell x ≡ false → IsSharedThen plan s counts t p u x
+shared_then plan s counts t p u x fell was falls many stays =
+    let gone : Bool = needs_left plan t (place_of s t) x && not (needs_from plan t p x) in
+    let same : gone ≡ (needs_from plan t (place_of s t) x && not (needs_from plan t p x)) = ap (λ b. b && not (needs_from plan t p x)) (left_entered plan t (place_of s t) x (inside_parts plan s t was).0) in
+    let own = one_few (needs_left plan u (place_of s u) x) in
+    ⊎_elim
+    (λ more. omega (arith, more, own, one_few gone))
+    (λ few.
+    let two : count_of counts x ≡ 2 = omega (arith, many, few) in
+    ⊎_elim
+    (λ is. absurd (false≢true (sym stays ∙ falls x ∙ and_from (needs_from plan t (place_of s t) x && not (needs_from plan t p x)) (eqb (count_of counts x) 2) (sym same ∙ is) (eq-eqb (count_of counts x) 2 two))))
+    (λ out. omega (arith, two, own, one_false gone out))
+    (cases_Bool gone))
+    (cases_lt 2 (count_of counts x))
+
 -- a leg to where a section is shared then is not safe
-pub shared_unsafe : (plan : Moves) (s counts : List ℕ) (t p u q x : ℕ) → t < length s → u < length s → u ≢ t → 0 < p → IsCounted plan s counts → x < SECTIONS → is_in x (stand plan u q) ≡ true
+pub shared_unsafe : (plan : Moves) (s : List ℕ) (counts : Columns) (t p u q x : ℕ) → t < length s → u < length s → u ≢ t → 0 < p → IsCounted plan s counts → is_in x (stand plan u q) ≡ true
     → IsSharedThen plan s counts t p u x → is_safe plan (set s t p) (record { train = u; place = q }) ≡ false
-shared_unsafe plan s counts t p u q x known listed ne low counted few is shared =
+shared_unsafe plan s counts t p u q x known listed ne low counted is shared =
     ⊎_elim (λ safe. absurd (alone safe)) (λ out. out) (cases_Bool (is_safe plan later leg))
   where
     later : List ℕ
@@ -156,33 +212,10 @@ shared_unsafe plan s counts t p u q x known listed ne low counted few is shared 
         let past : needs_from plan t p x ≡ false = sym (left_entered plan t p x low) ∙ ap (λ k. needs_left plan t k x) (sym at) ∙ out in
         let gone : (needs_left plan t (place_of s t) x && not (needs_from plan t p x)) ≡ needs_left plan t (place_of s t) x =
         ap (λ b. needs_left plan t (place_of s t) x && not b) past ∙ and_yes (needs_left plan t (place_of s t) x) in
-        omega (arith, shared, counted x few, shift, sum, own, ap (sum_below f) long, one_false (needs_left plan t (place_of later t) x) out, ap one_if gone)
+        omega (arith, shared, counted x, shift, sum, own, ap (sum_below f) long, one_false (needs_left plan t (place_of later t) x) out, ap one_if gone)
 
 -- a train that is barred behind places to which no leg is safe has no safe leg
 pub barred_unsafe : (plan : Moves) (s : List ℕ) (u made : ℕ) → place_of s u ≤ made → IsBarred plan s u made
     → ((q : ℕ) → place_of s u < q → q ≤ made → is_safe plan s (record { train = u; place = q }) ≡ false) → HasNoSafeLegOf plan s u
 barred_unsafe plan s u made from bar unsafe = λ q is.
     unsafe q (goes_parts plan s (record { train = u; place = q }) is).ahead (leg_short plan s u bar.section made q from bar.needed bar.held is)
-
--- where all that a train gives up is given up in vain, a train that has no safe leg where it is spared has none
-pub none_in_vain : (plan : Moves) (s counts : List ℕ) (t p u : ℕ) → ((i x : ℕ) → place_of s t ≤ i → i < p → is_in x (plan.claim t i) ≡ true → GivesUpInVain plan s counts t p x) → u ≢ t
-    → (IsSpared plan s counts t p u → HasNoSafeLegOf plan (set s t p) u) → HasNoSafeLegOf plan (set s t p) u
-none_in_vain plan s counts t p u vain ne spared q is =
-    ⊎_elim
-    (λ safe.
-    spared (λ i x from below needed past two.
-    ⊎_elim
-    (λ needs. absurd (false≢true (sym (vain i x from below needed past two u ne needs q is) ∙ safe)))
-    (λ out. out)
-    (cases_Bool (needs_left plan u (place_of s u) x))) q is)
-    (λ out. out)
-    (cases_Bool (is_safe plan (set s t p) (record { train = u; place = q })))
-
--- a section that a train needs on its way to the place, and no more then, is one of those that it gives up
-pub given_up : (plan : Moves) (t from p i x : ℕ) (xs : List ℕ) → AreEnds plan t from p xs → 0 < from → from ≤ i → i < plan.moves t → is_in x (plan.claim t i) ≡ true → needs_from plan t p x ≡ false → is_in x xs ≡ true
-given_up plan t from p i x xs ends low at below needed past =
-    let before : needs_from plan t from x ≡ true = sym (left_entered plan t from x low) ∙ left_at plan t from x i low at below needed in
-    ⊎_elim
-    (λ there. there)
-    (λ out. absurd (omega (arith, ends.told x, times_none x xs out, one_true (needs_from plan t from x) before, one_false (needs_from plan t p x) past)))
-    (cases_Bool (is_in x xs))

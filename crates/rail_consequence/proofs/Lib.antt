@@ -6,7 +6,6 @@ mod Safe
 mod Played
 mod Walks
 mod Counts
-mod LastNeeds
 mod SetLemmas
 mod Holding
 mod Clear
@@ -17,4 +16,4 @@ mod Without
 mod Freeing
 mod Chained
 mod Going
-mod Waking
+mod Falls

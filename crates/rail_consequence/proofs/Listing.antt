@@ -3,14 +3,12 @@ use Rattle.std.proofs.Common.{◌≡◌, ℕ, suc, ◌+◌, ◌<◌, ◌≤◌, 
 use Rattle.std.proofs.lemmas.Bool.{cases_eq, eq-eqb, false≢true, or_left, or_right}
 use Rattle.std.proofs.lemmas.List.{get_or-set_other, length_push}
 use Rattle.std.proofs.lemmas.List.Folds.{list_any-append}
-use Rattle.rail_base.specs.declared.limits.TheConstants.{TRAINS}
 use Rattle.rail_rules.specs.Numbers.{is_in}
 use Rattle.rail_rules.specs.Moves.{Moves}
 use Rattle.rail_rules.specs.Places.{place_of, is_inside, after}
-use Rattle.rail_place.specs.Tables.{moves_in, IsTable, MoveLists}
 use Rattle.rail_place.specs.Plays.{IsPlayed}
 use Rattle.rail_consequence.specs.Workspace.{Work, GoesOn, IsListing}
-use Rattle.rail_consequence.proofs.LastNeeds.{in_push}
+use Rattle.rail_consequence.proofs.Counts.{in_push}
 use Rattle.rail_consequence.proofs.Legs.{inside_same}
 
 -- a train that is inside after moves was inside before them
@@ -30,10 +28,6 @@ listed_on plan a b inside goes listed = record {
 
 pub listed_at : (plan : Moves) (s r inside : List ℕ) → s ≡ r → IsListing plan s inside → IsListing plan r inside
 listed_at plan s r inside same listed = let P : List ℕ → Type 0 = λ q. IsListing plan q inside in subst P same listed
-
--- the trains that are listed are within the limits
-pub listed_few : (table : List MoveLists) (s inside : List ℕ) → IsTable table → IsListing (moves_in table) s inside → (u : ℕ) → is_in u inside ≡ true → u < TRAINS
-listed_few table s inside moves listed u is = let lt : u < length table = listed.trains u is in omega (arith, lt, moves.few)
 
 -- of the first so many trains those are listed that are inside
 pub record IsListedTo (plan : Moves) (s : List ℕ) (n : ℕ) (inside : List ℕ) : Type 0 where

@@ -1,5 +1,5 @@
 -- Stopped trains have no safe leg, and which moves of others leave them so.
-use Rattle.std.proofs.Common.{◌≡◌, ◌≢◌, ℕ, zero, suc, ◌+◌, ◌<◌, ◌≤◌, true, false, not, ◌&&◌, eqb, ltb, List, length, get_or, set, Option, Some, None, refl, sym, ap, ◌∙◌, subst, ⊎_elim, arith}
+use Rattle.std.proofs.Common.{◌≡◌, ◌≢◌, ℕ, zero, suc, ◌+◌, ◌<◌, ◌≤◌, true, false, not, ◌&&◌, eqb, ltb, List, length, set, sym, ap, ◌∙◌, subst, ⊎_elim, arith}
 use Rattle.std.proofs.lemmas.Bool.{and_parts, and_from, cases_Bool, cases_eq, cases_lt, false≢true, lt-ltb, eq-eqb, or_left, not-true, not_from_false}
 use Rattle.std.proofs.lemmas.List.{get_or-set_same, get_or-set_other, length-set}
 use Rattle.std.specs.List.{list_any}
@@ -8,11 +8,9 @@ use Rattle.rail_rules.specs.Moves.{Moves, stand, is_valid}
 use Rattle.rail_rules.specs.Places.{place_of, is_inside, is_legal, is_held, holds, is_valid_state}
 use Rattle.rail_rules.specs.Analysis.{is_leg, is_safe, needs_later}
 use Rattle.rail_rules.proofs.CallerLemmas.{any_below_at, any_below_none, list_any_at, list_any_none, apart_at, apart_from, state_parts, stand_needed}
-use Rattle.rail_place.specs.Tables.{moves_in, MoveLists}
-use Rattle.rail_place.specs.Made.{State, IsMadeFor}
 use Rattle.rail_place.proofs.CallerLemmas.{holder_listed, state_apart, move_valid}
-use Rattle.rail_consequence.specs.Needs.{IsCounted, needs_left, one_if}
-use Rattle.rail_consequence.specs.Stops.{IsHeldByOther, IsStopped, StaysUnsafe}
+use Rattle.rail_consequence.specs.Needs.{needs_left, one_if}
+use Rattle.rail_consequence.specs.Stops.{IsBehind, IsHeldByOther, IsStopped}
 use Rattle.rail_consequence.proofs.Legs.{goes_parts, leg_from, inside_parts, inside_from, inside_listed, IsClear}
 use Rattle.rail_consequence.proofs.Safe.{safe_from_clear, clear_from_safe}
 use Rattle.rail_consequence.proofs.Counts.{left_at, one_false, one_true}
@@ -102,9 +100,33 @@ leads_out_free plan s t last valid known listed low ahead out free = (
   or_left (eqb last (plan.moves t)) (not (any_below (λ u. not (eqb u t) && needs_later plan s (stand plan t last) u) (length s))) (eq-eqb last (plan.moves t) out),
 )
 
+-- a train is stopped where its next move needs what another train holds
+pub next_stopped : (plan : Moves) (s : List ℕ) (u x : ℕ) → is_inside plan s u ≡ true → is_in x (plan.claim u (place_of s u)) ≡ true → IsHeldByOther plan s u x → IsStopped plan s u x
+next_stopped plan s u x inside needed held = record {
+  inside = inside;
+  place = place_of s u;
+  from = omega arith;
+  below = (inside_parts plan s u inside).1;
+  needed = needed;
+  held = held;
+  unsafe = λ p low high. absurd (omega (arith, low, high));
+}
+
+-- or where a later one does, and no leg up to there is safe
+pub later_stopped : (plan : Moves) (s : List ℕ) (u x : ℕ) → is_inside plan s u ≡ true → IsBehind plan s u x → IsHeldByOther plan s u x → IsStopped plan s u x
+later_stopped plan s u x inside behind held = record {
+  inside = inside;
+  place = behind.place;
+  from = behind.from;
+  below = behind.below;
+  needed = behind.needed;
+  held = held;
+  unsafe = behind.unsafe;
+}
+
 -- another train went on: a section that it needed for that, and needs no more, is not left to the stopped train alone
 abbrev pub IsPassed : Moves → List ℕ → ℕ → ℕ → ℕ → Type 0
-IsPassed plan r t u from = (i x : ℕ) → from ≤ i → i < place_of r t → is_in x (plan.claim t i) ≡ true → needs_left plan t (place_of r t) x ≡ false
+IsPassed plan r t u from = (i x : ℕ) → from ≤ i → i < place_of r t → i < plan.moves t → is_in x (plan.claim t i) ≡ true → needs_left plan t (place_of r t) x ≡ false
     → sum_below (λ v. one_if (needs_left plan v (place_of r v) x)) (length r) ≡ 1 → needs_left plan u (place_of r u) x ≡ false
 
 module _ (plan : Moves) (s : List ℕ) (t to u : ℕ) (valid : is_valid plan ≡ true) (state : is_valid_state plan s ≡ true) (was_inside : is_inside plan s t ≡ true) (gone : place_of s t < to) (ne : u ≢ t) where
@@ -148,9 +170,9 @@ module _ (plan : Moves) (s : List ℕ) (t to u : ℕ) (valid : is_valid plan ≡
 
   module _ (passed : IsPassed plan next t u (place_of s t)) where
     -- where the moves that were made needed a section of a stop, and nobody else does, the train itself does not
-    gap : (p i x : ℕ) → u < length s → place_of s u < p → p < plan.moves u → 0 < place_of s u → is_in x (stand plan u p) ≡ true → IsClear plan next u (stand plan u p) → place_of s t ≤ i → i < to → is_in x (plan.claim t i) ≡ true → ⊥
-    gap zero i x known ahead inner entered in_stand clear from below needed = omega arith
-    gap (suc m) i x known ahead inner entered in_stand clear from below needed =
+    gap : (p i x : ℕ) → u < length s → place_of s u < p → p < plan.moves u → 0 < place_of s u → is_in x (stand plan u p) ≡ true → IsClear plan next u (stand plan u p) → place_of s t ≤ i → i < to → i < plan.moves t → is_in x (plan.claim t i) ≡ true → ⊥
+    gap zero i x known ahead inner entered in_stand clear from below within needed = omega arith
+    gap (suc m) i x known ahead inner entered in_stand clear from below within needed =
         let listed_next : (v : ℕ) → v < length s → v < length next = λ v lt. omega (arith, lt, length-set s t to) in
         let none = none_from_clear plan next u (stand plan u (suc m)) clear in
         let gone : needs_left plan t (place_of next t) x ≡ false = none x t in_stand (listed_next t listed) (λ e. ne (sym e)) in
@@ -159,7 +181,7 @@ module _ (plan : Moves) (s : List ℕ) (t to u : ℕ) (valid : is_valid plan ≡
         let at : place_of next u ≡ place_of s u = there u ne in
         let some : needs_left plan u (place_of next u) x ≡ true = left_at plan u (place_of next u) x m (omega (arith, at, entered)) (omega (arith, at, ahead)) (omega arith) in_need in
         let one : sum_below (λ v. one_if (needs_left plan v (place_of next v) x)) (length next) ≡ 1 = alone ∙ one_true (needs_left plan u (place_of next u) x) some in
-        false≢true (sym (passed i x from (omega (arith, here)) needed gone one) ∙ some)
+        false≢true (sym (passed i x from (omega (arith, here)) within needed gone one) ∙ some)
 
     clear_before : (p : ℕ) → u < length s → place_of s u < p → p < plan.moves u → 0 < place_of s u → IsClear plan next u (stand plan u p) → IsClear plan s u (stand plan u p)
     clear_before p known ahead inner entered clear v i other inside from below =
@@ -172,7 +194,7 @@ module _ (plan : Moves) (s : List ℕ) (t to u : ℕ) (valid : is_valid plan ≡
         (λ made.
         apart_from (plan.claim t i) (stand plan u p) (λ x needed.
         ⊎_elim
-        (λ in_stand. absurd (gap p i x known ahead inner entered in_stand clear at_t made needed))
+        (λ in_stand. absurd (gap p i x known ahead inner entered in_stand clear at_t made below_t needed))
         (λ out. out)
         (cases_Bool (is_in x (stand plan u p)))))
         (λ left.
@@ -194,6 +216,19 @@ module _ (plan : Moves) (s : List ℕ) (t to u : ℕ) (valid : is_valid plan ≡
         (λ out. out)
         (cases_Bool (is_safe plan next (record { train = u; place = p })))
 
+    -- so no leg up to a later move is safe where none was
+    pub behind_still : (x : ℕ) → is_inside plan s u ≡ true → IsBehind plan s u x → IsBehind plan next u x
+    behind_still x inside behind =
+        let at : place_of next u ≡ place_of s u = there u ne in
+        record {
+          place = behind.place;
+          from = omega (arith, at, behind.from);
+          below = behind.below;
+          needed = behind.needed;
+          unsafe = λ p low high.
+              unsafe_still p (inside_listed plan s u inside) (omega (arith, low, at)) (omega (arith, high, behind.below)) (inside_parts plan s u inside).0 (behind.unsafe p (omega (arith, low, at)) high);
+        }
+
     -- and a train whose section is still held is still stopped
     pub stopped_still : (x v : ℕ) → u < length s → IsStopped plan s u x → holds plan next v x ≡ true → IsStopped plan next u x
     stopped_still x v known stop held =
@@ -208,32 +243,3 @@ module _ (plan : Moves) (s : List ℕ) (t to u : ℕ) (valid : is_valid plan ≡
           held = held_still x v known stop held;
           unsafe = λ p low high. unsafe_still p known (omega (arith, low, at)) (omega (arith, high, stop.below)) parts.0 (stop.unsafe p (omega (arith, low, at)) high);
         }
-
--- what is noted of a train after a leg of another one
-pub settled_one : (table : List MoveLists) (state : State) (counts : List ℕ) (s : List ℕ) (t to u x : ℕ) → IsMadeFor table state → IsCounted (moves_in table) state.positions counts
-    → is_valid_state (moves_in table) s ≡ true → is_inside (moves_in table) s t ≡ true → place_of s t < to → set s t to ≡ state.positions → u ≢ t → u < length s → IsStopped (moves_in table) s u x
-    → (get_or state.owners x None ≡ None → ⊥)
-    → StaysUnsafe (moves_in table) state.positions counts t (place_of s t) u x
-    → IsStopped (moves_in table) state.positions u x
-settled_one table state counts s t to u x made counted valid inside ahead same ne known stop held freed = by (get_or state.owners x None) refl
-  where
-    still : (v : ℕ) → get_or state.owners x None ≡ Some v → IsStopped (moves_in table) state.positions u x
-    still v is =
-        let P : List ℕ → Type 0 = λ q. IsStopped (moves_in table) q u x in
-        let C : List ℕ → Type 0 = λ q. IsCounted (moves_in table) q counts in
-        let U : List ℕ → Type 0 = λ q. StaysUnsafe (moves_in table) q counts t (place_of s t) u x in
-        let freed_at : U (set s t to) = subst U (sym same) freed in
-        let counted_at = subst C (sym same) counted in
-        let still_held = ap (λ q. holds (moves_in table) q v x) same ∙ (made.told x v).0 is in
-        subst P same
-        (⊎_elim
-        (λ near. stopped_next (moves_in table) s t to u made.moves.valid valid inside ahead ne x v known stop still_held near)
-        (λ further.
-        stopped_still (moves_in table) s t to u made.moves.valid valid inside ahead ne
-        (λ i y from below needed gone one. freed_at further i y from below needed gone (counted_at y (made.moves.in_range t i y needed) ∙ one))
-        x v known stop still_held)
-        (cases_Bool (is_in x ((moves_in table).claim u (place_of (set s t to) u)))))
-
-    by : (o : Option ℕ) → get_or state.owners x None ≡ o → IsStopped (moves_in table) state.positions u x
-    by None is = absurd (held is)
-    by (Some v) is = still v is

@@ -1,23 +1,16 @@
 -- What is left of what stops the other trains, once a train has gone on.
-use Rattle.std.specs.Prelude.{◌≡◌, ◌≢◌, ℕ, zero, suc, ◌+◌, ◌-◌, ◌<◌, ◌≤◌, ◌&&◌, not, false, List, Option, None, Some, get_or, length, set, take, IsTrue}
+use Rattle.std.specs.Prelude.{◌≡◌, ◌≢◌, ℕ, zero, suc, ◌+◌, ◌*◌, ◌-◌, ◌<◌, ◌≤◌, ◌&&◌, ◌==◌, not, List, Option, None, Some, get_or, length, set, take, IsTrue}
 use Rattle.rail_base.specs.declared.limits.TheConstants.{TRAINS}
 use Rattle.rail_rules.specs.Numbers.{is_in}
 use Rattle.rail_rules.specs.Moves.{Moves}
 use Rattle.rail_rules.specs.Places.{holds, is_inside, place_of}
+use Rattle.rail_sets.specs.Counts.{Columns}
+use Rattle.rail_sets.specs.Sets.{has}
 use Rattle.rail_consequence.specs.Needs.{count_of, needs_from, needs_left, one_if}
+use Rattle.rail_consequence.specs.declared.ahead.Ahead.{Ahead}
+use Rattle.rail_consequence.specs.declared.notes.Stop.{Stop}
 use Rattle.rail_consequence.specs.Searches.{HasNoSafeLegOf}
-use Rattle.rail_consequence.specs.Stops.{IsHeldByOther, stop_at}
-
--- a section is noted to stop the one train, and some train holds it once the other has gone on to the place
-pub record IsHeldStill (plan : Moves) (s : List ℕ) (stops : List (Option ℕ)) (level u t p : ℕ) : Type 0 where
-  pub section : ℕ
-  pub noted : stop_at stops level u ≡ Some section
-  pub holder : ℕ
-  pub held : IsTrue (holds plan (set s t p) holder section)
-
--- this is so of the train, if it is inside and another than the one that goes on
-abbrev pub StaysHeld : Moves → List ℕ → List (Option ℕ) → ℕ → ℕ → ℕ → ℕ → Type 0
-StaysHeld plan s stops level t p u = u ≢ t → IsTrue (is_inside plan s u) → IsHeldStill plan s stops level u t p
+use Rattle.rail_consequence.specs.Stops.{IsHeldByOther, section_of, stop_of}
 
 -- another train is inside
 pub record HasOther (plan : Moves) (s : List ℕ) (t : ℕ) : Type 0 where
@@ -32,19 +25,19 @@ pub record IsBarred (plan : Moves) (s : List ℕ) (u place : ℕ) : Type 0 where
   pub held : IsHeldByOther plan s u section
 
 -- more trains are counted for the section than the one, and the other one where it needs it no more from the place on
-abbrev pub IsSharedThen : Moves → List ℕ → List ℕ → ℕ → ℕ → ℕ → ℕ → Type 0
+abbrev pub IsSharedThen : Moves → List ℕ → Columns → ℕ → ℕ → ℕ → ℕ → Type 0
 IsSharedThen plan s counts t p u x =
     one_if (needs_left plan u (place_of s u) x) + one_if (needs_left plan t (place_of s t) x && not (needs_from plan t p x)) < count_of counts x
 
--- the one train is not left alone in need of a section that the other one needs on its way to the place, and no more then
-abbrev pub IsSpared : Moves → List ℕ → List ℕ → ℕ → ℕ → ℕ → Type 0
-IsSpared plan s counts t p u = (i x : ℕ) → place_of s t ≤ i → i < p → IsTrue (is_in x (plan.claim t i)) → needs_from plan t p x ≡ false
-    → count_of counts x ≡ 2 → needs_left plan u (place_of s u) x ≡ false
+-- the set has the sections that the train and one other need, and it no more once it has gone on to the place; they fall to the other
+abbrev pub HasFalls : Moves → List ℕ → Columns → ℕ → ℕ → List ℕ → Type 0
+HasFalls plan s counts t p fell = (x : ℕ)
+    → has fell x ≡ (needs_from plan t (place_of s t) x && not (needs_from plan t p x) && (count_of counts x == 2))
 
--- a train that is left alone in need of the section has no safe leg once the train has gone on to the place
-abbrev pub GivesUpInVain : Moves → List ℕ → List ℕ → ℕ → ℕ → ℕ → Type 0
-GivesUpInVain plan s counts t p x = needs_from plan t p x ≡ false → count_of counts x ≡ 2
-    → (u : ℕ) → u ≢ t → IsTrue (needs_left plan u (place_of s u) x) → HasNoSafeLegOf plan (set s t p) u
+-- the sets are those of the places where the train has gone on to the place: each section of the first is held by a train, and each of the second, as far as the words go, is needed by two or more
+pub record IsAhead (plan : Moves) (s : List ℕ) (counts : Columns) (width t p : ℕ) (ahead : Ahead) : Type 0 where
+  pub held : (x : ℕ) → IsTrue (has ahead.held x) → (v : ℕ) × IsTrue (holds plan (set s t p) v x)
+  pub shared : (x u : ℕ) → x < 64 * width → IsTrue (has ahead.shared x) → IsSharedThen plan s counts t p u x
 
 -- another train is inside, and none that is has a safe leg once the train has gone on to the place
 pub record FreesNobody (plan : Moves) (s : List ℕ) (t p : ℕ) : Type 0 where
@@ -76,16 +69,16 @@ abbrev pub IsChained : Chains → List ℕ → Option ℕ → ℕ → Type 0
 IsChained chains inside key u = (k : ℕ) × IsMet chains inside k (end_of chains key) u
 
 -- the train waits for this one, which holds a section that is noted to stop it; or for none, since nothing is noted of it
-abbrev pub WaitsFor : Moves → List ℕ → List (Option ℕ) → ℕ → ℕ → Option ℕ → Type 0
-WaitsFor plan s stops level u None = stop_at stops level u ≡ None
-WaitsFor plan s stops level u (Some h) = (x : ℕ) × (stop_at stops level u ≡ Some x) × IsTrue (holds plan s h x)
+abbrev pub WaitsFor : Moves → List ℕ → List Stop → ℕ → Option ℕ → Type 0
+WaitsFor plan s stops u None = section_of (stop_of stops u) ≡ None
+WaitsFor plan s stops u (Some h) = (x : ℕ) × (section_of (stop_of stops u) ≡ Some x) × IsTrue (holds plan s h x)
 
 -- of the first so many trains of the list each that is inside stands in the chain of the one for which it waits; the way along a chain goes down
-pub record IsIndex (plan : Moves) (s : List ℕ) (stops : List (Option ℕ)) (level : ℕ) (inside : List ℕ) (n : ℕ) (chains : Chains) : Type 0 where
+pub record IsIndex (plan : Moves) (s : List ℕ) (stops : List Stop) (inside : List ℕ) (n : ℕ) (chains : Chains) : Type 0 where
   pub lower : (m : ℕ) → 0 < m → link chains m < m
   pub within : (key : Option ℕ) → end_of chains key ≤ n
-  pub chained : (u : ℕ) (key : Option ℕ) → IsTrue (is_in u (take n inside)) → IsTrue (is_inside plan s u) → WaitsFor plan s stops level u key → IsChained chains inside key u
+  pub chained : (u : ℕ) (key : Option ℕ) → IsTrue (is_in u (take n inside)) → IsTrue (is_inside plan s u) → WaitsFor plan s stops u key → IsChained chains inside key u
 
 -- where one free leg may be made, and the list names no more than there may be trains, its trains stand in the chains
-abbrev pub IsIndexOf : Moves → List ℕ → List (Option ℕ) → ℕ → List ℕ → Chains → Type 0
-IsIndexOf plan s stops depth inside chains = depth ≡ 0 → length inside ≤ TRAINS → IsIndex plan s stops (depth + 1) inside (length inside) chains
+abbrev pub IsIndexOf : Moves → List ℕ → List Stop → ℕ → List ℕ → Chains → Type 0
+IsIndexOf plan s stops depth inside chains = depth ≡ 0 → length inside ≤ TRAINS → IsIndex plan s stops inside (length inside) chains

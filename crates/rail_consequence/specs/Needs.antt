@@ -1,9 +1,11 @@
 -- For how many trains each section is needed by moves that they have left, and what each train needs as sets.
-use Rattle.std.specs.Prelude.{◌≡◌, ℕ, ◌+◌, ◌*◌, ◌-◌, ◌<◌, ◌≤◌, ◌==◌, Bool, not, ◌&&◌, cond, nat_lt, nat_le, List, [], length, get_or, take, count_by, IsTrue}
+use Rattle.std.specs.Prelude.{◌≡◌, ℕ, ◌+◌, ◌*◌, ◌-◌, ◌<◌, ◌≤◌, ◌==◌, Bool, ◌&&◌, nat_lt, nat_le, List, [], length, get_or, count_by, IsTrue}
 use Rattle.rail_base.specs.declared.limits.TheConstants.{SECTIONS, TRAINS}
 use Rattle.rail_rules.specs.Numbers.{any_below, is_in, sum_below}
 use Rattle.rail_rules.specs.Moves.{Moves, stand}
 use Rattle.rail_sets.specs.Sets.{has}
+use Rattle.rail_sets.specs.Counts.{Columns}
+pub use Rattle.rail_sets.specs.Counts.{count_of, one_if}
 use Rattle.rail_consequence.specs.declared.rows.PlaceSets.{PlaceSets}
 use Rattle.rail_rules.specs.Places.{place_of}
 
@@ -19,68 +21,25 @@ needs_from plan t place x = any_below (λ m. nat_le place m && is_in x (plan.cla
 abbrev pub needs_left : Moves → ℕ → ℕ → ℕ → Bool
 needs_left plan t place x = nat_lt 0 place && needs_from plan t place x
 
--- the section at the index stands at no earlier one, and is needed for no move of the train from the place on
-abbrev pub is_last_need : Moves → ℕ → ℕ → List ℕ → ℕ → Bool
-is_last_need plan t place sections i =
-    not (needs_from plan t place (get_or sections i 0)) && not (is_in (get_or sections i 0) (take i sections))
-
--- how many trains are counted for the section
-abbrev pub count_of : List ℕ → ℕ → ℕ
-count_of counts x = get_or counts x 0
-
--- 1 where it is so, and 0 where it is not
-abbrev pub one_if : Bool → ℕ
-one_if is = cond is 1 0
-
 -- for each section those trains are counted that have entered in the state, and need it for a move that they have left
-abbrev pub IsCounted : Moves → List ℕ → List ℕ → Type 0
-IsCounted plan s counts = (x : ℕ) → x < SECTIONS
+abbrev pub IsCounted : Moves → List ℕ → Columns → Type 0
+IsCounted plan s counts = (x : ℕ)
     → count_of counts x ≡ sum_below (λ t. one_if (needs_left plan t (place_of s t) x)) (length s)
 
 -- the train is counted as at the place, beside no more others than there may be trains
-pub record IsAmong (plan : Moves) (t place : ℕ) (counts : List ℕ) : Type 0 where
-  pub some : (x : ℕ) → x < SECTIONS → one_if (needs_left plan t place x) ≤ count_of counts x
-  pub few : (x : ℕ) → x < SECTIONS → count_of counts x ≤ TRAINS + one_if (needs_left plan t place x)
+pub record IsAmong (plan : Moves) (t place : ℕ) (counts : Columns) : Type 0 where
+  pub some : (x : ℕ) → one_if (needs_left plan t place x) ≤ count_of counts x
+  pub few : (x : ℕ) → count_of counts x ≤ TRAINS + one_if (needs_left plan t place x)
 
 -- the train was counted as at the one place, and is counted as at the other, with all others as before
-abbrev pub IsRecounted : Moves → ℕ → ℕ → ℕ → List ℕ → List ℕ → Type 0
-IsRecounted plan t from to old new = (x : ℕ) → x < SECTIONS
+abbrev pub IsRecounted : Moves → ℕ → ℕ → ℕ → Columns → Columns → Type 0
+IsRecounted plan t from to old new = (x : ℕ)
     → count_of new x + one_if (needs_left plan t from x) ≡ count_of old x + one_if (needs_left plan t to x)
-
--- the moves of the train from the one place to the other need the sections for the last time: each once, and no others
-pub record AreEnds (plan : Moves) (t from to : ℕ) (sections : List ℕ) : Type 0 where
-  pub in_range : (x : ℕ) → IsTrue (is_in x sections) → x < SECTIONS
-  pub told : (x : ℕ) → times x sections + one_if (needs_from plan t to x) ≡ one_if (needs_from plan t from x)
-
--- sections in the order in which a train needs them for the last time, and how many of them stand before each place
-pub record EndsRow : Type 0 where
-  pub sections : List ℕ
-  pub starts : List ℕ
-
--- what stands for a train that the table doesn't have
-abbrev pub no_ends : EndsRow
-no_ends = record { sections = []; starts = [] }
-
--- how many sections stand before the place
-abbrev pub start_at : EndsRow → ℕ → ℕ
-start_at row place = get_or row.starts place 0
-
--- the row tells the first so many moves of the train
-pub record IsRowOf (plan : Moves) (t n : ℕ) (row : EndsRow) : Type 0 where
-  pub long : length row.starts ≡ n + 1
-  pub whole : start_at row n ≡ length row.sections
-  pub rising : (from to : ℕ) → from ≤ to → to ≤ n → start_at row from ≤ start_at row to
-  pub ended : (place : ℕ) → place ≤ n → AreEnds plan t 0 place (take (start_at row place) row.sections)
-
--- each train has a row that tells all its moves
-pub record IsEndsOf (plan : Moves) (rows : List EndsRow) : Type 0 where
-  pub long : length rows ≡ plan.trains
-  pub told : (t : ℕ) → t < plan.trains → IsRowOf plan t (plan.moves t) (get_or rows t no_ends)
 
 -- places, and for each section how many trains are counted
 pub record Placed : Type 0 where
   pub positions : List ℕ
-  pub counts : List ℕ
+  pub counts : Columns
 
 -- each train has one of its places, and the trains are counted that need a section for a move that they have left there
 pub record IsTallyFor (plan : Moves) (placed : Placed) : Type 0 where
@@ -123,14 +82,12 @@ pub record AreRows (plan : Moves) (n : ℕ) (table : SetRows) : Type 0 where
 abbrev pub IsRowsOf : Moves → SetRows → Type 0
 IsRowsOf plan table = AreRows plan plan.trains table
 
--- what an analyst keeps from search to search: a tally, the rows of the sections that the trains need for the last time, and their sets at each place
+-- what an analyst keeps from search to search: a tally, and the sets of the trains at each place
 pub record Tallied : Type 0 where
   pub tally : Placed
-  pub ends : List EndsRow
   pub rows : SetRows
 
--- all three belong to the moves
+-- both belong to the moves
 pub record IsAnalystFor (plan : Moves) (tallied : Tallied) : Type 0 where
   pub tally : IsTallyFor plan tallied.tally
-  pub ends : IsEndsOf plan tallied.ends
   pub rows : IsRowsOf plan tallied.rows

@@ -1,32 +1,37 @@
 //! The analysis of movement consequences: a list of moves that brings every train inside to its exit,
 //! with few free legs, or that there is none.
 //!
-//! This layer stands on `rail_place` for places and legal moves, and on `rail_rules` for what a leg is,
-//! when it is safe, and what can be found. The analyst makes legs on places of its own, filled from
-//! those handed in: it makes safe legs as long as there is one, each to the last safe place on its way,
-//! which loses nothing, and only then tries each free leg, going back on those that do not help. For each
-//! section it counts how many trains need it for moves that they have left, which tells whether a leg is
-//! safe; and it notes which section stops each train, so that a train is looked at again only where that
-//! may have changed. Two looks spare it most free legs: where nothing is found with a train out of the
-//! way, none of its legs helps; and a last free leg helps only where it frees another train, which notes
-//! and counts tell before it is made. For that look the trains that wait for each train are listed once, in
-//! chains, before the last free legs are tried.
+//! This layer stands on `rail_place` for places and legal moves, on `rail_sets` for sets of sections and
+//! how often sections are counted, and on `rail_rules` for what a leg is, when it is safe, and what can be
+//! found. The analyst makes legs on places of its own, filled from those handed in: it makes safe legs as
+//! long as there is one, each to the last safe place on its way, which loses nothing, and only then tries
+//! each free leg, going back on those that do not help.
+//!
+//! What a train needs and where it stands are sets of sections for each of its places, made with the
+//! analyst. For each section it is counted how many trains need it for moves that they have left, a set at
+//! a time; the counts tell whether a leg is safe. What stops a train is noted. The search after a free leg
+//! is handed the notes, with the set of sections that fell to one train since. Whether a note lasts shows
+//! where it is used: a train is looked at again only where no other train holds the section any more, or a
+//! section that it needs fell.
+//!
+//! Two looks spare it most free legs. Where nothing is found with a train out of the way, none of its legs
+//! helps. And a last free leg helps only where it frees another train, which a look ahead tells before it is
+//! made: it asks the trains that wait for this one, listed once in chains, those of which nothing is noted,
+//! and those to which sections fall, with the sets of what would be held and what would be shared.
 //!
 //! An analyst belongs to the moves for which it was made. The counts are kept from one search to the
-//! next, and brought to the new places train by train where the place differs. Which sections a train needs
-//! no more after a run of its moves is read off a table that is made with the analyst.
+//! next, and brought to the new places train by train where the place differs.
 //!
 //! The order in which legs are tried, and so which list is found, may be changed. That no list is
 //! answered exactly where none can be found may not.
 #![tactic(auto)]
 
-mod alone;
+mod ahead;
 mod analyst;
-mod ends;
 mod laws;
 mod needs;
+mod notes;
 mod rows;
-mod stops;
 mod tally;
 mod waiting;
 

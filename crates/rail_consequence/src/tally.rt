@@ -4,14 +4,15 @@ ghost use Rattle.std.specs.Prelude.{◌≡◌, ◌<◌, ◌≤◌, length, set, 
 ghost use Rattle.rail_rules.specs.Places.{is_inside};
 ghost use Rattle.rail_place.specs.Made.{IsMadeFor};
 ghost use Rattle.rail_place.specs.Tables.{IsTable, moves_in};
-ghost use Rattle.rail_consequence.specs.Needs.{IsEndsOf, IsTallyFor};
+ghost use Rattle.rail_consequence.specs.Needs.{IsRowsOf, IsTallyFor};
 ghost use Rattle.rail_consequence.specs.Workspace.{IsListing};
 
-use crate::ends::Ends;
-use crate::needs::Needs;
+use crate::needs::recount;
+use crate::rows::Rows;
 use rail_base::limits::TRAINS;
 use rail_base::{OutOfMemory, TrainNo};
 use rail_place::{Moves, Places};
+use rail_sets::Counts;
 use std::alloc::Global;
 use std::marker::Model;
 
@@ -20,7 +21,7 @@ use std::marker::Model;
 #[derive(Debug, Drop)]
 pub struct Tally {
     positions: Vec<u16>,
-    needs: Needs,
+    needs: Counts,
 }
 
 impl Model for Tally {
@@ -38,14 +39,14 @@ impl Tally {
     {
         Ok(Tally {
             positions: vec![in alloc; 0u16; usize::from(moves.trains())]?,
-            needs: Needs::new(alloc)?,
+            needs: Counts::new(alloc)?,
         })
     }
 
     /// Goes over to these places, and lists the trains that are inside there, by number.
-    pub fn follow(&mut self, moves: &Moves, ends: &Ends, places: &Places, inside: &mut Vec<TrainNo>)
+    pub fn follow(&mut self, moves: &Moves, rows: &Rows, places: &Places, inside: &mut Vec<TrainNo>)
         requires made { IsMadeFor moves.now places.now }
-        requires ends { IsEndsOf (moves_in moves.now) ends.now }
+        requires rows { IsRowsOf (moves_in moves.now) rows.now }
         requires kept { IsTallyFor (moves_in moves.now) self.old }
         requires room { TRAINS ≤ vec_capacity inside.old }
         ensures kept { IsTallyFor (moves_in moves.now) self.new }
@@ -58,7 +59,7 @@ impl Tally {
             let train = TrainNo(number);
             let place = places.position(train);
             if self.positions[usize::from(number)] != place {
-                self.follow_train(moves, ends, train, place);
+                self.follow_train(moves, rows, train, place);
             }
             if stands_inside(moves, places, train) {
                 inside.push_reserved(train);
@@ -67,9 +68,9 @@ impl Tally {
     }
 
     /// Goes over to this place of the train, which stands at another.
-    fn follow_train(&mut self, moves: &Moves, ends: &Ends, train: TrainNo, place: u16)
+    fn follow_train(&mut self, moves: &Moves, rows: &Rows, train: TrainNo, place: u16)
         requires table { IsTable moves.now }
-        requires ends { IsEndsOf (moves_in moves.now) ends.now }
+        requires rows { IsRowsOf (moves_in moves.now) rows.now }
         requires train { train < length moves.now }
         requires within { place ≤ (moves_in moves.now).moves train }
         requires kept { IsTallyFor (moves_in moves.now) self.old }
@@ -77,12 +78,12 @@ impl Tally {
         ensures positions { self.new.positions ≡ set self.old.positions train place }
     {
         let from = self.positions[usize::from(train.0)];
-        self.needs.recount(moves, ends, train, from, place);
+        recount(&mut self.needs, moves, rows, train, from, place);
         self.positions[usize::from(train.0)] = place;
     }
 
     /// The needs at the places.
-    pub fn needs(&self) -> &Needs
+    pub fn needs(&self) -> &Counts
         ensures { result.now ≡ self.now.counts }
     {
         &self.needs

@@ -6,7 +6,7 @@ ghost use Rattle.rail_place.specs.Tables.{moves_in};
 ghost use Rattle.rail_consequence.specs.Freeing.{IsIndex, WaitsFor, end_of, link};
 ghost use Rattle.rail_consequence.specs.Workspace.{IsListing};
 
-use crate::stops::Stops;
+use crate::notes::{Notes, Stop};
 use crate::tally::stands_inside;
 use rail_base::TrainNo;
 use rail_base::limits::TRAINS;
@@ -44,23 +44,17 @@ impl Waiting {
         }
     }
 
-    /// The trains of the list that are inside, by what is noted of them for the level.
-    pub fn new(
-        moves: &Moves,
-        places: &Places,
-        stops: &Stops,
-        inside: &[TrainNo],
-        level: u8,
-    ) -> Waiting
+    /// The trains of the list that are inside, by what is noted of them.
+    pub fn new(moves: &Moves, places: &Places, notes: &Notes, inside: &[TrainNo]) -> Waiting
         requires made { IsMadeFor moves.now places.now }
         requires listed { IsListing (moves_in moves.now) places.now.positions inside.now }
         requires few { length inside.now ≤ TRAINS }
-        ensures { IsIndex (moves_in moves.now) places.now.positions stops.now level inside.now (length inside.now) result }
+        ensures { IsIndex (moves_in moves.now) places.now.positions notes.now.stops inside.now (length inside.now) result }
     {
         let mut waiting = Waiting::none();
         for (index, train) in inside.iter().enumerate() {
             if stands_inside(moves, places, *train) {
-                waiting.add(index as u16, awaited(moves, places, stops, *train, level));
+                waiting.add(index as u16, awaited(moves, places, notes, *train));
             }
         }
         waiting
@@ -112,17 +106,14 @@ impl Waiting {
 }
 
 /// The train that holds the section that is noted to stop this one.
-fn awaited(
-    moves: &Moves,
-    places: &Places,
-    stops: &Stops,
-    train: TrainNo,
-    level: u8,
-) -> Option<TrainNo>
+fn awaited(moves: &Moves, places: &Places, notes: &Notes, train: TrainNo) -> Option<TrainNo>
     requires made { IsMadeFor moves.now places.now }
     requires train { train < length moves.now }
-    ensures exact { (key : Option ℕ) → WaitsFor (moves_in moves.now) places.now.positions stops.now level train key → key ≡ result }
+    ensures exact { (key : Option ℕ) → WaitsFor (moves_in moves.now) places.now.positions notes.now.stops train key → key ≡ result }
     ensures few { IfSome result (λ h. h < TRAINS) }
 {
-    places.holder(stops.get(level, train)?)
+    match notes.stop(train) {
+        Stop::Unknown => None,
+        Stop::Next(section) | Stop::Later(section) => places.holder(section),
+    }
 }

@@ -1,7 +1,7 @@
 -- Bits of words.
 use Rattle.std.proofs.Common.{◌≡◌, ◌≢◌, ℕ, ◌+◌, ◌-◌, ◌*◌, ◌/◌, ◌%◌, ◌^◌, ◌<◌, ◌≤◌, min, max, Bool, List, length, get_or, replicate, take, true, false, not, ◌&&◌, ◌||◌, set, refl, sym, ap, ◌∙◌, ⊎_elim, arith, eq-eqb, eqb-true, w64}
 use Rattle.std.proofs.lemmas.Bool.{cases_Bool, cases_eq, cases_lt, false≢true, ne_eqb, or_right}
-use Rattle.std.proofs.lemmas.List.{get_or_past, get_or-set_same, get_or-set_other, get_or-replicate, get_or-take, length-replicate, length-take}
+use Rattle.std.proofs.lemmas.List.{get_or_past, get_or-set_same, get_or-set_other, get_or-replicate, get_or-take, length-replicate, length-set, length-take}
 use Rattle.std.proofs.lemmas.Nat.{and_le_l}
 use Rattle.std.proofs.lemmas.Nat.Bits.{bit_at_and, bit_at-lt, bit_at-zero, bit_at_not, bit_at_set_same, bit_at_set_other, bit_at-trailing_zeros}
 use Rattle.std.specs.Prelude.{bit_and, bit_or, ◌==◌}
@@ -182,3 +182,28 @@ same_word old new x same = ap (λ n. bit_at n (x % 64) == 1) same
 pub kept_by : (p q r : Bool) → q ≡ false → r ≡ false → ((p && not q) || r) ≡ p
 kept_by true q r none_q none_r = or_out (true && not q) r none_r ∙ ap not none_q
 kept_by false q r none_q none_r = none_r
+
+-- a word that is not 0 has a section
+pub some_section : (words : List ℕ) (k : ℕ) → get_or words k 0 < 2 ^ 64 → get_or words k 0 ≢ 0 → (x : ℕ) × (has words x ≡ true)
+some_section words k fits some =
+    let low = bit_at-trailing_zeros w64 (get_or words k 0) (omega (arith, some)) fits in
+    (k * 64 + trailing_zeros w64 (get_or words k 0), bit_section k (trailing_zeros w64 (get_or words k 0)) low.0 words low.1)
+
+-- the first so many words of the set have these sections, and its other words are as they were
+pub record IsMade (wanted : ℕ → Bool) (old new : List ℕ) (n : ℕ) : Type 0 where
+  pub long : length new ≡ length old
+  pub made : (x : ℕ) → x < 64 * n → has new x ≡ wanted x
+  pub rest : (k : ℕ) → n ≤ k → get_or new k 0 ≡ get_or old k 0
+
+-- a word more
+pub made_more : (wanted : ℕ → Bool) (old new : List ℕ) (n w : ℕ) → n < length new → IsMade wanted old new n → ((x : ℕ) → x / 64 ≡ n → (bit_at w (x % 64) == 1) ≡ wanted x)
+    → IsMade wanted old (set new n w) (n + 1)
+made_more wanted old new n w within before here = record {
+  long = length-set new n w ∙ before.long;
+  made = λ x low.
+      ⊎_elim
+      (λ (at : x / 64 ≡ n). ap (λ k. bit_at (get_or (set new n w) k 0) (x % 64) == 1) at ∙ ap (λ v. bit_at v (x % 64) == 1) (get_or-set_same new n w 0 within) ∙ here x at)
+      (λ (ne : x / 64 ≢ n). same_word new (set new n w) x (get_or-set_other new n (x / 64) w 0 ne) ∙ before.made x (omega (arith, low, ne)))
+      (cases_eq (x / 64) n);
+  rest = λ k from. get_or-set_other new n k w 0 (λ same. omega (arith, same, from)) ∙ before.rest k (omega (arith, from));
+}

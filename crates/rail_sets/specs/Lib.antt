@@ -1,2 +1,3 @@
 -- What callers see of sets of sections.
+pub mod Counts
 pub mod Sets

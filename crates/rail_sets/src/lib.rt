@@ -1,12 +1,17 @@
 //! Sets of sections as words of 64 bits.
 //!
 //! This layer stands on the plain data of `rail_base`, and on `rail_rules` for what it means that a section is one of
-//! some. A set is a slice of words, which contracts see as the sections that it has.
+//! some. A set is a slice of words, which contracts see as the sections that it has. Counts tell how often each section
+//! is counted.
 //!
 //! How the bits are laid out may be changed as long as the contracts hold. What may not change is that a call on
 //! sets costs their words, and not their sections.
 #![tactic(auto)]
 
+mod counts;
 mod sets;
 
-pub use sets::{WORDS, add_all, first_common, join, meet, meet_beyond, replace, width_of};
+pub use counts::Counts;
+pub use sets::{
+    WORDS, add_all, clear, first_common, is_empty, join, meet, meet_beyond, replace, width_of,
+};

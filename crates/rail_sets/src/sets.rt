@@ -10,6 +10,19 @@ use rail_base::limits::SECTIONS;
 /// The words of a set that may have any section.
 pub const WORDS: usize = SECTIONS / 64;
 
+/// No section is in the set.
+pub fn is_empty(set: &[u64]) -> bool
+    ensures some { result ≡ false → (x : ℕ) × IsTrue (has set.now x) }
+    ensures none { IsTrue result → (x : ℕ) → has set.now x ≡ false }
+{
+    for word in set {
+        if *word != 0 {
+            return false;
+        }
+    }
+    true
+}
+
 /// Some section is in both sets.
 pub fn meet(first: &[u64], second: &[u64]) -> bool
     requires { length first.now ≤ length second.now }
@@ -55,6 +68,14 @@ pub fn first_common(first: &[u64], second: &[u64], third: &[u64]) -> Option<Sect
         }
     }
     None
+}
+
+/// Takes all sections away.
+pub fn clear(set: &mut [u64])
+    ensures none { (x : ℕ) → has set.new x ≡ false }
+    ensures long { length set.new ≡ length set.old }
+{
+    set.fill(0);
 }
 
 /// Adds the sections of the other set.

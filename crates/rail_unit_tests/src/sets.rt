@@ -1,5 +1,8 @@
 use rail_base::SectionNo;
-use rail_sets::{WORDS, add_all, first_common, join, meet, meet_beyond, replace, width_of};
+use rail_sets::{
+    Counts, WORDS, add_all, clear, first_common, is_empty, join, meet, meet_beyond, replace,
+    width_of,
+};
 
 #[test]
 fn sets_of_sections_meet_and_change(rt: HostRuntime) {
@@ -23,4 +26,42 @@ fn sets_of_sections_meet_and_change(rt: HostRuntime) {
     replace(&mut both, &station, &[0u64; WORDS]);
     assert!(rt; !meet(&both, &station));
     assert!(rt; meet(&both, &line));
+}
+
+#[test]
+fn sections_are_counted(rt: HostRuntime) {
+    let mut line = [0u64; WORDS];
+    add_all(&mut line, &[SectionNo(3), SectionNo(70), SectionNo(511)]);
+    let mut station = [0u64; WORDS];
+    add_all(&mut station, &[SectionNo(70), SectionNo(71)]);
+    let mut junction = [0u64; WORDS];
+    add_all(&mut junction, &[SectionNo(70)]);
+    let none = [0u64; WORDS];
+    let Ok(mut counts) = Counts::new(rt.alloc()) else {
+        panic!(rt; "no memory");
+    };
+    counts.count_up(&line, &none);
+    assert!(rt; counts.are_once(&line));
+    counts.count_up(&station, &none);
+    assert!(rt; counts.are_once(&line[..1]));
+    assert!(rt; !counts.are_once(&line));
+    let mut found = none;
+    counts.fill_shared(&mut found, &none);
+    assert_eq!(rt; found, junction);
+    counts.fill_shared(&mut found, &station);
+    assert!(rt; is_empty(&found));
+    counts.add_falls(&mut found, &line, &none);
+    assert_eq!(rt; found, junction);
+    clear(&mut found);
+    counts.add_falls(&mut found, &line, &station);
+    assert!(rt; is_empty(&found));
+    let Ok(mut later) = Counts::new(rt.alloc()) else {
+        panic!(rt; "no memory");
+    };
+    later.copy_from(&counts);
+    later.count_up(&station, &line);
+    assert!(rt; !later.are_once(&line));
+    later.count_down(&line, &none);
+    assert!(rt; later.are_once(&line));
+    assert!(rt; !later.are_once(&station));
 }

@@ -11,5 +11,5 @@ holder_few : (table : List MoveLists) (state : State) (x : ℕ) (o : Option ℕ)
 holder_few table state x None made is = tt
 holder_few table state x (Some h) made is = omega (arith, holder_listed (moves_in table) state.positions h x ((made.told x h).0 (sym is)), made_long table state made, made.moves.few)
 
-pub returns-clause-few : goal.returns-clause-few
-returns-clause-few c = holder_few c.args.moves.now c.args.places.now _ c.holder.result c.requires.made c.holder.ensures
+pub returns-in-Next-clause-few : goal.returns-in-Next-clause-few
+returns-in-Next-clause-few c = holder_few c.args.moves.now c.args.places.now _ c.holder.result c.requires.made c.holder.ensures

@@ -1,19 +1,19 @@
-use Rattle.std.proofs.Common.{◌≡◌, ℕ, ◌+◌, ◌-◌, ◌<◌, Bool, List, Option, None, Some, is_some, true, false, ◌&&◌, length, set, refl, sym, ap, ◌∙◌, subst, ⊎_elim, arith}
+use Rattle.std.proofs.Common.{◌≡◌, ℕ, ◌+◌, ◌-◌, Bool, List, Option, None, Some, is_some, true, false, length, set, refl, sym, ap, ◌∙◌, subst, ⊎_elim, arith}
 use Rattle.std.specs.Prelude.{MatchOption}
-use Rattle.std.proofs.lemmas.Bool.{and_from, cases_Bool, cases_lt, false≢true, not-true}
+use Rattle.std.proofs.lemmas.Bool.{cases_Bool, cases_lt, false≢true, not-true}
 use Rattle.rail_rules.specs.Numbers.{is_in}
-use Rattle.std.proofs.lemmas.List.{set-get_or}
 use Rattle.rail_rules.specs.Moves.{Moves}
-use Rattle.rail_rules.specs.Places.{place_of, is_inside, is_legal, nobody_inside}
+use Rattle.rail_rules.specs.Places.{place_of, is_inside, nobody_inside}
 use Rattle.rail_rules.specs.Analysis.{Finds, Leg, after_leg, is_leg}
 use Rattle.rail_place.specs.Tables.{moves_in, MoveLists}
-use Rattle.rail_rules.proofs.CallerLemmas.{state_parts}
-use Rattle.rail_base.specs.declared.limits.TheConstants.{TRAINS}
 use Rattle.rail_consequence.specs.Freeing.{Chains, FreesNobody, IsIndexOf}
+use Rattle.rail_sets.specs.Sets.{has}
 use Rattle.rail_consequence.specs.Searches.{HasNoSafeLeg, IsCleared}
-use Rattle.rail_consequence.specs.Stops.{IsHeldByOther, IsSettled, stop_at}
-use Rattle.rail_consequence.specs.Workspace.{Work, GoesOn, IsBack, IsListing, IsReady}
-use Rattle.rail_consequence.proofs.Chained.{index_still}
+use Rattle.rail_consequence.specs.Stops.{IsHeldByOther, IsNoted, IsNotedTo, IsSettled, section_of, stop_of}
+use Rattle.rail_consequence.specs.declared.notes.Notes.{Notes}
+use Rattle.rail_consequence.specs.declared.notes.Stop.{Stop}
+use Rattle.rail_consequence.specs.declared.notes.Stop.TheVariants.{Unknown, Next, Later}
+use Rattle.rail_consequence.specs.Workspace.{Work, GoesOn, IsBack, IsListing}
 use Rattle.rail_consequence.proofs.Counts.{in_at, in_take_all}
 use Rattle.rail_consequence.proofs.Freeing.{leg_finds_none, no_leg_helps}
 use Rattle.rail_consequence.proofs.Legs.{goes_parts, inside_listed, inside_parts}
@@ -84,7 +84,6 @@ try_free_legs-loop-train-preserved t c =
     let none = c.try_legs_of.ensures.none c.if-try_legs_of.false in
     record {
       ready = c.try_legs_of.ensures.ready;
-      kept = λ m u lt few. c.try_legs_of.ensures.kept m u lt few ∙ c.loop-train.invariant.kept m u lt few;
       back = back_twice a b c.try_legs_of.new.self c.loop-train.invariant.back none.0;
       none = tried_more plan c.args.depth a.places.positions b.places.positions c.train-item.result c.loop-train.train-index c.args.inside.now c.loop-train-test.true c.train-item.is c.loop-train.invariant.back.positions c.loop-train.invariant.none none.1;
     }
@@ -113,36 +112,46 @@ search-try_free_legs-requires t c =
           listed_on plan c.args.self.now b c.args.inside.now c.close.ensures.moves c.requires.listed,
           (
             omega (arith, c.if-depth-eq0.false, c.ranges.depth.fits),
-            (c.close.ensures.none, λ u x lt stop. c.close.ensures.settled u x lt ((λ i. stop_at b.stops (sym more i) u) ∙ stop)),
+            (c.close.ensures.none, c.close.ensures.settled),
           ),
         ),
       ),
     )
 
 -- what a call needs to know at places that are as before
-module _ (table : List MoveLists) (depth : ℕ) (inside : List ℕ) (a b : Work) (ready : IsReady table b) (back : IsBack a b) (kept : (m u : ℕ) → depth < m → u < TRAINS → stop_at b.stops m u ≡ stop_at a.stops m u) where
+module _ (table : List MoveLists) (depth : ℕ) (inside : List ℕ) (a b : Work) (back : IsBack a b) where
   abbrev plan : Moves
   plan = moves_in table
 
   pub none_still : HasNoSafeLeg plan a.places.positions → HasNoSafeLeg plan b.places.positions
   none_still none = let P : List ℕ → Type 0 = λ q. HasNoSafeLeg plan q in subst P (sym back.positions) none
 
-  pub settled_back : IsSettled plan a.places.positions a.stops (depth + 1) → IsSettled plan b.places.positions b.stops (depth + 1)
-  settled_back settled =
-      let P : List ℕ → Type 0 = λ q. IsSettled plan q a.stops (depth + 1) in
-      let at = subst P (sym back.positions) settled in
-      let state = state_parts plan b.places.positions ready.made.valid in
-      λ u x lt stop. at u x lt (sym (kept (depth + 1) u (omega arith) (omega (arith, inside_listed plan b.places.positions u lt, state.long, ready.made.moves.few))) ∙ stop)
+  pub settled_back : (stops : List Stop) → IsSettled plan a.places.positions stops → IsSettled plan b.places.positions stops
+  settled_back stops settled = let P : List ℕ → Type 0 = λ q. IsSettled plan q stops in subst P (sym back.positions) settled
 
   pub listed_still : IsListing plan a.places.positions inside → IsListing plan b.places.positions inside
   listed_still listed = listed_at plan a.places.positions b.places.positions inside (sym back.positions) listed
 
-  pub index_back : (chains : Chains) → IsIndexOf plan a.places.positions a.stops depth inside chains → IsIndexOf plan b.places.positions b.stops depth inside chains
-  index_back chains index last few =
-      let state = state_parts plan b.places.positions ready.made.valid in
-      index_still plan a.places.positions b.places.positions a.stops b.stops (depth + 1) inside (length inside) chains back.positions
-      (λ u is. kept (depth + 1) u (omega arith) (omega (arith, inside_listed plan a.places.positions u is, ap length back.positions, state.long, ready.made.moves.few)))
-      (index last few)
+  pub index_back : (stops : List Stop) (chains : Chains) → IsIndexOf plan a.places.positions stops depth inside chains → IsIndexOf plan b.places.positions stops depth inside chains
+  index_back stops chains index = let P : List ℕ → Type 0 = λ q. IsIndexOf plan q stops depth inside chains in subst P (sym back.positions) index
+
+-- notes of trains that they stop are notes that hold, with nothing fallen
+pub noted_anew : (plan : Moves) (s : List ℕ) (stops : List Stop) (notes : Notes) → IsSettled plan s stops → notes.stops ≡ stops → ((x : ℕ) → has notes.fell x ≡ false) → IsNotedTo plan s notes
+noted_anew plan s stops notes settled same none = record {
+  each = λ u is. ap_note u is (stop_of notes.stops u) (ap (λ xs. stop_of xs u) (sym same));
+  none = λ _ x. none x;
+}
+  where
+    ap_note : (u : ℕ) → is_inside plan s u ≡ true → (stop : Stop) → stop_of stops u ≡ stop → IsNoted plan s notes.fell u stop
+    ap_note u is Unknown at = tt
+    ap_note u is (Next x) at = settled.next u x is at
+    ap_note u is (Later x) at = λ _. let stop = settled.stopped u x is (ap section_of at) in record {
+      place = stop.place;
+      from = stop.from;
+      below = stop.below;
+      needed = stop.needed;
+      unsafe = stop.unsafe;
+    }
 
 pub try_free_legs-try_legs_of-requires : goal.try_free_legs-try_legs_of-requires
 try_free_legs-try_legs_of-requires t c =
@@ -154,16 +163,16 @@ try_free_legs-try_legs_of-requires t c =
       (
         inv.ready,
         (
-          listed_still table c.args.depth c.args.inside.now a b inv.ready inv.back inv.kept c.requires.listed,
+          listed_still table c.args.depth c.args.inside.now a b inv.back c.requires.listed,
           (
-            index_back table c.args.depth c.args.inside.now a b inv.ready inv.back inv.kept c.waiting-waiting.result c.waiting-waiting.ensures,
+            index_back table c.args.depth c.args.inside.now a b inv.back c.args.notes.now.stops c.waiting-waiting.result c.waiting-waiting.ensures,
             (
               c.requires.listed.trains c.train-item.result (in_at c.train-item.result c.args.inside.now c.loop-train.train-index c.loop-train-test.true c.train-item.is),
               (
                 c.requires.room,
                 (
-                  none_still table c.args.depth c.args.inside.now a b inv.ready inv.back inv.kept c.requires.none,
-                  settled_back table c.args.depth c.args.inside.now a b inv.ready inv.back inv.kept c.requires.settled,
+                  none_still table c.args.depth c.args.inside.now a b inv.back c.requires.none,
+                  settled_back table c.args.depth c.args.inside.now a b inv.back c.args.notes.now.stops c.requires.settled,
                 ),
               ),
             ),
@@ -260,15 +269,7 @@ unshown A B None is told = told
 unshown A B (Some x) is told = absurd (false≢true (sym is))
 
 pub is_hopeless-returns-then-not-can_go_on-clause-none : goal.is_hopeless-returns-then-not-can_go_on-clause-none
-is_hopeless-returns-then-not-can_go_on-clause-none t c =
-    let plan : Moves = moves_in c.args.moves.now in
-    let s = c.args.self.now.places.positions in
-    let u = c.args.train in
-    let stuck : (is_inside plan s u && is_legal plan s u) ≡ false = false_both c.can_go_on.result (is_inside plan s u && is_legal plan s u) c.can_go_on.ensures c.if-not-can_go_on.true in
-    λ _ p is found.
-    let goes = goes_parts plan s (record { train = u; place = p }) is in
-    let legal : is_legal plan s u ≡ true = ap (λ q. is_legal plan q u) (sym (set-get_or s u 0)) ∙ goes.legal (place_of s u) (omega arith) goes.ahead in
-    false≢true (sym stuck ∙ and_from (is_inside plan s u) (is_legal plan s u) goes.inside legal)
+is_hopeless-returns-then-not-can_go_on-clause-none t c = λ _ p is found. false≢true (sym (c.can_go_on.ensures.none c.if-not-can_go_on.true p) ∙ is)
 
 pub is_hopeless-returns-then-frees_nobody-clause-none : goal.is_hopeless-returns-then-frees_nobody-clause-none
 is_hopeless-returns-then-frees_nobody-clause-none t c =
@@ -295,13 +296,13 @@ pub try_leg-returns-then-search-clause-found : goal.try_leg-returns-then-search-
 try_leg-returns-then-search-clause-found t c =
     let plan : Moves = moves_in c.args.moves.now in
     let a = c.args.self.now in
-    let n = c.make_leg.new.self in
+    let n = c.go_to.new.self in
     let leg : Leg = record { train = c.args.train; place = c.args.place } in
     let found = c.search.ensures.found c.if-search.true in
     λ _. (
-      goes_further plan a n c.search.new.self c.make_leg.ensures.moves found.0,
+      goes_further plan a n c.search.new.self c.go_to.ensures.moves found.0,
       found.1,
-      found_front plan (c.args.depth + 1) c.args.depth a.places.positions leg c.requires.leg (omega (arith, cost_most plan a.places.positions leg)) (finds_at plan c.args.depth n.places.positions (after_leg a.places.positions leg) c.make_leg.ensures.positions found.2),
+      found_front plan (c.args.depth + 1) c.args.depth a.places.positions leg c.requires.leg (omega (arith, cost_most plan a.places.positions leg)) (finds_at plan c.args.depth n.places.positions (after_leg a.places.positions leg) c.go_to.ensures.positions found.2),
     )
 
 pub try_leg-go_back-requires-clause-played : goal.try_leg-go_back-requires-clause-played
@@ -309,21 +310,21 @@ try_leg-go_back-requires-clause-played t c =
     let table = c.args.moves.now in
     let plan : Moves = moves_in table in
     let a = c.args.self.now in
-    let n = c.make_leg.new.self in
+    let n = c.go_to.new.self in
     let d = c.search.new.self in
     let mark : c.len-mark.result ≡ length a.list = omega (arith, c.len-mark.ensures, c.self-2.inside.list.ok, ap (λ (w : Work). length w.list) c.self-2.view_is) in
-    goes_played table a d c.len-mark.result c.requires.ready (goes_further plan a n d c.make_leg.ensures.moves (goes_back plan n d (c.search.ensures.none c.if-search.false).0)) mark
+    goes_played table a d c.len-mark.result c.requires.ready (goes_further plan a n d c.go_to.ensures.moves (goes_back plan n d (c.search.ensures.none c.if-search.false).0)) mark
 
 pub try_leg-returns-clause-none : goal.try_leg-returns-clause-none
 try_leg-returns-clause-none t c =
     let plan : Moves = moves_in c.args.moves.now in
     let a = c.args.self.now in
-    let n = c.make_leg.new.self in
+    let n = c.go_to.new.self in
     let d = c.search.new.self in
     let none = c.search.ensures.none c.if-search.false in
     λ _. (
-      back_by plan a d c.go_back.new.self c.len-mark.result (goes_further plan a n d c.make_leg.ensures.moves (goes_back plan n d none.0)) (omega (arith, c.len-mark.ensures, c.self-2.inside.list.ok, ap (λ (w : Work). length w.list) c.self-2.view_is)) c.go_back.ensures.list c.go_back.ensures.positions,
-      λ found. none.1 (finds_at plan c.args.depth (set a.places.positions c.args.train c.args.place) n.places.positions (sym c.make_leg.ensures.positions) found),
+      back_by plan a d c.go_back.new.self c.len-mark.result (goes_further plan a n d c.go_to.ensures.moves (goes_back plan n d none.0)) (omega (arith, c.len-mark.ensures, c.self-2.inside.list.ok, ap (λ (w : Work). length w.list) c.self-2.view_is)) c.go_back.ensures.list c.go_back.ensures.positions,
+      λ found. none.1 (finds_at plan c.args.depth (set a.places.positions c.args.train c.args.place) n.places.positions (sym c.go_to.ensures.positions) found),
     )
 
 pub try_legs_of-returns-then-is_some-clause-none : goal.try_legs_of-returns-then-is_some-clause-none
@@ -362,16 +363,16 @@ try_legs_of-try_leg-requires t c =
       (
         inv.ready,
         (
-          listed_still table c.args.depth c.args.inside.now a b inv.ready inv.back inv.kept c.requires.listed,
+          listed_still table c.args.depth c.args.inside.now a b inv.back c.requires.listed,
           (
-            index_back table c.args.depth c.args.inside.now a b inv.ready inv.back inv.kept c.args.waiting.now c.requires.waiting,
+            index_back table c.args.depth c.args.inside.now a b inv.back c.args.notes.now.stops c.args.waiting.now c.requires.waiting,
             (
               c.requires.train,
               (
                 c.requires.room,
                 (
-                  none_still table c.args.depth c.args.inside.now a b inv.ready inv.back inv.kept c.requires.none,
-                  (settled_back table c.args.depth c.args.inside.now a b inv.ready inv.back inv.kept c.requires.settled, subst L (sym inv.back.positions) leg),
+                  none_still table c.args.depth c.args.inside.now a b inv.back c.requires.none,
+                  (settled_back table c.args.depth c.args.inside.now a b inv.back c.args.notes.now.stops c.requires.settled, subst L (sym inv.back.positions) leg),
                 ),
               ),
             ),
@@ -392,7 +393,6 @@ try_legs_of-loop-made-preserved t c =
     record {
       ready = c.try_leg.ensures.ready;
       back = back_twice c.args.self.now c.loop-made.self c.try_leg.new.self inv.back none.0;
-      kept = λ m v lt few. c.try_leg.ensures.kept m v lt few ∙ inv.kept m v lt few;
       free = open_more plan s u c.loop-made.made inv.free free;
       tried = λ p low high found.
           ⊎_elim
@@ -411,3 +411,13 @@ try_legs_of-returns-clause-none t c =
       c.loop-made.invariant.back,
       λ p is found. let goes = goes_parts plan s (record { train = c.args.train; place = p }) is in c.loop-made.invariant.tried p goes.ahead (omega (arith, goes.within, c.places-last.ensures, c.loop-made-test.false)) found,
     )
+
+pub is_found_without-note_leg-requires-clause-noted : goal.is_found_without-note_leg-requires-clause-noted
+is_found_without-note_leg-requires-clause-noted t c =
+    let plan : Moves = moves_in c.args.moves.now in
+    noted_anew plan c.args.self.now.places.positions c.args.notes.now.stops c.anew-then.result c.requires.settled c.anew-then.ensures.stops c.anew-then.ensures.fell
+
+pub try_leg-note_leg-requires-clause-noted : goal.try_leg-note_leg-requires-clause-noted
+try_leg-note_leg-requires-clause-noted t c =
+    let plan : Moves = moves_in c.args.moves.now in
+    noted_anew plan c.args.self.now.places.positions c.args.notes.now.stops c.anew-then.result c.requires.settled c.anew-then.ensures.stops c.anew-then.ensures.fell

@@ -3,8 +3,6 @@ use Rattle.rail_rules.specs.Numbers.{is_in}
 use Rattle.rail_rules.specs.Places.{place_of}
 use Rattle.rail_rules.specs.Analysis.{Finds, is_leg}
 use Rattle.rail_place.specs.Tables.{moves_in}
-use Rattle.rail_base.specs.declared.limits.TheConstants.{TRAINS}
-use Rattle.rail_consequence.specs.Stops.{stop_at}
 use Rattle.rail_consequence.specs.Workspace.{IsBack, IsReady}
 use Rattle.rail_consequence.proofs.Stopping.{IsOpen}
 use Rattle.rail_consequence.proofs.analyst.Worksheet.+search.Given as goal
@@ -31,7 +29,6 @@ abbrev pub invariant-try_free_legs-loop-train : goal.invariant-try_free_legs-loo
 invariant-try_free_legs-loop-train l = record {
   ready : IsReady l.moves l.self;
   back : IsBack l.fn.self l.self;
-  kept : (m u : ℕ) → l.depth < m → u < TRAINS → stop_at l.self.stops m u ≡ stop_at l.fn.self.stops m u;
   none : (u p : ℕ) → is_in u (take l.train-index l.inside) ≡ true → is_leg (moves_in l.moves) l.fn.self.places.positions (record { train = u; place = p }) ≡ true → Finds (moves_in l.moves) l.depth (set l.fn.self.places.positions u p) → ⊥;
 }
 
@@ -39,7 +36,6 @@ abbrev pub invariant-try_legs_of-loop-made : goal.invariant-try_legs_of-loop-mad
 invariant-try_legs_of-loop-made l = record {
   ready : IsReady l.moves l.self;
   back : IsBack l.fn.self l.self;
-  kept : (m u : ℕ) → l.depth < m → u < TRAINS → stop_at l.self.stops m u ≡ stop_at l.fn.self.stops m u;
   free : IsOpen (moves_in l.moves) l.fn.self.places.positions l.train l.made;
   tried : (p : ℕ) → place_of l.fn.self.places.positions l.train < p → p ≤ l.made → Finds (moves_in l.moves) l.depth (set l.fn.self.places.positions l.train p) → ⊥;
 }

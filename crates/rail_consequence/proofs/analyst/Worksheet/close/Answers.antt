@@ -1,4 +1,3 @@
-use Rattle.std.proofs.Common.{◌∙◌}
 use Rattle.rail_rules.specs.Moves.{Moves}
 use Rattle.rail_place.specs.Tables.{moves_in}
 use Rattle.rail_consequence.proofs.Listing.{listed_on}
@@ -14,8 +13,7 @@ loop-preserved c =
     let plan : Moves = moves_in c.args.moves.now in
     record {
       ready = c.make_safe_legs.ensures.ready;
-      settled = c.make_safe_legs.ensures.settled;
-      kept = λ m u ne lt. c.make_safe_legs.ensures.kept m u ne lt ∙ c.loop.invariant.kept m u ne lt;
+      noted = c.make_safe_legs.ensures.noted;
       goes = goes_further plan c.args.self.now c.loop.self c.make_safe_legs.new.self c.loop.invariant.goes c.make_safe_legs.ensures.moves;
       same = both_ways plan c.args.self.now.places.positions c.loop.self.places.positions c.make_safe_legs.new.self.places.positions c.loop.invariant.same c.make_safe_legs.ensures.same;
     }
@@ -25,6 +23,3 @@ returns-clause-moves c = goes_further (moves_in c.args.moves.now) c.args.self.no
 
 pub returns-clause-same : goal.returns-clause-same
 returns-clause-same c = both_ways (moves_in c.args.moves.now) c.args.self.now.places.positions c.loop.self.places.positions c.make_safe_legs.new.self.places.positions c.loop.invariant.same c.make_safe_legs.ensures.same
-
-pub returns-clause-kept : goal.returns-clause-kept
-returns-clause-kept c = λ m u ne lt. c.make_safe_legs.ensures.kept m u ne lt ∙ c.loop.invariant.kept m u ne lt

@@ -1,16 +1,14 @@
-use Rattle.std.proofs.Common.{◌≡◌, ◌≢◌, ◌↔◌, ◌<◌, ℕ}
+use Rattle.std.proofs.Common.{◌↔◌, ℕ}
 use Rattle.rail_rules.specs.Analysis.{Finds, moves_left}
 use Rattle.rail_place.specs.Tables.{moves_in}
-use Rattle.rail_base.specs.declared.limits.TheConstants.{TRAINS}
-use Rattle.rail_consequence.specs.Stops.{IsSettled, stop_at}
+use Rattle.rail_consequence.specs.Stops.{IsNotedTo}
 use Rattle.rail_consequence.specs.Workspace.{GoesOn, IsReady}
 use Rattle.rail_consequence.proofs.analyst.Worksheet.close.Given as goal
 
 abbrev pub invariant-loop : goal.invariant-loop
 invariant-loop l = record {
   ready : IsReady l.moves l.self;
-  settled : IsSettled (moves_in l.moves) l.self.places.positions l.self.stops l.level;
-  kept : (m u : ℕ) → m ≢ l.level → u < TRAINS → stop_at l.self.stops m u ≡ stop_at l.fn.self.stops m u;
+  noted : IsNotedTo (moves_in l.moves) l.self.places.positions l.notes;
   goes : GoesOn (moves_in l.moves) l.fn.self l.self;
   same : (k : ℕ) → Finds (moves_in l.moves) k l.fn.self.places.positions ↔ Finds (moves_in l.moves) k l.self.places.positions;
 }

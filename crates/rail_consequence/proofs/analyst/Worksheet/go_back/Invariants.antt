@@ -7,7 +7,6 @@ use Rattle.rail_consequence.proofs.analyst.Worksheet.go_back.Given as goal
 abbrev pub invariant-loop-self : goal.invariant-loop-self
 invariant-loop-self l = record {
   ready : IsReady l.moves l.self;
-  stops : l.self.stops ≡ l.fn.self.stops;
   above : l.mark ≤ length l.self.list;
   list : l.self.list ≡ take (length l.self.list) l.fn.self.list;
   played : IsPlayedFrom (moves_in l.moves) l.mark l.self;

@@ -50,11 +50,10 @@ returns-clause-ready c =
     let fewer = moves_left_at plan s t c.args.place k (inside_listed plan s t goes.inside) (omega (arith, at, goes.ahead)) goes.within in
     let w = c.put.new.self in
     let long : length (w.list ++ replicate k t) ≡ length c.args.self.now.list + k = length-append w.list (replicate k t) ∙ omega (arith, ap length c.put.ensures.list, length-replicate {A = ℕ} k t) in
-    let own : Work = record { ends = c.self-2.inside.ends; rows = c.self-2.inside.rows; places = c.self-2.inside.places; held = c.self-2.inside.held; needs = c.self-2.inside.needs; stops = c.self-2.inside.stops; list = c.self-2.inside.list.items } in
+    let own : Work = record { rows = c.self-2.inside.rows; places = c.self-2.inside.places; held = c.self-2.inside.held; needs = c.self-2.inside.needs; list = c.self-2.inside.list.items } in
     let items : c.push_times.new.list.items ≡ w.list ++ replicate k t = c.push_times.ensures.items ∙ ap (λ (v : Work). v.list ++ replicate k t) c.self-2.view_is in
     let own_ready = ready_as table own w c.self-2.view_is c.put.ensures.ready in
     record {
-      ends = own_ready.ends;
       rows = own_ready.rows;
       made = own_ready.made;
       held = own_ready.held;

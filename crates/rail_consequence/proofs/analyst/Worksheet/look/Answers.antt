@@ -14,7 +14,7 @@ use Rattle.rail_consequence.proofs.Stopping.{leads_out_free, open_more}
 use Rattle.rail_consequence.proofs.analyst.Worksheet.look.Goals as goal
 
 pub loop-made-preserved : goal.loop-made-preserved
-loop-made-preserved c = open_more (moves_in c.args.moves.now) c.args.self.now.places.positions c.args.train c.loop-made.made c.loop-made.invariant c.in_default.ensures
+loop-made-preserved c = open_more (moves_in c.args.moves.now) c.args.self.now.places.positions c.args.train c.loop-made.made c.loop-made.invariant c.in_default-stop_of.ensures
 
 pub returns : goal.returns
 returns c =
@@ -31,7 +31,7 @@ returns-then-not-meet_beyond c =
     let table = c.args.moves.now in
     let plan : Moves = moves_in table in
     let t = c.args.train in
-    let own : Work = record { ends = c.self.inside.ends; rows = c.self.inside.rows; places = c.self.inside.places; held = c.self.inside.held; needs = c.self.inside.needs; stops = c.self.inside.stops; list = c.self.inside.list.items } in
+    let own : Work = record { rows = c.self.inside.rows; places = c.self.inside.places; held = c.self.inside.held; needs = c.self.inside.needs; list = c.self.inside.list.items } in
     let ready = ready_as table own c.args.self.now c.self.view_is c.requires.ready in
     let s = c.args.self.now.places.positions in
     let at : c.position-place.result ≡ place_of s t = c.position-place.ensures ∙ ap (λ (w : Work). place_of w.places.positions t) c.self.view_is in

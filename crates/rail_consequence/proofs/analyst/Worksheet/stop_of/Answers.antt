@@ -27,7 +27,7 @@ returns c =
     let plan : Moves = moves_in table in
     let t = c.args.train in
     let m = c.args.made in
-    let own : Work = record { ends = c.self.inside.ends; rows = c.self.inside.rows; places = c.self.inside.places; held = c.self.inside.held; needs = c.self.inside.needs; stops = c.self.inside.stops; list = c.self.inside.list.items } in
+    let own : Work = record { rows = c.self.inside.rows; places = c.self.inside.places; held = c.self.inside.held; needs = c.self.inside.needs; list = c.self.inside.list.items } in
     let ready = ready_as table own c.args.self.now c.self.view_is c.requires.ready in
     let G : ℕ → Type 0 = λ q. IsSet c.stand-own.result.now (λ x. is_in x (stand plan t q)) in
     let stands = subst G c.position.ensures c.stand-own.ensures.set in

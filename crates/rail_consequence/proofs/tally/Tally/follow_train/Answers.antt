@@ -32,7 +32,7 @@ returns-clause-kept c =
     let kept : P own = subst P (sym c.self.view_is) c.requires.kept in
     let listed : t < length own.positions = omega (arith, kept.long, c.requires.train) in
     let at = read_is own.positions t c.from.result c.index-from.result.now c.index-from.ensures (c.from.ensures ∙ c.train.view_is) listed in
-    let Q : ℕ → Type 0 = λ p. IsRecounted plan t p c.args.place own.counts c.recount.new.self in
-    let R : ℕ → Type 0 = λ i. IsTallyFor plan (record { positions = set own.positions i c.args.place; counts = c.recount.new.self }) in
+    let Q : ℕ → Type 0 = λ p. IsRecounted plan t p c.args.place own.counts c.recount.new.needs in
+    let R : ℕ → Type 0 = λ i. IsTallyFor plan (record { positions = set own.positions i c.args.place; counts = c.recount.new.needs }) in
     subst R (sym (c.from-2.ensures ∙ c.train-2.view_is))
-    (tallied_on plan own t c.args.place c.recount.new.self kept c.requires.train c.requires.within (subst Q (sym at) c.recount.ensures))
+    (tallied_on plan own t c.args.place c.recount.new.needs kept c.requires.train c.requires.within (subst Q (sym at) c.recount.ensures))

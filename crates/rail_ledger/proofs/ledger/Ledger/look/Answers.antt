@@ -1,6 +1,10 @@
 use Rattle.rail_state.specs.TrainStates.{bar_by}
+use Rattle.rail_ledger.proofs.Commands.{waiting_left}
 use Rattle.rail_ledger.proofs.Looking.{first_found, looked, next_found, no_more_untried, unbarred_found}
 use Rattle.rail_ledger.proofs.ledger.Ledger.look.Goals as goal
+
+pub look-requires-clause-moves : goal.look-requires-clause-moves
+look-requires-clause-moves c = waiting_left c.requires.running.front c.args.self.now c.requires.running.at
 
 pub returns-clause-at : goal.returns-clause-at
 returns-clause-at c = λ front at. looked front c.args.self.now at c.look.new.self c.look.ensures.length c.look.ensures.trains

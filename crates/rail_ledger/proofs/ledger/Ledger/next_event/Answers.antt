@@ -4,7 +4,7 @@ use Rattle.std.proofs.lemmas.Option.{slice_get_within}
 use Rattle.rail_rules.specs.Fronts.{Line}
 use Rattle.rail_ledger.specs.declared.ledger.Ledger.{Ledger}
 use Rattle.rail_ledger.specs.Ledgers.{IsAt, listed_in}
-use Rattle.rail_ledger.proofs.Commands.{given, idle_unknown, it}
+use Rattle.rail_ledger.proofs.Commands.{given, idle_unknown, it, waiting_left}
 use Rattle.rail_ledger.proofs.Going.{happened_at, ready_now}
 use Rattle.rail_ledger.proofs.ledger.Ledger.next_event.Goals as goal
 
@@ -19,6 +19,9 @@ tell-what-requires-clause-listed c =
     let command = it c.requires.running.front c.args.self.now c.requires.running.at c.requires.going c.requires.may c.in_ok-event.event c.pop.new.self c.in_ok-event.ensures.next c.in_ok-event.ensures.spare
     c.in_ok-event.ensures.least (c.is_command.ensures.0 c.if-is_command.true) in
     omega (arith, command.numbered, slice_get_within c.args.self.now.input.commands.items command.index command.command command.listed)
+
+pub tell-what-requires-clause-moves : goal.tell-what-requires-clause-moves
+tell-what-requires-clause-moves c = waiting_left c.requires.running.front c.args.self.now c.requires.running.at
 
 pub tell-what-requires-clause-waits : goal.tell-what-requires-clause-waits
 tell-what-requires-clause-waits c = λ t idle. idle_unknown c.requires.running.front c.args.self.now c.requires.running.at t idle

@@ -1,0 +1,28 @@
+//! What is held and needed once a train has gone on, with no move made.
+
+use rail_sets::WORDS;
+
+/// Sets of the places where a train has gone on to a place.
+#[derive(Clone, Copy)]
+pub struct Ahead {
+    /// The sections that are held then.
+    pub held: [u64; WORDS],
+    /// The sections that more than one train needs then.
+    pub shared: [u64; WORDS],
+    /// The sections that the train and one other need, and only the other then.
+    pub fell: [u64; WORDS],
+    /// Whether there is one.
+    pub has_fallen: bool,
+}
+
+impl Ahead {
+    /// Room for a look ahead.
+    pub fn new() -> Ahead {
+        Ahead {
+            held: [0; WORDS],
+            shared: [0; WORDS],
+            fell: [0; WORDS],
+            has_fallen: false,
+        }
+    }
+}

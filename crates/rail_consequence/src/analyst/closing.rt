@@ -1,0 +1,254 @@
+//! Safe legs, made until there is none.
+
+ghost use Rattle.std.specs.Prelude.{◌≡◌, ℕ, ◌<◌, ◌≤◌, ◌≢◌, Some, None, false, get_or, length, set, IsTrue, MatchOption};
+ghost use Rattle.rail_rules.specs.Analysis.{is_leg, is_safe, moves_left};
+ghost use Rattle.rail_rules.specs.Numbers.{is_in};
+ghost use Rattle.rail_rules.specs.Places.{is_inside, place_of};
+ghost use Rattle.rail_place.specs.Tables.{moves_in};
+ghost use Rattle.rail_consequence.specs.Searches.{FindsSame, HasNoSafeLeg, HasNoSafeLegOf, leg_to};
+ghost use Rattle.rail_consequence.specs.Stops.{IsHeldByOther, IsNotedTo, IsSettled, IsStopped, IsUntouched, Shows, section_of, stop_of};
+ghost use Rattle.rail_consequence.specs.Workspace.{GoesOn, IsBack, IsListing, IsReady};
+
+use super::Worksheet;
+use crate::notes::{Notes, Stop};
+use rail_base::{SectionNo, TrainNo};
+use rail_place::Moves;
+use rail_sets::{first_common, meet, meet_beyond};
+
+/// What looking at a train shows.
+#[derive(Clone, Copy)]
+pub enum Look {
+    /// It is not inside.
+    Idle,
+    /// A leg to this place is safe.
+    Leads(u16),
+    /// It has no safe leg, and this stops it: another train holds the section.
+    Stopped(Stop),
+}
+
+impl Worksheet {
+    /// Makes safe legs until there is none, and leaves what stops each train that is inside.
+    pub(super) fn close(&mut self, moves: &Moves, inside: &[TrainNo], notes: &mut Notes)
+        requires ready { IsReady moves.now self.old }
+        requires listed { IsListing (moves_in moves.now) self.old.places.positions inside.now }
+        requires noted { IsNotedTo (moves_in moves.now) self.old.places.positions notes.old }
+        ensures ready { IsReady moves.now self.new }
+        ensures moves { GoesOn (moves_in moves.now) self.old self.new }
+        ensures same { FindsSame (moves_in moves.now) self.old.places.positions self.new.places.positions }
+        ensures none { HasNoSafeLeg (moves_in moves.now) self.new.places.positions }
+        ensures settled { IsSettled (moves_in moves.now) self.new.places.positions notes.new.stops }
+    {
+        while self.make_safe_legs(moves, inside, notes) {}
+    }
+
+    /// Makes a safe leg of each train that has one at its turn, and says whether any was made.
+    fn make_safe_legs(&mut self, moves: &Moves, inside: &[TrainNo], notes: &mut Notes) -> bool
+        requires ready { IsReady moves.now self.old }
+        requires listed { IsListing (moves_in moves.now) self.old.places.positions inside.now }
+        requires noted { IsNotedTo (moves_in moves.now) self.old.places.positions notes.old }
+        ensures ready { IsReady moves.now self.new }
+        ensures moves { GoesOn (moves_in moves.now) self.old self.new }
+        ensures same { FindsSame (moves_in moves.now) self.old.places.positions self.new.places.positions }
+        ensures fewer { IsTrue result → moves_left (moves_in moves.now) self.new.places.positions
+            < moves_left (moves_in moves.now) self.old.places.positions }
+        ensures none { result ≡ false → HasNoSafeLeg (moves_in moves.now) self.new.places.positions }
+        ensures settled { result ≡ false → IsSettled (moves_in moves.now) self.new.places.positions notes.new.stops }
+        ensures noted { IsNotedTo (moves_in moves.now) self.new.places.positions notes.new }
+    {
+        let mut moved = false;
+        for train in inside {
+            if self.make_safe_leg(moves, *train, notes) {
+                moved = true;
+            }
+        }
+        moved
+    }
+
+    /// Makes the farthest safe leg of the train; or notes what stops it, where it has none. A train is
+    /// not looked at again as long as what stopped it does.
+    fn make_safe_leg(&mut self, moves: &Moves, train: TrainNo, notes: &mut Notes) -> bool
+        requires ready { IsReady moves.now self.old }
+        requires train { train < length moves.now }
+        requires noted { IsNotedTo (moves_in moves.now) self.old.places.positions notes.old }
+        ensures ready { IsReady moves.now self.new }
+        ensures moves { GoesOn (moves_in moves.now) self.old self.new }
+        ensures same { FindsSame (moves_in moves.now) self.old.places.positions self.new.places.positions }
+        ensures fewer { IsTrue result → moves_left (moves_in moves.now) self.new.places.positions
+            < moves_left (moves_in moves.now) self.old.places.positions }
+        ensures none { result ≡ false
+            → IsBack self.old self.new × HasNoSafeLegOf (moves_in moves.now) self.old.places.positions train }
+        ensures stopped { result ≡ false → (x : ℕ) → IsTrue (is_inside (moves_in moves.now) self.new.places.positions train)
+            → section_of (stop_of notes.new.stops train) ≡ Some x
+            → IsStopped (moves_in moves.now) self.new.places.positions train x }
+        ensures others { result ≡ false → (u : ℕ) → u ≢ train → stop_of notes.new.stops u ≡ stop_of notes.old.stops u }
+        ensures noted { IsNotedTo (moves_in moves.now) self.new.places.positions notes.new }
+    {
+        if self.is_stopped(moves, notes, train) {
+            return false;
+        }
+        match self.look(moves, train) {
+            Look::Idle => false,
+            Look::Stopped(stop) => {
+                notes.set(train, stop);
+                false
+            }
+            Look::Leads(place) => {
+                self.note_leg(moves, train, place, notes);
+                self.go_to(moves, train, place);
+                true
+            }
+        }
+    }
+
+    /// Takes back what is noted of the train, which is to go on to the place, and notes the sections that fall to
+    /// one train then.
+    pub(super) fn note_leg(&self, moves: &Moves, train: TrainNo, place: u16, notes: &mut Notes)
+        requires ready { IsReady moves.now self.now }
+        requires train { train < length moves.now }
+        requires inside { IsTrue (is_inside (moves_in moves.now) self.now.places.positions train) }
+        requires ahead { place_of self.now.places.positions train < place }
+        requires within { place ≤ (moves_in moves.now).moves train }
+        requires noted { IsNotedTo (moves_in moves.now) self.now.places.positions notes.old }
+        ensures { IsNotedTo (moves_in moves.now) (set self.now.places.positions train place) notes.new }
+    {
+        notes.set(train, Stop::Unknown);
+        let from = self.places.position(train);
+        let needed = self.rows.rest(moves, train, from);
+        let later = self.rows.rest(moves, train, place);
+        if self.needs.has_falls(needed, later) {
+            self.needs.add_falls(&mut notes.fell, needed, later);
+            notes.has_fallen = true;
+        }
+    }
+
+    /// What is noted of the train stops it still.
+    fn is_stopped(&self, moves: &Moves, notes: &Notes, train: TrainNo) -> bool
+        requires ready { IsReady moves.now self.now }
+        requires train { train < length moves.now }
+        requires noted { IsNotedTo (moves_in moves.now) self.now.places.positions notes.now }
+        ensures { IsTrue result → IsTrue (is_inside (moves_in moves.now) self.now.places.positions train)
+            → (x : ℕ) × (section_of (stop_of notes.now.stops train) ≡ Some x)
+            × IsStopped (moves_in moves.now) self.now.places.positions train x }
+    {
+        match notes.stop(train) {
+            Stop::Unknown => false,
+            Stop::Next(section) => self.is_held_by_other(train, section),
+            Stop::Later(section) => {
+                self.is_held_by_other(train, section) && !self.is_touched(moves, notes, train)
+            }
+        }
+    }
+
+    /// A section fell to one train that this train may need.
+    fn is_touched(&self, moves: &Moves, notes: &Notes, train: TrainNo) -> bool
+        requires ready { IsReady moves.now self.now }
+        requires train { train < length moves.now }
+        requires noted { IsNotedTo (moves_in moves.now) self.now.places.positions notes.now }
+        ensures { result ≡ false → IsUntouched (moves_in moves.now) self.now.places.positions notes.now.fell train }
+    {
+        notes.has_fallen
+            && meet(
+                self.rows.rest(moves, train, self.places.position(train)),
+                &notes.fell,
+            )
+    }
+
+    /// Looks how far the train can go on while all others stand, and for the last place on its way to which
+    /// a leg is safe.
+    fn look(&self, moves: &Moves, train: TrainNo) -> Look
+        requires ready { IsReady moves.now self.now }
+        requires train { train < length moves.now }
+        ensures { Shows (moves_in moves.now) self.now.places.positions train result }
+    {
+        let place = self.places.position(train);
+        let last = moves.places(train);
+        if place == 0 || place >= last {
+            return Look::Idle;
+        }
+        if let Some(section) = self.stop_of(moves, train, place) {
+            return Look::Stopped(Stop::Next(section));
+        }
+        let own = self.rows.stand(moves, train, place);
+        if !meet_beyond(self.rows.rest(moves, train, place), &self.held, own) {
+            // A leg that ends out is safe.
+            return Look::Leads(last);
+        }
+        for made in place..last {
+            if let Some(section) = self.stop_of(moves, train, made) {
+                return match self.last_safe(moves, train, made) {
+                    Some(end) => Look::Leads(end),
+                    None => Look::Stopped(Stop::Later(section)),
+                };
+            }
+        }
+        Look::Leads(last)
+    }
+
+    /// The last place on the train's way up to this one to which a leg is safe. No other train holds a section that
+    /// its moves up to there need.
+    fn last_safe(&self, moves: &Moves, train: TrainNo, most: u16) -> Option<u16>
+        requires ready { IsReady moves.now self.now }
+        requires train { train < length moves.now }
+        requires entered { 0 < place_of self.now.places.positions train }
+        requires within { most ≤ (moves_in moves.now).moves train }
+        requires free { (i : ℕ) → place_of self.now.places.positions train ≤ i → i < most
+            → (x : ℕ) → IsTrue (is_in x ((moves_in moves.now).claim train i))
+            → IsHeldByOther (moves_in moves.now) self.now.places.positions train x → ⊥ }
+        ensures { MatchOption result
+            ((p : ℕ) → place_of self.now.places.positions train < p → p ≤ most
+            → is_safe (moves_in moves.now) self.now.places.positions (leg_to train p) ≡ false)
+            (λ p. IsTrue (is_leg (moves_in moves.now) self.now.places.positions (leg_to train p))
+            × IsTrue (is_safe (moves_in moves.now) self.now.places.positions (leg_to train p))) }
+    {
+        let from = self.places.position(train);
+        let mut end = most;
+        while end > from {
+            if self.is_safe_at(moves, train, end) {
+                return Some(end);
+            }
+            end -= 1;
+        }
+        None
+    }
+
+    /// A section of the train's move from this place that another train holds.
+    pub(super) fn stop_of(&self, moves: &Moves, train: TrainNo, made: u16) -> Option<SectionNo>
+        requires ready { IsReady moves.now self.now }
+        requires train { train < length moves.now }
+        requires within { made < (moves_in moves.now).moves train }
+        ensures { MatchOption result
+            ((x : ℕ) → IsTrue (is_in x ((moves_in moves.now).claim train made))
+            → IsHeldByOther (moves_in moves.now) self.now.places.positions train x → ⊥)
+            (λ x. IsTrue (is_in x ((moves_in moves.now).claim train made))
+            × IsHeldByOther (moves_in moves.now) self.now.places.positions train x) }
+    {
+        let own = self.rows.stand(moves, train, self.places.position(train));
+        first_common(self.rows.need(moves, train, made), &self.held, own)
+    }
+
+    /// Another train holds the section.
+    fn is_held_by_other(&self, train: TrainNo, section: SectionNo) -> bool
+        ensures held { IsTrue result
+            → (holder : ℕ) × (holder ≢ train) × (get_or self.now.places.owners section None ≡ Some holder) }
+        ensures free { result ≡ false → (holder : ℕ)
+            → get_or self.now.places.owners section None ≡ Some holder → holder ≡ train }
+    {
+        match self.places.holder(section) {
+            Some(holder) => holder != train,
+            None => false,
+        }
+    }
+
+    /// A leg of the train, which is inside, to the place ahead is safe: it ends out, or no other train inside needs its
+    /// standing set later.
+    fn is_safe_at(&self, moves: &Moves, train: TrainNo, place: u16) -> bool
+        requires ready { IsReady moves.now self.now }
+        requires train { train < length moves.now }
+        requires entered { 0 < place_of self.now.places.positions train }
+        requires ahead { place_of self.now.places.positions train < place }
+        requires within { place ≤ (moves_in moves.now).moves train }
+        ensures { result ≡ is_safe (moves_in moves.now) self.now.places.positions (leg_to train place) }
+    {
+        self.needs.are_once(self.rows.stand(moves, train, place))
+    }
+}

@@ -1,0 +1,285 @@
+//! The search: safe legs as long as there is one, then each free leg that may help.
+
+ghost use Rattle.std.specs.Prelude.{◌≡◌, ℕ, ◌+◌, ◌<◌, ◌≤◌, false, length, set, IsTrue};
+ghost use Rattle.rail_rules.specs.Analysis.{Finds, is_leg};
+ghost use Rattle.rail_rules.specs.Places.{is_inside};
+ghost use Rattle.rail_place.specs.Tables.{moves_in};
+ghost use Rattle.rail_consequence.specs.Searches.{FindsByNoLeg, FindsByNoLegOf, HasNoSafeLeg, IsCleared, leg_to};
+ghost use Rattle.rail_consequence.specs.Freeing.{IsIndexOf};
+ghost use Rattle.rail_consequence.specs.Stops.{IsNotedTo, IsSettled};
+ghost use Rattle.rail_consequence.specs.Workspace.{IsBack, IsListing, IsReady};
+
+use super::Worksheet;
+use crate::ahead::Ahead;
+use crate::notes::{Notes, Stop};
+use crate::waiting::Waiting;
+use rail_base::TrainNo;
+use rail_place::Moves;
+
+/// How many places a train must be able to go on to that a search without it costs less than trying them,
+/// where so many free legs may be left.
+fn ends_for(depth: u8) -> u16 {
+    if depth == 0 { 3 } else { 2 }
+}
+
+impl Worksheet {
+    /// Makes moves until nobody is inside, by legs of which at most `depth` are free; or leaves all as
+    /// it was where that can't be done.
+    #[cycle(search)]
+    pub(super) fn search(
+        &mut self,
+        moves: &Moves,
+        inside: &[TrainNo],
+        notes: &mut Notes,
+        depth: u8,
+    ) -> bool
+        requires ready { IsReady moves.now self.old }
+        requires listed { IsListing (moves_in moves.now) self.old.places.positions inside.now }
+        requires noted { IsNotedTo (moves_in moves.now) self.old.places.positions notes.old }
+        ensures ready { IsReady moves.now self.new }
+        ensures found { IsTrue result → IsCleared (moves_in moves.now) depth self.old self.new }
+        ensures none { result ≡ false
+            → IsBack self.old self.new × (Finds (moves_in moves.now) depth self.old.places.positions → ⊥) }
+    {
+        let mark = self.list.len();
+        self.close(moves, inside, notes);
+        if self.is_done(moves, inside) {
+            return true;
+        }
+        if depth == 0 {
+            self.go_back(moves, mark);
+            return false;
+        }
+        if self.try_free_legs(moves, inside, notes, depth - 1) {
+            return true;
+        }
+        self.go_back(moves, mark);
+        false
+    }
+
+    /// As `search`, with a first leg of any train, from places where no leg is safe.
+    #[cycle(search)]
+    fn try_free_legs(&mut self, moves: &Moves, inside: &[TrainNo], notes: &Notes, depth: u8) -> bool
+        requires ready { IsReady moves.now self.old }
+        requires listed { IsListing (moves_in moves.now) self.old.places.positions inside.now }
+        requires room { depth < 255 }
+        requires none { HasNoSafeLeg (moves_in moves.now) self.old.places.positions }
+        requires settled { IsSettled (moves_in moves.now) self.old.places.positions notes.now.stops }
+        ensures ready { IsReady moves.now self.new }
+        ensures found { IsTrue result → IsCleared (moves_in moves.now) (depth + 1) self.old self.new }
+        ensures none { result ≡ false → IsBack self.old self.new × FindsByNoLeg (moves_in moves.now) depth self.old.places.positions }
+    {
+        let waiting = self.waiting(moves, inside, notes, depth);
+        let mut ahead = Ahead::new();
+        for train in inside {
+            if self.try_legs_of(moves, inside, notes, &waiting, &mut ahead, *train, depth) {
+                return true;
+            }
+        }
+        false
+    }
+
+    /// As `search`, with a first leg of this train: each place that it can go on to is tried, but where it
+    /// shows before that none helps.
+    #[cycle(search)]
+    fn try_legs_of(
+        &mut self,
+        moves: &Moves,
+        inside: &[TrainNo],
+        notes: &Notes,
+        waiting: &Waiting,
+        ahead: &mut Ahead,
+        train: TrainNo,
+        depth: u8,
+    ) -> bool
+        requires ready { IsReady moves.now self.old }
+        requires listed { IsListing (moves_in moves.now) self.old.places.positions inside.now }
+        requires waiting { IsIndexOf (moves_in moves.now) self.old.places.positions notes.now.stops depth inside.now waiting.now }
+        requires train { train < length moves.now }
+        requires room { depth < 255 }
+        requires none { HasNoSafeLeg (moves_in moves.now) self.old.places.positions }
+        requires settled { IsSettled (moves_in moves.now) self.old.places.positions notes.now.stops }
+        ensures ready { IsReady moves.now self.new }
+        ensures found { IsTrue result → IsCleared (moves_in moves.now) (depth + 1) self.old self.new }
+        ensures none { result ≡ false
+            → IsBack self.old self.new × FindsByNoLegOf (moves_in moves.now) depth self.old.places.positions train }
+    {
+        if self.is_hopeless(moves, inside, notes, waiting, ahead, train, depth) {
+            return false;
+        }
+        let from = self.places.position(train);
+        let last = moves.places(train);
+        for made in from..last {
+            if self.stop_of(moves, train, made).is_some() {
+                return false;
+            }
+            if self.try_leg(moves, inside, notes, waiting, ahead, train, made + 1, depth) {
+                return true;
+            }
+        }
+        false
+    }
+
+    /// As `search`, with this leg first.
+    #[cycle(search)]
+    fn try_leg(
+        &mut self,
+        moves: &Moves,
+        inside: &[TrainNo],
+        notes: &Notes,
+        waiting: &Waiting,
+        ahead: &mut Ahead,
+        train: TrainNo,
+        place: u16,
+        depth: u8,
+    ) -> bool
+        requires ready { IsReady moves.now self.old }
+        requires listed { IsListing (moves_in moves.now) self.old.places.positions inside.now }
+        requires waiting { IsIndexOf (moves_in moves.now) self.old.places.positions notes.now.stops depth inside.now waiting.now }
+        requires train { train < length moves.now }
+        requires room { depth < 255 }
+        requires none { HasNoSafeLeg (moves_in moves.now) self.old.places.positions }
+        requires settled { IsSettled (moves_in moves.now) self.old.places.positions notes.now.stops }
+        requires leg { IsTrue (is_leg (moves_in moves.now) self.old.places.positions (leg_to train place)) }
+        ensures ready { IsReady moves.now self.new }
+        ensures found { IsTrue result → IsCleared (moves_in moves.now) (depth + 1) self.old self.new }
+        ensures none { result ≡ false
+            → IsBack self.old self.new × (Finds (moves_in moves.now) depth (set self.old.places.positions train place) → ⊥) }
+    {
+        if depth == 0 && self.frees_nobody(moves, inside, notes, waiting, ahead, train, place) {
+            return false;
+        }
+        let mark = self.list.len();
+        let mut then = notes.anew();
+        self.note_leg(moves, train, place, &mut then);
+        self.go_to(moves, train, place);
+        if self.search(moves, inside, &mut then, depth) {
+            return true;
+        }
+        self.go_back(moves, mark);
+        false
+    }
+
+    /// Whether it shows before they are tried that none of the train's legs helps: it can't go on; or nothing
+    /// is found with the train out of the way, since what can be found can be found without a train. For the
+    /// last free leg, and where the train has few legs, a look at what that would free is all that pays.
+    #[cycle(search)]
+    fn is_hopeless(
+        &mut self,
+        moves: &Moves,
+        inside: &[TrainNo],
+        notes: &Notes,
+        waiting: &Waiting,
+        ahead: &mut Ahead,
+        train: TrainNo,
+        depth: u8,
+    ) -> bool
+        requires ready { IsReady moves.now self.old }
+        requires listed { IsListing (moves_in moves.now) self.old.places.positions inside.now }
+        requires waiting { IsIndexOf (moves_in moves.now) self.old.places.positions notes.now.stops depth inside.now waiting.now }
+        requires train { train < length moves.now }
+        requires room { depth < 255 }
+        requires settled { IsSettled (moves_in moves.now) self.old.places.positions notes.now.stops }
+        ensures ready { IsReady moves.now self.new }
+        ensures back { IsBack self.old self.new }
+        ensures inside { result ≡ false → IsTrue (is_inside (moves_in moves.now) self.old.places.positions train) }
+        ensures none { IsTrue result → FindsByNoLegOf (moves_in moves.now) depth self.old.places.positions train }
+    {
+        if !self.can_go_on(moves, notes, train) {
+            return true;
+        }
+        let last = moves.places(train);
+        if depth == 0 && self.frees_nobody(moves, inside, notes, waiting, ahead, train, last) {
+            return true;
+        }
+        if !self.has_ends(moves, train, ends_for(depth)) {
+            return false;
+        }
+        !self.is_found_without(moves, inside, notes, train, depth)
+    }
+
+    /// Whether, with the train out of the way, nobody is left inside after legs of which at most `depth`
+    /// are free. What can be found can be found without a train that is inside.
+    #[cycle(search)]
+    fn is_found_without(
+        &mut self,
+        moves: &Moves,
+        inside: &[TrainNo],
+        notes: &Notes,
+        train: TrainNo,
+        depth: u8,
+    ) -> bool
+        requires ready { IsReady moves.now self.old }
+        requires listed { IsListing (moves_in moves.now) self.old.places.positions inside.now }
+        requires train { train < length moves.now }
+        requires room { depth < 255 }
+        requires inside { IsTrue (is_inside (moves_in moves.now) self.old.places.positions train) }
+        requires settled { IsSettled (moves_in moves.now) self.old.places.positions notes.now.stops }
+        ensures ready { IsReady moves.now self.new }
+        ensures back { IsBack self.old self.new }
+        ensures none { result ≡ false
+            → Finds (moves_in moves.now) depth (set self.old.places.positions train ((moves_in moves.now).moves train)) → ⊥ }
+    {
+        let mark = self.list.len();
+        let place = self.places.position(train);
+        let last = moves.places(train);
+        let mut then = notes.anew();
+        self.note_leg(moves, train, last, &mut then);
+        self.take_out(moves, train);
+        let found = self.search(moves, inside, &mut then, depth);
+        self.go_back(moves, mark);
+        self.put(moves, train, place);
+        found
+    }
+
+    /// Takes the train out, as if it had made its moves.
+    fn take_out(&mut self, moves: &Moves, train: TrainNo)
+        requires ready { IsReady moves.now self.old }
+        requires train { train < length moves.now }
+        requires inside { IsTrue (is_inside (moves_in moves.now) self.old.places.positions train) }
+        ensures ready { IsReady moves.now self.new }
+        ensures positions { self.new.places.positions
+            ≡ set self.old.places.positions train ((moves_in moves.now).moves train) }
+        ensures list { self.new.list ≡ self.old.list }
+    {
+        self.put(moves, train, moves.places(train));
+    }
+
+    /// The train is inside, and no other one holds a section that its next move needs. No leg of it leads on
+    /// otherwise.
+    fn can_go_on(&self, moves: &Moves, notes: &Notes, train: TrainNo) -> bool
+        requires ready { IsReady moves.now self.now }
+        requires train { train < length moves.now }
+        requires settled { IsSettled (moves_in moves.now) self.now.places.positions notes.now.stops }
+        ensures inside { IsTrue result → IsTrue (is_inside (moves_in moves.now) self.now.places.positions train) }
+        ensures none { result ≡ false → (p : ℕ) → is_leg (moves_in moves.now) self.now.places.positions (leg_to train p) ≡ false }
+    {
+        if let Stop::Next(_) = notes.stop(train) {
+            return false;
+        }
+        let place = self.places.position(train);
+        if place == 0 || place >= moves.places(train) {
+            return false;
+        }
+        self.stop_of(moves, train, place).is_none()
+    }
+
+    /// Whether the train is inside and can go on to at least so many places while all others stand.
+    fn has_ends(&self, moves: &Moves, train: TrainNo, count: u16) -> bool
+        requires ready { IsReady moves.now self.now }
+        requires train { train < length moves.now }
+        ensures { IsTrue result → IsTrue (is_inside (moves_in moves.now) self.now.places.positions train) }
+    {
+        let place = self.places.position(train);
+        let last = moves.places(train);
+        if place == 0 || last <= place || last - place < count {
+            return false;
+        }
+        for made in place..place + count {
+            if self.stop_of(moves, train, made).is_some() {
+                return false;
+            }
+        }
+        true
+    }
+}

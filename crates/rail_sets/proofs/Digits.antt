@@ -1,0 +1,460 @@
+-- Counts in base 2, digit by digit.
+use Rattle.std.proofs.Common.{◌≡◌, ◌≢◌, ℕ, zero, suc, ◌+◌, ◌-◌, ◌*◌, ◌/◌, ◌%◌, ◌^◌, ◌<◌, ◌≤◌, min, max, Bool, true, false, List, [], length, get_or, set, refl, sym, ap, ◌∙◌, subst, ⊎_elim, arith, w64}
+use Rattle.std.specs.Prelude.{◌==◌, ◌&&◌, ◌||◌, bit_and, bit_or, bit_xor, nat_le, not}
+use Rattle.std.specs.Cmp.{both_ways}
+use Rattle.std.specs.Int.{bit_at, bit_not, trailing_zeros}
+use Rattle.std.proofs.lemmas.Bool.{cases_Bool, cases_eq, cases_lt, eq-eqb, eqb-true, false≢true, le-leb, leb-false, leb-true, ne_eqb}
+use Rattle.std.proofs.lemmas.List.{get_or_past, get_or-set_same, get_or-set_other, length-set}
+use Rattle.std.proofs.lemmas.Nat.{and_le_l, or_lt}
+use Rattle.std.proofs.lemmas.Nat.Bits.{bit_at_and, bit_at_not, bit_at_or, bit_at_xor, bit_at-lt, bit_at-trailing_zeros, bit_at-zero}
+use Rattle.rail_sets.specs.Counts.{Columns, column, count_of, digits_below, one_if}
+use Rattle.rail_sets.specs.Sets.{has}
+use Rattle.rail_sets.proofs.Words.{IsMade, bit_section, has_bit, has_past, or_out, same_word}
+use native.Mathlib.Nat.{add_comm, pow-suc}
+
+-- digits that are the same make up the same
+pub digits_same : (a b : List ℕ) (n bit : ℕ) → ((m : ℕ) → m < n → get_or a m 0 ≡ get_or b m 0) → digits_below a n bit ≡ digits_below b n bit
+digits_same a b zero bit same = refl
+digits_same a b (suc n) bit same =
+    ap (λ k. k + 2 ^ n * bit_at (get_or a n 0) bit) (digits_same a b n bit (λ m lt. same m (omega (arith, lt))))
+    ∙ ap (λ w. digits_below b n bit + 2 ^ n * bit_at w bit) (same n (omega arith))
+
+-- and digits that are the same behind the first so many add the same
+pub digits_ahead : (a b : List ℕ) (n k bit : ℕ) → ((m : ℕ) → n ≤ m → get_or a m 0 ≡ get_or b m 0) → digits_below a (n + k) bit + digits_below b n bit ≡ digits_below b (n + k) bit + digits_below a n bit
+digits_ahead a b n zero bit same = let e : n + 0 ≡ n = omega arith in ap (λ m. digits_below a m bit + digits_below b n bit) e ∙ add_comm (digits_below a n bit) (digits_below b n bit) ∙ ap (λ m. digits_below b m bit + digits_below a n bit) (sym e)
+digits_ahead a b n (suc k) bit same =
+    let e : n + suc k ≡ suc (n + k) = omega arith in
+    let last = ap (λ w. 2 ^ (n + k) * bit_at w bit) (same (n + k) (omega arith)) in
+    ap (λ m. digits_below a m bit + digits_below b n bit) e ∙ omega (arith, digits_ahead a b n k bit same, last) ∙ ap (λ m. digits_below b m bit + digits_below a n bit) (sym e)
+
+pow_one : (n : ℕ) → 2 ^ (n + 1) ≡ 2 * 2 ^ n
+pow_one n = let more : n + 1 ≡ suc n = omega arith in ap (λ m. 2 ^ m) more ∙ omega (arith, pow-suc 2 n)
+
+-- what a digit and what is carried to it make together
+adds : (p o c : ℕ) → o < 2 → c < 2 → p * ((o + c) % 2) + 2 * p * min o c ≡ p * o + p * c
+adds p o c low_o low_c =
+    let F : ℕ → ℕ → Type 0 = λ x y. p * ((x + y) % 2) + 2 * p * min x y ≡ p * x + p * y in
+    let at : (x : ℕ) → F x 0 → F x 1 → F x c = λ x none one.
+    ⊎_elim (λ is. subst (F x) (sym is) none) (λ some. let is : c ≡ 1 = omega (arith, some, low_c) in subst (F x) (sym is) one) (cases_eq c 0) in
+    ⊎_elim
+    (λ is. subst (λ x. F x c) (sym is) (at 0 (omega arith) (omega arith)))
+    (λ some. let is : o ≡ 1 = omega (arith, some, low_o) in subst (λ x. F x c) (sym is) (at 1 (omega arith) (omega arith)))
+    (cases_eq o 0)
+
+-- what a digit and what is borrowed from it make together
+takes : (p o b : ℕ) → o < 2 → b < 2 → p * ((o + b) % 2) + p * b ≡ p * o + 2 * p * min (1 - o) b
+takes p o b low_o low_b =
+    let F : ℕ → ℕ → Type 0 = λ x y. p * ((x + y) % 2) + p * y ≡ p * x + 2 * p * min (1 - x) y in
+    let at : (x : ℕ) → F x 0 → F x 1 → F x b = λ x none one.
+    ⊎_elim (λ is. subst (F x) (sym is) none) (λ some. let is : b ≡ 1 = omega (arith, some, low_b) in subst (F x) (sym is) one) (cases_eq b 0) in
+    ⊎_elim
+    (λ is. subst (λ x. F x b) (sym is) (at 0 (omega arith) (omega arith)))
+    (λ some. let is : o ≡ 1 = omega (arith, some, low_o) in subst (λ x. F x b) (sym is) (at 1 (omega arith) (omega arith)))
+    (cases_eq o 0)
+
+-- with what is still carried, the first so many digits make up what they made up before and what is added
+pub record IsCarry (old new : List ℕ) (more carried n : ℕ) : Type 0 where
+  pub long : length new ≡ length old
+  pub sum : (bit : ℕ) → bit < 64 → digits_below new n bit + 2 ^ n * bit_at carried bit ≡ digits_below old n bit + bit_at more bit
+  pub rest : (m : ℕ) → n ≤ m → get_or new m 0 ≡ get_or old m 0
+
+-- with what is still borrowed, the first so many digits make up what they made up before and what is taken off
+pub record IsBorrow (old new : List ℕ) (less borrowed n : ℕ) : Type 0 where
+  pub long : length new ≡ length old
+  pub sum : (bit : ℕ) → bit < 64 → digits_below new n bit + bit_at less bit ≡ digits_below old n bit + 2 ^ n * bit_at borrowed bit
+  pub rest : (m : ℕ) → n ≤ m → get_or new m 0 ≡ get_or old m 0
+
+-- one digit more
+module _ (old new : List ℕ) (n d : ℕ) (within : n < length new) where
+  abbrev next : List ℕ
+  next = set new n d
+
+  before : (bit : ℕ) → digits_below next n bit ≡ digits_below new n bit
+  before bit = digits_same next new n bit (λ m lt. get_or-set_other new n m d 0 (λ same. omega (arith, same, lt)))
+
+  here : (bit : ℕ) → digits_below next (n + 1) bit ≡ digits_below new n bit + 2 ^ n * bit_at d bit
+  here bit =
+      let more : n + 1 ≡ suc n = omega arith in
+      ap (λ m. digits_below next m bit) more ∙ omega (arith, before bit, ap (λ w. 2 ^ n * bit_at w bit) (get_or-set_same new n d 0 within))
+
+  rest_same : ((m : ℕ) → n ≤ m → get_or new m 0 ≡ get_or old m 0) → (m : ℕ) → n + 1 ≤ m → get_or next m 0 ≡ get_or old m 0
+  rest_same rest m from = get_or-set_other new n m d 0 (λ same. omega (arith, same, from)) ∙ rest m (omega (arith, from))
+
+  pub carried_on : (more carried : ℕ) → IsCarry old new more carried n → d ≡ bit_xor (get_or new n 0) carried → IsCarry old next more (bit_and (get_or new n 0) carried) (n + 1)
+  carried_on more carried is made = record {
+    long = length-set new n d ∙ is.long;
+    sum = λ bit low.
+        let o : ℕ = bit_at (get_or new n 0) bit in
+        let c : ℕ = bit_at carried bit in
+        let old_here : digits_below old (n + 1) bit ≡ digits_below old n bit + 2 ^ n * o =
+        (let one : n + 1 ≡ suc n = omega arith in ap (λ m. digits_below old m bit) one ∙ ap (λ w. digits_below old n bit + 2 ^ n * bit_at w bit) (sym (is.rest n (omega arith)))) in
+        omega (
+          arith,
+          here bit,
+          old_here,
+          is.sum bit low,
+          ap (λ x. 2 ^ n * x) (ap (λ w. bit_at w bit) made ∙ bit_at_xor (get_or new n 0) carried bit),
+          ap (λ x. 2 ^ (n + 1) * x) (bit_at_and (get_or new n 0) carried bit),
+          ap (λ x. x * min o c) (pow_one n),
+          adds (2 ^ n) o c (bit_at-lt (get_or new n 0) bit) (bit_at-lt carried bit),
+        );
+    rest = rest_same is.rest;
+  }
+
+  pub borrowed_on : (less borrowed : ℕ) → get_or new n 0 < 2 ^ 64 → IsBorrow old new less borrowed n → d ≡ bit_xor (get_or new n 0) borrowed → IsBorrow old next less (bit_and (bit_not w64 (get_or new n 0)) borrowed) (n + 1)
+  borrowed_on less borrowed fits is made = record {
+    long = length-set new n d ∙ is.long;
+    sum = λ bit low.
+        let o : ℕ = bit_at (get_or new n 0) bit in
+        let c : ℕ = bit_at borrowed bit in
+        let old_here : digits_below old (n + 1) bit ≡ digits_below old n bit + 2 ^ n * o =
+        (let one : n + 1 ≡ suc n = omega arith in ap (λ m. digits_below old m bit) one ∙ ap (λ w. digits_below old n bit + 2 ^ n * bit_at w bit) (sym (is.rest n (omega arith)))) in
+        omega (
+          arith,
+          here bit,
+          old_here,
+          is.sum bit low,
+          ap (λ x. 2 ^ n * x) (ap (λ w. bit_at w bit) made ∙ bit_at_xor (get_or new n 0) borrowed bit),
+          ap (λ x. 2 ^ (n + 1) * x) (bit_at_and (bit_not w64 (get_or new n 0)) borrowed bit ∙ ap (λ x. min x c) (bit_at_not w64 (get_or new n 0) bit fits low)),
+          ap (λ x. x * min (1 - o) c) (pow_one n),
+          takes (2 ^ n) o c (bit_at-lt (get_or new n 0) bit) (bit_at-lt borrowed bit),
+        );
+    rest = rest_same is.rest;
+  }
+
+-- a bit of the digits from the third one on
+highest : (d : List ℕ) (bit : ℕ) → bit_at (bit_or (bit_or (bit_or (bit_or (bit_or (get_or d 2 0) (get_or d 3 0)) (get_or d 4 0)) (get_or d 5 0)) (get_or d 6 0)) (get_or d 7 0)) bit
+    ≡ max (max (max (max (max (bit_at (get_or d 2 0) bit) (bit_at (get_or d 3 0) bit)) (bit_at (get_or d 4 0) bit)) (bit_at (get_or d 5 0) bit)) (bit_at (get_or d 6 0) bit)) (bit_at (get_or d 7 0) bit)
+highest d bit =
+    bit_at_or _ (get_or d 7 0) bit
+    ∙ ap (λ k. max k (bit_at (get_or d 7 0) bit)) (bit_at_or _ (get_or d 6 0) bit
+    ∙ ap (λ k. max k (bit_at (get_or d 6 0) bit)) (bit_at_or _ (get_or d 5 0) bit
+    ∙ ap (λ k. max k (bit_at (get_or d 5 0) bit)) (bit_at_or _ (get_or d 4 0) bit
+    ∙ ap (λ k. max k (bit_at (get_or d 4 0) bit)) (bit_at_or (get_or d 2 0) (get_or d 3 0) bit))))
+
+-- such a word fits
+pub high_fits : (d : List ℕ) → get_or d 2 0 < 2 ^ 64 → get_or d 3 0 < 2 ^ 64 → get_or d 4 0 < 2 ^ 64 → get_or d 5 0 < 2 ^ 64 → get_or d 6 0 < 2 ^ 64 → get_or d 7 0 < 2 ^ 64
+    → bit_or (bit_or (bit_or (bit_or (bit_or (get_or d 2 0) (get_or d 3 0)) (get_or d 4 0)) (get_or d 5 0)) (get_or d 6 0)) (get_or d 7 0) < 2 ^ 64
+high_fits d f2 f3 f4 f5 f6 f7 = or_lt 64 _ _ (or_lt 64 _ _ (or_lt 64 _ _ (or_lt 64 _ _ (or_lt 64 _ _ f2 f3) f4) f5) f6) f7
+
+-- tests on two numbers are the same where each is so exactly where the other is
+same_test : (a b m n : ℕ) → ((a ≡ m) → (b ≡ n)) → ((b ≡ n) → (a ≡ m)) → (a == m) ≡ (b == n)
+same_test a b m n there back = both_ways (a == m) (b == n) (λ is. eq-eqb b n (there (eqb-true a m is))) (λ is. eq-eqb a m (back (eqb-true b n is)))
+
+twice_of : (b0 b1 b2 b3 b4 b5 b6 b7 o : ℕ) → b0 < 2 → b1 < 2 → b2 < 2 → b3 < 2 → b4 < 2 → b5 < 2 → b6 < 2 → b7 < 2
+    → o ≡ min (min b1 (1 - b0)) (1 - max (max (max (max (max b2 b3) b4) b5) b6) b7)
+    → (o == 1) ≡ (0 + 1 * b0 + 2 * b1 + 4 * b2 + 8 * b3 + 16 * b4 + 32 * b5 + 64 * b6 + 128 * b7 == 2)
+twice_of b0 b1 b2 b3 b4 b5 b6 b7 o l0 l1 l2 l3 l4 l5 l6 l7 made = same_test o (0 + 1 * b0 + 2 * b1 + 4 * b2 + 8 * b3 + 16 * b4 + 32 * b5 + 64 * b6 + 128 * b7) 1 2 (λ is. omega (arith, is)) (λ is. omega (arith, is))
+
+pub twice_by : (d : List ℕ) (bit : ℕ) → bit < 64 → get_or d 0 0 < 2 ^ 64 → bit_or (bit_or (bit_or (bit_or (bit_or (get_or d 2 0) (get_or d 3 0)) (get_or d 4 0)) (get_or d 5 0)) (get_or d 6 0)) (get_or d 7 0) < 2 ^ 64
+    → (bit_at (bit_and (bit_and (get_or d 1 0) (bit_not w64 (get_or d 0 0))) (bit_not w64 (bit_or (bit_or (bit_or (bit_or (bit_or (get_or d 2 0) (get_or d 3 0)) (get_or d 4 0)) (get_or d 5 0)) (get_or d 6 0)) (get_or d 7 0)))) bit == 1) ≡ (digits_below d 8 bit == 2)
+twice_by d bit low fits fits_high =
+    let h : ℕ = bit_or (bit_or (bit_or (bit_or (bit_or (get_or d 2 0) (get_or d 3 0)) (get_or d 4 0)) (get_or d 5 0)) (get_or d 6 0)) (get_or d 7 0) in
+    let c : ℕ = bit_at (get_or d 1 0) bit in
+    twice_of (bit_at (get_or d 0 0) bit) (bit_at (get_or d 1 0) bit) (bit_at (get_or d 2 0) bit) (bit_at (get_or d 3 0) bit) (bit_at (get_or d 4 0) bit) (bit_at (get_or d 5 0) bit) (bit_at (get_or d 6 0) bit) (bit_at (get_or d 7 0) bit)
+    (bit_at (bit_and (bit_and (get_or d 1 0) (bit_not w64 (get_or d 0 0))) (bit_not w64 h)) bit)
+    (bit_at-lt (get_or d 0 0) bit) (bit_at-lt (get_or d 1 0) bit) (bit_at-lt (get_or d 2 0) bit) (bit_at-lt (get_or d 3 0) bit) (bit_at-lt (get_or d 4 0) bit) (bit_at-lt (get_or d 5 0) bit) (bit_at-lt (get_or d 6 0) bit) (bit_at-lt (get_or d 7 0) bit)
+    (bit_at_and (bit_and (get_or d 1 0) (bit_not w64 (get_or d 0 0))) (bit_not w64 h) bit
+    ∙ ap (λ k. min k (bit_at (bit_not w64 h) bit)) (bit_at_and (get_or d 1 0) (bit_not w64 (get_or d 0 0)) bit ∙ ap (min c) (bit_at_not w64 (get_or d 0 0) bit fits low))
+    ∙ ap (min (min c (1 - bit_at (get_or d 0 0) bit))) (bit_at_not w64 h bit fits_high low ∙ ap (λ k. 1 - k) (highest d bit)))
+
+many_of : (b0 b1 b2 b3 b4 b5 b6 b7 o : ℕ) → b0 < 2 → b1 < 2 → b2 < 2 → b3 < 2 → b4 < 2 → b5 < 2 → b6 < 2 → b7 < 2
+    → o ≡ max b1 (max (max (max (max (max b2 b3) b4) b5) b6) b7)
+    → (o == 1) ≡ nat_le 2 (0 + 1 * b0 + 2 * b1 + 4 * b2 + 8 * b3 + 16 * b4 + 32 * b5 + 64 * b6 + 128 * b7)
+many_of b0 b1 b2 b3 b4 b5 b6 b7 o l0 l1 l2 l3 l4 l5 l6 l7 made =
+    let all : ℕ = 0 + 1 * b0 + 2 * b1 + 4 * b2 + 8 * b3 + 16 * b4 + 32 * b5 + 64 * b6 + 128 * b7 in
+    both_ways (o == 1) (nat_le 2 all)
+    (λ is. le-leb 2 all (omega (arith, eqb-true o 1 is, l0, l1, l2, l3, l4, l5, l6, l7, made)))
+    (λ is. eq-eqb o 1 (omega (arith, leb-true 2 all is, l0, l1, l2, l3, l4, l5, l6, l7, made)))
+
+pub many_by : (d : List ℕ) (bit : ℕ) → (bit_at (bit_or (get_or d 1 0) (bit_or (bit_or (bit_or (bit_or (bit_or (get_or d 2 0) (get_or d 3 0)) (get_or d 4 0)) (get_or d 5 0)) (get_or d 6 0)) (get_or d 7 0))) bit == 1) ≡ nat_le 2 (digits_below d 8 bit)
+many_by d bit =
+    let h : ℕ = bit_or (bit_or (bit_or (bit_or (bit_or (get_or d 2 0) (get_or d 3 0)) (get_or d 4 0)) (get_or d 5 0)) (get_or d 6 0)) (get_or d 7 0) in
+    let b : ℕ = bit_at (get_or d 1 0) bit in
+    many_of (bit_at (get_or d 0 0) bit) (bit_at (get_or d 1 0) bit) (bit_at (get_or d 2 0) bit) (bit_at (get_or d 3 0) bit) (bit_at (get_or d 4 0) bit) (bit_at (get_or d 5 0) bit) (bit_at (get_or d 6 0) bit) (bit_at (get_or d 7 0) bit)
+    (bit_at (bit_or (get_or d 1 0) h) bit)
+    (bit_at-lt (get_or d 0 0) bit) (bit_at-lt (get_or d 1 0) bit) (bit_at-lt (get_or d 2 0) bit) (bit_at-lt (get_or d 3 0) bit) (bit_at-lt (get_or d 4 0) bit) (bit_at-lt (get_or d 5 0) bit) (bit_at-lt (get_or d 6 0) bit) (bit_at-lt (get_or d 7 0) bit)
+    (bit_at_or (get_or d 1 0) h bit ∙ ap (max b) (highest d bit))
+
+fits_of : (b0 b1 b2 b3 b4 b5 b6 b7 : ℕ) → b0 < 2 → b1 < 2 → b2 < 2 → b3 < 2 → b4 < 2 → b5 < 2 → b6 < 2 → b7 < 2 → 0 + 1 * b0 + 2 * b1 + 4 * b2 + 8 * b3 + 16 * b4 + 32 * b5 + 64 * b6 + 128 * b7 < 256
+fits_of b0 b1 b2 b3 b4 b5 b6 b7 l0 l1 l2 l3 l4 l5 l6 l7 = omega (arith, l0, l1, l2, l3, l4, l5, l6, l7)
+
+-- a count is below 256
+pub column_fits : (d : List ℕ) (bit : ℕ) → column d bit < 256
+column_fits d bit =
+    fits_of (bit_at (get_or d 0 0) bit) (bit_at (get_or d 1 0) bit) (bit_at (get_or d 2 0) bit) (bit_at (get_or d 3 0) bit) (bit_at (get_or d 4 0) bit) (bit_at (get_or d 5 0) bit) (bit_at (get_or d 6 0) bit) (bit_at (get_or d 7 0) bit)
+    (bit_at-lt (get_or d 0 0) bit) (bit_at-lt (get_or d 1 0) bit) (bit_at-lt (get_or d 2 0) bit) (bit_at-lt (get_or d 3 0) bit) (bit_at-lt (get_or d 4 0) bit) (bit_at-lt (get_or d 5 0) bit) (bit_at-lt (get_or d 6 0) bit) (bit_at-lt (get_or d 7 0) bit)
+
+pub count_fits : (columns : Columns) (x : ℕ) → count_of columns x < 256
+count_fits columns x = column_fits (get_or columns (x / 64) []) (x % 64)
+
+-- where there are no digits, nothing is counted
+pub no_column : (bit : ℕ) → column [] bit ≡ 0
+no_column bit = let none = bit_at-zero bit in omega (arith, none)
+
+-- and nothing behind the columns
+pub count_past : (columns : Columns) (x : ℕ) → length columns ≤ x / 64 → count_of columns x ≡ 0
+count_past columns x past = ap (λ c. column c (x % 64)) (get_or_past columns (x / 64) [] past) ∙ no_column (x % 64)
+
+-- each section of the first so many words that is in the one set and not in the other is counted once more
+pub record IsUp (old new : Columns) (set other : List ℕ) (n : ℕ) : Type 0 where
+  pub long : length new ≡ length old
+  pub counted : (x : ℕ) → x < 64 * n → count_of new x ≡ count_of old x + one_if (has set x && not (has other x))
+  pub rest : (k : ℕ) → n ≤ k → get_or new k [] ≡ get_or old k []
+
+-- and is counted once less
+pub record IsDown (old new : Columns) (set other : List ℕ) (n : ℕ) : Type 0 where
+  pub long : length new ≡ length old
+  pub counted : (x : ℕ) → x < 64 * n → count_of new x + one_if (has set x && not (has other x)) ≡ count_of old x
+  pub rest : (k : ℕ) → n ≤ k → get_or new k [] ≡ get_or old k []
+
+beyond_of : (a b : ℕ) → a < 2 → b < 2 → min a (1 - b) ≡ one_if ((a == 1) && not (b == 1))
+beyond_of a b low_a low_b = grind (arith, low_a, low_b)
+
+-- the bit of a word that is in the one set and not in the other
+bit_beyond : (set other : List ℕ) (x : ℕ) → get_or other (x / 64) 0 < 2 ^ 64 → bit_at (bit_and (get_or set (x / 64) 0) (bit_not w64 (get_or other (x / 64) 0))) (x % 64) ≡ one_if (has set x && not (has other x))
+bit_beyond set other x fits =
+    let a : ℕ = bit_at (get_or set (x / 64) 0) (x % 64) in
+    let b : ℕ = bit_at (get_or other (x / 64) 0) (x % 64) in
+    bit_at_and (get_or set (x / 64) 0) (bit_not w64 (get_or other (x / 64) 0)) (x % 64)
+    ∙ ap (min a) (bit_at_not w64 (get_or other (x / 64) 0) (x % 64) fits (omega arith))
+    ∙ beyond_of a b (bit_at-lt (get_or set (x / 64) 0) (x % 64)) (bit_at-lt (get_or other (x / 64) 0) (x % 64))
+
+-- a column more
+module _ (old new : Columns) (one other : List ℕ) (n w : ℕ) (column_new : List ℕ) (within : n < length new) (fits : get_or other n 0 < 2 ^ 64) (is_word : w ≡ bit_and (get_or one n 0) (bit_not w64 (get_or other n 0))) where
+  abbrev next_columns : Columns
+  next_columns = set new n column_new
+
+  at_n : (x : ℕ) → x / 64 ≡ n → count_of next_columns x ≡ column column_new (x % 64)
+  at_n x at = ap (λ c. column c (x % 64)) (ap (λ k. get_or next_columns k []) at ∙ get_or-set_same new n column_new [] within)
+
+  word_bit : (x : ℕ) → x / 64 ≡ n → bit_at w (x % 64) ≡ one_if (has one x && not (has other x))
+  word_bit x at =
+      ap (λ v. bit_at v (x % 64)) is_word
+      ∙ ap (λ k. bit_at (bit_and (get_or one k 0) (bit_not w64 (get_or other k 0))) (x % 64)) (sym at)
+      ∙ bit_beyond one other x (subst (λ k. get_or other k 0 < 2 ^ 64) (sym at) fits)
+
+  elsewhere : (x : ℕ) → x / 64 ≢ n → count_of next_columns x ≡ count_of new x
+  elsewhere x ne = ap (λ c. column c (x % 64)) (get_or-set_other new n (x / 64) column_new [] ne)
+
+  kept_at : (x : ℕ) → x / 64 ≡ n → get_or new n [] ≡ get_or old n [] → count_of new x ≡ count_of old x
+  kept_at x at same = ap (λ c. column c (x % 64)) (ap (λ k. get_or new k []) at ∙ same ∙ ap (λ k. get_or old k []) (sym at))
+
+  not_counted : (x : ℕ) → x / 64 ≡ n → w ≡ 0 → one_if (has one x && not (has other x)) ≡ 0
+  not_counted x at none = sym (word_bit x at) ∙ ap (λ v. bit_at v (x % 64)) none ∙ bit_at-zero (x % 64)
+
+  pub up_more : IsUp old new one other n → ((bit : ℕ) → bit < 64 → column column_new bit ≡ column (get_or new n []) bit + bit_at w bit) → IsUp old next_columns one other (n + 1)
+  up_more before counted = record {
+    long = length-set new n column_new ∙ before.long;
+    counted = λ x low.
+        ⊎_elim
+        (λ (at : x / 64 ≡ n).
+        let was : column (get_or new n []) (x % 64) ≡ count_of old x = ap (λ c. column c (x % 64)) (before.rest n (omega arith)) ∙ ap (λ k. column (get_or old k []) (x % 64)) (sym at) in
+        at_n x at ∙ counted (x % 64) (omega arith) ∙ ap (λ k. k + bit_at w (x % 64)) was ∙ ap (λ k. count_of old x + k) (word_bit x at))
+        (λ (ne : x / 64 ≢ n). elsewhere x ne ∙ before.counted x (omega (arith, low, ne)))
+        (cases_eq (x / 64) n);
+    rest = λ k from. get_or-set_other new n k column_new [] (λ same. omega (arith, same, from)) ∙ before.rest k (omega (arith, from));
+  }
+
+  pub down_more : IsDown old new one other n → ((bit : ℕ) → bit < 64 → column column_new bit + bit_at w bit ≡ column (get_or new n []) bit) → IsDown old next_columns one other (n + 1)
+  down_more before counted = record {
+    long = length-set new n column_new ∙ before.long;
+    counted = λ x low.
+        ⊎_elim
+        (λ (at : x / 64 ≡ n).
+        let was : column (get_or new n []) (x % 64) ≡ count_of old x = ap (λ c. column c (x % 64)) (before.rest n (omega arith)) ∙ ap (λ k. column (get_or old k []) (x % 64)) (sym at) in
+        ap (λ k. k + one_if (has one x && not (has other x))) (at_n x at) ∙ ap (λ k. column column_new (x % 64) + k) (sym (word_bit x at)) ∙ counted (x % 64) (omega arith) ∙ was)
+        (λ (ne : x / 64 ≢ n). ap (λ k. k + one_if (has one x && not (has other x))) (elsewhere x ne) ∙ before.counted x (omega (arith, low, ne)))
+        (cases_eq (x / 64) n);
+    rest = λ k from. get_or-set_other new n k column_new [] (λ same. omega (arith, same, from)) ∙ before.rest k (omega (arith, from));
+  }
+
+  -- a column of which nothing is counted
+  pub up_same : IsUp old new one other n → w ≡ 0 → IsUp old new one other (n + 1)
+  up_same before none = record {
+    long = before.long;
+    counted = λ x low.
+        ⊎_elim
+        (λ (at : x / 64 ≡ n). omega (arith, kept_at x at (before.rest n (omega arith)), not_counted x at none))
+        (λ (ne : x / 64 ≢ n). before.counted x (omega (arith, low, ne)))
+        (cases_eq (x / 64) n);
+    rest = λ k from. before.rest k (omega (arith, from));
+  }
+
+  pub down_same : IsDown old new one other n → w ≡ 0 → IsDown old new one other (n + 1)
+  down_same before none = record {
+    long = before.long;
+    counted = λ x low.
+        ⊎_elim
+        (λ (at : x / 64 ≡ n). omega (arith, kept_at x at (before.rest n (omega arith)), not_counted x at none))
+        (λ (ne : x / 64 ≢ n). before.counted x (omega (arith, low, ne)))
+        (cases_eq (x / 64) n);
+    rest = λ k from. before.rest k (omega (arith, from));
+  }
+
+-- behind the words of the one set no count changes
+past_words : (old new : Columns) (one other : List ℕ) (x : ℕ) → length one ≤ x / 64 → get_or new (x / 64) [] ≡ get_or old (x / 64) []
+    → (count_of new x ≡ count_of old x) × (one_if (has one x && not (has other x)) ≡ 0)
+past_words old new one other x past same = (ap (λ c. column c (x % 64)) same, ap (λ b. one_if (b && not (has other x))) (has_past one x past))
+
+pub up_all : (old new : Columns) (one other : List ℕ) (n : ℕ) → length one ≤ n → IsUp old new one other n
+    → (x : ℕ) → count_of new x ≡ count_of old x + one_if (has one x && not (has other x))
+up_all old new one other n all is x =
+    ⊎_elim
+    (λ low. is.counted x (omega (arith, low)))
+    (λ past. let kept = past_words old new one other x (omega (arith, past, all)) (is.rest (x / 64) past) in omega (arith, kept.0, kept.1))
+    (cases_lt (x / 64) n)
+
+pub down_all : (old new : Columns) (one other : List ℕ) (n : ℕ) → length one ≤ n → IsDown old new one other n
+    → (x : ℕ) → count_of new x + one_if (has one x && not (has other x)) ≡ count_of old x
+down_all old new one other n all is x =
+    ⊎_elim
+    (λ low. is.counted x (omega (arith, low)))
+    (λ past. let kept = past_words old new one other x (omega (arith, past, all)) (is.rest (x / 64) past) in omega (arith, kept.0, kept.1))
+    (cases_lt (x / 64) n)
+
+-- no count is too large for one more
+pub few_at : (old new : Columns) (one other : List ℕ) (n w : ℕ) (col : List ℕ) → n < length new → get_or other n 0 < 2 ^ 64 → w ≡ bit_and (get_or one n 0) (bit_not w64 (get_or other n 0)) → IsUp old new one other n → col ≡ get_or new n []
+    → ((x : ℕ) → (has one x && not (has other x)) ≡ true → count_of old x < 255) → (bit : ℕ) → bit < 64 → column col bit + bit_at w bit < 256
+few_at old new one other n w col within fits is_word before is few bit low =
+    let x : ℕ = 64 * n + bit in
+    let at : x / 64 ≡ n = omega (arith, low) in
+    let place : x % 64 ≡ bit = omega (arith, low) in
+    let same : column col bit ≡ count_of old x =
+    ap (λ c. column c bit) (is ∙ before.rest n (omega arith)) ∙ ap (λ k. column (get_or old k []) bit) (sym at) ∙ ap (column (get_or old (x / 64) [])) (sym place) in
+    let here : bit_at w bit ≡ one_if (has one x && not (has other x)) = ap (bit_at w) (sym place) ∙ word_bit old new one other n w col within fits is_word x at in
+    ⊎_elim
+    (λ (yes : (has one x && not (has other x)) ≡ true). omega (arith, same, few x yes, bit_at-lt w bit))
+    (λ (no : (has one x && not (has other x)) ≡ false). omega (arith, here, ap one_if no, column_fits col bit))
+    (cases_Bool (has one x && not (has other x)))
+
+-- and each section that is counted less is counted
+pub some_at : (old new : Columns) (one other : List ℕ) (n w : ℕ) (col : List ℕ) → n < length new → get_or other n 0 < 2 ^ 64 → w ≡ bit_and (get_or one n 0) (bit_not w64 (get_or other n 0)) → IsDown old new one other n → col ≡ get_or new n []
+    → ((x : ℕ) → (has one x && not (has other x)) ≡ true → 0 < count_of old x) → (bit : ℕ) → bit < 64 → bit_at w bit ≤ column col bit
+some_at old new one other n w col within fits is_word before is some bit low =
+    let x : ℕ = 64 * n + bit in
+    let at : x / 64 ≡ n = omega (arith, low) in
+    let place : x % 64 ≡ bit = omega (arith, low) in
+    let same : column col bit ≡ count_of old x =
+    ap (λ c. column c bit) (is ∙ before.rest n (omega arith)) ∙ ap (λ k. column (get_or old k []) bit) (sym at) ∙ ap (column (get_or old (x / 64) [])) (sym place) in
+    let here : bit_at w bit ≡ one_if (has one x && not (has other x)) = ap (bit_at w) (sym place) ∙ word_bit old new one other n w col within fits is_word x at in
+    ⊎_elim
+    (λ (yes : (has one x && not (has other x)) ≡ true). omega (arith, same, some x yes, here, ap one_if yes))
+    (λ (no : (has one x && not (has other x)) ≡ false). omega (arith, here, ap one_if no))
+    (cases_Bool (has one x && not (has other x)))
+
+-- the word has those sections of the column that are counted more than once
+abbrev pub HasMany : List ℕ → ℕ → Type 0
+HasMany col word = (bit : ℕ) → bit < 64 → (bit_at word bit == 1) ≡ nat_le 2 (column col bit)
+
+-- and those that are counted twice
+abbrev pub HasTwice : List ℕ → ℕ → Type 0
+HasTwice col word = (bit : ℕ) → bit < 64 → (bit_at word bit == 1) ≡ (column col bit == 2)
+
+column_at : (counts : Columns) (n : ℕ) (col : List ℕ) (x : ℕ) → x / 64 ≡ n → col ≡ get_or counts n [] → column col (x % 64) ≡ count_of counts x
+column_at counts n col x at is = ap (λ c. column c (x % 64)) (is ∙ ap (λ k. get_or counts k []) (sym at))
+
+-- where a word has none of these sections, none of its sections is counted more than once
+pub once_at : (counts : Columns) (words : List ℕ) (n m : ℕ) (col : List ℕ) → HasMany col m → col ≡ get_or counts n [] → bit_and (get_or words n 0) m ≡ 0
+    → (x : ℕ) → x / 64 ≡ n → has words x ≡ true → count_of counts x ≤ 1
+once_at counts words n m col many is none x at has_it =
+    let a : ℕ = get_or words n 0 in
+    let one : bit_at a (x % 64) ≡ 1 = ap (λ k. bit_at (get_or words k 0) (x % 64)) (sym at) ∙ has_bit words x has_it in
+    let zero_bit : bit_at (bit_and a m) (x % 64) ≡ 0 = ap (λ n. bit_at n (x % 64)) none ∙ bit_at-zero (x % 64) in
+    let away : bit_at m (x % 64) ≡ 0 = omega (arith, one, zero_bit, bit_at_and a m (x % 64)) in
+    let few : nat_le 2 (column col (x % 64)) ≡ false = sym (many (x % 64) (omega arith)) ∙ ap (λ b. b == 1) away in
+    omega (arith, leb-false 2 (column col (x % 64)) few, column_at counts n col x at is)
+
+-- and where it has one, that one is
+pub more_at : (counts : Columns) (words : List ℕ) (n m : ℕ) (col : List ℕ) → HasMany col m → col ≡ get_or counts n [] → get_or words n 0 < 2 ^ 64 → bit_and (get_or words n 0) m ≢ 0
+    → (x : ℕ) × (has words x ≡ true) × (1 < count_of counts x)
+more_at counts words n m col many is fits some =
+    let a : ℕ = get_or words n 0 in
+    let low = bit_at-trailing_zeros w64 (bit_and a m) (omega (arith, some)) (omega (arith, fits, and_le_l a m)) in
+    let bit : ℕ = trailing_zeros w64 (bit_and a m) in
+    let each = bit_at_and a m bit in
+    let x : ℕ = n * 64 + bit in
+    let at : x / 64 ≡ n = omega (arith, low.0) in
+    let place : x % 64 ≡ bit = omega (arith, low.0) in
+    let one : bit_at m bit ≡ 1 = omega (arith, low.1, each, bit_at-lt a bit, bit_at-lt m bit) in
+    let count : 2 ≤ column col bit = leb-true 2 (column col bit) (sym (many bit low.0) ∙ ap (λ b. b == 1) one) in (
+      x,
+      bit_section n bit low.0 words (omega (arith, low.1, each, bit_at-lt a bit, bit_at-lt m bit)),
+      omega (arith, count, ap (column col) place, column_at counts n col x at is),
+    )
+
+falls_of : (p q r s : Bool) (a b c d z : ℕ) → (p ≡ (a == 1)) → (q ≡ (b == 1)) → (r ≡ (c == 1)) → (s ≡ (d == 1)) → a < 2 → b < 2 → c < 2 → d < 2
+    → z ≡ max a (min (min b (1 - c)) d) → (z == 1) ≡ (p || (q && not r && s))
+falls_of p q r s a b c d z is_p is_q is_r is_s low_a low_b low_c low_d made = grind (arith, is_p, is_q, is_r, is_s, low_a, low_b, low_c, low_d, made)
+
+-- the set has what it had, and what is counted twice and is in the one set and not in the other
+abbrev pub with_falls : Columns → List ℕ → List ℕ → List ℕ → ℕ → Bool
+with_falls counts old from to x = has old x || (has from x && not (has to x) && (count_of counts x == 2))
+
+pub falls_at : (counts : Columns) (old new from to : List ℕ) (n t : ℕ) (col : List ℕ) → HasTwice col t → col ≡ get_or counts n [] → get_or to n 0 < 2 ^ 64 → get_or new n 0 ≡ get_or old n 0
+    → (x : ℕ) → x / 64 ≡ n → (bit_at (bit_or (get_or new n 0) (bit_and (bit_and (get_or from n 0) (bit_not w64 (get_or to n 0))) t)) (x % 64) == 1) ≡ with_falls counts old from to x
+falls_at counts old new from to n t col twice is fits same x at =
+    let bit : ℕ = x % 64 in
+    let a : ℕ = get_or new n 0 in
+    let b : ℕ = get_or from n 0 in
+    let c : ℕ = get_or to n 0 in
+    let low : bit < 64 = omega arith in
+    falls_of (has old x) (has from x) (has to x) (count_of counts x == 2) (bit_at a bit) (bit_at b bit) (bit_at c bit) (bit_at t bit)
+    (bit_at (bit_or a (bit_and (bit_and b (bit_not w64 c)) t)) bit)
+    (ap (λ k. bit_at (get_or old k 0) bit == 1) at ∙ ap (λ v. bit_at v bit == 1) (sym same))
+    (ap (λ k. bit_at (get_or from k 0) bit == 1) at)
+    (ap (λ k. bit_at (get_or to k 0) bit == 1) at)
+    (ap (λ v. v == 2) (sym (column_at counts n col x at is)) ∙ sym (twice bit low))
+    (bit_at-lt a bit) (bit_at-lt b bit) (bit_at-lt c bit) (bit_at-lt t bit)
+    (bit_at_or a (bit_and (bit_and b (bit_not w64 c)) t) bit
+    ∙ ap (max (bit_at a bit)) (bit_at_and (bit_and b (bit_not w64 c)) t bit
+    ∙ ap (λ v. min v (bit_at t bit)) (bit_at_and b (bit_not w64 c) bit ∙ ap (min (bit_at b bit)) (bit_at_not w64 c bit fits low))))
+
+or_none : (p q : Bool) → (p || q) ≡ false → q ≡ false
+or_none true q none = absurd (false≢true (sym none))
+or_none false q none = none
+
+-- where a word has none of them, none of its sections is such a one
+pub no_falls_at : (counts : Columns) (from to : List ℕ) (n t : ℕ) (col : List ℕ) → HasTwice col t → col ≡ get_or counts n [] → get_or to n 0 < 2 ^ 64
+    → bit_and (bit_and (get_or from n 0) (bit_not w64 (get_or to n 0))) t ≡ 0 → (x : ℕ) → x / 64 ≡ n → (has from x && not (has to x) && (count_of counts x == 2)) ≡ false
+no_falls_at counts from to n t col twice is fits none x at =
+    let bit : ℕ = x % 64 in
+    let a : ℕ = get_or {A = ℕ} [] n 0 in
+    let w : ℕ = bit_and (bit_and (get_or from n 0) (bit_not w64 (get_or to n 0))) t in
+    let zero : bit_at (bit_or a w) bit ≡ 0 = omega (arith, bit_at_or a w bit, ap (λ v. bit_at v bit) none, bit_at-zero bit, ap (λ v. bit_at v bit) (get_or_past [] n 0 (omega arith))) in
+    let made = falls_at counts [] [] from to n t col twice is fits refl x at in
+    or_none (has [] x) (has from x && not (has to x) && (count_of counts x == 2)) (sym made ∙ ne_eqb (bit_at (bit_or a w) bit) 1 (λ e. absurd (omega (arith, e, zero))))
+
+-- and behind the words of the one set there is none
+pub no_falls_past : (counts : Columns) (from to : List ℕ) (x : ℕ) → length from ≤ x / 64 → (has from x && not (has to x) && (count_of counts x == 2)) ≡ false
+no_falls_past counts from to x past = ap (λ b. b && not (has to x) && (count_of counts x == 2)) (has_past from x past)
+
+falls_past : (p q r s : Bool) → q ≡ false → (p || (q && not r && s)) ≡ p
+falls_past p q r s none = ap (λ b. p || (b && not r && s)) none ∙ or_out p false refl
+
+pub falls_all : (counts : Columns) (old new from to : List ℕ) (n : ℕ) → length from ≤ n → IsMade (with_falls counts old from to) old new n
+    → (x : ℕ) → has new x ≡ with_falls counts old from to x
+falls_all counts old new from to n all is x =
+    ⊎_elim
+    (λ low. is.made x (omega (arith, low)))
+    (λ past. same_word old new x (is.rest (x / 64) past) ∙ sym (falls_past (has old x) (has from x) (has to x) (count_of counts x == 2) (has_past from x (omega (arith, past, all)))))
+    (cases_lt (x / 64) n)
+
+shared_of : (p q : Bool) (a b z : ℕ) → (p ≡ (a == 1)) → (q ≡ (b == 1)) → a < 2 → b < 2 → z ≡ min a (1 - b) → (z == 1) ≡ (p && not q)
+shared_of p q a b z is_p is_q low_a low_b made = grind (arith, is_p, is_q, low_a, low_b, made)
+
+-- the set has what is counted more than once and is not in the other
+abbrev pub shared : Columns → List ℕ → ℕ → Bool
+shared counts other x = nat_le 2 (count_of counts x) && not (has other x)
+
+pub shared_at : (counts : Columns) (other : List ℕ) (n m : ℕ) (col : List ℕ) → HasMany col m → col ≡ get_or counts n [] → get_or other n 0 < 2 ^ 64
+    → (x : ℕ) → x / 64 ≡ n → (bit_at (bit_and m (bit_not w64 (get_or other n 0))) (x % 64) == 1) ≡ shared counts other x
+shared_at counts other n m col many is fits x at =
+    let bit : ℕ = x % 64 in
+    let b : ℕ = get_or other n 0 in
+    let low : bit < 64 = omega arith in
+    shared_of (nat_le 2 (count_of counts x)) (has other x) (bit_at m bit) (bit_at b bit) (bit_at (bit_and m (bit_not w64 b)) bit)
+    (ap (nat_le 2) (sym (column_at counts n col x at is)) ∙ sym (many bit low))
+    (ap (λ k. bit_at (get_or other k 0) bit == 1) at)
+    (bit_at-lt m bit) (bit_at-lt b bit)
+    (bit_at_and m (bit_not w64 b) bit ∙ ap (min (bit_at m bit)) (bit_at_not w64 b bit fits low))

@@ -1,0 +1,5 @@
+use Rattle.rail_sets.proofs.Digits.{IsDown}
+use Rattle.rail_sets.proofs.counts.Counts.count_down.Given as goal
+
+abbrev pub invariant-loop-index : goal.invariant-loop-index
+invariant-loop-index l = IsDown l.fn.self l.self-inside.columns.items l.set l.other l.index
