@@ -145,7 +145,11 @@ impl Moves {
         requires section { section < SECTIONS }
         ensures { result ≡ is_in section ((moves_in self.now).claim train (place - 1)) }
     {
-        place <= self.last_need(train, section) && self.need(train, place).contains(&section)
+        place <= self.last_need(train, section)
+            && self
+                .need(train, place)
+                .iter()
+                .any(|needed| *needed == section)
     }
 
     /// Whether the train needs the section for a move that it has left at this place.
