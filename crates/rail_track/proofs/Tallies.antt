@@ -37,13 +37,6 @@ module _ {K : Type 0} (eq : K → K → Bool) (laws : IsEquivalence eq) where
     times_there : eq key other ≡ true → times eq old key ≡ times eq old other
     times_there same = λ i. unwrap_or (lookup (λ k. laws.congr key other k same i) old.entries) 0
 
-    pub times_counted : unwrap_or value 0 ≡ times eq old key + 1 → times eq new other ≡ times eq old other + count_by (eq other) (key ∷ [])
-    times_counted more = rw (count_by-one key other) (times_after ∙ by (eq key other) times_there)
-      where
-        by : (b : Bool) → (b ≡ true → times eq old key ≡ times eq old other) → cond b (unwrap_or value 0) (times eq old other) ≡ times eq old other + cond b 1 0
-        by true there = more ∙ ap (λ n. n + 1) (there refl)
-        by false there = omega arith
-
     pub times_discounted : unwrap_or value 0 + 1 ≡ times eq old key → times eq new other + count_by (eq other) (key ∷ []) ≡ times eq old other
     times_discounted less = rw (count_by-one key other) (ap (λ n. n + cond (eq key other) 1 0) times_after ∙ by (eq key other) times_there)
       where

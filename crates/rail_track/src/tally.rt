@@ -47,8 +47,12 @@ pub fn count<K: Eq + Hash + Drop>(tally: &mut Tally<K>, key: K)
     ensures counted { (other : K) → times K.eq tally.new other ≡ times K.eq tally.old other + count_by (K.eq other) (key ∷ []) }
     ensures spare { spare tally.old ≤ spare tally.new + 1 }
 {
-    let now = times(tally, &key) + 1;
-    tally.insert(key, now).unwrap();
+    match tally.get_mut(&key) {
+        Some(times) => *times += 1,
+        None => {
+            tally.insert(key, 1).unwrap();
+        }
+    }
 }
 
 /// Counts the key once less.
