@@ -5,6 +5,7 @@ mod Locating
 mod Times
 mod Views
 mod FormSteps
+mod FormWalk
 mod Steps
 mod Drafting
 mod Distinct

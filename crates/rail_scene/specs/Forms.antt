@@ -51,6 +51,10 @@ member_keys (member key value members) = key ∷ member_keys members
 abbrev pub keys_in : Data → List (List ℕ)
 keys_in node = option_map_or member_keys (as_table node) []
 
+-- two keys are written alike
+abbrev pub have_one_text : Key → Key → Bool
+have_one_text key other = same_name (text_of key.name) (text_of other.name)
+
 -- the text is one of the keys
 abbrev pub is_known : List Key → List ℕ → Bool
 is_known keys text = list_any (λ (key : Key). same_name (text_of key.name) text) keys

@@ -1,18 +1,24 @@
 //! The first pass over a scene file: whether each table is of its form.
-ghost use Rattle.std.specs.Prelude.{◌≡◌, ◌<◌, ◌^◌, length, Some, None, map, not, string_bytes, OnOk, IfErr};
+ghost use Rattle.std.specs.Prelude.{◌≡◌, ℕ, ◌<◌, ◌≤◌, ◌^◌, false, length, get_or, position, Some, None, map, not, string_bytes, IsTrue, OnOk, IfErr};
 ghost use Rattle.std.specs.List.{list_any, list_all};
 ghost use Rattle.std.specs.BTreeMap.{keys};
-ghost use Rattle.toml.specs.View.{view};
+ghost use Rattle.toml.specs.Data.{table as as_data};
+ghost use Rattle.toml.specs.View.{table_view, view};
+ghost use Rattle.rail_base.specs.Lists.{are_distinct};
+ghost use Rattle.rail_base.specs.NameForms.{same_name};
 ghost use Rattle.rail_base.specs.declared.refusals.Part.TheVariants.{Root};
 ghost use Rattle.rail_base.specs.declared.refusals.Reason.TheVariants.{KeyMissing, WrongKind};
 ghost use Rattle.rail_base.specs.FirstRefusals.{first_failing};
 ghost use Rattle.rail_scene.specs.Fields.{value_at};
-ghost use Rattle.rail_scene.specs.Forms.{is_list_of, is_string, is_table, is_of, is_known, has_unknown, form_tests, key_tests, key_test};
+ghost use Rattle.rail_scene.specs.declared.keys.Key.{Key};
+ghost use Rattle.rail_scene.specs.declared.keys.TheConstants.{MOST_KEYS};
+ghost use Rattle.rail_scene.specs.Keys.{text_of};
+ghost use Rattle.rail_scene.specs.Forms.{have_one_text, is_list_of, is_string, is_table, is_of, is_known, has_unknown, form_tests, key_tests, key_test};
 ghost use Rattle.rail_base.specs.Refusals.{AnswersFirst};
 ghost use Rattle.rail_scene.specs.Order.{located, list_forms, forms_of, scene_forms};
 
 use crate::fields::{elements_at, value_at};
-use crate::keys::{Form, Key, LIST_PARTS, ListPart, ROOT_KEYS};
+use crate::keys::{Form, Key, LIST_PARTS, ListPart, MOST_KEYS, ROOT_KEYS};
 use crate::places::{item_number, located};
 use rail_base::{Fault, Part, Reason};
 use rail_track::NetFault;
@@ -41,13 +47,18 @@ fn check_lists(root: &Value, parts: &[ListPart]) -> Result<(), Fault>
     Ok(())
 }
 
-/// Whether the tables of a list are of their form.
+/// Whether the tables of a list are of their form. Most are, which one walk over their members tells; only in
+/// another one are the keys looked up in their order.
 fn check_list(part: ListPart, tables: &[Value]) -> Result<(), Fault>
     ensures accepted { OnOk result (first_failing (list_forms part 1 (map view tables.now)) ≡ None) }
     ensures refused { IfErr result (AnswersFirst (first_failing (list_forms part 1 (map view tables.now)))) }
 {
+    let keys = part.keys();
     for (index, table) in tables.iter().enumerate() {
-        match form_fault(table, part.keys()) {
+        if is_of_form(table, keys) {
+            continue;
+        }
+        match form_fault(table, keys) {
             Some(fault) => return Err(located(part.part(), item_number(index), fault)),
             None => {}
         }
@@ -73,6 +84,58 @@ fn form_fault(table: &Value, keys: &[Key]) -> Option<NetFault>
             }
         }
     }
+}
+
+/// Whether the value is a table whose members are those of its form.
+fn is_of_form(value: &Value, keys: &[Key]) -> bool
+    requires few { length keys.now ≤ MOST_KEYS }
+    requires distinct { IsTrue (are_distinct have_one_text keys.now) }
+    ensures { IsTrue result → first_failing (form_tests keys.now (view value.now)) ≡ None }
+{
+    match value.as_table() {
+        Some(table) => are_of_form(table, keys),
+        None => false,
+    }
+}
+
+/// Whether each member of the table has one of the keys and a value of the kind that its form states, and each
+/// required key is there.
+fn are_of_form(table: &Table, keys: &[Key]) -> bool
+    requires few { length keys.now ≤ MOST_KEYS }
+    requires distinct { IsTrue (are_distinct have_one_text keys.now) }
+    ensures { IsTrue result → first_failing (form_tests keys.now (as_data (table_view table.now))) ≡ None }
+{
+    let mut met = [false; MOST_KEYS];
+    for (text, value) in table.iter() {
+        let Some(index) = key_index(keys, text.as_str()) else {
+            return false;
+        };
+        if !is_of(value, keys[index].form) {
+            return false;
+        }
+        met[index] = true;
+    }
+    has_required(keys, &met)
+}
+
+/// The index of the key that the text is.
+fn key_index(keys: &[Key], text: &str) -> Option<usize>
+    ensures { result ≡ position (λ (key : Key). same_name (text_of key.name) text.now) keys.now }
+{
+    keys.iter().position(|key| key.name.text() == text)
+}
+
+/// Whether each required key is met.
+fn has_required(keys: &[Key], met: &[bool; MOST_KEYS]) -> bool
+    requires { length keys.now ≤ MOST_KEYS }
+    ensures { IsTrue result → (i : ℕ) (key : Key) → i < length keys.now → IsTrue (get_or keys.now i key).required → IsTrue (get_or met.now i false) }
+{
+    for (index, key) in keys.iter().enumerate() {
+        if key.required && !met[index] {
+            return false;
+        }
+    }
+    true
 }
 
 /// What is wrong with the first of the keys that is missing or has a value of another kind, if one is.

@@ -331,8 +331,11 @@ pub(crate) const TRAIN_LIST: Key = Key {
     required: false,
 };
 
+/// The most keys of a table.
+pub(crate) const MOST_KEYS: usize = 12;
+
 /// The keys of the root.
-pub(crate) const ROOT_KEYS: [Key; 12] = [
+pub(crate) const ROOT_KEYS: [Key; MOST_KEYS] = [
     VERSION,
     RELEASE,
     DEPTH,
