@@ -77,12 +77,12 @@ module _ (ledger : Ledger) (watched : List ℕ) (upto train : ℕ) (lt : upto < 
 
 -- with the last one
 pub offered_all : (ledger : Ledger) (watched : List ℕ) (upto : ℕ) (offers : List Offer) → length watched ≤ upto
-    → ((t : ℕ) → t < length ledger.state.trains → (state_of ledger.state.trains t).waits ≡ true → Contains watched t)
+    → ((t : ℕ) → t < length ledger.state.trains → is_untried (state_of ledger.state.trains t) ≡ true → Contains watched t)
     → AreOffersOf ledger watched upto offers → AreOffers ledger offers
 offered_all ledger watched upto offers all there are = record {
   each = are.each;
   untried = λ t lt untried.
-      let found = there t lt (and_parts (state_of ledger.state.trains t).waits (not (is_some (state_of ledger.state.trains t).known)) untried).0 in
+      let found = there t lt untried in
       subst (λ n. Contains offers (offer_in ledger n)) found.2
       (are.untried found.0 t (omega (arith, all, found.1)) (ap (λ n. is_untried (state_of ledger.state.trains n)) found.2 ∙ untried));
 }

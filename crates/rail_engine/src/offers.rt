@@ -1,6 +1,7 @@
 //! The offers of a round.
 
-ghost use Rattle.std.specs.Prelude.{◌≡◌, ◌<◌, ◌≤◌, true, length, vec_capacity};
+ghost use Rattle.std.specs.Prelude.{◌≡◌, ◌<◌, ◌≤◌, ℕ, true, length, vec_capacity};
+ghost use Rattle.std.specs.List.{All, Contains};
 ghost use Rattle.rail_base.specs.declared.limits.TheConstants.{TRAINS};
 ghost use Rattle.rail_engine.specs.Asked.{IsTurn};
 ghost use Rattle.rail_engine.specs.Engines.{StaysDesk};
@@ -42,10 +43,24 @@ fn fill(offers: &mut Vec<Offer>, ledger: &Ledger, all: bool)
     ensures room { vec_capacity offers.new ≡ vec_capacity offers.old }
 {
     offers.clear();
-    for train in ledger.state.trains.watched() {
+    for train in maybe_offered(ledger, all) {
         if is_offered(ledger.state.trains.get(*train), all) {
             offers.push_reserved(offer_of(ledger, *train));
         }
+    }
+}
+
+/// By number, trains among which are those that wait without a known cause, or all that wait.
+fn maybe_offered(ledger: &Ledger, all: bool) -> &[TrainNo]
+    ensures known { All (λ t. t < length ledger.now.state.trains) result.now }
+    ensures few { length result.now ≤ length ledger.now.state.trains }
+    ensures offered { (t : ℕ) → t < length ledger.now.state.trains → is_offered all (state_of ledger.now.state.trains t) ≡ true
+        → Contains result.now t }
+{
+    if all {
+        ledger.state.trains.watched()
+    } else {
+        ledger.state.trains.maybe_untried()
     }
 }
 

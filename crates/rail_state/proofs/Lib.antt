@@ -6,7 +6,7 @@ mod CommandEvents
 mod Leaving
 -- Lemmas on the list of trains and on that of the watched ones.
 mod TrainNumbers
-mod Told
+mod Seeking
 mod TrainsChanged
 mod First
 mod WatchedKept

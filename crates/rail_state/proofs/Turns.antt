@@ -1,11 +1,11 @@
 -- What is done to each watched train in turn is done to all trains, and what it makes of the list.
-use Rattle.std.proofs.Common.{◌≡◌, ℕ, ◌+◌, ◌<◌, Bool, true, false, not, ◌&&◌, ◌||◌, cond, nat_le, is_some, List, length, get_or, set, take, ◌==◌, vec_capacity, Option, Some, None, MatchOption, refl, sym, ◌∙◌, ap, subst, ⊎_elim, arith}
-use Rattle.std.specs.List.{filter, find, fold, list_any}
+use Rattle.std.proofs.Common.{◌≡◌, ℕ, ◌+◌, ◌<◌, ◌≤◌, Bool, true, false, not, ◌&&◌, ◌||◌, cond, nat_le, is_some, List, length, get_or, set, take, ◌==◌, vec_capacity, Option, Some, None, IfSome, MatchOption, refl, sym, ◌∙◌, ap, subst, ⊎_elim, arith}
+use Rattle.std.specs.List.{All, Contains, filter, find, fold, list_any}
 use Rattle.rail_state.specs.SeenCauses.{touches}
 use Rattle.std.specs.Option.{ForSome}
 use Rattle.std.specs.Global.{Vec}
 use Rattle.std.proofs.lemmas.List.{length-set, get_or_past}
-use Rattle.std.proofs.lemmas.Bool.{cases_lt, cases_Bool, false≢true, or_cases, or_parts, and_parts, cond-true, cond-false, eq-eqb}
+use Rattle.std.proofs.lemmas.Bool.{cases_lt, cases_Bool, false≢true, or_cases, or_parts, and_from, and_parts, cond-true, cond-false, eq-eqb}
 use Rattle.std.proofs.lemmas.Bool.Decides.{nat_tests}
 use Rattle.std.proofs.lemmas.List.Sums.{fold_more}
 use Rattle.std.proofs.lemmas.Option.{same_Some}
@@ -17,11 +17,14 @@ use Rattle.rail_block.specs.declared.times.MoveTimes.{MoveTimes}
 use Rattle.rail_state.specs.declared.train.TrainState.{TrainState}
 use Rattle.rail_state.specs.TrainStates.{admitted, is_blocked_at, lacks_hold_line, is_untried, is_touched, looked_at, no_state, state_admitted, state_of, state_told, without_known}
 use Rattle.rail_state.specs.FirstUntried.{earlier, first_with, ready_of}
+use Rattle.rail_state.specs.declared.span.Span.{Span}
+use Rattle.rail_state.specs.Spans.{AreAmong, Holds, IsAround, is_held}
 use Rattle.rail_state.specs.Watched.{AreWatched, forget, heed, is_watched, look_again, look_at, unknown}
 use Rattle.rail_state.proofs.TrainsChanged.{IsChanged, changed_none, changed_more, changed_over, changed_all}
 use Rattle.rail_state.proofs.First.{IsLookedAt, looked_none, looked_more, looked_over}
-use Rattle.rail_state.proofs.TrainNumbers.{first_is_least, IsLeast, in_turn, numbers, passes_both, same_pass}
-use Rattle.rail_state.proofs.WatchedKept.{is_watched_in, none_known, not_blocked, not_known, not_waiting, not_untried, still_watched, untold_watched, written}
+use Rattle.rail_state.proofs.Seeking.{among_none, found_among, held_passes, lacks_none, passed_twice}
+use Rattle.rail_state.proofs.TrainNumbers.{few_pass, first_is_least, IsLeast, in_turn, numbers, passes_both, passing_below, passing_there, same_pass}
+use Rattle.rail_state.proofs.WatchedKept.{is_watched_in, none_known, not_blocked, not_known, not_waiting, still_watched, untold_watched, written}
 
 -- what is done to each watched train in turn, where it wouldn't change the others
 pub all_watched : {S : Type 0} (step : S → ℕ → S) (Holds : S → ℕ → Type 0) (s : S) (states : List TrainState) (watched : Vec ℕ) → AreWatched states watched → Holds s 0
@@ -48,9 +51,15 @@ forgotten_now states shown new watched list kept shown_is list_is is =
     let whole : new ≡ fold forget states watched.items = is ∙ ap (λ (rs : List TrainState). fold forget rs list) shown_is ∙ ap (fold forget states) list_is in
     subst (λ (now : List TrainState). IsChanged (λ _. unknown) states now (length states)) (sym whole) (all_forgotten states watched kept)
 
-or_none : (b : Bool) → (b || false) ≡ b
+pub or_none : (b : Bool) → (b || false) ≡ b
 or_none true = refl
 or_none false = refl
+
+-- then no cause is known
+pub unknown_each : (old mid : List TrainState) (t : ℕ) (train_state : TrainState) → IsChanged (λ _. unknown) old mid (length old) → t < length old → train_state.known ≡ None
+    → (u : ℕ) → (state_of (set mid t train_state) u).known ≡ None
+unknown_each old mid t train_state changed lt none =
+    written (λ u now. now.known ≡ None) mid t train_state (omega (arith, lt, changed.long)) none (λ u _. ap (λ (r : TrainState). r.known) (forgotten_each old mid changed u))
 
 -- behind an admission those of the watched trains are watched that wait still
 pub admitted_kept : (old mid : List TrainState) (watched now : Vec ℕ) (t : ℕ) (train_state : TrainState) → AreWatched old watched → IsChanged (λ _. unknown) old mid (length old)
@@ -62,7 +71,7 @@ admitted_kept old mid watched now t train_state kept changed lt off none items r
     let within : t < length mid = omega (arith, lt, changed.long) in
     let long : length new ≡ length old = length-set mid t train_state ∙ changed.long in
     let each : (u : ℕ) → state_of mid u ≡ unknown (state_of old u) = forgotten_each old mid changed in
-    let unknown_now : (u : ℕ) → (state_of new u).known ≡ None = written (λ u now. now.known ≡ None) mid t train_state within none (λ u _. ap (λ (r : TrainState). r.known) (each u)) in
+    let unknown_now : (u : ℕ) → (state_of new u).known ≡ None = unknown_each old mid t train_state changed lt none in
     let waited : (u : ℕ) → waits u ≡ true → is_watched_in old u ≡ true =
     written (λ u now. now.waits ≡ true → is_watched_in old u ≡ true) mid t train_state within
     (λ is. absurd (false≢true (sym off ∙ is)))
@@ -108,6 +117,24 @@ heeded_now plant orders states shown new watched list kept shown_is list_is is =
     (all_watched (heed plant orders) (IsChanged (state_told plant orders) states) states states watched kept (changed_none (state_told plant orders) states)
     (changed_more (state_told plant orders) states)
     (λ now i off. changed_over (state_told plant orders) states now i (heeds_none plant orders i (state_of states i) off)))
+
+-- a train that lacks a hold line behind an order lacked it before
+pub lacks_told : (plant : Plant) (orders : List Order) (t : ℕ) (train_state : TrainState) → lacks_hold_line (state_told plant orders t train_state) ≡ true → lacks_hold_line train_state ≡ true
+lacks_told plant orders t train_state = by (is_cancelled t orders) (is_touched plant orders t train_state)
+  where
+    by : (c b : Bool) → lacks_hold_line (record train_state { known = cond b None train_state.known; waits = not c && train_state.waits }) ≡ true → lacks_hold_line train_state ≡ true
+    by c true is = absurd (false≢true (sym (lacks_none (record train_state { known = None; waits = not c && train_state.waits }) refl) ∙ is))
+    by true false is = absurd (false≢true is)
+    by false false is = is
+
+-- the same of all
+pub lacks_heeded : (plant : Plant) (orders : List Order) (old new : List TrainState) → IsChanged (state_told plant orders) old new (length old) → (t : ℕ) → lacks_hold_line (state_of new t) ≡ true
+    → lacks_hold_line (state_of old t) ≡ true
+lacks_heeded plant orders old new changed t is =
+    ⊎_elim
+    (λ below. lacks_told plant orders t (state_of old t) (ap lacks_hold_line (sym (changed.below t below)) ∙ is))
+    (λ past. ap lacks_hold_line (sym (changed.from t past)) ∙ is)
+    (cases_lt t (length old))
 
 -- a train that is cancelled is touched
 pub touched_by_cancel : (plant : Plant) (orders : List Order) (t : ℕ) (train_state : TrainState) → is_cancelled t orders ≡ true → is_touched plant orders t train_state ≡ true
@@ -160,22 +187,73 @@ heeded_kept plant orders old new watched now kept changed only touched items roo
         by true w_is = ap (λ w. w || is_some (state_of new t).known) w_is ∙ sym w_is
         by false w_is = ap (λ w. w || is_some (state_of new t).known) w_is ∙ none_of t is w_is ∙ sym w_is
 
--- all trains were looked at
-pub all_looked_at : (plant : Plant) (bar : ℕ → List ℕ → Option Cause) (states : List TrainState) (watched : Vec ℕ) → AreWatched states watched
-    → IsLookedAt plant bar states (fold (look_at plant bar) (states, None) watched.items).0 (length states) (fold (look_at plant bar) (states, None) watched.items).1
-all_looked_at plant bar states watched kept =
-    let Holds : List TrainState × Option ℕ → ℕ → Type 0 = λ now i. IsLookedAt plant bar states now.0 i now.1 in
-    all_watched (look_at plant bar) Holds (states, None) states watched kept (looked_none plant bar states)
-    (λ now i lt h. looked_more plant bar states now.0 i now.1 lt h)
-    (λ now i off h. looked_over plant bar states now.0 i now.1 (not_untried (state_of states i) off) h)
+-- an untried train is watched
+pub untried_watched : (train_state : TrainState) → is_untried train_state ≡ true → is_watched train_state ≡ true
+untried_watched train_state untried = ap (λ waits. waits || is_some train_state.known) (and_parts train_state.waits (not (is_some train_state.known)) untried).0
 
--- the trains of the list were looked at
-pub looked_now : (plant : Plant) (bar : ℕ → List ℕ → Option Cause) (states shown new : List TrainState) (watched : Vec ℕ) (list : List ℕ) (first : Option ℕ) → AreWatched states watched
-    → shown ≡ states → list ≡ watched.items → (new, first) ≡ fold (look_at plant bar) (shown, None) list → IsLookedAt plant bar states new (length states) first
-looked_now plant bar states shown new watched list first kept shown_is list_is is =
-    let whole : (new, first) ≡ fold (look_at plant bar) (states, None) watched.items = is ∙ ap (λ (rs : List TrainState). fold (look_at plant bar) (rs, None) list) shown_is ∙ ap (fold (look_at plant bar) (states, None)) list_is in
-    let P : List TrainState × Option ℕ → Type 0 = λ now. IsLookedAt plant bar states now.0 (length states) now.1 in
-    subst P (sym whole) (all_looked_at plant bar states watched kept)
+-- a train that is untried behind a look was so before
+looked_untried : (plant : Plant) (bar : ℕ → List ℕ → Option Cause) (t : ℕ) (train_state : TrainState) → is_untried (looked_at plant bar t train_state) ≡ true → is_untried train_state ≡ true
+looked_untried plant bar t train_state is =
+    ⊎_elim
+    (λ was. was)
+    (λ off.
+    let same : is_untried (looked_at plant bar t train_state) ≡ is_untried train_state =
+    ap (λ b. train_state.waits && not (is_some (cond b (bar t (needed plant t train_state.place)) train_state.known))) off in
+    absurd (false≢true (sym off ∙ sym same ∙ is)))
+    (cases_Bool (is_untried train_state))
+
+-- a part of the watched trains, where the others aren't untried
+module _ (states : List TrainState) (watched : Vec ℕ) (kept : AreWatched states watched) (span : Span) (tries : AreAmong is_untried states span) (list part : List ℕ) (list_is : list ≡ watched.items)
+    (around : IsAround span list part) where
+  abbrev is_there : ℕ → Bool
+  is_there t = is_watched_in states t && around.test t
+
+  part_now : part ≡ filter is_there (numbers (length states))
+  part_now = around.part_is ∙ ap (filter around.test) (list_is ∙ kept.exact) ∙ passed_twice around.test (is_watched_in states) (numbers (length states))
+
+  untried_there : (t : ℕ) → is_untried (state_of states t) ≡ true → is_there t ≡ true
+  untried_there t untried = and_from (is_watched_in states t) (around.test t) (untried_watched (state_of states t) untried) (around.held t (tries t untried))
+
+  -- all untried trains are in it
+  pub untried_in_part : (t : ℕ) → is_untried (state_of states t) ≡ true → Contains part t
+  untried_in_part t untried =
+      ⊎_elim
+      (λ below. subst (λ (list : List ℕ). Contains list t) (sym part_now) (passing_there is_there (length states) t below (untried_there t untried)))
+      (λ past. absurd (false≢true (sym (ap is_untried (get_or_past states t no_state past)) ∙ untried)))
+      (cases_lt t (length states))
+
+  -- its trains are among all
+  pub part_below : All (λ t. t < length states) part
+  part_below = subst (All (λ t. t < length states)) (sym part_now) (passing_below is_there (length states))
+
+  -- there are no more than all
+  pub part_few : length part ≤ length states
+  part_few = omega (arith, ap length part_now, few_pass is_there (length states))
+
+  -- where its trains were looked at, all were
+  pub looked_now : (plant : Plant) (bar : ℕ → List ℕ → Option Cause) (shown new : List TrainState) (first : Option ℕ) → shown ≡ states
+      → (new, first) ≡ fold (look_at plant bar) (shown, None) part → IsLookedAt plant bar states new (length states) first
+  looked_now plant bar shown new first shown_is is =
+      let whole : (new, first) ≡ fold (look_at plant bar) (states, None) (filter is_there (numbers (length states))) =
+      is ∙ ap (λ (rs : List TrainState). fold (look_at plant bar) (rs, None) part) shown_is ∙ ap (fold (look_at plant bar) (states, None)) part_now in
+      let Holds : List TrainState × Option ℕ → ℕ → Type 0 = λ now i. IsLookedAt plant bar states now.0 i now.1 in
+      let P : List TrainState × Option ℕ → Type 0 = λ now. IsLookedAt plant bar states now.0 (length states) now.1 in
+      subst P (sym whole)
+      (in_turn (look_at plant bar) is_there Holds (states, None) (length states) (looked_none plant bar states)
+      (λ now i lt _ h. looked_more plant bar states now.0 i now.1 lt h)
+      (λ now i _ off h. looked_over plant bar states now.0 i now.1 (tried i off) h))
+    where
+      tried : (i : ℕ) → is_there i ≡ false → is_untried (state_of states i) ≡ false
+      tried i off = ⊎_elim (λ untried. absurd (false≢true (sym off ∙ untried_there i untried))) (λ not. not) (cases_Bool (is_untried (state_of states i)))
+
+  -- the trains that are untried then are among those that were found so
+  pub looked_among : (plant : Plant) (bar : ℕ → List ℕ → Option Cause) (new : List TrainState) (first : Option ℕ) (found : Span) → IsLookedAt plant bar states new (length states) first
+      → ((k d : ℕ) → k < length part → is_untried (state_of new (get_or part k d)) ≡ true → Holds found (get_or part k d)) → AreAmong is_untried new found
+  looked_among plant bar new first found looked holds t is =
+      let was : is_untried (state_of states t) ≡ true =
+      looked_untried plant bar t (state_of states t) (ap is_untried (sym (changed_all (looked_at plant bar) states new looked.trains (λ t. refl) t)) ∙ is) in
+      let there : Contains part t = untried_in_part t was in
+      subst (Holds found) there.2 (holds there.0 t there.1 (ap (λ n. is_untried (state_of new n)) there.2 ∙ is))
 
 -- whether a train is watched doesn't change where it is looked at
 looked_at_watched : (waits : Bool) (known cause : Option Cause) → (waits || is_some (cond (waits && not (is_some known)) cause known)) ≡ (waits || is_some known)
@@ -213,6 +291,17 @@ pub moves_stay : (plant : Plant) (bar : ℕ → List ℕ → Option Cause) (rows
 moves_stay plant bar rows new t lt new_is before =
     subst (λ (rs : List TrainState). (u : ℕ) → u < trains plant → (state_of rs u).waits ≡ true → (state_of rs u).place < moves plant u) (sym new_is)
     (written (λ u train_state. u < trains plant → train_state.waits ≡ true → train_state.place < moves plant u) rows t (looked_at plant bar t (state_of rows t)) lt (before t) (λ u _. before u))
+
+-- one more train of the list is looked at again
+pub looked_again_step : (x : ℕ) (start : List TrainState × Bool) (list : List ℕ) (rows new : List TrainState) (any some : Bool) (i t : ℕ) → (rows, any) ≡ fold (look_again x) start (take i list)
+    → i < length list → t ≡ get_or list i t → new ≡ set rows t (without_known x (state_of rows t)) → some ≡ (any || is_blocked_at x (state_of rows t).known)
+    → (new, some) ≡ fold (look_again x) start (take (i + 1) list)
+looked_again_step x start list rows new any some i t so_far lt item new_is some_is =
+    ap (λ (b : Bool). (new, b)) some_is
+    ∙ ap (λ (rs : List TrainState). (rs, any || is_blocked_at x (state_of rows t).known)) new_is
+    ∙ ap (λ (now : List TrainState × Bool). look_again x now t) so_far
+    ∙ ap (look_again x (fold (look_again x) start (take i list))) item
+    ∙ sym (fold_more (look_again x) start list i t lt)
 
 either_below : (b : Bool) (u t n : ℕ) → u < n → t < n → cond b u t < n
 either_below true u t n first second = first
@@ -290,6 +379,14 @@ looked_again_now x states shown new watched list any kept shown_is list_is is =
 again_same : (x : ℕ) (train_state : TrainState) → is_blocked_at x train_state.known ≡ false → without_known x train_state ≡ train_state
 again_same x train_state off = ap (λ b. record train_state { known = cond b None train_state.known }) off
 
+-- a train that lacks a hold line where it was looked at again lacked it before
+pub lacks_still : (x : ℕ) (train_state : TrainState) → lacks_hold_line (without_known x train_state) ≡ true → lacks_hold_line train_state ≡ true
+lacks_still x train_state is =
+    ⊎_elim
+    (λ blocked. absurd (false≢true (sym (lacks_none (without_known x train_state) (ap (λ b. cond b None train_state.known) blocked)) ∙ is)))
+    (λ off. ap lacks_hold_line (sym (again_same x train_state off)) ∙ is)
+    (cases_Bool (is_blocked_at x train_state.known))
+
 -- all trains were looked at again, and the list stays
 pub looked_again_kept : (x : ℕ) (old new : List TrainState) (watched : Vec ℕ) (any : Bool) → AreWatched old watched → IsLookedAgain x old new (length old) any → AreWatched new watched
 looked_again_kept x old new watched any kept looked =
@@ -322,7 +419,7 @@ first_lacking_of_all states watched kept =
     subst P (sym kept.exact) (first_is_least (is_watched_in states) (λ t. lacks_hold_line (state_of states t)) (length states) (λ t untold. untold_watched (state_of states t) untold))
 
 -- of all trains the first one that wasn't told
-abbrev IsFirstUntold : List TrainState → Option ℕ → Type 0
+abbrev pub IsFirstUntold : List TrainState → Option ℕ → Type 0
 IsFirstUntold states found = MatchOption found ((t : ℕ) → lacks_hold_line (state_of states t) ≡ false) (λ train. (train < length states) × (lacks_hold_line (state_of states train) ≡ true) × ((u : ℕ) → u < train → lacks_hold_line (state_of states u) ≡ false))
 
 least_of_all : (states : List TrainState) (found : Option ℕ) → IsLeast (λ t. lacks_hold_line (state_of states t)) (length states) found → IsFirstUntold states found
@@ -334,8 +431,23 @@ least_of_all states None least = λ t.
 least_of_all states (Some t) least = least
 
 -- the first of the list's trains that wasn't told is that of all trains
-pub untold_now : (states shown self : List TrainState) (watched : Vec ℕ) (list : List ℕ) (found : Option ℕ) → AreWatched states watched → shown ≡ states → list ≡ watched.items → states ≡ self → found ≡ find (λ t. lacks_hold_line (state_of shown t)) list → IsFirstUntold self found
-untold_now states shown self watched list found kept shown_is list_is self_is is =
+untold_now : (states shown : List TrainState) (watched : Vec ℕ) (list : List ℕ) (found : Option ℕ) → AreWatched states watched → shown ≡ states → list ≡ watched.items
+    → found ≡ find (λ t. lacks_hold_line (state_of shown t)) list → IsFirstUntold states found
+untold_now states shown watched list found kept shown_is list_is is =
     let whole : found ≡ find (λ t. lacks_hold_line (state_of states t)) watched.items = is ∙ ap (λ (rs : List TrainState). find (λ t. lacks_hold_line (state_of rs t)) list) shown_is ∙ ap (find (λ t. lacks_hold_line (state_of states t))) list_is in
-    subst (λ (rs : List TrainState). IsFirstUntold rs found) self_is
-    (least_of_all states found (subst (IsLeast (λ t. lacks_hold_line (state_of states t)) (length states)) (sym whole) (first_lacking_of_all states watched kept)))
+    least_of_all states found (subst (IsLeast (λ t. lacks_hold_line (state_of states t)) (length states)) (sym whole) (first_lacking_of_all states watched kept))
+
+-- it is so too where it is sought in a span alone
+pub untold_among : (states shown : List TrainState) (watched : Vec ℕ) (list part : List ℕ) (span : Span) (found : Option ℕ) → AreWatched states watched → shown ≡ states → list ≡ watched.items
+    → AreAmong lacks_hold_line states span → part ≡ filter (is_held span) list → found ≡ find (λ t. lacks_hold_line (state_of shown t)) part → IsFirstUntold states found
+untold_among states shown watched list part span found kept shown_is list_is are part_is is =
+    let lacks : ℕ → Bool = λ t. lacks_hold_line (state_of shown t) in
+    untold_now states shown watched list found kept shown_is list_is
+    (is ∙ ap (find lacks) part_is ∙ found_among lacks (is_held span) list (λ t lacking. held_passes span t (are t (ap (λ (rs : List TrainState). lacks_hold_line (state_of rs t)) (sym shown_is) ∙ lacking))))
+
+-- where the first one was found, those that lack a hold line are among the numbers from it on
+pub found_first : (states : List TrainState) (span wider : Span) (first : Option ℕ) → IsFirstUntold states first → IfSome first (λ train. (t : ℕ) → Holds span t → train ≤ t → Holds wider t)
+    → AreAmong lacks_hold_line states span → AreAmong lacks_hold_line states wider
+found_first states span wider None untold holds are t is = among_none lacks_hold_line states wider untold t is
+found_first states span wider (Some train) untold holds are t is =
+    holds t (are t is) (⊎_elim (λ below. absurd (false≢true (sym (untold.2 t below) ∙ is))) (λ from. from) (cases_lt t train))

@@ -12,7 +12,7 @@ use Rattle.rail_rules.specs.Fronts.{same_cause}
 use Rattle.rail_rules.specs.Numbers.{listed}
 use Rattle.rail_laws_front.proofs.CallerLemmas.{get_or-listed, length-listed}
 use Rattle.rail_state.specs.declared.train.TrainState.{TrainState}
-use Rattle.rail_state.specs.TrainStates.{is_blocked_at, lacks_hold_line, is_untried, no_state, outside, state_of}
+use Rattle.rail_state.specs.TrainStates.{is_blocked_at, lacks_hold_line, no_state, outside, state_of}
 use Rattle.rail_state.specs.Watched.{AreWatched, inserted, is_watched}
 use Rattle.rail_state.proofs.TrainNumbers.{passing_below, passing_there, in_order, none_passes, numbers, one_fails, one_more_passes, same_pass}
 
@@ -35,9 +35,6 @@ none_known (Some cause) off = absurd (false≢true (sym off))
 pub not_blocked : (x : ℕ) (known : Option Cause) → is_some known ≡ false → is_blocked_at x known ≡ false
 not_blocked x None off = refl
 not_blocked x (Some cause) off = absurd (false≢true (sym off))
-
-pub not_untried : (train_state : TrainState) → is_watched train_state ≡ false → is_untried train_state ≡ false
-not_untried train_state off = ap (λ waits. waits && not (is_some train_state.known)) (not_waiting train_state off)
 
 -- a train that wasn't told is watched
 pub untold_watched : (train_state : TrainState) → lacks_hold_line train_state ≡ true → is_watched train_state ≡ true

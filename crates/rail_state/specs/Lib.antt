@@ -3,6 +3,7 @@ pub mod Events
 -- What a run keeps of each train.
 pub mod TrainStates
 pub mod FirstUntried
+pub mod Spans
 pub mod Watched
 -- What a run keeps, and the front that it stands for.
 pub mod Representation

@@ -1,5 +1,5 @@
 -- Which trains a run watches, and what it does to each of them in turn.
-use Rattle.std.specs.Prelude.{◌≡◌, ℕ, ◌<◌, ◌≤◌, Bool, false, ◌||◌, cond, nat_lt, is_some, List, [], ◌∷◌, get_or, length, set, Option, None, vec_capacity}
+use Rattle.std.specs.Prelude.{◌≡◌, ℕ, ◌<◌, ◌≤◌, Bool, false, ◌||◌, cond, nat_lt, is_some, List, [], ◌∷◌, length, set, Option, None, vec_capacity}
 use Rattle.std.specs.List.{filter}
 use Rattle.std.specs.Global.{Vec}
 use Rattle.rail_base.specs.declared.history.Cause.{Cause}
@@ -7,7 +7,9 @@ use Rattle.rail_base.specs.declared.orders.Order.{Order}
 use Rattle.rail_rules.specs.Plant.{Plant}
 use Rattle.rail_rules.specs.Numbers.{listed}
 use Rattle.rail_state.specs.declared.train.TrainState.{TrainState}
-use Rattle.rail_state.specs.TrainStates.{state_of, is_blocked_at, lacks_hold_line, looked_at, state_told, without_known}
+use Rattle.rail_state.specs.TrainStates.{state_of, is_blocked_at, is_untried, lacks_hold_line, looked_at, state_told, without_known}
+use Rattle.rail_state.specs.declared.span.Span.{Span}
+use Rattle.rail_state.specs.Spans.{AreAmong}
 use Rattle.rail_state.specs.FirstUntried.{first_with}
 
 -- the train waits, or the cause of its next move is known
@@ -26,14 +28,11 @@ pub record AreWatched (states : List TrainState) (watched : Vec ℕ) : Type 0 wh
   -- a train that doesn't wait isn't blocked
   pub free : (t x : ℕ) → (state_of states t).waits ≡ false → is_blocked_at x (state_of states t).known ≡ false
 
--- none of so many of these trains, from the first on, lacks a hold line
-abbrev pub AreTold : List TrainState → List ℕ → ℕ → Type 0
-AreTold states list told = (k d : ℕ) → k < told → k < length list → lacks_hold_line (state_of states (get_or list k d)) ≡ false
-
--- these are the trains that are watched, and none of so many of them lacks a hold line
-pub record AreKept (states : List TrainState) (list : Vec ℕ) (upto : ℕ) : Type 0 where
+-- these are the trains that are watched, and among these spans are those that are untried and those that lack a hold line
+pub record AreKept (states : List TrainState) (list : Vec ℕ) (tries lacks : Span) : Type 0 where
   pub watched : AreWatched states list
-  pub told : AreTold states list.items upto
+  pub untried : AreAmong is_untried states tries
+  pub lacking : AreAmong lacks_hold_line states lacks
 
 -- the numbers with one more, in front of those that aren't less
 abbrev pub inserted : ℕ → List ℕ → List ℕ

@@ -16,6 +16,7 @@ mod admission;
 mod events;
 mod pushes;
 mod run_state;
+mod span;
 mod train;
 mod trains;
 mod watched;

@@ -47,7 +47,7 @@ impl TrainState {
     pub fn is_untried(&self) -> bool
         ensures { result ≡ is_untried self.now }
     {
-        self.waits && self.known.is_none()
+        self.known.is_none() && self.waits
     }
 
     /// Whether the train has a known cause that its last hold line doesn't name.

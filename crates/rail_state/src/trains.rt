@@ -9,10 +9,11 @@ ghost use Rattle.rail_rules.specs.Numbers.{listed};
 ghost use Rattle.rail_state.specs.TrainStates.{state_told};
 ghost use Rattle.rail_state.specs.TrainStates.{IsAnyWaiting, IsReadyFirst, bar_by, is_blocked_at, lacks_hold_line, is_untried, looked_at, outside, state_admitted, state_after, state_of, after_hold_line};
 
+use crate::span::{Sought, Span, around, within};
 use crate::train::{TrainState, head_behind, push_outside, section_at};
 use crate::watched::{
-    forget_causes, heed_each, is_any_waiting, keep_waiting, look_again_at_each, look_at_each,
-    place_lacking, watch,
+    first_lacking, forget_causes, heed_each, is_any_waiting, keep_waiting, look_again_at_each,
+    look_at_each, watch,
 };
 use rail_base::{Cause, Order, OutOfMemory, SectionNo, Time, TrainNo};
 use rail_block::MoveTimes;
@@ -29,9 +30,8 @@ pub struct TrainStates {
     /// By number, the trains that wait, and those with a known cause: `note_no_list` gives one to any train.
     /// The others need no look.
     watched: Vec<TrainNo>,
-    /// So many of the watched trains, from the first on, lack no hold line: hold lines are given by number, and the
-    /// next one begins here. What may change a cause or the watched trains sets it back to 0.
-    told: usize,
+    /// Among which of the watched trains a look and a hold line seek theirs.
+    sought: Sought,
 }
 
 impl Drop for TrainStates {
@@ -39,7 +39,7 @@ impl Drop for TrainStates {
         let TrainStates {
             rows: _rows,
             watched: _watched,
-            told: _,
+            sought: _,
         } = self;
     }
 }
@@ -53,7 +53,7 @@ impl Model for TrainStates {
 
     ghost view = { λ states. states.rows.items };
 
-    ghost invariant = { λ states. AreKept states.rows.items states.watched states.told };
+    ghost invariant = { λ states. AreKept states.rows.items states.watched states.sought.untried states.sought.lacking };
 }
 
 impl TrainStates {
@@ -70,7 +70,10 @@ impl TrainStates {
         Ok(TrainStates {
             rows,
             watched,
-            told: 0,
+            sought: Sought {
+                untried: Span::none(),
+                lacking: Span::none(),
+            },
         })
     }
 
@@ -81,6 +84,15 @@ impl TrainStates {
         ensures waiting { (t : ℕ) → t < length self.now → (state_of self.now t).waits ≡ true → Contains result.now t }
     {
         &self.watched
+    }
+
+    /// By number, trains that wait or have a known cause, and among them all that wait without a known cause.
+    pub fn maybe_untried(&self) -> &[TrainNo]
+        ensures known { All (λ t. t < length self.now) result.now }
+        ensures few { length result.now ≤ length self.now }
+        ensures untried { (t : ℕ) → t < length self.now → is_untried (state_of self.now t) ≡ true → Contains result.now t }
+    {
+        around(&self.watched, self.sought.untried)
     }
 
     /// Whether some train waits.
@@ -158,7 +170,8 @@ impl TrainStates {
         ensures length { length self.new ≡ length self.old }
         ensures trains { (plant : Plant) (m t : ℕ) → state_of self.new t ≡ state_after plant (Ready train m) t (state_of self.old t) }
     {
-        self.told = 0;
+        self.sought.untried.include(train);
+        self.sought.lacking.include(train);
         watch(&mut self.watched, &self.rows, train);
         let train_state = &mut self.rows[usize::from(train.0)];
         train_state.waits = true;
@@ -172,8 +185,12 @@ impl TrainStates {
         ensures any { result ≡ false → (t : ℕ) → is_blocked_at section (state_of self.old t).known ≡ false }
         ensures some { result ≡ true → (t : ℕ) × (is_blocked_at section (state_of self.old t).known ≡ true) }
     {
-        self.told = 0;
-        look_again_at_each(&mut self.rows, &self.watched, section)
+        look_again_at_each(
+            &mut self.rows,
+            &self.watched,
+            section,
+            &mut self.sought.untried,
+        )
     }
 
     /// Looks at the trains that wait without a known cause: what bars the next move is the cause. Of the
@@ -189,8 +206,16 @@ impl TrainStates {
         ensures first { MatchOption result ((t : ℕ) → is_untried (state_of self.new t) ≡ false)
             (λ train. (train < length self.new) × IsReadyFirst self.new train) }
     {
-        self.told = 0;
-        look_at_each(&mut self.rows, &self.watched, plant, orders, holders)
+        let untried = around(&self.watched, self.sought.untried);
+        self.sought.untried = Span::none();
+        look_at_each(
+            &mut self.rows,
+            untried,
+            plant,
+            orders,
+            holders,
+            &mut self.sought,
+        )
     }
 
     /// The order was told: the causes that it may change are no longer known, and a train that it cancels does
@@ -204,7 +229,7 @@ impl TrainStates {
         ensures trains { (t : ℕ) → t < length self.old → state_of self.new t
             ≡ state_told plant.now (order.now ∷ []) t (state_of self.old t) }
     {
-        self.told = 0;
+        self.sought.untried = Span::below(self.rows.len());
         heed_each(&mut self.rows, &self.watched, plant, order);
         keep_waiting(&mut self.watched, &self.rows);
     }
@@ -214,7 +239,7 @@ impl TrainStates {
         requires { train < length self.old }
         ensures { self.new ≡ set self.old train (record (state_of self.old train) { known = Some NoList }) }
     {
-        self.told = 0;
+        self.sought.lacking.include(train);
         watch(&mut self.watched, &self.rows, train);
         let train_state = &mut self.rows[usize::from(train.0)];
         train_state.known = Some(Cause::NoList);
@@ -226,8 +251,7 @@ impl TrainStates {
             (λ train. (train < length self.now) × (lacks_hold_line (state_of self.now train) ≡ true)
             × ((u : ℕ) → u < train → lacks_hold_line (state_of self.now u) ≡ false)) }
     {
-        let place = place_lacking(&self.rows, &self.watched, self.told);
-        self.watched.get(place).copied()
+        first_lacking(&self.rows, within(&self.watched, self.sought.lacking))
     }
 
     /// The hold line of the train's next move was given, with its known cause. No arrival is deferred then: the one that was is the answer.
@@ -238,7 +262,9 @@ impl TrainStates {
     {
         let train_state = &mut self.rows[usize::from(train.0)];
         let arrival = train_state.tell();
-        self.told = place_lacking(&self.rows, &self.watched, self.told);
+        let lacking = self.sought.lacking.without_first(train);
+        let next = first_lacking(&self.rows, within(&self.watched, lacking));
+        self.sought.lacking = lacking.starting_at(next);
         arrival
     }
 
@@ -250,7 +276,8 @@ impl TrainStates {
         ensures trains { (t : ℕ) → t < length self.old → state_of self.new t
             ≡ state_admitted train times arrival t (state_of self.old t) }
     {
-        self.told = 0;
+        self.sought.untried = Span::below(self.rows.len());
+        self.sought.lacking = Span::none();
         forget_causes(&mut self.rows, &self.watched);
         let train_state = &mut self.rows[usize::from(train.0)];
         train_state.admit(times, arrival);

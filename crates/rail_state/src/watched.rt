@@ -1,14 +1,16 @@
 //! The trains that a run watches: those that wait, and those with a known cause.
 
-ghost use Rattle.std.specs.Prelude.{◌≡◌, ℕ, ◌<◌, [], ◌∷◌, true, false, cond, length, slice_get, vec_len, vec_capacity, IsTrue, None};
+ghost use Rattle.std.specs.Prelude.{◌≡◌, ℕ, ◌<◌, [], ◌∷◌, true, false, cond, get_or, length, set, vec_len, vec_capacity, IsTrue, None};
 ghost use Rattle.std.specs.List.{All, filter, find, fold};
 ghost use Rattle.std.specs.List.Sorted.{IsNonDecreasing};
 ghost use Rattle.std.specs.Option.{ForSome};
 ghost use Rattle.rail_rules.specs.Plant.{moves, trains};
-ghost use Rattle.rail_state.specs.TrainStates.{IsAnyWaiting, bar_by, lacks_hold_line, state_of};
-ghost use Rattle.rail_state.specs.FirstUntried.{first_with};
-ghost use Rattle.rail_state.specs.Watched.{AreTold, AreWatched, forget, heed, inserted, is_watched, look_again, look_at};
+ghost use Rattle.rail_state.specs.TrainStates.{IsAnyWaiting, bar_by, is_untried, lacks_hold_line, looked_at, state_of};
+ghost use Rattle.rail_state.specs.FirstUntried.{earlier};
+ghost use Rattle.rail_state.specs.Spans.{AreAmong, Holds};
+ghost use Rattle.rail_state.specs.Watched.{AreWatched, forget, heed, inserted, is_watched, look_again, look_at};
 
+use crate::span::{Sought, Span};
 use crate::train::TrainState;
 use rail_base::{Order, SectionNo, Time, TrainNo};
 use rail_orders::ToldOrders;
@@ -78,34 +80,71 @@ pub(crate) fn look_at_each(
     plant: &Plant,
     orders: &ToldOrders,
     holders: &Holders,
+    sought: &mut Sought,
 ) -> Option<TrainNo>
     requires watched { All (λ t. t < length rows.old) watched.now }
     requires known { length rows.old ≡ trains plant.now }
     requires sections { length holders.now ≡ length plant.now.tables.sections }
     requires moves { (t : ℕ) → t < trains plant.now → (state_of rows.old t).waits ≡ true
         → (state_of rows.old t).place < moves plant.now t }
-    ensures { (rows.new, result) ≡ fold (look_at plant.now (bar_by orders.now holders.now)) (rows.old, None) watched.now }
+    ensures looked { (rows.new, result) ≡ fold (look_at plant.now (bar_by orders.now holders.now)) (rows.old, None) watched.now }
+    ensures untried { (k d : ℕ) → k < length watched.now → is_untried (state_of rows.new (get_or watched.now k d)) ≡ true
+        → Holds sought.new.untried (get_or watched.now k d) }
+    ensures lacking { AreAmong lacks_hold_line rows.old sought.old.lacking → AreAmong lacks_hold_line rows.new sought.new.lacking }
 {
     let mut first = None;
     for train in watched {
-        rows[usize::from(train.0)].look(plant, orders, holders, *train);
-        first = first_with(rows, first, *train);
+        if look_at(rows, *train, plant, orders, holders, sought) {
+            first = Some(earlier(rows, first, *train));
+        }
     }
     first
 }
 
-/// Of the first of the untried trains before this one and this one, the first.
-fn first_with(rows: &[TrainState], first: Option<TrainNo>, train: TrainNo) -> Option<TrainNo>
+/// Looks at this train. Whether it is untried then.
+fn look_at(
+    rows: &mut [TrainState],
+    train: TrainNo,
+    plant: &Plant,
+    orders: &ToldOrders,
+    holders: &Holders,
+    sought: &mut Sought,
+) -> bool
+    requires train { train < length rows.old }
+    requires known { length rows.old ≡ trains plant.now }
+    requires sections { length holders.now ≡ length plant.now.tables.sections }
+    requires moves { (state_of rows.old train).waits ≡ true → (state_of rows.old train).place < moves plant.now train }
+    ensures rows { rows.new ≡ set rows.old train (looked_at plant.now (bar_by orders.now holders.now) train (state_of rows.old train)) }
+    ensures answer { result ≡ is_untried (state_of rows.new train) }
+    ensures untried { IsTrue result → Holds sought.new.untried train }
+    ensures others { (t : ℕ) → Holds sought.old.untried t → Holds sought.new.untried t }
+    ensures lacking { AreAmong lacks_hold_line rows.old sought.old.lacking → AreAmong lacks_hold_line rows.new sought.new.lacking }
+{
+    let train_state = &mut rows[usize::from(train.0)];
+    if !train_state.is_untried() {
+        return false;
+    }
+    train_state.look(plant, orders, holders, train);
+    if train_state.is_untried() {
+        sought.untried.include(train);
+        return true;
+    }
+    if train_state.lacks_hold_line() {
+        sought.lacking.include(train);
+    }
+    false
+}
+
+/// Of the first one before this train and this train, the one that is ready first; the first where both are ready at
+/// once.
+fn earlier(rows: &[TrainState], first: Option<TrainNo>, train: TrainNo) -> TrainNo
     requires train { train < length rows.now }
     requires first { ForSome first (λ u. u < length rows.now) }
-    ensures { result ≡ first_with rows.now first train }
+    ensures { result ≡ earlier rows.now first train }
 {
-    if !rows[usize::from(train.0)].is_untried() {
-        return first;
-    }
     match first {
-        Some(other) if ready(rows, other) <= ready(rows, train) => first,
-        _ => Some(train),
+        Some(other) if ready(rows, other) <= ready(rows, train) => other,
+        _ => train,
     }
 }
 
@@ -117,38 +156,39 @@ fn ready(rows: &[TrainState], train: TrainNo) -> Time
     rows[usize::from(train.0)].times.next_ready
 }
 
-/// The causes of those of these trains that were held for this section are no longer known. Whether there
-/// were any.
+/// The causes of those of these trains that were held for this section are no longer known, and they come into the
+/// span of the untried trains. Whether there were any.
 pub(crate) fn look_again_at_each(
     rows: &mut [TrainState],
     watched: &[TrainNo],
     section: SectionNo,
+    untried: &mut Span,
 ) -> bool
     requires { All (λ t. t < length rows.old) watched.now }
-    ensures { (rows.new, result) ≡ fold (look_again section) (rows.old, false) watched.now }
+    ensures looked { (rows.new, result) ≡ fold (look_again section) (rows.old, false) watched.now }
+    ensures untried { AreAmong is_untried rows.old untried.old → AreAmong is_untried rows.new untried.new }
 {
     let mut any = false;
     for train in watched {
-        any |= rows[usize::from(train.0)].forget(section);
+        if rows[usize::from(train.0)].forget(section) {
+            any = true;
+            untried.include(*train);
+        }
     }
     any
 }
 
-/// The place of the first of these trains that has a known cause which its last hold line doesn't name, where none of
-/// the first `told` of them has one; the number of the trains where there is none.
-pub(crate) fn place_lacking(rows: &[TrainState], watched: &[TrainNo], told: usize) -> usize
-    requires watched { All (λ t. t < length rows.now) watched.now }
-    requires told { AreTold rows.now watched.now told }
-    ensures told { AreTold rows.now watched.now result }
-    ensures first { slice_get watched.now result ≡ find (λ t. lacks_hold_line (state_of rows.now t)) watched.now }
+/// The first of these trains that has a known cause which its last hold line doesn't name.
+pub(crate) fn first_lacking(rows: &[TrainState], watched: &[TrainNo]) -> Option<TrainNo>
+    requires { All (λ t. t < length rows.now) watched.now }
+    ensures { result ≡ find (λ t. lacks_hold_line (state_of rows.now t)) watched.now }
 {
-    for place in told..watched.len() {
-        let train = watched[place];
+    for train in watched {
         if rows[usize::from(train.0)].lacks_hold_line() {
-            return place;
+            return Some(*train);
         }
     }
-    watched.len()
+    None
 }
 
 /// The order was told: each of these trains heeds it.

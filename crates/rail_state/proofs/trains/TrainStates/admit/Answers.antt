@@ -1,12 +1,13 @@
-use Rattle.std.proofs.Common.{◌≡◌, ℕ, ◌<◌, length, get_or, set, List, ◌++◌, take, drop, ap, ◌∙◌, arith}
+use Rattle.std.proofs.Common.{◌≡◌, ℕ, ◌<◌, length, get_or, set, List, ◌++◌, take, drop, None, ap, refl, ◌∙◌, arith}
 use Rattle.std.specs.List.{filter}
+use Rattle.std.proofs.lemmas.List.{length-set}
 use Rattle.rail_state.specs.declared.train.TrainState.{TrainState}
-use Rattle.rail_state.specs.TrainStates.{admitted, state_admitted, state_of}
+use Rattle.rail_state.specs.TrainStates.{admitted, is_untried, lacks_hold_line, state_admitted, state_of}
 use Rattle.rail_state.specs.Watched.{unknown}
 use Rattle.rail_state.proofs.TrainsChanged.{IsChanged}
 use Rattle.rail_state.proofs.WatchedKept.{shown_below, train_read, written_back}
-use Rattle.rail_state.proofs.Turns.{admitted_each, admitted_kept, forgotten_each, forgotten_now}
-use Rattle.rail_state.proofs.Told.{kept_anew}
+use Rattle.rail_state.proofs.Turns.{admitted_each, admitted_kept, forgotten_each, forgotten_now, unknown_each}
+use Rattle.rail_state.proofs.Seeking.{among_all, among_none, lacks_none}
 use Rattle.rail_state.proofs.trains.TrainStates.admit.Goals as goal
 
 pub forget_causes-requires : goal.forget_causes-requires
@@ -40,13 +41,19 @@ invariant_of-self c =
     let i = c.from.result in
     let train_state : TrainState = c.admit.new.self in
     let waiting : List TrainState → List ℕ = λ rows. filter (λ t. (state_of rows t).waits) c.self.inside.watched.items in
-    rw (new_rows c)
-    (kept_anew _ _
-    (admitted_kept c.self.inside.rows.items c.forget_causes.new.rows c.self.inside.watched c.keep_waiting.new.trains i train_state c.self.invariant.watched (forgotten c) (omega (arith, ap length c.self.view_is))
-    (ap (λ (r : TrainState). r.waits) c.admit.ensures)
-    (ap (λ (r : TrainState). r.known) c.admit.ensures)
-    (c.keep_waiting.ensures.trains ∙ ap waiting (c.deref-2.ensures.value ∙ ap (λ (rows : List TrainState). set rows i train_state) (new_rows c)))
-    c.keep_waiting.ensures.room))
+    let new : List TrainState = set c.forget_causes.new.rows i train_state in
+    let none : (u : ℕ) → (state_of new u).known ≡ None =
+    unknown_each c.self.inside.rows.items c.forget_causes.new.rows i train_state (forgotten c) (omega (arith, ap length c.self.view_is)) (ap (λ (r : TrainState). r.known) c.admit.ensures) in
+    rw (new_rows c) (record {
+      untried = among_all is_untried new c.below-self-inside.result refl
+          (λ t below. c.below-self-inside.ensures t (omega (arith, below, (forgotten c).long, length-set c.forget_causes.new.rows i train_state)));
+      lacking = among_none lacks_hold_line new c.none-self-inside.result (λ u. lacks_none (state_of new u) (none u));
+      watched = (admitted_kept c.self.inside.rows.items c.forget_causes.new.rows c.self.inside.watched c.keep_waiting.new.trains i train_state c.self.invariant.watched (forgotten c) (omega (arith, ap length c.self.view_is))
+          (ap (λ (r : TrainState). r.waits) c.admit.ensures)
+          (ap (λ (r : TrainState). r.known) c.admit.ensures)
+          (c.keep_waiting.ensures.trains ∙ ap waiting (c.deref-2.ensures.value ∙ ap (λ (rows : List TrainState). set rows i train_state) (new_rows c)))
+          c.keep_waiting.ensures.room);
+    })
 
 pub returns-clause-trains : goal.returns-clause-trains
 returns-clause-trains c = λ t _.

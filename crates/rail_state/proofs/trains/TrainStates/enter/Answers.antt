@@ -1,7 +1,7 @@
-use Rattle.std.proofs.Common.{◌≡◌, ◌<◌, length, ap, ◌∙◌, arith}
+use Rattle.std.proofs.Common.{◌≡◌, ◌<◌, length, ap, sym, ◌∙◌, arith}
 use Rattle.rail_state.specs.declared.train.TrainState.{TrainState}
-use Rattle.rail_state.specs.TrainStates.{lacks_hold_line, state_of}
-use Rattle.rail_state.proofs.Told.{told_at}
+use Rattle.rail_state.specs.TrainStates.{is_untried, lacks_hold_line, state_of}
+use Rattle.rail_state.proofs.Seeking.{among_at}
 use Rattle.rail_state.proofs.WatchedKept.{still_watched_at, train_read}
 use Rattle.rail_state.proofs.trains.TrainStates.enter.Goals as goal
 
@@ -15,5 +15,6 @@ invariant_of-self c =
     let new : TrainState = record train_state { head = c.head_behind-train_state.result } in
     record {
       watched = still_watched_at old c.self.inside.watched t new c.self.invariant.watched within (ap (λ (r : TrainState). r.waits) read) (ap (λ (r : TrainState). r.known) read);
-      told = told_at old c.self.inside.watched.items c.self.inside.told t new within (λ off. ap lacks_hold_line read ∙ off) c.self.invariant.told;
+      untried = among_at is_untried old c.self.inside.sought.untried c.self.inside.sought.untried t new within (λ is. c.self.invariant.untried t (ap is_untried (sym read) ∙ is)) (λ u _ holds. holds) c.self.invariant.untried;
+      lacking = among_at lacks_hold_line old c.self.inside.sought.lacking c.self.inside.sought.lacking t new within (λ is. c.self.invariant.lacking t (ap lacks_hold_line (sym read) ∙ is)) (λ u _ holds. holds) c.self.invariant.lacking;
     }

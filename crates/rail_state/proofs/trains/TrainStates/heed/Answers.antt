@@ -1,11 +1,11 @@
-use Rattle.std.proofs.Common.{◌≡◌, ℕ, [], ◌∷◌, length, List, ◌++◌, take, drop, false, None, ap, sym, subst, ◌∙◌, arith}
+use Rattle.std.proofs.Common.{◌≡◌, ℕ, [], ◌∷◌, length, List, ◌++◌, take, drop, false, None, refl, ap, sym, subst, ◌∙◌, arith}
 use Rattle.std.specs.List.{filter}
 use Rattle.rail_state.specs.declared.train.TrainState.{TrainState}
-use Rattle.rail_state.specs.TrainStates.{state_of, state_told}
+use Rattle.rail_state.specs.TrainStates.{is_untried, lacks_hold_line, state_of, state_told}
 use Rattle.rail_state.proofs.TrainsChanged.{IsChanged}
 use Rattle.rail_state.proofs.WatchedKept.{shown_below, written_back}
-use Rattle.rail_state.proofs.Turns.{heeded_kept, heeded_now, touched_by_cancel}
-use Rattle.rail_state.proofs.Told.{kept_anew}
+use Rattle.rail_state.proofs.Turns.{heeded_kept, heeded_now, lacks_heeded, touched_by_cancel}
+use Rattle.rail_state.proofs.Seeking.{among_all, among_still}
 use Rattle.rail_state.proofs.trains.TrainStates.heed.Goals as goal
 
 pub heed_each-requires-clause-watched : goal.heed_each-requires-clause-watched
@@ -22,13 +22,19 @@ new_rows c = written_back c.heed_each.new.rows c.self.inside.rows.items c.self.i
 pub invariant_of-self : goal.invariant_of-self
 invariant_of-self c =
     let waiting : List TrainState → List ℕ = λ rows. filter (λ t. (state_of rows t).waits) c.self.inside.watched.items in
-    rw (new_rows c)
-    (kept_anew _ _
-    (heeded_kept c.args.plant.now (c.args.order.now ∷ []) c.self.inside.rows.items c.heed_each.new.rows c.self.inside.watched c.keep_waiting.new.trains c.self.invariant.watched (heeded c)
-    (subst (λ (rows : List TrainState). (t : ℕ) → (state_of rows t).waits ≡ false → (state_of rows t).known ≡ None) (sym c.self.view_is) c.requires.waits)
-    (λ t cancelled. touched_by_cancel c.args.plant.now (c.args.order.now ∷ []) t (state_of c.self.inside.rows.items t) cancelled)
-    (c.keep_waiting.ensures.trains ∙ ap waiting (c.deref-2.ensures.value ∙ new_rows c))
-    c.keep_waiting.ensures.room))
+    let plant = c.args.plant.now in
+    let orders = c.args.order.now ∷ [] in
+    let old = c.self.inside.rows.items in
+    let new = c.heed_each.new.rows in
+    rw (new_rows c) (record {
+      untried = among_all is_untried new c.below-self-inside.result refl (λ t below. c.below-self-inside.ensures t (omega (arith, below, (heeded c).long)));
+      lacking = among_still lacks_hold_line old new c.self.inside.sought.lacking c.self.inside.sought.lacking (lacks_heeded plant orders old new (heeded c)) (λ t holds. holds) c.self.invariant.lacking;
+      watched = (heeded_kept c.args.plant.now (c.args.order.now ∷ []) c.self.inside.rows.items c.heed_each.new.rows c.self.inside.watched c.keep_waiting.new.trains c.self.invariant.watched (heeded c)
+          (subst (λ (rows : List TrainState). (t : ℕ) → (state_of rows t).waits ≡ false → (state_of rows t).known ≡ None) (sym c.self.view_is) c.requires.waits)
+          (λ t cancelled. touched_by_cancel c.args.plant.now (c.args.order.now ∷ []) t (state_of c.self.inside.rows.items t) cancelled)
+          (c.keep_waiting.ensures.trains ∙ ap waiting (c.deref-2.ensures.value ∙ new_rows c))
+          c.keep_waiting.ensures.room);
+    })
 
 pub returns-clause-trains : goal.returns-clause-trains
 returns-clause-trains c = λ t lt.

@@ -1,19 +1,28 @@
-use Rattle.std.proofs.Common.{◌≡◌, ℕ, length, List, ◌++◌, take, drop, ap, sym, refl, subst, ◌∙◌, arith}
+use Rattle.std.proofs.Common.{◌≡◌, ◌<◌, ℕ, length, List, ◌++◌, take, drop, ap, sym, refl, subst, ◌∙◌, arith}
+use Rattle.std.specs.List.{All}
+use Rattle.std.specs.List.Sorted.{IsNonDecreasing}
 use Rattle.rail_state.specs.declared.train.TrainState.{TrainState}
-use Rattle.rail_state.specs.TrainStates.{bar_by, looked_at, state_of}
+use Rattle.rail_state.specs.Spans.{AreAmong}
+use Rattle.rail_state.specs.TrainStates.{bar_by, lacks_hold_line, looked_at, state_of}
 use Rattle.rail_state.proofs.TrainsChanged.{changed_all}
 use Rattle.rail_state.proofs.First.{IsFirstOf, IsLookedAt, first_of_all}
-use Rattle.rail_state.proofs.WatchedKept.{shown_below, written_back}
-use Rattle.rail_state.proofs.Turns.{looked_at_kept, looked_now}
-use Rattle.rail_state.proofs.Told.{kept_anew}
+use Rattle.rail_state.proofs.WatchedKept.{watched_in_order, written_back}
+use Rattle.rail_state.proofs.Turns.{looked_among, looked_at_kept, looked_now, part_below}
 use Rattle.rail_state.proofs.trains.TrainStates.look.Goals as goal
 
+pub around-untried-requires : goal.around-untried-requires
+around-untried-requires c = subst IsNonDecreasing (sym c.deref.ensures.value) (watched_in_order c.self.inside.rows.items c.self.inside.watched c.self.invariant.watched)
+
 pub look_at_each-requires-clause-watched : goal.look_at_each-requires-clause-watched
-look_at_each-requires-clause-watched c = shown_below c.self.inside.rows.items c.deref_mut.result.now c.self.inside.watched c.deref.result.now c.self.invariant.watched c.deref_mut.ensures.value c.deref.ensures.value
+look_at_each-requires-clause-watched c =
+    subst (λ (rows : List TrainState). All (λ t. t < length rows) c.around-untried.result.now) (sym c.deref_mut.ensures.value)
+    (part_below c.self.inside.rows.items c.self.inside.watched c.self.invariant.watched c.self.inside.sought.untried c.self.invariant.untried c.deref.result.now c.around-untried.result.now c.deref.ensures.value c.around-untried.ensures)
 
 -- all trains were looked at
 looked : (c : goal.After-self-2-1) → IsLookedAt c.args.plant.now (bar_by c.args.orders.now c.args.holders.now) c.self.inside.rows.items c.look_at_each.new.rows (length c.self.inside.rows.items) c.look_at_each.result
-looked c = looked_now c.args.plant.now (bar_by c.args.orders.now c.args.holders.now) c.self.inside.rows.items c.deref_mut.result.now c.look_at_each.new.rows c.self.inside.watched c.deref.result.now c.look_at_each.result c.self.invariant.watched c.deref_mut.ensures.value c.deref.ensures.value c.look_at_each.ensures
+looked c =
+    looked_now c.self.inside.rows.items c.self.inside.watched c.self.invariant.watched c.self.inside.sought.untried c.self.invariant.untried c.deref.result.now c.around-untried.result.now c.deref.ensures.value c.around-untried.ensures
+    c.args.plant.now (bar_by c.args.orders.now c.args.holders.now) c.deref_mut.result.now c.look_at_each.new.rows c.look_at_each.result c.deref_mut.ensures.value c.look_at_each.ensures.looked
 
 -- what was written back
 new_rows : (c : goal.After-self-2-1) → take c.self.inside.rows.len (c.look_at_each.new.rows ++ drop (length c.look_at_each.new.rows) c.self.inside.rows.items) ≡ c.look_at_each.new.rows
@@ -21,7 +30,16 @@ new_rows c = written_back c.look_at_each.new.rows c.self.inside.rows.items c.sel
 
 pub invariant_of-self : goal.invariant_of-self
 invariant_of-self c =
-    rw (new_rows c) (kept_anew _ _ (looked_at_kept c.args.plant.now (bar_by c.args.orders.now c.args.holders.now) c.self.inside.rows.items c.look_at_each.new.rows c.self.inside.watched c.look_at_each.result c.self.invariant.watched (looked c)))
+    let plant = c.args.plant.now in
+    let bar = bar_by c.args.orders.now c.args.holders.now in
+    let old = c.self.inside.rows.items in
+    let new = c.look_at_each.new.rows in
+    rw (new_rows c) (record {
+      watched = looked_at_kept plant bar old new c.self.inside.watched c.look_at_each.result c.self.invariant.watched (looked c);
+      untried = looked_among old c.self.inside.watched c.self.invariant.watched c.self.inside.sought.untried c.self.invariant.untried c.deref.result.now c.around-untried.result.now c.deref.ensures.value c.around-untried.ensures
+          plant bar new c.look_at_each.result c.look_at_each.new.sought.untried (looked c) c.look_at_each.ensures.untried;
+      lacking = c.look_at_each.ensures.lacking (subst (λ (rows : List TrainState). AreAmong lacks_hold_line rows c.self.inside.sought.lacking) (sym c.deref_mut.ensures.value) c.self.invariant.lacking);
+    })
 
 pub returns-clause-trains : goal.returns-clause-trains
 returns-clause-trains c = λ t _.
