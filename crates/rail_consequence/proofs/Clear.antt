@@ -43,7 +43,7 @@ module _ (plan : Moves) (s : List ℕ) (t : ℕ) (sections : List ℕ) where
       let inside : is_inside plan s u ≡ true = inside_from plan s u low (omega arith) in
       apart_at sections (plan.claim u i) x (apart_sym (plan.claim u i) sections (clear u i ne inside from last)) is)
 
-  clear_from_none : OthersNone → ((u : ℕ) → is_inside plan s u ≡ true → u < length s) → IsClear plan s t sections
+  pub clear_from_none : OthersNone → ((u : ℕ) → is_inside plan s u ≡ true → u < length s) → IsClear plan s t sections
   clear_from_none none listed u i ne inside from below =
       apart_from (plan.claim u i) sections (λ x needed.
       ⊎_elim
@@ -53,7 +53,7 @@ module _ (plan : Moves) (s : List ℕ) (t : ℕ) (sections : List ℕ) where
       (cases_Bool (is_in x sections)))
 
 -- a train that goes on to a place needs each section on which it stands there
-own_needed : (plan : Moves) (s : List ℕ) (t place x : ℕ) → is_valid plan ≡ true → t < plan.trains → 0 < place_of s t → place_of s t < place → place ≤ plan.moves t
+pub own_needed : (plan : Moves) (s : List ℕ) (t place x : ℕ) → is_valid plan ≡ true → t < plan.trains → 0 < place_of s t → place_of s t < place → place ≤ plan.moves t
     → is_in x (stand plan t place) ≡ true → needs_left plan t (place_of s t) x ≡ true
 own_needed plan s t zero x valid known low ahead within is = absurd (omega arith)
 own_needed plan s t (suc m) x valid known low ahead within is = left_at plan t (place_of s t) x m low (omega arith) (omega arith) (stand_needed plan t m x valid known is)

@@ -1,9 +1,8 @@
 -- Counting the trains that need a section for a move that they have left.
-use Rattle.std.proofs.Common.{◌≡◌, ◌≢◌, ℕ, zero, suc, ◌+◌, ◌*◌, ◌<◌, ◌≤◌, Bool, true, false, cond, not, ◌&&◌, ◌||◌, eqb, ltb, leb, List, [], ◌∷◌, ◌++◌, length, get_or, set, take, replicate, refl, sym, ap, ◌∙◌, subst, ◌⊎◌, inl, inr, ⊎_elim, arith}
+use Rattle.std.proofs.Common.{◌≡◌, ◌≢◌, ℕ, zero, suc, ◌+◌, ◌*◌, ◌<◌, ◌≤◌, Bool, true, false, cond, not, ◌&&◌, ◌||◌, eqb, ltb, leb, List, ◌∷◌, length, get_or, set, take, replicate, refl, sym, ap, ◌∙◌, subst, ◌⊎◌, inl, inr, ⊎_elim, arith}
 use Rattle.std.proofs.lemmas.Bool.{cases_lt, cases_eq, cases_Bool, false≢true, eqb-true, eq-eqb, le-leb, leb-true, lt-leb, lt-ltb, le-ltb, cond-true, cond-false, and_from, and_left, and_right, and_parts, or_cases, or_from, or_left, or_right}
 use Rattle.std.proofs.lemmas.List.{get_or-set_same, get_or-set_other, length-set, get_or_past, get_or-replicate, length-replicate, take_all}
-use Rattle.std.proofs.lemmas.List.Folds.{list_any_at, list_any_more, list_any-append}
-use Rattle.std.proofs.Math.Bool.{or-false}
+use Rattle.std.proofs.lemmas.List.Folds.{list_any_at, list_any_more}
 use Rattle.std.proofs.lemmas.List.Sums.{sum_by-cons}
 use Rattle.rail_base.specs.declared.limits.TheConstants.{TRAINS}
 use Rattle.rail_rules.specs.Numbers.{sum_below, is_in}
@@ -45,12 +44,6 @@ in_take_earlier x y xs i lt is ne found = ⊎_elim (λ earlier. earlier) (λ her
 
 pub in_take_all : (x : ℕ) (xs : List ℕ) (i : ℕ) → length xs ≤ i → is_in x xs ≡ true → is_in x (take i xs) ≡ true
 in_take_all x xs i le is = ap (is_in x) (take_all i xs le) ∙ is
-
--- a list with one number more
-pub in_push : (x y : ℕ) (xs : List ℕ) → is_in x (xs ++ y ∷ []) ≡ true → (is_in x xs ≡ true) ⊎ (y ≡ x)
-in_push x y xs found =
-    let split = or_cases (is_in x xs) (eqb y x) (sym (list_any-append (λ z. eqb z x) xs (y ∷ []) ∙ ap (λ b. is_in x xs || b) (or-false (eqb y x))) ∙ found) in
-    ⊎_elim (λ earlier. inl earlier) (λ here. inr (eqb-true y x here)) split
 
 -- counts that are all 0
 pub zeros_at : (n i : ℕ) → get_or {A = ℕ} (replicate n 0) i 0 ≡ 0

@@ -10,7 +10,7 @@ use Rattle.rail_sets.specs.Sets.{has}
 use Rattle.rail_consequence.specs.Needs.{IsCounted, count_of, needs_from, needs_left, one_if}
 use Rattle.rail_consequence.specs.declared.notes.Notes.{Notes}
 use Rattle.rail_consequence.specs.declared.notes.Stop.{Stop}
-use Rattle.rail_consequence.specs.declared.notes.Stop.TheVariants.{Unknown, Next, Later}
+use Rattle.rail_consequence.specs.declared.notes.Stop.TheVariants.{Unknown, Free, Next, Later}
 use Rattle.rail_consequence.specs.Stops.{IsNoted, IsNotedTo, IsUntouched, stop_of}
 use Rattle.rail_consequence.proofs.Counts.{left_at, left_entered, one_false, one_true, sum_shift}
 use Rattle.rail_consequence.proofs.Legs.{inside_listed, inside_parts, inside_same}
@@ -53,6 +53,7 @@ module _ (plan : Moves) (s : List ℕ) (counts : Columns) (t p : ℕ) (old new :
   -- what is noted of another train holds still
   noted_still : (u : ℕ) (stop : Stop) → u ≢ t → is_inside plan s u ≡ true → IsNoted plan s old.fell u stop → IsNoted plan (set s t p) new.fell u stop
   noted_still u Unknown ne inside told = tt
+  noted_still u Free ne inside told = tt
   noted_still u (Next x) ne inside told = ap (λ q. is_in x (plan.claim u q)) (get_or-set_other s t u p 0 ne) ∙ told
   noted_still u (Later x) ne inside told = λ untouched.
       let none = untouched_before u ne untouched in

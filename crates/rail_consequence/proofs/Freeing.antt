@@ -1,25 +1,26 @@
 -- Where a train's going on frees nobody, nothing is found by safe legs alone.
-use Rattle.std.proofs.Common.{◌≡◌, ◌≢◌, ℕ, ◌+◌, ◌<◌, ◌≤◌, Bool, ◌&&◌, not, eqb, true, false, List, None, Some, length, set, refl, sym, ap, ◌∙◌, subst, ◌⊎◌, ⊎_elim, arith}
-use Rattle.std.proofs.lemmas.Bool.{and_from, cases_Bool, cases_eq, cases_lt, eq-eqb, false≢true, not_from_false}
+use Rattle.std.proofs.Common.{◌≡◌, ◌≢◌, ℕ, ◌+◌, ◌<◌, ◌≤◌, Bool, ◌&&◌, not, eqb, ltb, true, false, List, Option, None, Some, length, set, refl, sym, ap, ◌∙◌, subst, ◌*◌, ◌⊎◌, inl, inr, ⊎_elim, arith}
+use Rattle.std.proofs.lemmas.Bool.{and_from, and_parts, cases_Bool, cases_eq, cases_lt, eq-eqb, false≢true, not_from_false}
 use Rattle.std.proofs.lemmas.List.{get_or-set_same, get_or-set_other, length-set, set-set}
 use Rattle.std.proofs.lemmas.Option.{none-some, same_Some}
 use Rattle.rail_rules.specs.Numbers.{is_in, sum_below}
 use Rattle.rail_rules.specs.Moves.{Moves, is_valid, stand}
 use Rattle.rail_rules.specs.Places.{holds, place_of, is_inside, is_legal, is_valid_state, nobody_inside}
 use Rattle.rail_rules.specs.Analysis.{Leg, is_leg, is_safe, Finds}
+use Rattle.rail_rules.proofs.CallerLemmas.{state_parts}
 use Rattle.rail_sets.specs.Counts.{Columns}
 use Rattle.rail_sets.specs.Sets.{has}
-use Rattle.rail_consequence.specs.Needs.{IsCounted, count_of, needs_from, needs_left, one_if}
-use Rattle.rail_consequence.specs.Searches.{HasNoSafeLeg, HasNoSafeLegOf}
+use Rattle.rail_consequence.specs.Needs.{IsCounted, IsRowsOf, SetRows, count_of, needs_from, needs_left, one_if}
+use Rattle.rail_consequence.specs.Searches.{FindsByNoLegOf, HasNoSafeLeg, HasNoSafeLegOf}
 use Rattle.rail_consequence.specs.Stops.{IsSettled, IsStopped, IsUntouched, section_of, stop_of}
 use Rattle.rail_consequence.specs.declared.notes.Stop.{Stop}
-use Rattle.rail_consequence.specs.declared.notes.Stop.TheVariants.{Unknown, Next, Later}
-use Rattle.rail_consequence.specs.Freeing.{Chains, FreesNobody, HasFalls, IsBarred, IsIndex, IsMet, IsSharedThen, end_of}
+use Rattle.rail_consequence.specs.declared.notes.Stop.TheVariants.{Unknown, Free, Next, Later}
+use Rattle.rail_consequence.specs.Freeing.{AreSeveral, FallsInVain, FreesNobody, HasFalls, HasOther, IsBarred, IsNextStop, IsNotAwaited, IsSharedThen, MayWaitFor}
 use Rattle.rail_consequence.specs.Workspace.{IsListing}
-use Rattle.rail_consequence.proofs.Chained.{met_or_held}
 use Rattle.rail_consequence.proofs.Clear.{none_from_clear, sum_alone}
 use Rattle.rail_consequence.proofs.Counts.{left_entered, one_false, one_few, sum_shift}
 use Rattle.rail_consequence.proofs.Falls.{passed_by}
+use Rattle.rail_consequence.proofs.SetLemmas.{needs_at}
 use Rattle.rail_consequence.proofs.Stopping.{IsPassed, leg_short, stopped_next, stopped_still, stopped_unsafe}
 use Rattle.rail_consequence.proofs.Legs.{goes_parts, leg_from, inside_listed, inside_parts, inside_same, nobody_at}
 use Rattle.rail_consequence.proofs.Safe.{safe_from_clear, clear_from_safe, found_past_leg}
@@ -92,6 +93,22 @@ no_leg_helps plan s t k q zero frees is found =
     let P : ℕ → Type 0 = λ j. Finds plan j (set s t q) in
     out_finds_none plan s t (plan.moves t) frees goes.inside refl (found_past_leg plan 0 s t q is (subst P zero found))
 
+-- the words have all sections that the train needs
+abbrev pub IsWithin : Moves → List ℕ → ℕ → ℕ → Type 0
+IsWithin plan s width t = (x : ℕ) → needs_from plan t (place_of s t) x ≡ true → x < 64 * width
+
+-- those of the rows have each section that a train needs that has entered
+pub needs_few : (plan : Moves) (rows : SetRows) (u p y : ℕ) → IsRowsOf plan rows → u < plan.trains → needs_left plan u p y ≡ true → y < 64 * rows.width
+needs_few plan rows u p y told known needed =
+    let at = needs_at plan u p y (and_parts (ltb 0 p) (needs_from plan u p y) needed).1 in
+    told.narrow u at.0 y known at.1
+
+-- and each that one needs that is inside
+pub rest_within : (plan : Moves) (s : List ℕ) (rows : SetRows) (t : ℕ) → IsRowsOf plan rows → is_valid_state plan s ≡ true → is_inside plan s t ≡ true → IsWithin plan s rows.width t
+rest_within plan s rows t told valid inside = λ x needs.
+    let at = needs_at plan t (place_of s t) x needs in
+    told.narrow t at.0 x (omega (arith, inside_listed plan s t inside, (state_parts plan s valid).long)) at.1
+
 -- a stopped train whose section a third one holds has no safe leg once another has gone on
 module _ (plan : Moves) (s : List ℕ) (t p u x v : ℕ) (valid : is_valid plan ≡ true) (state : is_valid_state plan s ≡ true) (was : is_inside plan s t ≡ true) (ahead : place_of s t < p)
     (ne : u ≢ t) (stop : IsStopped plan s u x) (holder : holds plan s v x ≡ true) (third : v ≢ t) where
@@ -111,11 +128,11 @@ module _ (plan : Moves) (s : List ℕ) (t p u x v : ℕ) (valid : is_valid plan 
       (stopped_next plan s t p u valid state was ahead ne x v known stop held (ap (λ k. is_in x (plan.claim u k)) (get_or-set_other s t u p 0 ne) ∙ near)) is
 
   -- or where it needs none of the sections that fall to one train
-  pub later_kept : (counts : Columns) (fell : List ℕ) → IsCounted plan s counts → HasFalls plan s counts t p fell → IsUntouched plan s fell u → HasNoSafeLegOf plan then u
-  later_kept counts fell counted falls untouched = λ q is.
+  pub later_kept : (counts : Columns) (width : ℕ) (fell : List ℕ) → IsCounted plan s counts → IsWithin plan s width t → HasFalls plan s counts width t p fell → IsUntouched plan s fell u → HasNoSafeLegOf plan then u
+  later_kept counts width fell counted within falls untouched = λ q is.
       let passed : IsPassed plan then t u (place_of s t) = passed_by plan s counts t p u fell counted was ahead
       (λ y before past two.
-      falls y
+      falls y (within y before)
       ∙ and_from (needs_from plan t (place_of s t) y && not (needs_from plan t p y)) (eqb (count_of counts y) 2)
       (and_from (needs_from plan t (place_of s t) y) (not (needs_from plan t p y)) before (not_from_false (needs_from plan t p y) past))
       (eq-eqb (count_of counts y) 2 two))
@@ -127,48 +144,87 @@ abbrev pub IsWatched : Moves → List ℕ → List Stop → List ℕ → ℕ →
 IsWatched plan s stops fell t p u = (x : ℕ) → stop_of stops u ≡ Later x → IsUntouched plan s fell u ⊎ HasNoSafeLegOf plan (set s t p) u
 
 -- so a train that waits for a third one has no safe leg
-pub waits_on : (plan : Moves) (s : List ℕ) (stops : List Stop) (counts : Columns) (fell : List ℕ) (t p u x v : ℕ) → is_valid plan ≡ true → is_valid_state plan s ≡ true → is_inside plan s t ≡ true → place_of s t < p
-    → IsCounted plan s counts → IsSettled plan s stops → HasFalls plan s counts t p fell → IsWatched plan s stops fell t p u → u ≢ t → is_inside plan s u ≡ true
-    → section_of (stop_of stops u) ≡ Some x → holds plan s v x ≡ true → v ≢ t → HasNoSafeLegOf plan (set s t p) u
-waits_on plan s stops counts fell t p u x v valid state was ahead counted settled falls watched ne inside noted holder third = by (stop_of stops u) refl
-  where
-    stop : IsStopped plan s u x
-    stop = settled.stopped u x inside noted
+module _ (plan : Moves) (s : List ℕ) (stops : List Stop) (counts : Columns) (width t : ℕ) (valid : is_valid plan ≡ true) (state : is_valid_state plan s ≡ true)
+    (counted : IsCounted plan s counts) (settled : IsSettled plan s stops) (within : is_inside plan s t ≡ true → IsWithin plan s width t) where
+  waits_on : (fell : List ℕ) (p u x v : ℕ) → is_inside plan s t ≡ true → place_of s t < p → HasFalls plan s counts width t p fell → IsWatched plan s stops fell t p u → u ≢ t → is_inside plan s u ≡ true
+      → section_of (stop_of stops u) ≡ Some x → holds plan s v x ≡ true → v ≢ t → HasNoSafeLegOf plan (set s t p) u
+  waits_on fell p u x v was ahead falls watched ne inside noted holder third = by (stop_of stops u) refl
+    where
+      stop : IsStopped plan s u x
+      stop = settled.stopped u x inside noted
 
-    by : (n : Stop) → stop_of stops u ≡ n → HasNoSafeLegOf plan (set s t p) u
-    by Unknown at = absurd (none-some x (ap section_of (sym at) ∙ noted))
-    by (Next y) at =
-        let same : y ≡ x = same_Some y x (ap section_of (sym at) ∙ noted) in
-        next_kept plan s t p u x v valid state was ahead ne stop holder third (ap (λ z. is_in z (plan.claim u (place_of s u))) (sym same) ∙ settled.next u y inside at)
-    by (Later y) at =
-        ⊎_elim
-        (λ untouched. later_kept plan s t p u x v valid state was ahead ne stop holder third counts fell counted falls untouched)
-        (λ none. none)
-        (watched y at)
+      by : (n : Stop) → stop_of stops u ≡ n → HasNoSafeLegOf plan (set s t p) u
+      by Unknown at = absurd (none-some x (ap section_of (sym at) ∙ noted))
+      by Free at = absurd (none-some x (ap section_of (sym at) ∙ noted))
+      by (Next y) at =
+          let same : y ≡ x = same_Some y x (ap section_of (sym at) ∙ noted) in
+          next_kept plan s t p u x v valid state was ahead ne stop holder third (ap (λ z. is_in z (plan.claim u (place_of s u))) (sym same) ∙ settled.next u y inside at)
+      by (Later y) at =
+          ⊎_elim
+          (λ untouched. later_kept plan s t p u x v valid state was ahead ne stop holder third counts width fell counted (within was) falls untouched)
+          (λ none. none)
+          (watched y at)
 
--- no other train has a safe leg where none has that waits for the train or for none, nor any to which a section falls
-pub none_freed : (plan : Moves) (s : List ℕ) (stops : List Stop) (counts : Columns) (fell inside : List ℕ) (chains : Chains) (t p : ℕ) → is_valid plan ≡ true → is_valid_state plan s ≡ true → is_inside plan s t ≡ true → place_of s t < p
-    → IsCounted plan s counts → IsSettled plan s stops → HasFalls plan s counts t p fell → IsListing plan s inside → IsIndex plan s stops inside (length inside) chains
-    → ((k u : ℕ) → IsMet chains inside k (end_of chains (Some t)) u → u ≢ t → HasNoSafeLegOf plan (set s t p) u)
-    → ((k u : ℕ) → IsMet chains inside k (end_of chains None) u → u ≢ t → HasNoSafeLegOf plan (set s t p) u)
-    → ((u : ℕ) → is_in u inside ≡ true → u ≢ t → IsWatched plan s stops fell t p u)
-    → (u : ℕ) → u ≢ t → HasNoSafeLegOf plan (set s t p) u
-none_freed plan s stops counts fell inside chains t p valid state was ahead counted settled falls listed index own unknown watched u ne = λ q is.
-    let here : is_inside plan s u ≡ true = inside_same plan (set s t p) s u (sym (get_or-set_other s t u p 0 ne)) (goes_parts plan (set s t p) (record { train = u; place = q }) is).inside in
-    let found : is_in u inside ≡ true = listed.all u here in
-    met_or_held plan s stops inside chains t u (HasNoSafeLegOf plan (set s t p) u) index settled found here
-    (λ k met. own k u met ne)
-    (λ k met. unknown k u met ne)
-    (λ x h noted third held. waits_on plan s stops counts fell t p u x h valid state was ahead counted settled falls (watched u found ne) ne here noted held third)
-    q is
+  -- no other train has a safe leg where none has that waits for the train or for none, nor any to which a section falls
+  pub none_freed : (fell inside : List ℕ) (p : ℕ) → is_inside plan s t ≡ true → place_of s t < p → HasFalls plan s counts width t p fell → IsListing plan s inside
+      → ((u : ℕ) → is_in u inside ≡ true → u ≢ t → is_inside plan s u ≡ true → MayWaitFor plan s stops u t → HasNoSafeLegOf plan (set s t p) u)
+      → ((u : ℕ) → is_in u inside ≡ true → u ≢ t → IsWatched plan s stops fell t p u)
+      → (u : ℕ) → u ≢ t → HasNoSafeLegOf plan (set s t p) u
+  none_freed fell inside p was ahead falls listed waits watched u ne = λ q is. stays (inside_same plan (set s t p) s u (sym (get_or-set_other s t u p 0 ne)) (goes_parts plan (set s t p) (record { train = u; place = q }) is).inside) q is
+    where
+      stays : is_inside plan s u ≡ true → HasNoSafeLegOf plan (set s t p) u
+      stays here = by (section_of (stop_of stops u)) refl
+        where
+          by : (o : Option ℕ) → section_of (stop_of stops u) ≡ o → HasNoSafeLegOf plan (set s t p) u
+          by None none = waits u (listed.all u here) ne here (inl none)
+          by (Some x) noted =
+              let held = (settled.stopped u x here noted).held in
+              ⊎_elim
+              (λ same. waits u (listed.all u here) ne here (inr (x, noted, ap (λ h. holds plan s h x) (sym same) ∙ held.held)))
+              (λ third. waits_on fell p u x held.holder was ahead falls (watched u (listed.all u here) ne) ne here noted held.held third)
+              (cases_eq held.holder t)
+
+  -- a train that can't make its next move has no leg
+  next_no_leg : (p : ℕ) → IsNextStop stops t → is_leg plan s (record { train = t; place = p }) ≡ true → ⊥
+  next_no_leg p next is =
+      let goes = goes_parts plan s (record { train = t; place = p }) is in
+      let stop = settled.stopped t next.0 goes.inside (ap section_of next.1) in
+      omega (arith, goes.ahead, leg_short plan s t next.0 (place_of s t) p (omega arith) (settled.next t next.0 goes.inside next.1) stop.held is)
+
+  -- of several trains inside one is another than this one
+  other_of : AreSeveral plan s → HasOther plan s t
+  other_of several =
+      ⊎_elim
+      (λ same. let P : ℕ → Type 0 = λ v. HasOther plan s v in subst P same several.beside)
+      (λ ne. record { train = several.one; differs = ne; inside = several.inside })
+      (cases_eq several.one t)
+
+  -- no leg helps of a train that no other one awaits, and whose falls are in vain
+  pub unmarked_helps_not : (inside : List ℕ) → AreSeveral plan s → IsListing plan s inside
+      → ((u : ℕ) → is_in u inside ≡ true → IsNotAwaited plan s stops t u)
+      → (is_inside plan s t ≡ true → IsNextStop stops t ⊎ FallsInVain plan s counts width stops inside t (plan.moves t))
+      → FindsByNoLegOf plan 0 s t
+  unmarked_helps_not inside several listed waits falls = λ q is found.
+      let goes = goes_parts plan s (record { train = t; place = q }) is in
+      ⊎_elim
+      (λ next. next_no_leg q next is)
+      (λ (vain : FallsInVain plan s counts width stops inside t (plan.moves t)).
+      let frees : FreesNobody plan s t (plan.moves t) = record {
+        other = other_of several;
+        none = none_freed vain.fell inside (plan.moves t) goes.inside (inside_parts plan s t goes.inside).1 vain.falls listed
+            (λ u found ne here may. ⊎_elim (λ next. absurd (next_no_leg q next is)) (λ none. none) (waits u found ne here may))
+            (λ u found ne x later. vain.vain u x found ne later);
+      } in
+      no_leg_helps plan s t 0 q refl frees is found)
+      (falls goes.inside)
 
 and_yes : (b : Bool) → (b && true) ≡ b
 and_yes true = refl
 and_yes false = refl
 
 -- a section that is counted more than once, and does not fall to one train, is shared then
-pub shared_then : (plan : Moves) (s : List ℕ) (counts : Columns) (t p u x : ℕ) (fell : List ℕ) → is_inside plan s t ≡ true → HasFalls plan s counts t p fell → 2 ≤ count_of counts x → has fell x ≡ false → IsSharedThen plan s counts t p u x
-shared_then plan s counts t p u x fell was falls many stays =
+pub shared_then : (plan : Moves) (s : List ℕ) (counts : Columns) (width t p u x : ℕ) (fell : List ℕ) → is_inside plan s t ≡ true → x < 64 * width → HasFalls plan s counts width t p fell → 2 ≤ count_of counts x → has fell x ≡ false → IsSharedThen plan s counts t p u x
+shared_then plan s counts width t p u x fell was low falls many stays =
     let gone : Bool = needs_left plan t (place_of s t) x && not (needs_from plan t p x) in
     let same : gone ≡ (needs_from plan t (place_of s t) x && not (needs_from plan t p x)) = ap (λ b. b && not (needs_from plan t p x)) (left_entered plan t (place_of s t) x (inside_parts plan s t was).0) in
     let own = one_few (needs_left plan u (place_of s u) x) in
@@ -177,7 +233,7 @@ shared_then plan s counts t p u x fell was falls many stays =
     (λ few.
     let two : count_of counts x ≡ 2 = omega (arith, many, few) in
     ⊎_elim
-    (λ is. absurd (false≢true (sym stays ∙ falls x ∙ and_from (needs_from plan t (place_of s t) x && not (needs_from plan t p x)) (eqb (count_of counts x) 2) (sym same ∙ is) (eq-eqb (count_of counts x) 2 two))))
+    (λ is. absurd (false≢true (sym stays ∙ falls x low ∙ and_from (needs_from plan t (place_of s t) x && not (needs_from plan t p x)) (eqb (count_of counts x) 2) (sym same ∙ is) (eq-eqb (count_of counts x) 2 two))))
     (λ out. omega (arith, two, own, one_false gone out))
     (cases_Bool gone))
     (cases_lt 2 (count_of counts x))

@@ -66,6 +66,19 @@ module _ (table : List MoveLists) (state : State) (made : IsMadeFor table state)
   no_bar t x own bar =
       one_holds plan s t bar.holder x made.valid (own (holder_held bar.holder x bar.held)) bar.held (λ same. bar.other (sym same))
 
+  -- a section that stays, or comes, where a train goes to another place is held there by a train
+  pub then_holder_at : (t p : ℕ) → t < length s → (gone come new : List ℕ) → IsSet gone (λ x. is_in x (stand plan t (place_of s t))) → IsSet come (λ x. is_in x (stand plan t p))
+      → (x : ℕ) → has new x ≡ ((has held x && not (has gone x)) || has come x) → has new x ≡ true → (v : ℕ) × (holds plan (set s t p) v x ≡ true)
+  then_holder_at t p known gone come new is_gone is_come x replaced is =
+      ⊎_elim
+      (λ stays.
+      let parts = and_parts (has held x) (not (has gone x)) stays in
+      let v = held_holder x parts.0 in
+      let other : v.0 ≢ t = λ same. false≢true (sym (not-true (has gone x) parts.1) ∙ is_gone x ∙ ap (λ u. holds plan s u x) (sym same) ∙ v.1) in
+      (v.0, ap (λ q. is_in x (stand plan v.0 q)) (get_or-set_other s t v.0 p 0 other) ∙ v.1))
+      (λ comes. (t, ap (λ q. is_in x (stand plan t q)) (get_or-set_same s t p 0 known) ∙ sym (is_come x) ∙ comes))
+      (or_cases (has held x && not (has gone x)) (has come x) (sym replaced ∙ is))
+
   -- after a train went to another place: what it gives free is taken away, and what it then holds is added
   module _ (t p : ℕ) (known : t < length s) (gone come new : List ℕ) (is_gone : IsSet gone (λ x. is_in x (stand plan t (place_of s t)))) (is_come : IsSet come (λ x. is_in x (stand plan t p)))
       (replaced : (x : ℕ) → has new x ≡ ((has held x && not (has gone x)) || has come x)) where
@@ -79,15 +92,7 @@ module _ (table : List MoveLists) (state : State) (made : IsMadeFor table state)
     there v other = get_or-set_other s t v p 0 other
 
     pub then_holder : (x : ℕ) → has new x ≡ true → (v : ℕ) × (holds plan next v x ≡ true)
-    then_holder x is =
-        ⊎_elim
-        (λ stays.
-        let parts = and_parts (has held x) (not (has gone x)) stays in
-        let v = held_holder x parts.0 in
-        let other : v.0 ≢ t = λ same. false≢true (sym (not-true (has gone x) parts.1) ∙ is_gone x ∙ ap (λ u. holds plan s u x) (sym same) ∙ v.1) in
-        (v.0, ap (λ q. is_in x (stand plan v.0 q)) (there v.0 other) ∙ v.1))
-        (λ comes. (t, ap (λ q. is_in x (stand plan t q)) here ∙ sym (is_come x) ∙ comes))
-        (or_cases (has held x && not (has gone x)) (has come x) (sym (replaced x) ∙ is))
+    then_holder x is = then_holder_at t p known gone come new is_gone is_come x (replaced x) is
 
     pub then_held : (x v : ℕ) → holds plan next v x ≡ true → has new x ≡ true
     then_held x v holder =

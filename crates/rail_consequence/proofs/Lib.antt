@@ -12,8 +12,11 @@ mod Clear
 mod Backward
 mod Stopping
 mod Listing
+mod Rising
 mod Without
 mod Freeing
-mod Chained
 mod Going
 mod Falls
+mod Moved
+mod Noting
+mod Marks

@@ -1,14 +1,12 @@
 -- The list of the trains that were inside when a search began: it names all that are inside later.
-use Rattle.std.proofs.Common.{◌≡◌, ℕ, suc, ◌+◌, ◌<◌, ◌≤◌, true, false, ◌||◌, eqb, List, [], ◌∷◌, ◌++◌, length, sym, ap, ◌∙◌, subst, ⊎_elim, arith}
-use Rattle.std.proofs.lemmas.Bool.{cases_eq, eq-eqb, false≢true, or_left, or_right}
-use Rattle.std.proofs.lemmas.List.{get_or-set_other, length_push}
-use Rattle.std.proofs.lemmas.List.Folds.{list_any-append}
+use Rattle.std.proofs.Common.{◌≡◌, ◌≢◌, ℕ, suc, ◌<◌, true, false, not, ◌&&◌, ◌||◌, ◌==◌, eqb, List, [], ◌∷◌, set, sym, ap, ◌∙◌, subst, ⊎_elim, arith}
+use Rattle.std.proofs.lemmas.Bool.{and_parts, cases_eq, eq-eqb, eqb-true, ne_eqb, false≢true, or_cases, or_left, or_right}
+use Rattle.std.proofs.lemmas.List.{get_or-set_other}
 use Rattle.rail_rules.specs.Numbers.{is_in}
 use Rattle.rail_rules.specs.Moves.{Moves}
 use Rattle.rail_rules.specs.Places.{place_of, is_inside, after}
 use Rattle.rail_place.specs.Plays.{IsPlayed}
 use Rattle.rail_consequence.specs.Workspace.{Work, GoesOn, IsListing}
-use Rattle.rail_consequence.proofs.Counts.{in_push}
 use Rattle.rail_consequence.proofs.Legs.{inside_same}
 
 -- a train that is inside after moves was inside before them
@@ -29,32 +27,33 @@ listed_on plan a b inside goes listed = record {
 pub listed_at : (plan : Moves) (s r inside : List ℕ) → s ≡ r → IsListing plan s inside → IsListing plan r inside
 listed_at plan s r inside same listed = let P : List ℕ → Type 0 = λ q. IsListing plan q inside in subst P same listed
 
--- of the first so many trains those are listed that are inside
-pub record IsListedTo (plan : Moves) (s : List ℕ) (n : ℕ) (inside : List ℕ) : Type 0 where
-  pub trains : (u : ℕ) → is_in u inside ≡ true → u < n
-  pub all : (u : ℕ) → u < n → is_inside plan s u ≡ true → is_in u inside ≡ true
-  pub few : length inside ≤ n
+module _ (plan : Moves) (s inside new : List ℕ) (t p : ℕ) (listed : IsListing plan s inside) where
+  elsewhere : (u : ℕ) → u ≢ t → is_inside plan (set s t p) u ≡ true → is_in u inside ≡ true
+  elsewhere u ne is = listed.all u (inside_same plan (set s t p) s u (sym (get_or-set_other s t u p 0 ne)) is)
 
-module _ (plan : Moves) (s : List ℕ) (n : ℕ) (inside : List ℕ) (listed : IsListedTo plan s n inside) where
-  pub listed_no : is_inside plan s n ≡ false → IsListedTo plan s (n + 1) inside
-  listed_no out = record {
-    trains = λ u is. omega (arith, listed.trains u is);
-    all = λ u lt is.
+  -- a train moved, and is listed
+  pub listed_with : t < plan.trains → ((u : ℕ) → is_in u new ≡ ((u == t) || is_in u inside)) → IsListing plan (set s t p) new
+  listed_with lt with = record {
+    trains = λ u is.
         ⊎_elim
-        (λ same. absurd (false≢true (sym out ∙ ap (is_inside plan s) (sym same) ∙ is)))
-        (λ ne. listed.all u (omega (arith, lt, ne)) is)
-        (cases_eq u n);
-    few = omega (arith, listed.few);
+        (λ same. omega (arith, eqb-true u t same))
+        (λ earlier. listed.trains u earlier)
+        (or_cases (eqb u t) (is_in u inside) (sym (with u) ∙ is));
+    all = λ u is.
+        with u
+        ∙ ⊎_elim
+        (λ same. or_left (eqb u t) (is_in u inside) (eq-eqb u t same))
+        (λ ne. or_right (eqb u t) (is_in u inside) (elsewhere u ne is))
+        (cases_eq u t);
   }
 
-  pub listed_one : IsListedTo plan s (n + 1) (inside ++ n ∷ [])
-  listed_one = record {
-    trains = λ u is. ⊎_elim (λ earlier. omega (arith, listed.trains u earlier)) (λ here. omega (arith, here)) (in_push u n inside is);
-    all = λ u lt is.
-        list_any-append (λ z. eqb z u) inside (n ∷ [])
-        ∙ ⊎_elim
-        (λ same. or_right (is_in u inside) (is_in u (n ∷ [])) (ap (λ b. b || false) (eq-eqb n u (sym same))))
-        (λ ne. or_left (is_in u inside) (is_in u (n ∷ [])) (listed.all u (omega (arith, lt, ne)) is))
-        (cases_eq u n);
-    few = omega (arith, listed.few, length_push inside n);
+  -- a train moved that is not inside, and is not listed
+  pub listed_without : is_inside plan (set s t p) t ≡ false → ((u : ℕ) → is_in u new ≡ (not (u == t) && is_in u inside)) → IsListing plan (set s t p) new
+  listed_without out without = record {
+    trains = λ u is. listed.trains u (and_parts (not (eqb u t)) (is_in u inside) (sym (without u) ∙ is)).1;
+    all = λ u is.
+        ⊎_elim
+        (λ same. absurd (false≢true (sym out ∙ ap (is_inside plan (set s t p)) (sym same) ∙ is)))
+        (λ ne. without u ∙ ap (λ b. not b && is_in u inside) (ne_eqb u t ne) ∙ elsewhere u ne is)
+        (cases_eq u t);
   }

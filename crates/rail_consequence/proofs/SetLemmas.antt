@@ -3,8 +3,8 @@ use Rattle.std.proofs.Common.{◌≡◌, ℕ, zero, suc, ◌+◌, ◌*◌, ◌-�
 use Rattle.std.proofs.lemmas.Bool.{and_from, and_left, and_parts, cases_Bool, cases_lt, false≢true, le-leb, lt-leb}
 use Rattle.rail_rules.specs.Numbers.{is_in}
 use Rattle.rail_rules.specs.Moves.{Moves, is_valid, stand}
-use Rattle.std.proofs.lemmas.List.{get_or_append_left, get_or_default, get_or_past, get_or_push, length_push}
-use Rattle.std.specs.Prelude.{nat_le}
+use Rattle.std.proofs.lemmas.List.{get_or_append_left, get_or_default, get_or_past, get_or_push, get_or-reverse, length_push, length-reverse}
+use Rattle.std.specs.Prelude.{nat_le, reverse}
 use Rattle.rail_rules.proofs.CallerLemmas.{any_below_from, any_below_found, any_below_none, stand_needed}
 use Rattle.rail_place.specs.Tables.{moves_in, MoveLists, no_lists}
 use Rattle.rail_consequence.proofs.Counts.{from_next}
@@ -59,8 +59,13 @@ needs_where plan t p i x from lt is = any_below_from (λ m. nat_le p m && is_in 
 pub needs_any : (plan : Moves) (t i x : ℕ) → i < plan.moves t → is_in x (plan.claim t i) ≡ true → needs_from plan t 0 x ≡ true
 needs_any plan t i x lt is = needs_where plan t 0 i x (omega arith) lt is
 
--- what a row tells of its places, and of one more
-pub row_more_sets : (plan : Moves) (t n : ℕ) (row : List PlaceSets) (sets : PlaceSets) → IsSetRow plan t n row → IsPlaceSets plan t (plan.moves t - n) sets → IsSetRow plan t (n + 1) (row ++ sets ∷ [])
+-- a row that tells so many places of the train from the last one back
+pub record IsRowBack (plan : Moves) (t n : ℕ) (row : List PlaceSets) : Type 0 where
+  pub long : length row ≡ n
+  pub told : (i : ℕ) → i < n → IsPlaceSets plan t (plan.moves t - i) (get_or row i no_sets)
+
+-- what such a row tells of its places, and of one more
+pub row_more_sets : (plan : Moves) (t n : ℕ) (row : List PlaceSets) (sets : PlaceSets) → IsRowBack plan t n row → IsPlaceSets plan t (plan.moves t - n) sets → IsRowBack plan t (n + 1) (row ++ sets ∷ [])
 row_more_sets plan t n row sets before here = record {
   long = length_push row sets ∙ ap (λ k. k + 1) before.long;
   told = λ i lt.
@@ -74,6 +79,19 @@ row_more_sets plan t n row sets before here = record {
       let Q : ℕ → Type 0 = λ k. IsPlaceSets plan t (plan.moves t - k) sets in
       subst P (sym (get_or_push row sets no_sets i (omega (arith, same, before.long)))) (subst Q same here))
       (cases_lt i n);
+}
+
+-- the other way round it tells all places in order
+pub row_reversed : (plan : Moves) (t n : ℕ) (row : List PlaceSets) → n ≡ plan.moves t + 1 → IsRowBack plan t n row → IsSetRow plan t (plan.moves t + 1) (reverse row)
+row_reversed plan t n row all back = record {
+  long = length-reverse row ∙ back.long ∙ all;
+  told = λ i lt.
+      let at : get_or (reverse row) i no_sets ≡ get_or row (plan.moves t - i) no_sets =
+      get_or-reverse row i no_sets (omega (arith, lt, back.long, all)) ∙ ap (λ k. get_or row k no_sets) (omega (arith, lt, back.long, all)) in
+      let place : plan.moves t - (plan.moves t - i) ≡ i = omega (arith, lt) in
+      let P : PlaceSets → Type 0 = λ s. IsPlaceSets plan t i s in
+      let Q : ℕ → Type 0 = λ k. IsPlaceSets plan t k (get_or row (plan.moves t - i) no_sets) in
+      subst P (sym at) (subst Q place (back.told (plan.moves t - i) (omega (arith, lt, all))));
 }
 
 -- and what rows tell of their trains, and of one more
@@ -108,11 +126,9 @@ stands_at plan t zero x valid known is = absurd (false≢true is)
 stands_at plan t (suc m) x valid known is = (m, stand_needed plan t m x valid known is)
 
 -- what a row tells of a place
-pub place_of_row : (plan : Moves) (t p i : ℕ) (row : List PlaceSets) (sets : PlaceSets) → IsSetRow plan t (plan.moves t + 1) row → p ≤ plan.moves t → i ≡ plan.moves t - p → sets ≡ get_or row i sets → IsPlaceSets plan t p sets
+pub place_of_row : (plan : Moves) (t p i : ℕ) (row : List PlaceSets) (sets : PlaceSets) → IsSetRow plan t (plan.moves t + 1) row → p ≤ plan.moves t → i ≡ p → sets ≡ get_or row i sets → IsPlaceSets plan t p sets
 place_of_row plan t p i row sets told within at is =
-    let same : get_or row (plan.moves t - p) no_sets ≡ sets =
-    get_or_default row (plan.moves t - p) no_sets sets (omega (arith, told.long, within)) ∙ ap (λ k. get_or row k sets) (sym at) ∙ sym is in
-    let place : plan.moves t - (plan.moves t - p) ≡ p = omega (arith, within) in
-    let P : PlaceSets → Type 0 = λ s. IsPlaceSets plan t (plan.moves t - (plan.moves t - p)) s in
-    let Q : ℕ → Type 0 = λ q. IsPlaceSets plan t q sets in
-    subst Q place (subst P same (told.told (plan.moves t - p) (omega (arith, within))))
+    let same : get_or row p no_sets ≡ sets =
+    get_or_default row p no_sets sets (omega (arith, told.long, within)) ∙ ap (λ k. get_or row k sets) (sym at) ∙ sym is in
+    let P : PlaceSets → Type 0 = λ s. IsPlaceSets plan t p s in
+    subst P same (told.told p (omega (arith, within)))

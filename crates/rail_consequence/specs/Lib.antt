@@ -2,6 +2,7 @@
 pub mod Workspace
 pub mod Searches
 pub mod Needs
+pub mod Kept
 pub mod Stops
 pub mod Freeing
 pub mod Analysts

@@ -1,5 +1,5 @@
 -- For how many trains each section is needed by moves that they have left, and what each train needs as sets.
-use Rattle.std.specs.Prelude.{◌≡◌, ℕ, ◌+◌, ◌*◌, ◌-◌, ◌<◌, ◌≤◌, ◌==◌, Bool, ◌&&◌, nat_lt, nat_le, List, [], length, get_or, count_by, IsTrue}
+use Rattle.std.specs.Prelude.{◌≡◌, ℕ, ◌+◌, ◌*◌, ◌<◌, ◌≤◌, ◌==◌, Bool, ◌&&◌, nat_lt, nat_le, List, [], length, get_or, count_by, IsTrue}
 use Rattle.rail_base.specs.declared.limits.TheConstants.{SECTIONS, TRAINS}
 use Rattle.rail_rules.specs.Numbers.{any_below, is_in, sum_below}
 use Rattle.rail_rules.specs.Moves.{Moves, stand}
@@ -61,10 +61,10 @@ pub record IsPlaceSets (plan : Moves) (t place : ℕ) (sets : PlaceSets) : Type 
 abbrev pub no_sets : PlaceSets
 no_sets = record { need = []; rest = []; stand = [] }
 
--- the row tells so many places of the train, from the last one back
+-- the row tells so many places of the train, from place 0 on
 pub record IsSetRow (plan : Moves) (t n : ℕ) (row : List PlaceSets) : Type 0 where
   pub long : length row ≡ n
-  pub told : (i : ℕ) → i < n → IsPlaceSets plan t (plan.moves t - i) (get_or row i no_sets)
+  pub told : (i : ℕ) → i < n → IsPlaceSets plan t i (get_or row i no_sets)
 
 -- the rows of the trains, and how many words have all their sections
 pub record SetRows : Type 0 where
@@ -81,13 +81,3 @@ pub record AreRows (plan : Moves) (n : ℕ) (table : SetRows) : Type 0 where
 -- each train has such a row
 abbrev pub IsRowsOf : Moves → SetRows → Type 0
 IsRowsOf plan table = AreRows plan plan.trains table
-
--- what an analyst keeps from search to search: a tally, and the sets of the trains at each place
-pub record Tallied : Type 0 where
-  pub tally : Placed
-  pub rows : SetRows
-
--- both belong to the moves
-pub record IsAnalystFor (plan : Moves) (tallied : Tallied) : Type 0 where
-  pub tally : IsTallyFor plan tallied.tally
-  pub rows : IsRowsOf plan tallied.rows

@@ -10,7 +10,7 @@ use Rattle.rail_consequence.specs.declared.analyst.closing.Look.{Look}
 use Rattle.rail_consequence.specs.declared.analyst.closing.Look.TheVariants.{Idle, Leads, Stopped}
 use Rattle.rail_consequence.specs.declared.notes.Notes.{Notes}
 use Rattle.rail_consequence.specs.declared.notes.Stop.{Stop}
-use Rattle.rail_consequence.specs.declared.notes.Stop.TheVariants.{Unknown, Next, Later}
+use Rattle.rail_consequence.specs.declared.notes.Stop.TheVariants.{Unknown, Free, Next, Later}
 
 -- what is noted for the train
 abbrev pub stop_of : List Stop → ℕ → Stop
@@ -19,6 +19,7 @@ stop_of stops u = get_or stops u Unknown
 -- the section of a note
 abbrev pub section_of : Stop → Option ℕ
 section_of Unknown = None
+section_of Free = None
 section_of (Next x) = Some x
 section_of (Later x) = Some x
 
@@ -54,6 +55,7 @@ IsUntouched plan s fell u = (y : ℕ) → IsTrue (needs_left plan u (place_of s 
 -- what is noted of the train holds, whoever holds the section: its next move needs it; or a later one does and no leg up to there is safe, where none of the sections that the train needs fell
 abbrev pub IsNoted : Moves → List ℕ → List ℕ → ℕ → Stop → Type 0
 IsNoted plan s fell u Unknown = Unit {0}
+IsNoted plan s fell u Free = Unit {0}
 IsNoted plan s fell u (Next x) = IsTrue (is_in x (plan.claim u (place_of s u)))
 IsNoted plan s fell u (Later x) = IsUntouched plan s fell u → IsBehind plan s u x
 
@@ -70,6 +72,7 @@ pub record IsSettled (plan : Moves) (s : List ℕ) (stops : List Stop) : Type 0 
 -- what a look at a train may note of it
 abbrev pub ShowsStop : Moves → List ℕ → ℕ → Stop → Type 0
 ShowsStop plan s t Unknown = ⊥
+ShowsStop plan s t Free = ⊥
 ShowsStop plan s t (Next x) = IsStopped plan s t x × IsTrue (is_in x (plan.claim t (place_of s t)))
 ShowsStop plan s t (Later x) = IsStopped plan s t x
 

@@ -9,15 +9,18 @@ ghost use Rattle.rail_place.specs.Plays.{IsPlayed};
 ghost use Rattle.rail_place.specs.Tables.{moves_in};
 ghost use Rattle.rail_rules.specs.Moves.{stand};
 ghost use Rattle.rail_rules.specs.Numbers.{are_apart};
-ghost use Rattle.rail_consequence.specs.Needs.{IsAnalystFor, IsCounted, IsRowsOf, IsSet};
+ghost use Rattle.rail_consequence.specs.Kept.{IsAnalystFor};
+ghost use Rattle.rail_consequence.specs.Needs.{IsCounted, IsRowsOf, IsSet};
 ghost use Rattle.rail_consequence.specs.Searches.{leg_to};
 ghost use Rattle.rail_consequence.specs.Workspace.{GoesOn, IsListing, IsPlayedFrom, IsReady};
 
+use crate::ahead::Ahead;
 use crate::needs::recount;
 use crate::notes::Notes;
 use crate::rows::Rows;
 use crate::tally::{Tally, stands_inside};
-use rail_base::limits::{LIST_TRAINS, TRAINS};
+use crate::train_list::TrainList;
+use rail_base::limits::LIST_TRAINS;
 use rail_base::{OutOfMemory, TrainNo};
 use rail_place::{Moves, Places};
 use rail_sets::{Counts, WORDS, join, replace};
@@ -34,9 +37,11 @@ mod searching;
 #[derive(Debug)]
 pub struct Analyst {
     /// The trains that were inside when the last search began, by number.
-    inside: Vec<TrainNo>,
+    inside: TrainList,
     /// The needs at the places from which the last search began.
     tally: Tally,
+    /// What is noted of the trains there.
+    notes: Notes,
     sheet: Worksheet,
 }
 
@@ -45,21 +50,18 @@ impl Drop for Analyst {
         let Analyst {
             inside: _inside,
             tally: _tally,
+            notes: _notes,
             sheet: _sheet,
         } = self;
     }
 }
 
 impl Model for Analyst {
-    ghost use Rattle.std.specs.Prelude.{◌≤◌, vec_capacity};
-    ghost use Rattle.rail_base.specs.declared.limits.TheConstants.{TRAINS};
-    ghost use Rattle.rail_consequence.specs.Needs.{Tallied};
+    ghost use Rattle.rail_consequence.specs.Kept.{Tallied};
 
     ghost Value = { Tallied };
 
-    ghost view = { λ analyst. record { tally = analyst.tally; rows = analyst.sheet.rows } };
-
-    ghost invariant = { λ analyst. TRAINS ≤ vec_capacity analyst.inside };
+    ghost view = { λ analyst. record { inside = analyst.inside; tally = analyst.tally; notes = analyst.notes; rows = analyst.sheet.rows } };
 }
 
 /// What a search works on. Nobody enters in a search: the calls that go over trains are handed a list
@@ -95,8 +97,9 @@ impl Analyst {
         ensures { IfOk result (IsAnalystFor (moves_in moves.now)) }
     {
         Ok(Analyst {
-            inside: Vec::with_capacity(alloc, TRAINS)?,
+            inside: TrainList::new(alloc)?,
             tally: Tally::new(alloc, moves)?,
+            notes: Notes::none(),
             sheet: Worksheet::new(alloc, moves)?,
         })
     }
@@ -120,12 +123,22 @@ impl Analyst {
         ensures some { IfSome result (λ list. IsTrue (completes (moves_in moves.now) places.now.positions list.now)) }
         ensures none { IsNone result ↔ (Finds (moves_in moves.now) depth places.now.positions → ⊥) }
     {
-        self.tally
-            .follow(moves, self.sheet.rows(), places, &mut self.inside);
+        self.tally.follow(
+            moves,
+            self.sheet.rows(),
+            places,
+            &mut self.inside,
+            &mut self.notes,
+        );
         let inside = self.inside.as_slice();
         self.sheet.begin(moves, places, self.tally.needs(), inside);
-        let mut notes = Notes::none();
-        if self.sheet.search(moves, inside, &mut notes, depth) {
+        self.sheet.look_again(moves, inside, &mut self.notes);
+        let mut notes = self.notes;
+        let mut ahead = Ahead::new();
+        if self
+            .sheet
+            .search(moves, inside, &mut notes, &mut ahead, depth)
+        {
             Some(self.sheet.list())
         } else {
             None
@@ -137,11 +150,9 @@ impl Analyst {
 fn push_times(list: &mut Vec<TrainNo>, train: TrainNo, count: u16)
     requires { vec_len list.old + count ≤ vec_capacity list.old }
     ensures items { list.new.items ≡ list.old.items ++ replicate count train }
-    ensures room { vec_capacity list.new ≡ vec_capacity list.old }
+    ensures room { vec_capacity list.old ≤ vec_capacity list.new }
 {
-    for _added in 0..count {
-        list.push_reserved(train);
-    }
+    list.resize(list.len() + usize::from(count), train).unwrap();
 }
 
 /// How often the train stands at the end of the list without another between.

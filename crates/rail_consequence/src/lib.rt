@@ -16,8 +16,9 @@
 //!
 //! Two looks spare it most free legs. Where nothing is found with a train out of the way, none of its legs
 //! helps. And a last free leg helps only where it frees another train, which a look ahead tells before it is
-//! made: it asks the trains that wait for this one, listed once in chains, those of which nothing is noted,
-//! and those to which sections fall, with the sets of what would be held and what would be shared.
+//! made. So before the last free legs are tried, each stopped train is asked whether it would go on were the
+//! train gone for which it waits, and those to which a section would fall: no leg is tried of the others. A leg
+//! of the rest is looked at in the same way, with the sets of what would be held and what would be shared.
 //!
 //! An analyst belongs to the moves for which it was made. The counts are kept from one search to the
 //! next, and brought to the new places train by train where the place differs.
@@ -31,9 +32,10 @@ mod analyst;
 mod laws;
 mod needs;
 mod notes;
+mod openers;
 mod rows;
 mod tally;
-mod waiting;
+mod train_list;
 
 pub use analyst::Analyst;
 pub use laws::{

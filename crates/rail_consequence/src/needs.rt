@@ -1,9 +1,13 @@
 //! For how many trains each section is needed by moves that they have left.
 
-ghost use Rattle.std.specs.Prelude.{◌≡◌, ℕ, ◌<◌, ◌≤◌, length};
-ghost use Rattle.rail_place.specs.Tables.{moves_in};
-ghost use Rattle.rail_consequence.specs.Needs.{IsAmong, IsRecounted, IsRowsOf, needs_left};
+ghost use Rattle.std.specs.Prelude.{◌≡◌, ◌≢◌, ℕ, ◌<◌, ◌≤◌, false, length, IsTrue};
+ghost use Rattle.rail_place.specs.Tables.{IsTable, moves_in};
+ghost use Rattle.rail_sets.specs.Sets.{has};
+ghost use Rattle.rail_consequence.specs.declared.notes.Stop.TheVariants.{Unknown};
+ghost use Rattle.rail_consequence.specs.Stops.{stop_of};
+ghost use Rattle.rail_consequence.specs.Needs.{IsAmong, IsRecounted, IsRowsOf, count_of, needs_left};
 
+use crate::notes::{Notes, Stop};
 use crate::rows::Rows;
 use rail_base::TrainNo;
 use rail_place::Moves;
@@ -31,6 +35,44 @@ pub fn recount(needs: &mut Counts, moves: &Moves, rows: &Rows, train: TrainNo, f
             rows.rest(moves, train, last),
             rows.rest(moves, train, first),
         );
+    }
+}
+
+/// Takes back what is noted of the train, which is counted as at the one place and is to be counted as at the other, and
+/// notes the sections that fall to one train then.
+pub fn note_move(
+    notes: &mut Notes,
+    needs: &Counts,
+    moves: &Moves,
+    rows: &Rows,
+    train: TrainNo,
+    from: u16,
+    to: u16,
+)
+    requires rows { IsRowsOf (moves_in moves.now) rows.now }
+    requires table { IsTable moves.now }
+    requires train { train < length moves.now }
+    requires from { from ≤ (moves_in moves.now).moves train }
+    requires to { to ≤ (moves_in moves.now).moves train }
+    ensures here { stop_of notes.new.stops train ≡ Unknown }
+    ensures others { (u : ℕ) → u ≢ train → stop_of notes.new.stops u ≡ stop_of notes.old.stops u }
+    ensures kept { (x : ℕ) → IsTrue (has notes.old.fell x) → IsTrue (has notes.new.fell x) }
+    ensures falls { (x : ℕ) → IsTrue (needs_left (moves_in moves.now) train from x)
+        → needs_left (moves_in moves.now) train to x ≡ false → count_of needs.now x ≡ 2 → IsTrue (has notes.new.fell x) }
+    ensures none { (notes.old.has_fallen ≡ false → (x : ℕ) → has notes.old.fell x ≡ false)
+        → notes.new.has_fallen ≡ false → (x : ℕ) → has notes.new.fell x ≡ false }
+{
+    notes.set(train, Stop::Unknown);
+    let first = place_or_last(moves, train, from);
+    let last = place_or_last(moves, train, to);
+    if first >= last {
+        return;
+    }
+    let needed = rows.rest(moves, train, first);
+    let later = rows.rest(moves, train, last);
+    if needs.has_falls(needed, later) {
+        needs.add_falls(&mut notes.fell, needed, later);
+        notes.has_fallen = true;
     }
 }
 

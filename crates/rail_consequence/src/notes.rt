@@ -1,28 +1,46 @@
 //! What stops each train.
 
-ghost use Rattle.std.specs.Prelude.{◌≡◌, ◌≢◌, ℕ, ◌<◌, false};
+ghost use Rattle.std.specs.Prelude.{◌≡◌, ◌≢◌, ℕ, ◌*◌, ◌<◌, false, None, IsTrue};
 ghost use Rattle.rail_sets.specs.Sets.{has};
-ghost use Rattle.rail_consequence.specs.declared.notes.Stop.TheVariants.{Unknown};
-ghost use Rattle.rail_consequence.specs.Stops.{stop_of};
+ghost use Rattle.rail_consequence.specs.declared.notes.Stop.TheVariants.{Unknown, Next};
+ghost use Rattle.rail_consequence.specs.Stops.{section_of, stop_of};
 
 use rail_base::limits::TRAINS;
 use rail_base::{SectionNo, TrainNo};
 use rail_sets::WORDS;
 
 /// What stops a train on its way to a safe leg.
-#[derive(Clone, Copy)]
+#[derive(Clone, Copy, Debug)]
 pub enum Stop {
     /// Nothing is known.
     Unknown,
+    /// When it was looked at, it had a safe leg.
+    Free,
     /// Its next move needs this section.
     Next(SectionNo),
     /// A later move needs this section, and no leg up to there is safe.
     Later(SectionNo),
 }
 
+impl Stop {
+    /// Its next move is noted.
+    pub fn is_next(self) -> bool
+        ensures some { IsTrue result → (x : ℕ) × (self ≡ Next x) }
+    {
+        matches!(self, Stop::Next(_))
+    }
+
+    /// The train had a safe leg.
+    pub fn is_free(self) -> bool
+        ensures { IsTrue result → section_of self ≡ None }
+    {
+        matches!(self, Stop::Free)
+    }
+}
+
 /// What was seen to stop each train. That it lasts shows where it is used: another train must hold the section, and
 /// where a later move needs it none of the sections that the train needs may have fallen to one train.
-#[derive(Clone, Copy)]
+#[derive(Clone, Copy, Debug)]
 pub struct Notes {
     stops: [Stop; TRAINS],
     /// The sections that two trains needed since then, and one does now.
@@ -44,15 +62,13 @@ impl Notes {
         }
     }
 
-    /// The same notes, with no section fallen.
-    pub fn anew(&self) -> Notes
-        ensures stops { result.stops ≡ self.now.stops }
-        ensures fell { (x : ℕ) → has result.fell x ≡ false }
+    /// No section has fallen.
+    pub fn forget_falls(&mut self)
+        ensures stops { self.new.stops ≡ self.old.stops }
+        ensures fell { (x : ℕ) → has self.new.fell x ≡ false }
     {
-        let mut notes = *self;
-        notes.fell = [0; WORDS];
-        notes.has_fallen = false;
-        notes
+        self.fell = [0; WORDS];
+        self.has_fallen = false;
     }
 
     /// What stops the train.

@@ -25,7 +25,7 @@ pub struct PlaceSets {
     stand: [u64; WORDS],
 }
 
-/// The sets of one train, from its last place back to place 0.
+/// The sets of one train, from place 0 to its last place.
 #[derive(Debug, Drop)]
 struct Row {
     places: Vec<PlaceSets>,
@@ -131,8 +131,7 @@ impl Rows {
         requires within { place ≤ (moves_in moves.now).moves train }
         ensures { IsPlaceSets (moves_in moves.now) train place result.now }
     {
-        let row = &self.rows[usize::from(train.0)];
-        &row.places[usize::from(moves.places(train) - place)]
+        &self.rows[usize::from(train.0)].places[usize::from(place)]
     }
 }
 
@@ -151,6 +150,7 @@ impl Row {
             later = sets.rest;
             places.push_reserved(sets);
         }
+        places.reverse();
         Ok(Row { places })
     }
 
@@ -161,7 +161,7 @@ impl Row {
         ensures all { (i x : ℕ) → IsTrue (is_in x ((moves_in moves.now).claim train i)) → x < 64 * result }
         ensures few { result ≤ WORDS }
     {
-        width_of(&self.places[usize::from(moves.places(train))].rest)
+        width_of(&self.places[0].rest)
     }
 }
 

@@ -1,20 +1,26 @@
 //! The needs at the places from which the last search began.
 
-ghost use Rattle.std.specs.Prelude.{◌≡◌, ◌<◌, ◌≤◌, length, set, vec_capacity, IfOk};
-ghost use Rattle.rail_rules.specs.Places.{is_inside};
+ghost use Rattle.std.specs.Prelude.{◌≡◌, ◌≢◌, ℕ, ◌+◌, ◌<◌, ◌≤◌, get_or, length, set, IfOk, IsTrue};
+ghost use Rattle.rail_consequence.specs.declared.tally.TheConstants.{STRIDE};
+ghost use Rattle.rail_rules.specs.Places.{is_inside, place_of};
 ghost use Rattle.rail_place.specs.Made.{IsMadeFor};
 ghost use Rattle.rail_place.specs.Tables.{IsTable, moves_in};
 ghost use Rattle.rail_consequence.specs.Needs.{IsRowsOf, IsTallyFor};
+ghost use Rattle.rail_consequence.specs.Stops.{IsNotedTo};
 ghost use Rattle.rail_consequence.specs.Workspace.{IsListing};
 
-use crate::needs::recount;
+use crate::needs::{note_move, recount};
+use crate::notes::Notes;
 use crate::rows::Rows;
-use rail_base::limits::TRAINS;
+use crate::train_list::TrainList;
 use rail_base::{OutOfMemory, TrainNo};
 use rail_place::{Moves, Places};
 use rail_sets::Counts;
 use std::alloc::Global;
 use std::marker::Model;
+
+/// So many trains are compared at once.
+const STRIDE: usize = 8;
 
 /// Places, and the needs of the moves that the trains have left there. It follows the places from one
 /// search to the next, train by train.
@@ -35,7 +41,8 @@ impl Model for Tally {
 impl Tally {
     /// The needs with every train outside, which are none.
     pub fn new(alloc: Global, moves: &Moves) -> Result<Tally, OutOfMemory>
-        ensures { IfOk result (IsTallyFor (moves_in moves.now)) }
+        ensures kept { IfOk result (IsTallyFor (moves_in moves.now)) }
+        ensures outside { IfOk result (λ tally. (t : ℕ) → place_of tally.positions t ≡ 0) }
     {
         Ok(Tally {
             positions: vec![in alloc; 0u16; usize::from(moves.trains())]?,
@@ -43,41 +50,60 @@ impl Tally {
         })
     }
 
-    /// Goes over to these places, and lists the trains that are inside there, by number.
-    pub fn follow(&mut self, moves: &Moves, rows: &Rows, places: &Places, inside: &mut Vec<TrainNo>)
+    /// Goes over to these places with what is noted of the trains, and with the list of those that are inside. It looks for
+    /// the trains that stand at other places, some at once.
+    pub fn follow(
+        &mut self,
+        moves: &Moves,
+        rows: &Rows,
+        places: &Places,
+        inside: &mut TrainList,
+        notes: &mut Notes,
+    )
         requires made { IsMadeFor moves.now places.now }
         requires rows { IsRowsOf (moves_in moves.now) rows.now }
         requires kept { IsTallyFor (moves_in moves.now) self.old }
-        requires room { TRAINS ≤ vec_capacity inside.old }
+        requires listed { IsListing (moves_in moves.now) self.old.positions inside.old }
+        requires noted { IsNotedTo (moves_in moves.now) self.old.positions notes.old }
+        ensures noted { IsNotedTo (moves_in moves.now) self.new.positions notes.new }
         ensures kept { IsTallyFor (moves_in moves.now) self.new }
         ensures positions { self.new.positions ≡ places.now.positions }
-        ensures listed { IsListing (moves_in moves.now) places.now.positions inside.new.items }
-        ensures room { TRAINS ≤ vec_capacity inside.new }
+        ensures listed { IsListing (moves_in moves.now) self.new.positions inside.new }
     {
-        inside.clear();
-        for number in 0..moves.trains() {
-            let train = TrainNo(number);
-            let place = places.position(train);
-            if self.positions[usize::from(number)] != place {
-                self.follow_train(moves, rows, train, place);
-            }
+        let mut number = first_other(&self.positions, places.positions(), 0);
+        while number < self.positions.len() {
+            let train = TrainNo(number as u16);
+            self.follow_train(moves, rows, train, places.position(train), notes);
             if stands_inside(moves, places, train) {
-                inside.push_reserved(train);
+                inside.include(train);
+            } else {
+                inside.exclude(train);
             }
+            number = first_other(&self.positions, places.positions(), number + 1);
         }
     }
 
     /// Goes over to this place of the train, which stands at another.
-    fn follow_train(&mut self, moves: &Moves, rows: &Rows, train: TrainNo, place: u16)
+    fn follow_train(
+        &mut self,
+        moves: &Moves,
+        rows: &Rows,
+        train: TrainNo,
+        place: u16,
+        notes: &mut Notes,
+    )
         requires table { IsTable moves.now }
         requires rows { IsRowsOf (moves_in moves.now) rows.now }
         requires train { train < length moves.now }
         requires within { place ≤ (moves_in moves.now).moves train }
         requires kept { IsTallyFor (moves_in moves.now) self.old }
+        requires noted { IsNotedTo (moves_in moves.now) self.old.positions notes.old }
         ensures kept { IsTallyFor (moves_in moves.now) self.new }
         ensures positions { self.new.positions ≡ set self.old.positions train place }
+        ensures noted { IsNotedTo (moves_in moves.now) self.new.positions notes.new }
     {
         let from = self.positions[usize::from(train.0)];
+        note_move(notes, &self.needs, moves, rows, train, from, place);
         recount(&mut self.needs, moves, rows, train, from, place);
         self.positions[usize::from(train.0)] = place;
     }
@@ -88,6 +114,40 @@ impl Tally {
     {
         &self.needs
     }
+}
+
+/// The first train from this number on that stands at another place in the second list than in the first one; the number
+/// of trains where there is none.
+#[inline(never)]
+fn first_other(positions: &[u16], others: &[u16], from: usize) -> usize
+    requires same { length others.now ≡ length positions.now }
+    requires from { from ≤ length positions.now }
+    ensures from { from ≤ result }
+    ensures bound { result ≤ length positions.now }
+    ensures same { (k d : ℕ) → from ≤ k → k < result → get_or positions.now k d ≡ get_or others.now k d }
+    ensures other { (d : ℕ) → result < length positions.now → get_or positions.now result d ≢ get_or others.now result d }
+{
+    let mut number = from;
+    while number + STRIDE <= positions.len() && are_alike(positions, others, number) {
+        number += STRIDE;
+    }
+    while number < positions.len() && positions[number] == others[number] {
+        number += 1;
+    }
+    number
+}
+
+/// Whether so many trains from this number on stand at the same places in both lists.
+fn are_alike(positions: &[u16], others: &[u16], from: usize) -> bool
+    requires same { length others.now ≡ length positions.now }
+    requires from { from + STRIDE ≤ length positions.now }
+    ensures { IsTrue result → (k d : ℕ) → from ≤ k → k < from + STRIDE → get_or positions.now k d ≡ get_or others.now k d }
+{
+    let mut same = true;
+    for number in from..from + STRIDE {
+        same &= positions[number] == others[number];
+    }
+    same
 }
 
 /// The train is inside.

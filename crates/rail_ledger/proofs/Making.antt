@@ -16,7 +16,7 @@ use Rattle.rail_laws_run.specs.TimeLimits.{StaysBelow}
 use Rattle.rail_laws_run.proofs.CallerLemmas.{stays_below, ready_is_past}
 use Rattle.rail_block.specs.declared.times.MoveTimes.{MoveTimes}
 use Rattle.rail_block.specs.CarriedTimes.{AreBelow, times_at}
-use Rattle.rail_consequence.specs.Needs.{Tallied}
+use Rattle.rail_consequence.specs.Kept.{Tallied}
 use Rattle.rail_list.specs.KeptLists.{Kept}
 use Rattle.rail_place.specs.Made.{State}
 use Rattle.rail_state.specs.Representation.{IsAdmissible, IsAdmitLine, MayKeep, admit_line, list_for}

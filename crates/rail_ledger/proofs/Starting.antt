@@ -12,7 +12,7 @@ use Rattle.rail_rules.specs.Moves.{Moves}
 use Rattle.rail_rules.specs.Numbers.{listed, sum_below}
 use Rattle.rail_rules.specs.Places.{holds}
 use Rattle.rail_rules.specs.Plant.{bound, moves_of, trains}
-use Rattle.rail_consequence.specs.Needs.{IsAnalystFor}
+use Rattle.rail_consequence.specs.Kept.{IsAnalystFor}
 use Rattle.rail_list.specs.KeptLists.{HasRoomFor}
 use Rattle.rail_place.specs.Made.{IsMadeFor}
 use Rattle.rail_place.specs.Tables.{moves_in, MoveLists}

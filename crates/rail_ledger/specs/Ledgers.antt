@@ -17,7 +17,7 @@ use Rattle.rail_rules.specs.Lawful.{is_lawful, may_follow}
 use Rattle.rail_judging.specs.Verdicts.{broken_law, missing_law}
 use Rattle.rail_rules.specs.RunHistories.{Seat, is_chosen, is_run}
 use Rattle.rail_place.specs.Made.{State}
-use Rattle.rail_consequence.specs.Needs.{IsAnalystFor}
+use Rattle.rail_consequence.specs.Kept.{IsAnalystFor}
 use Rattle.rail_list.specs.KeptLists.{Kept}
 use Rattle.rail_queue.specs.Order.{first_time_of}
 use Rattle.rail_state.specs.declared.train.TrainState.{TrainState}

@@ -11,7 +11,7 @@ ghost use Rattle.rail_ledger.specs.Inputs.{input_in};
 ghost use Rattle.rail_ledger.specs.Ledgers.{AreAlike, AreUnbarred, ContinuesRun, GivesEntry, HasHeeded, HasList, HasPassed, HasTried, IsAdmissionOf, IsAt, IsDeciding, IsNextLine, IsNextTrain, IsOther, IsSettled, IsSomewhere, MayGoOn, StandsAsBefore, is_effective, list_in, list_with, untried};
 ghost use Rattle.rail_ledger.specs.declared.ledger.Listed.TheVariants as which;
 ghost use Rattle.rail_base.specs.declared.limits.TheConstants.{TRAINS};
-ghost use Rattle.rail_consequence.specs.Needs.{IsAnalystFor};
+ghost use Rattle.rail_consequence.specs.Kept.{IsAnalystFor};
 ghost use Rattle.rail_list.specs.KeptLists.{HasRoomFor};
 ghost use Rattle.rail_place.specs.Made.{IsMadeFor};
 ghost use Rattle.rail_place.specs.Tables.{moves_in};

@@ -94,6 +94,13 @@ impl Places {
         self.positions[usize::from(train.0)]
     }
 
+    /// How many moves each train has made.
+    pub fn positions(&self) -> &[u16]
+        ensures { result.now ≡ self.now.positions }
+    {
+        &self.positions
+    }
+
     /// How many moves were made on these places since they were made, by `advance` and by `play`; it
     /// stays at 2^64 - 1.
     pub fn played(&self) -> u64

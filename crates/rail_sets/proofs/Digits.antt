@@ -3,13 +3,13 @@ use Rattle.std.proofs.Common.{◌≡◌, ◌≢◌, ℕ, zero, suc, ◌+◌, ◌
 use Rattle.std.specs.Prelude.{◌==◌, ◌&&◌, ◌||◌, bit_and, bit_or, bit_xor, nat_le, not}
 use Rattle.std.specs.Cmp.{both_ways}
 use Rattle.std.specs.Int.{bit_at, bit_not, trailing_zeros}
-use Rattle.std.proofs.lemmas.Bool.{cases_Bool, cases_eq, cases_lt, eq-eqb, eqb-true, false≢true, le-leb, leb-false, leb-true, ne_eqb}
+use Rattle.std.proofs.lemmas.Bool.{cases_Bool, cases_eq, cases_lt, eq-eqb, eqb-true, false≢true, le-leb, leb-false, leb-true}
 use Rattle.std.proofs.lemmas.List.{get_or_past, get_or-set_same, get_or-set_other, length-set}
 use Rattle.std.proofs.lemmas.Nat.{and_le_l, or_lt}
 use Rattle.std.proofs.lemmas.Nat.Bits.{bit_at_and, bit_at_not, bit_at_or, bit_at_xor, bit_at-lt, bit_at-trailing_zeros, bit_at-zero}
 use Rattle.rail_sets.specs.Counts.{Columns, column, count_of, digits_below, one_if}
 use Rattle.rail_sets.specs.Sets.{has}
-use Rattle.rail_sets.proofs.Words.{IsMade, bit_section, has_bit, has_past, or_out, same_word}
+use Rattle.rail_sets.proofs.Words.{IsMade, bit_section, has_bit, has_past, made_more, or_out, same_word}
 use native.Mathlib.Nat.{add_comm, pow-suc}
 
 -- digits that are the same make up the same
@@ -387,9 +387,13 @@ falls_of : (p q r s : Bool) (a b c d z : ℕ) → (p ≡ (a == 1)) → (q ≡ (b
     → z ≡ max a (min (min b (1 - c)) d) → (z == 1) ≡ (p || (q && not r && s))
 falls_of p q r s a b c d z is_p is_q is_r is_s low_a low_b low_c low_d made = grind (arith, is_p, is_q, is_r, is_s, low_a, low_b, low_c, low_d, made)
 
--- the set has what it had, and what is counted twice and is in the one set and not in the other
+-- the section is counted twice, and is in the one set and not in the other
+abbrev pub falls : Columns → List ℕ → List ℕ → ℕ → Bool
+falls counts from to x = has from x && not (has to x) && (count_of counts x == 2)
+
+-- the set has what it had, and these
 abbrev pub with_falls : Columns → List ℕ → List ℕ → List ℕ → ℕ → Bool
-with_falls counts old from to x = has old x || (has from x && not (has to x) && (count_of counts x == 2))
+with_falls counts old from to x = has old x || falls counts from to x
 
 pub falls_at : (counts : Columns) (old new from to : List ℕ) (n t : ℕ) (col : List ℕ) → HasTwice col t → col ≡ get_or counts n [] → get_or to n 0 < 2 ^ 64 → get_or new n 0 ≡ get_or old n 0
     → (x : ℕ) → x / 64 ≡ n → (bit_at (bit_or (get_or new n 0) (bit_and (bit_and (get_or from n 0) (bit_not w64 (get_or to n 0))) t)) (x % 64) == 1) ≡ with_falls counts old from to x
@@ -410,20 +414,50 @@ falls_at counts old new from to n t col twice is fits same x at =
     ∙ ap (max (bit_at a bit)) (bit_at_and (bit_and b (bit_not w64 c)) t bit
     ∙ ap (λ v. min v (bit_at t bit)) (bit_at_and b (bit_not w64 c) bit ∙ ap (min (bit_at b bit)) (bit_at_not w64 c bit fits low))))
 
-or_none : (p q : Bool) → (p || q) ≡ false → q ≡ false
-or_none true q none = absurd (false≢true (sym none))
-or_none false q none = none
+fall_of : (q r s : Bool) (b c d z : ℕ) → (q ≡ (b == 1)) → (r ≡ (c == 1)) → (s ≡ (d == 1)) → b < 2 → c < 2 → d < 2 → z ≡ min (min b (1 - c)) d → (z == 1) ≡ (q && not r && s)
+fall_of q r s b c d z is_q is_r is_s low_b low_c low_d made = grind (arith, is_q, is_r, is_s, low_b, low_c, low_d, made)
+
+-- a word of them alone
+pub fall_at : (counts : Columns) (from to : List ℕ) (n t : ℕ) (col : List ℕ) → HasTwice col t → col ≡ get_or counts n [] → get_or to n 0 < 2 ^ 64
+    → (x : ℕ) → x / 64 ≡ n → (bit_at (bit_and (bit_and (get_or from n 0) (bit_not w64 (get_or to n 0))) t) (x % 64) == 1) ≡ falls counts from to x
+fall_at counts from to n t col twice is fits x at =
+    let bit : ℕ = x % 64 in
+    let b : ℕ = get_or from n 0 in
+    let c : ℕ = get_or to n 0 in
+    let low : bit < 64 = omega arith in
+    fall_of (has from x) (has to x) (count_of counts x == 2) (bit_at b bit) (bit_at c bit) (bit_at t bit) (bit_at (bit_and (bit_and b (bit_not w64 c)) t) bit)
+    (ap (λ k. bit_at (get_or from k 0) bit == 1) at)
+    (ap (λ k. bit_at (get_or to k 0) bit == 1) at)
+    (ap (λ v. v == 2) (sym (column_at counts n col x at is)) ∙ sym (twice bit low))
+    (bit_at-lt b bit) (bit_at-lt c bit) (bit_at-lt t bit)
+    (bit_at_and (bit_and b (bit_not w64 c)) t bit
+    ∙ ap (λ v. min v (bit_at t bit)) (bit_at_and b (bit_not w64 c) bit ∙ ap (min (bit_at b bit)) (bit_at_not w64 c bit fits low)))
 
 -- where a word has none of them, none of its sections is such a one
 pub no_falls_at : (counts : Columns) (from to : List ℕ) (n t : ℕ) (col : List ℕ) → HasTwice col t → col ≡ get_or counts n [] → get_or to n 0 < 2 ^ 64
-    → bit_and (bit_and (get_or from n 0) (bit_not w64 (get_or to n 0))) t ≡ 0 → (x : ℕ) → x / 64 ≡ n → (has from x && not (has to x) && (count_of counts x == 2)) ≡ false
+    → bit_and (bit_and (get_or from n 0) (bit_not w64 (get_or to n 0))) t ≡ 0 → (x : ℕ) → x / 64 ≡ n → falls counts from to x ≡ false
 no_falls_at counts from to n t col twice is fits none x at =
+    sym (fall_at counts from to n t col twice is fits x at) ∙ ap (λ v. v == 1) (ap (λ w. bit_at w (x % 64)) none ∙ bit_at-zero (x % 64))
+
+pair_of : (q s : Bool) (b d z : ℕ) → (q ≡ (b == 1)) → (s ≡ (d == 1)) → b < 2 → d < 2 → z ≡ min b d → (z == 1) ≡ (q && s)
+pair_of q s b d z is_q is_s low_b low_d made = grind (arith, is_q, is_s, low_b, low_d, made)
+
+-- and where it has none that is counted twice, no section of it is
+pub no_pairs_at : (counts : Columns) (words : List ℕ) (n t : ℕ) (col : List ℕ) → HasTwice col t → col ≡ get_or counts n [] → bit_and (get_or words n 0) t ≡ 0
+    → (x : ℕ) → x / 64 ≡ n → (has words x && (count_of counts x == 2)) ≡ false
+no_pairs_at counts words n t col twice is none x at =
     let bit : ℕ = x % 64 in
-    let a : ℕ = get_or {A = ℕ} [] n 0 in
-    let w : ℕ = bit_and (bit_and (get_or from n 0) (bit_not w64 (get_or to n 0))) t in
-    let zero : bit_at (bit_or a w) bit ≡ 0 = omega (arith, bit_at_or a w bit, ap (λ v. bit_at v bit) none, bit_at-zero bit, ap (λ v. bit_at v bit) (get_or_past [] n 0 (omega arith))) in
-    let made = falls_at counts [] [] from to n t col twice is fits refl x at in
-    or_none (has [] x) (has from x && not (has to x) && (count_of counts x == 2)) (sym made ∙ ne_eqb (bit_at (bit_or a w) bit) 1 (λ e. absurd (omega (arith, e, zero))))
+    let b : ℕ = get_or words n 0 in
+    let low : bit < 64 = omega arith in
+    sym (pair_of (has words x) (count_of counts x == 2) (bit_at b bit) (bit_at t bit) (bit_at (bit_and b t) bit)
+    (ap (λ k. bit_at (get_or words k 0) bit == 1) at)
+    (ap (λ v. v == 2) (sym (column_at counts n col x at is)) ∙ sym (twice bit low))
+    (bit_at-lt b bit) (bit_at-lt t bit) (bit_at_and b t bit))
+    ∙ ap (λ v. v == 1) (ap (λ w. bit_at w bit) none ∙ bit_at-zero bit)
+
+-- behind the words of the set there is none
+pub no_pairs_past : (counts : Columns) (words : List ℕ) (x : ℕ) → length words ≤ x / 64 → (has words x && (count_of counts x == 2)) ≡ false
+no_pairs_past counts words x past = ap (λ b. b && (count_of counts x == 2)) (has_past words x past)
 
 -- and behind the words of the one set there is none
 pub no_falls_past : (counts : Columns) (from to : List ℕ) (x : ℕ) → length from ≤ x / 64 → (has from x && not (has to x) && (count_of counts x == 2)) ≡ false
@@ -443,18 +477,52 @@ falls_all counts old new from to n all is x =
 shared_of : (p q : Bool) (a b z : ℕ) → (p ≡ (a == 1)) → (q ≡ (b == 1)) → a < 2 → b < 2 → z ≡ min a (1 - b) → (z == 1) ≡ (p && not q)
 shared_of p q a b z is_p is_q low_a low_b made = grind (arith, is_p, is_q, low_a, low_b, made)
 
--- the set has what is counted more than once and is not in the other
-abbrev pub shared : Columns → List ℕ → ℕ → Bool
-shared counts other x = nat_le 2 (count_of counts x) && not (has other x)
+-- the section is counted more than once, and does not fall
+abbrev pub shared : Columns → List ℕ → List ℕ → ℕ → Bool
+shared counts from to x = nat_le 2 (count_of counts x) && not (falls counts from to x)
 
-pub shared_at : (counts : Columns) (other : List ℕ) (n m : ℕ) (col : List ℕ) → HasMany col m → col ≡ get_or counts n [] → get_or other n 0 < 2 ^ 64
-    → (x : ℕ) → x / 64 ≡ n → (bit_at (bit_and m (bit_not w64 (get_or other n 0))) (x % 64) == 1) ≡ shared counts other x
-shared_at counts other n m col many is fits x at =
+pub shared_at : (counts : Columns) (from to : List ℕ) (n m t : ℕ) (col : List ℕ) → HasMany col m → HasTwice col t → col ≡ get_or counts n [] → get_or from n 0 < 2 ^ 64 → get_or to n 0 < 2 ^ 64
+    → (x : ℕ) → x / 64 ≡ n
+    → (bit_at (bit_and m (bit_not w64 (bit_and (bit_and (get_or from n 0) (bit_not w64 (get_or to n 0))) t))) (x % 64) == 1) ≡ shared counts from to x
+shared_at counts from to n m t col many twice is fits_from fits x at =
     let bit : ℕ = x % 64 in
-    let b : ℕ = get_or other n 0 in
+    let a : ℕ = get_or from n 0 in
+    let b : ℕ = get_or to n 0 in
+    let f : ℕ = bit_and (bit_and a (bit_not w64 b)) t in
     let low : bit < 64 = omega arith in
-    shared_of (nat_le 2 (count_of counts x)) (has other x) (bit_at m bit) (bit_at b bit) (bit_at (bit_and m (bit_not w64 b)) bit)
+    shared_of (nat_le 2 (count_of counts x)) (falls counts from to x) (bit_at m bit) (bit_at f bit) (bit_at (bit_and m (bit_not w64 f)) bit)
     (ap (nat_le 2) (sym (column_at counts n col x at is)) ∙ sym (many bit low))
-    (ap (λ k. bit_at (get_or other k 0) bit == 1) at)
-    (bit_at-lt m bit) (bit_at-lt b bit)
-    (bit_at_and m (bit_not w64 b) bit ∙ ap (min (bit_at m bit)) (bit_at_not w64 b bit fits low))
+    (sym (fall_at counts from to n t col twice is fits x at))
+    (bit_at-lt m bit) (bit_at-lt f bit)
+    (bit_at_and m (bit_not w64 f) bit
+    ∙ ap (min (bit_at m bit)) (bit_at_not w64 f bit (omega (arith, fits_from, and_le_l a (bit_not w64 b), and_le_l (bit_and a (bit_not w64 b)) t)) low))
+
+-- both sets of the first so many words, and whether there is one that falls
+pub record IsSorted (counts : Columns) (from to old new beside_old beside : List ℕ) (any : Bool) (n : ℕ) : Type 0 where
+  pub fell : IsMade (falls counts from to) old new n
+  pub shared : IsMade (shared counts from to) beside_old beside n
+  pub none : any ≡ false → (x : ℕ) → x < 64 * n → falls counts from to x ≡ false
+
+-- no word so far had one, and this word has none
+any_none : (any : Bool) (w : ℕ) → (any || not (w == 0)) ≡ false → (any ≡ false) × (w ≡ 0)
+any_none true w is = absurd (false≢true (sym is))
+any_none false w is = (refl, ⊎_elim (λ zero. eqb-true w 0 zero) (λ some. absurd (false≢true (sym is ∙ ap not some))) (cases_Bool (w == 0)))
+
+-- a word more
+pub sorted_more : (counts : Columns) (from to old new beside_old beside : List ℕ) (any : Bool) (n m t : ℕ) (col : List ℕ)
+    → n < length new → n < length beside → HasMany col m → HasTwice col t → col ≡ get_or counts n [] → get_or from n 0 < 2 ^ 64 → get_or to n 0 < 2 ^ 64
+    → IsSorted counts from to old new beside_old beside any n
+    → let w = bit_and (bit_and (get_or from n 0) (bit_not w64 (get_or to n 0))) t in
+    IsSorted counts from to old (set new n w) beside_old (set beside n (bit_and m (bit_not w64 w))) (any || not (w == 0)) (n + 1)
+sorted_more counts from to old new beside_old beside any n m t col within beside_within many twice is fits_from fits before =
+    let w : ℕ = bit_and (bit_and (get_or from n 0) (bit_not w64 (get_or to n 0))) t in
+    record {
+      fell = made_more (falls counts from to) old new n w within before.fell (fall_at counts from to n t col twice is fits);
+      shared = made_more (shared counts from to) beside_old beside n (bit_and m (bit_not w64 w)) beside_within before.shared (shared_at counts from to n m t col many twice is fits_from fits);
+      none = λ no x low.
+          let without = any_none any w no in
+          ⊎_elim
+          (λ (at : x / 64 ≡ n). no_falls_at counts from to n t col twice is fits without.1 x at)
+          (λ (ne : x / 64 ≢ n). before.none without.0 x (omega (arith, low, ne)))
+          (cases_eq (x / 64) n);
+    }

@@ -3,7 +3,7 @@ use Rattle.std.proofs.Common.{◌≡◌, ◌≢◌, ℕ, ◌+◌, ◌-◌, ◌*�
 use Rattle.std.proofs.lemmas.Bool.{cases_Bool, cases_eq, cases_lt, false≢true, ne_eqb, or_right}
 use Rattle.std.proofs.lemmas.List.{get_or_past, get_or-set_same, get_or-set_other, get_or-replicate, get_or-take, length-replicate, length-set, length-take}
 use Rattle.std.proofs.lemmas.Nat.{and_le_l}
-use Rattle.std.proofs.lemmas.Nat.Bits.{bit_at_and, bit_at-lt, bit_at-zero, bit_at_not, bit_at_set_same, bit_at_set_other, bit_at-trailing_zeros}
+use Rattle.std.proofs.lemmas.Nat.Bits.{bit_at_and, bit_at-lt, bit_at-zero, bit_at_not, bit_at_or, bit_at_set_same, bit_at_set_other, bit_at-trailing_zeros}
 use Rattle.std.specs.Prelude.{bit_and, bit_or, ◌==◌}
 use Rattle.std.specs.Int.{bit_at, bit_not, trailing_zeros}
 use Rattle.rail_sets.specs.Sets.{has}
@@ -207,3 +207,22 @@ made_more wanted old new n w within before here = record {
       (cases_eq (x / 64) n);
   rest = λ k from. get_or-set_other new n k w 0 (λ same. omega (arith, same, from)) ∙ before.rest k (omega (arith, from));
 }
+
+-- the set has those of another set, of which some go and some come
+abbrev pub replaced : List ℕ → List ℕ → List ℕ → ℕ → Bool
+replaced other gone come x = (has other x && not (has gone x)) || has come x
+
+pub replaced_at : (other gone come : List ℕ) (n : ℕ) → get_or gone n 0 < 2 ^ 64
+    → (x : ℕ) → x / 64 ≡ n → (bit_at (bit_or (bit_and (get_or other n 0) (bit_not w64 (get_or gone n 0))) (get_or come n 0)) (x % 64) == 1) ≡ replaced other gone come x
+replaced_at other gone come n fits x at =
+    let bit : ℕ = x % 64 in
+    let a : ℕ = get_or other n 0 in
+    let b : ℕ = get_or gone n 0 in
+    let c : ℕ = get_or come n 0 in
+    let low : bit < 64 = omega arith in
+    replaced_by_bits (has other x) (has gone x) (has come x) (bit_at (bit_or (bit_and a (bit_not w64 b)) c) bit == 1) (bit_at a bit) (bit_at b bit) (bit_at c bit)
+    (bit_at (bit_or (bit_and a (bit_not w64 b)) c) bit)
+    (ap (λ k. bit_at (get_or other k 0) bit == 1) at) (ap (λ k. bit_at (get_or gone k 0) bit == 1) at) (ap (λ k. bit_at (get_or come k 0) bit == 1) at) refl
+    (bit_at-lt a bit) (bit_at-lt b bit) (bit_at-lt c bit)
+    (bit_at_or (bit_and a (bit_not w64 b)) c bit
+    ∙ ap (λ v. max v (bit_at c bit)) (bit_at_and a (bit_not w64 b) bit ∙ ap (min (bit_at a bit)) (bit_at_not w64 b bit fits low)))

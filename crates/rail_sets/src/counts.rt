@@ -188,6 +188,19 @@ impl Counts {
         false
     }
 
+    /// A section of the set is counted twice.
+    pub fn has_pairs(&self, set: &[u64]) -> bool
+        requires { length set.now ≤ WORDS }
+        ensures { result ≡ false → (x : ℕ) → (has set.now x && (count_of self.now x == 2)) ≡ false }
+    {
+        for (index, word) in set.iter().enumerate() {
+            if *word & self.columns[index].twice() != 0 {
+                return true;
+            }
+        }
+        false
+    }
+
     /// Adds to the set the sections that are counted twice and are in the one set and not in the other: those that
     /// are counted once where what is in the one set alone is counted once less.
     pub fn add_falls(&self, set: &mut [u64], from: &[u64], to: &[u64])
@@ -203,18 +216,30 @@ impl Counts {
         }
     }
 
-    /// Fills the words of the set, as many as the other set has, with the sections there that are counted more than
-    /// once and are not in the other set.
-    pub fn fill_shared(&self, set: &mut [u64], other: &[u64])
-        requires other { length other.now ≤ WORDS }
-        requires set { length other.now ≤ length set.old }
-        ensures set { (x : ℕ) → x < 64 * length other.now
-            → has set.new x ≡ (nat_le 2 (count_of self.now x) && not (has other.now x)) }
-        ensures long { length set.new ≡ length set.old }
+    /// Fills the words of two sets, as many as the set `from` has: one with the sections that are counted twice and are in
+    /// `from` and not in `to`, the other with all others that are counted more than once. Whether the first one has any.
+    pub fn fill_falls(&self, fell: &mut [u64], shared: &mut [u64], from: &[u64], to: &[u64]) -> bool
+        requires from { length from.now ≤ WORDS }
+        requires to { length to.now ≡ length from.now }
+        requires fell { length from.now ≤ length fell.old }
+        requires shared { length from.now ≤ length shared.old }
+        ensures fell { (x : ℕ) → x < 64 * length from.now
+            → has fell.new x ≡ (has from.now x && not (has to.now x) && (count_of self.now x == 2)) }
+        ensures shared { (x : ℕ) → x < 64 * length from.now
+            → has shared.new x ≡ (nat_le 2 (count_of self.now x) && not (has fell.new x)) }
+        ensures none { result ≡ false → (x : ℕ) → x < 64 * length from.now → has fell.new x ≡ false }
+        ensures long_fell { length fell.new ≡ length fell.old }
+        ensures long_shared { length shared.new ≡ length shared.old }
     {
-        for (index, word) in other.iter().enumerate() {
-            set[index] = self.columns[index].many() & !*word;
+        let mut any = false;
+        for (index, word) in from.iter().enumerate() {
+            let column = &self.columns[index];
+            let falls = *word & !to[index] & column.twice();
+            fell[index] = falls;
+            shared[index] = column.many() & !falls;
+            any |= falls != 0;
         }
+        any
     }
 }
 

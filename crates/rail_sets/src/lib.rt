@@ -13,5 +13,6 @@ mod sets;
 
 pub use counts::Counts;
 pub use sets::{
-    WORDS, add_all, clear, first_common, is_empty, join, meet, meet_beyond, replace, width_of,
+    WORDS, add_all, clear, fill_replaced, first_common, is_empty, join, meet, meet_beyond, replace,
+    width_of,
 };

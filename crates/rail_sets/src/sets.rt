@@ -101,6 +101,21 @@ pub fn replace(set: &mut [u64], gone: &[u64], come: &[u64])
     }
 }
 
+/// Fills the words of the set, as many as the sections that come have, with those of another set, of which some go and some
+/// come.
+pub fn fill_replaced(set: &mut [u64], other: &[u64], gone: &[u64], come: &[u64])
+    requires gone { length gone.now ≡ length come.now }
+    requires other { length come.now ≤ length other.now }
+    requires set { length come.now ≤ length set.old }
+    ensures set { (x : ℕ) → x < 64 * length come.now
+        → has set.new x ≡ ((has other.now x && not (has gone.now x)) || has come.now x) }
+    ensures long { length set.new ≡ length set.old }
+{
+    for (index, word) in come.iter().enumerate() {
+        set[index] = other[index] & !gone[index] | *word;
+    }
+}
+
 /// Adds the sections to the set.
 pub fn add_all(set: &mut [u64], sections: &[SectionNo])
     requires { (x : ℕ) → IsTrue (is_in x sections.now) → x < 64 * length set.old }

@@ -1,5 +1,5 @@
 //! What the player of lists answers, and at which depth a list is found.
-ghost use Rattle.rail_consequence.specs.Needs.{IsAnalystFor};
+ghost use Rattle.rail_consequence.specs.Kept.{IsAnalystFor};
 ghost use Rattle.rail_place.specs.Made.{IsMadeFor};
 ghost use Rattle.rail_place.specs.Tables.{moves_in};
 

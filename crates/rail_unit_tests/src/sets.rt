@@ -1,7 +1,7 @@
 use rail_base::SectionNo;
 use rail_sets::{
-    Counts, WORDS, add_all, clear, first_common, is_empty, join, meet, meet_beyond, replace,
-    width_of,
+    Counts, WORDS, add_all, clear, fill_replaced, first_common, is_empty, join, meet, meet_beyond,
+    replace, width_of,
 };
 
 #[test]
@@ -26,6 +26,13 @@ fn sets_of_sections_meet_and_change(rt: HostRuntime) {
     replace(&mut both, &station, &[0u64; WORDS]);
     assert!(rt; !meet(&both, &station));
     assert!(rt; meet(&both, &line));
+    let mut siding = [0u64; WORDS];
+    add_all(&mut siding, &[SectionNo(5)]);
+    let mut wanted = [0u64; WORDS];
+    add_all(&mut wanted, &[SectionNo(3), SectionNo(5), SectionNo(511)]);
+    let mut found = [0u64; WORDS];
+    fill_replaced(&mut found, &line, &station, &siding);
+    assert_eq!(rt; found, wanted);
 }
 
 #[test]
@@ -45,11 +52,16 @@ fn sections_are_counted(rt: HostRuntime) {
     counts.count_up(&station, &none);
     assert!(rt; counts.are_once(&line[..1]));
     assert!(rt; !counts.are_once(&line));
+    assert!(rt; counts.has_pairs(&line));
+    assert!(rt; !counts.has_pairs(&line[..1]));
     let mut found = none;
-    counts.fill_shared(&mut found, &none);
+    let mut shared = none;
+    assert!(rt; counts.fill_falls(&mut found, &mut shared, &line, &none));
     assert_eq!(rt; found, junction);
-    counts.fill_shared(&mut found, &station);
+    assert!(rt; is_empty(&shared));
+    assert!(rt; !counts.fill_falls(&mut found, &mut shared, &line, &station));
     assert!(rt; is_empty(&found));
+    assert_eq!(rt; shared, junction);
     counts.add_falls(&mut found, &line, &none);
     assert_eq!(rt; found, junction);
     clear(&mut found);

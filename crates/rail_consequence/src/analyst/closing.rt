@@ -42,6 +42,7 @@ impl Worksheet {
     }
 
     /// Makes a safe leg of each train that has one at its turn, and says whether any was made.
+    #[inline(never)]
     fn make_safe_legs(&mut self, moves: &Moves, inside: &[TrainNo], notes: &mut Notes) -> bool
         requires ready { IsReady moves.now self.old }
         requires listed { IsListing (moves_in moves.now) self.old.places.positions inside.now }
@@ -66,6 +67,7 @@ impl Worksheet {
 
     /// Makes the farthest safe leg of the train; or notes what stops it, where it has none. A train is
     /// not looked at again as long as what stopped it does.
+    #[inline(always)]
     fn make_safe_leg(&mut self, moves: &Moves, train: TrainNo, notes: &mut Notes) -> bool
         requires ready { IsReady moves.now self.old }
         requires train { train < length moves.now }
@@ -100,6 +102,41 @@ impl Worksheet {
         }
     }
 
+    /// Looks at the trains inside that nothing of what is noted stops, and notes what does. No section has fallen
+    /// since.
+    pub(super) fn look_again(&self, moves: &Moves, inside: &[TrainNo], notes: &mut Notes)
+        requires ready { IsReady moves.now self.now }
+        requires listed { IsListing (moves_in moves.now) self.now.places.positions inside.now }
+        requires noted { IsNotedTo (moves_in moves.now) self.now.places.positions notes.old }
+        ensures { IsNotedTo (moves_in moves.now) self.now.places.positions notes.new }
+    {
+        for train in inside {
+            self.look_at(moves, *train, notes);
+        }
+        notes.forget_falls();
+    }
+
+    /// Looks at the train if nothing of what is noted stops it, and notes what does.
+    fn look_at(&self, moves: &Moves, train: TrainNo, notes: &mut Notes)
+        requires ready { IsReady moves.now self.now }
+        requires train { train < length moves.now }
+        requires noted { IsNotedTo (moves_in moves.now) self.now.places.positions notes.old }
+        ensures stopped { (x : ℕ) → IsTrue (is_inside (moves_in moves.now) self.now.places.positions train)
+            → section_of (stop_of notes.new.stops train) ≡ Some x
+            → IsStopped (moves_in moves.now) self.now.places.positions train x }
+        ensures others { (u : ℕ) → u ≢ train → stop_of notes.new.stops u ≡ stop_of notes.old.stops u }
+        ensures noted { IsNotedTo (moves_in moves.now) self.now.places.positions notes.new }
+    {
+        if notes.stop(train).is_free() || self.is_stopped(moves, notes, train) {
+            return;
+        }
+        match self.look(moves, train) {
+            Look::Stopped(stop) => notes.set(train, stop),
+            Look::Leads(_) => notes.set(train, Stop::Free),
+            Look::Idle => notes.set(train, Stop::Unknown),
+        }
+    }
+
     /// Takes back what is noted of the train, which is to go on to the place, and notes the sections that fall to
     /// one train then.
     pub(super) fn note_leg(&self, moves: &Moves, train: TrainNo, place: u16, notes: &mut Notes)
@@ -131,7 +168,7 @@ impl Worksheet {
             × IsStopped (moves_in moves.now) self.now.places.positions train x }
     {
         match notes.stop(train) {
-            Stop::Unknown => false,
+            Stop::Unknown | Stop::Free => false,
             Stop::Next(section) => self.is_held_by_other(train, section),
             Stop::Later(section) => {
                 self.is_held_by_other(train, section) && !self.is_touched(moves, notes, train)
@@ -155,6 +192,7 @@ impl Worksheet {
 
     /// Looks how far the train can go on while all others stand, and for the last place on its way to which
     /// a leg is safe.
+    #[inline(always)]
     fn look(&self, moves: &Moves, train: TrainNo) -> Look
         requires ready { IsReady moves.now self.now }
         requires train { train < length moves.now }

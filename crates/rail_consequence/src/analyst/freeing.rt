@@ -1,63 +1,160 @@
 //! Looks at what a leg would free, before it is made.
 
-ghost use Rattle.std.specs.Prelude.{◌≡◌, ℕ, ◌+◌, ◌<◌, ◌≤◌, ◌≢◌, ◌⊎◌, Some, None, false, length, set, IsTrue};
+ghost use Rattle.std.specs.Prelude.{◌≡◌, ℕ, ◌+◌, ◌*◌, ◌<◌, ◌≤◌, ◌≢◌, ◌⊎◌, Option, Some, None, false, [], length, set, IsTrue, IfSome};
 ghost use Rattle.rail_rules.specs.Places.{is_inside, place_of};
 ghost use Rattle.rail_place.specs.Tables.{moves_in};
 ghost use Rattle.rail_rules.specs.Numbers.{is_in};
 ghost use Rattle.rail_sets.specs.Sets.{has};
-ghost use Rattle.rail_consequence.specs.Searches.{HasNoSafeLegOf};
-ghost use Rattle.rail_consequence.specs.Freeing.{FreesNobody, HasFalls, HasOther, IsAhead, IsIndex, IsIndexOf, IsMet, link};
+ghost use Rattle.rail_consequence.specs.Searches.{FindsByNoLegOf, HasNoSafeLegOf};
+ghost use Rattle.rail_consequence.specs.Freeing.{AreSeveral, FallsInVain, FreesNobody, HasFalls, HasOther, IsAhead, IsNextStop, IsNotAwaited, MayWaitFor, WaitsFor, is_marked};
 ghost use Rattle.rail_consequence.specs.Stops.{IsSettled, IsUntouched, stop_of};
 ghost use Rattle.rail_consequence.specs.declared.notes.Stop.TheVariants.{Later};
 ghost use Rattle.rail_consequence.specs.Workspace.{IsListing, IsReady};
+ghost use Rattle.rail_base.specs.declared.limits.TheConstants.{TRAINS};
 
 use super::Worksheet;
 use crate::ahead::Ahead;
 use crate::notes::{Notes, Stop};
+use crate::openers::Openers;
 use crate::tally::stands_inside;
-use crate::waiting::Waiting;
 use rail_base::TrainNo;
-use rail_base::limits::TRAINS;
 use rail_place::Moves;
-use rail_sets::{WORDS, meet, meet_beyond, replace};
+use rail_sets::{fill_replaced, meet, meet_beyond};
 
 impl Worksheet {
-    /// Which trains wait for which where one free leg may be made: otherwise nobody asks.
-    pub(super) fn waiting(
+    /// Finds the trains of which it may help that they make the last free leg, where two are inside or more. Of the others a
+    /// look at what is noted tells that they can't go on, or that nobody gets a safe leg even where they have gone out.
+    ///
+    /// It goes over the trains that are stopped, and asks of each only what would hold it where the train were gone for
+    /// which it waits.
+    pub(super) fn find_openers(
         &self,
         moves: &Moves,
         inside: &[TrainNo],
         notes: &Notes,
-        depth: u8,
-    ) -> Waiting
+        ahead: &mut Ahead,
+        openers: &mut Openers,
+    )
         requires ready { IsReady moves.now self.now }
         requires listed { IsListing (moves_in moves.now) self.now.places.positions inside.now }
-        ensures { IsIndexOf (moves_in moves.now) self.now.places.positions notes.now.stops depth inside.now result }
+        requires settled { IsSettled (moves_in moves.now) self.now.places.positions notes.now.stops }
+        requires several { AreSeveral (moves_in moves.now) self.now.places.positions }
+        ensures { (t : ℕ) → is_marked openers.new t ≡ false → FindsByNoLegOf (moves_in moves.now) 0 self.now.places.positions t }
     {
-        if depth > 0 || inside.len() > TRAINS {
-            return Waiting::none();
+        openers.clear();
+        for other in inside {
+            self.add_awaited(moves, notes, ahead, *other, openers);
         }
-        Waiting::new(moves, &self.places, notes, inside)
+        for train in inside {
+            self.add_by_falls(moves, inside, notes, ahead, *train, openers);
+        }
+    }
+
+    /// Adds the train for which this one waits, where this one may get a safe leg once that one has gone out; all trains
+    /// where it waits for none.
+    fn add_awaited(
+        &self,
+        moves: &Moves,
+        notes: &Notes,
+        ahead: &mut Ahead,
+        other: TrainNo,
+        openers: &mut Openers,
+    )
+        requires ready { IsReady moves.now self.now }
+        requires other { other < length moves.now }
+        requires settled { IsSettled (moves_in moves.now) self.now.places.positions notes.now.stops }
+        ensures more { (t : ℕ) → is_marked openers.new t ≡ false → is_marked openers.old t ≡ false }
+        ensures here { (t : ℕ) → is_marked openers.new t ≡ false
+            → IsNotAwaited (moves_in moves.now) self.now.places.positions notes.now.stops t other }
+    {
+        if !stands_inside(moves, &self.places, other) {
+            return;
+        }
+        let Some(train) = self.awaited(moves, notes, other) else {
+            openers.add_all();
+            return;
+        };
+        if openers.has(train) || train == other || notes.stop(train).is_next() {
+            return;
+        }
+        let last = moves.places(train);
+        self.look_ahead(moves, train, last, ahead);
+        if !self.is_kept_from_legs(moves, ahead, other, train, last) {
+            openers.add(train);
+        }
+    }
+
+    /// The train that holds the section that is noted to stop this one.
+    fn awaited(&self, moves: &Moves, notes: &Notes, train: TrainNo) -> Option<TrainNo>
+        requires ready { IsReady moves.now self.now }
+        requires train { train < length moves.now }
+        ensures exact { (key : Option ℕ)
+            → WaitsFor (moves_in moves.now) self.now.places.positions notes.now.stops train key → key ≡ result }
+        ensures inside { IfSome result (λ h. IsTrue (is_inside (moves_in moves.now) self.now.places.positions h)) }
+        ensures known { IfSome result (λ h. h < length moves.now) }
+    {
+        match notes.stop(train) {
+            Stop::Unknown | Stop::Free => None,
+            Stop::Next(section) | Stop::Later(section) => self.places.holder(section),
+        }
+    }
+
+    /// Adds the train where a section falls to another one once it has gone out, which may get a safe leg.
+    fn add_by_falls(
+        &self,
+        moves: &Moves,
+        inside: &[TrainNo],
+        notes: &Notes,
+        ahead: &mut Ahead,
+        train: TrainNo,
+        openers: &mut Openers,
+    )
+        requires ready { IsReady moves.now self.now }
+        requires listed { IsListing (moves_in moves.now) self.now.places.positions inside.now }
+        requires train { train < length moves.now }
+        ensures more { (t : ℕ) → is_marked openers.new t ≡ false → is_marked openers.old t ≡ false }
+        ensures here { is_marked openers.new train ≡ false → IsTrue (is_inside (moves_in moves.now) self.now.places.positions train)
+            → IsNextStop notes.now.stops train
+            ⊎ FallsInVain (moves_in moves.now) self.now.places.positions self.now.needs self.now.rows.width notes.now.stops inside.now train ((moves_in moves.now).moves train) }
+    {
+        if openers.has(train)
+            || notes.stop(train).is_next()
+            || !stands_inside(moves, &self.places, train)
+            || !self.has_pairs(moves, train)
+        {
+            return;
+        }
+        let last = moves.places(train);
+        self.look_ahead(moves, train, last, ahead);
+        if !self.falls_are_in_vain(moves, inside, notes, ahead, train, last) {
+            openers.add(train);
+        }
+    }
+
+    /// Whether a section that the train needs is needed by one other.
+    fn has_pairs(&self, moves: &Moves, train: TrainNo) -> bool
+        requires ready { IsReady moves.now self.now }
+        requires train { train < length moves.now }
+        ensures { result ≡ false → HasFalls (moves_in moves.now) self.now.places.positions self.now.needs self.now.rows.width train ((moves_in moves.now).moves train) [] }
+    {
+        self.needs
+            .has_pairs(self.rows.rest(moves, train, self.places.position(train)))
     }
 
     /// Whether no other train inside gets a safe leg where the train goes on to the place: there is another, and
     /// each stays without one. A train that is stopped by a third one does, unless a section that it needs falls to
-    /// it: a look at those that wait for the train, at those of which nothing is noted and at those left alone in
-    /// need of a section is enough.
+    /// it: a look at those that wait for the train, and at those left alone in need of a section is enough.
     pub(super) fn frees_nobody(
         &self,
         moves: &Moves,
         inside: &[TrainNo],
         notes: &Notes,
-        waiting: &Waiting,
         ahead: &mut Ahead,
         train: TrainNo,
         place: u16,
     ) -> bool
         requires ready { IsReady moves.now self.now }
         requires listed { IsListing (moves_in moves.now) self.now.places.positions inside.now }
-        requires waiting { length inside.now ≤ TRAINS
-            → IsIndex (moves_in moves.now) self.now.places.positions notes.now.stops inside.now (length inside.now) waiting.now }
         requires train { train < length moves.now }
         requires settled { IsSettled (moves_in moves.now) self.now.places.positions notes.now.stops }
         requires inside { IsTrue (is_inside (moves_in moves.now) self.now.places.positions train) }
@@ -65,98 +162,83 @@ impl Worksheet {
         requires within { place ≤ (moves_in moves.now).moves train }
         ensures { IsTrue result → FreesNobody (moves_in moves.now) self.now.places.positions train place }
     {
-        // No more are numbered.
-        if inside.len() > TRAINS || !self.has_other_inside(moves, inside, train) {
+        if !self.has_other_inside(moves, inside, train) {
             return false;
         }
-        let last = waiting.end(Some(train));
-        let unknown = waiting.end(None);
-        self.look_at_falls(moves, train, place, ahead);
-        if last == 0 && unknown == 0 && !ahead.has_fallen {
-            return true;
-        }
-        self.look_at_sets(moves, train, place, ahead);
-        self.stay_without_leg(moves, inside, waiting, ahead, last, train, place)
-            && self.stay_without_leg(moves, inside, waiting, ahead, unknown, train, place)
+        self.look_ahead(moves, train, place, ahead);
+        self.stay_without_leg(moves, inside, notes, ahead, train, place)
             && self.falls_are_in_vain(moves, inside, notes, ahead, train, place)
     }
 
-    /// Looks which sections fall to another train where this one goes on to the place.
-    fn look_at_falls(&self, moves: &Moves, train: TrainNo, place: u16, ahead: &mut Ahead)
-        requires ready { IsReady moves.now self.now }
-        requires train { train < length moves.now }
-        requires within { place ≤ (moves_in moves.now).moves train }
-        ensures fell { HasFalls (moves_in moves.now) self.now.places.positions self.now.needs train place ahead.new.fell }
-        ensures none { ahead.new.has_fallen ≡ false → (x : ℕ) → has ahead.new.fell x ≡ false }
-    {
-        let from = self.places.position(train);
-        let needed = self.rows.rest(moves, train, from);
-        let later = self.rows.rest(moves, train, place);
-        ahead.fell = [0; WORDS];
-        ahead.has_fallen = self.needs.has_falls(needed, later);
-        if ahead.has_fallen {
-            self.needs.add_falls(&mut ahead.fell, needed, later);
-        }
-    }
-
-    /// Looks which sections are held and which more than one train needs, where the train, which is inside, goes on to
-    /// the place.
-    fn look_at_sets(&self, moves: &Moves, train: TrainNo, place: u16, ahead: &mut Ahead)
+    /// Looks which sections fall to another train, which are held and which more than one train needs, where the train,
+    /// which is inside, goes on to the place.
+    fn look_ahead(&self, moves: &Moves, train: TrainNo, place: u16, ahead: &mut Ahead)
         requires ready { IsReady moves.now self.now }
         requires train { train < length moves.now }
         requires inside { IsTrue (is_inside (moves_in moves.now) self.now.places.positions train) }
         requires within { place ≤ (moves_in moves.now).moves train }
         requires later { 0 < place }
-        requires fell { HasFalls (moves_in moves.now) self.now.places.positions self.now.needs train place ahead.old.fell }
         ensures sets { IsAhead (moves_in moves.now) self.now.places.positions self.now.needs self.now.rows.width train place ahead.new }
-        ensures fell { ahead.new.fell ≡ ahead.old.fell }
-        ensures has_fallen { ahead.new.has_fallen ≡ ahead.old.has_fallen }
+        ensures fell { HasFalls (moves_in moves.now) self.now.places.positions self.now.needs self.now.rows.width train place ahead.new.fell }
+        ensures none { ahead.new.has_fallen ≡ false → (x : ℕ) → x < 64 * self.now.rows.width → has ahead.new.fell x ≡ false }
     {
         let from = self.places.position(train);
-        ahead.held = self.held;
-        replace(
+        ahead.has_fallen = self.needs.fill_falls(
+            &mut ahead.fell,
+            &mut ahead.shared,
+            self.rows.rest(moves, train, from),
+            self.rows.rest(moves, train, place),
+        );
+        fill_replaced(
             &mut ahead.held,
+            &self.held,
             self.rows.stand(moves, train, from),
             self.rows.stand(moves, train, place),
         );
-        self.needs
-            .fill_shared(&mut ahead.shared, &ahead.fell[..self.rows.width()]);
     }
 
-    /// Whether each train of a chain, from this number on, if it is another one, has no safe leg once the one has
-    /// gone on to the place.
-    #[inline(always)]
+    /// Whether each other train of the list that waits for this one, or for none, has no safe leg once it has gone on to the
+    /// place.
     fn stay_without_leg(
         &self,
         moves: &Moves,
         inside: &[TrainNo],
-        waiting: &Waiting,
+        notes: &Notes,
         ahead: &Ahead,
-        last: u16,
         train: TrainNo,
         place: u16,
     ) -> bool
         requires ready { IsReady moves.now self.now }
         requires listed { IsListing (moves_in moves.now) self.now.places.positions inside.now }
-        requires few { length inside.now ≤ TRAINS }
-        requires last { last ≤ length inside.now }
-        requires lower { (n : ℕ) → 0 < n → link waiting.now n < n }
         requires train { train < length moves.now }
         requires later { 0 < place }
         requires within { place ≤ (moves_in moves.now).moves train }
         requires ahead { IsAhead (moves_in moves.now) self.now.places.positions self.now.needs self.now.rows.width train place ahead.now }
-        ensures { IsTrue result → (k u : ℕ) → IsMet waiting.now inside.now k last u → u ≢ train
+        ensures { IsTrue result → (u : ℕ) → IsTrue (is_in u inside.now) → u ≢ train
+            → MayWaitFor (moves_in moves.now) self.now.places.positions notes.now.stops u train
             → HasNoSafeLegOf (moves_in moves.now) (set self.now.places.positions train place) u }
     {
-        let mut number = last;
-        while number > 0 {
-            let other = inside[usize::from(number - 1)];
-            if other != train && !self.is_kept_from_legs(moves, ahead, other, train, place) {
+        for other in inside {
+            if *other != train
+                && self.may_wait_for(moves, notes, *other, train)
+                && !self.is_kept_from_legs(moves, ahead, *other, train, place)
+            {
                 return false;
             }
-            number = waiting.before(number);
         }
         true
+    }
+
+    /// Whether the one train waits for the other, or for none.
+    fn may_wait_for(&self, moves: &Moves, notes: &Notes, other: TrainNo, train: TrainNo) -> bool
+        requires ready { IsReady moves.now self.now }
+        requires other { other < length moves.now }
+        ensures { result ≡ false → MayWaitFor (moves_in moves.now) self.now.places.positions notes.now.stops other train → ⊥ }
+    {
+        match self.awaited(moves, notes, other) {
+            Some(holder) => holder == train,
+            None => true,
+        }
     }
 
     /// Whether each train of the list, if it is another one than that which goes on to the place, and a section falls
@@ -176,7 +258,7 @@ impl Worksheet {
         requires later { 0 < place }
         requires within { place ≤ (moves_in moves.now).moves train }
         requires ahead { IsAhead (moves_in moves.now) self.now.places.positions self.now.needs self.now.rows.width train place ahead.now }
-        requires none { ahead.now.has_fallen ≡ false → (x : ℕ) → has ahead.now.fell x ≡ false }
+        requires none { ahead.now.has_fallen ≡ false → (x : ℕ) → x < 64 * self.now.rows.width → has ahead.now.fell x ≡ false }
         ensures { IsTrue result → (u x : ℕ) → IsTrue (is_in u inside.now) → u ≢ train → stop_of notes.now.stops u ≡ Later x
             → IsUntouched (moves_in moves.now) self.now.places.positions ahead.now.fell u
             ⊎ HasNoSafeLegOf (moves_in moves.now) (set self.now.places.positions train place) u }
@@ -220,6 +302,20 @@ impl Worksheet {
             self.rows.rest(moves, other, self.places.position(other)),
             &ahead.fell,
         ) || self.is_kept_from_legs(moves, ahead, other, train, place)
+    }
+
+    /// Whether two trains are inside.
+    pub(super) fn are_several_inside(&self, moves: &Moves, inside: &[TrainNo]) -> bool
+        requires ready { IsReady moves.now self.now }
+        requires listed { IsListing (moves_in moves.now) self.now.places.positions inside.now }
+        ensures { IsTrue result → AreSeveral (moves_in moves.now) self.now.places.positions }
+    {
+        for train in inside {
+            if stands_inside(moves, &self.places, *train) {
+                return self.has_other_inside(moves, inside, *train);
+            }
+        }
+        false
     }
 
     /// Whether another train is inside.

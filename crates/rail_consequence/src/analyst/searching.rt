@@ -5,14 +5,13 @@ ghost use Rattle.rail_rules.specs.Analysis.{Finds, is_leg};
 ghost use Rattle.rail_rules.specs.Places.{is_inside};
 ghost use Rattle.rail_place.specs.Tables.{moves_in};
 ghost use Rattle.rail_consequence.specs.Searches.{FindsByNoLeg, FindsByNoLegOf, HasNoSafeLeg, IsCleared, leg_to};
-ghost use Rattle.rail_consequence.specs.Freeing.{IsIndexOf};
 ghost use Rattle.rail_consequence.specs.Stops.{IsNotedTo, IsSettled};
 ghost use Rattle.rail_consequence.specs.Workspace.{IsBack, IsListing, IsReady};
 
 use super::Worksheet;
 use crate::ahead::Ahead;
-use crate::notes::{Notes, Stop};
-use crate::waiting::Waiting;
+use crate::notes::Notes;
+use crate::openers::Openers;
 use rail_base::TrainNo;
 use rail_place::Moves;
 
@@ -31,6 +30,7 @@ impl Worksheet {
         moves: &Moves,
         inside: &[TrainNo],
         notes: &mut Notes,
+        ahead: &mut Ahead,
         depth: u8,
     ) -> bool
         requires ready { IsReady moves.now self.old }
@@ -50,7 +50,7 @@ impl Worksheet {
             self.go_back(moves, mark);
             return false;
         }
-        if self.try_free_legs(moves, inside, notes, depth - 1) {
+        if self.try_free_legs(moves, inside, notes, ahead, depth - 1) {
             return true;
         }
         self.go_back(moves, mark);
@@ -59,7 +59,14 @@ impl Worksheet {
 
     /// As `search`, with a first leg of any train, from places where no leg is safe.
     #[cycle(search)]
-    fn try_free_legs(&mut self, moves: &Moves, inside: &[TrainNo], notes: &Notes, depth: u8) -> bool
+    fn try_free_legs(
+        &mut self,
+        moves: &Moves,
+        inside: &[TrainNo],
+        notes: &Notes,
+        ahead: &mut Ahead,
+        depth: u8,
+    ) -> bool
         requires ready { IsReady moves.now self.old }
         requires listed { IsListing (moves_in moves.now) self.old.places.positions inside.now }
         requires room { depth < 255 }
@@ -69,10 +76,12 @@ impl Worksheet {
         ensures found { IsTrue result → IsCleared (moves_in moves.now) (depth + 1) self.old self.new }
         ensures none { result ≡ false → IsBack self.old self.new × FindsByNoLeg (moves_in moves.now) depth self.old.places.positions }
     {
-        let waiting = self.waiting(moves, inside, notes, depth);
-        let mut ahead = Ahead::new();
+        let mut openers = Openers::all();
+        if depth == 0 && self.are_several_inside(moves, inside) {
+            self.find_openers(moves, inside, notes, ahead, &mut openers);
+        }
         for train in inside {
-            if self.try_legs_of(moves, inside, notes, &waiting, &mut ahead, *train, depth) {
+            if openers.has(*train) && self.try_legs_of(moves, inside, notes, ahead, *train, depth) {
                 return true;
             }
         }
@@ -87,14 +96,12 @@ impl Worksheet {
         moves: &Moves,
         inside: &[TrainNo],
         notes: &Notes,
-        waiting: &Waiting,
         ahead: &mut Ahead,
         train: TrainNo,
         depth: u8,
     ) -> bool
         requires ready { IsReady moves.now self.old }
         requires listed { IsListing (moves_in moves.now) self.old.places.positions inside.now }
-        requires waiting { IsIndexOf (moves_in moves.now) self.old.places.positions notes.now.stops depth inside.now waiting.now }
         requires train { train < length moves.now }
         requires room { depth < 255 }
         requires none { HasNoSafeLeg (moves_in moves.now) self.old.places.positions }
@@ -104,7 +111,7 @@ impl Worksheet {
         ensures none { result ≡ false
             → IsBack self.old self.new × FindsByNoLegOf (moves_in moves.now) depth self.old.places.positions train }
     {
-        if self.is_hopeless(moves, inside, notes, waiting, ahead, train, depth) {
+        if self.is_hopeless(moves, inside, notes, ahead, train, depth) {
             return false;
         }
         let from = self.places.position(train);
@@ -113,7 +120,7 @@ impl Worksheet {
             if self.stop_of(moves, train, made).is_some() {
                 return false;
             }
-            if self.try_leg(moves, inside, notes, waiting, ahead, train, made + 1, depth) {
+            if self.try_leg(moves, inside, notes, ahead, train, made + 1, depth) {
                 return true;
             }
         }
@@ -127,7 +134,6 @@ impl Worksheet {
         moves: &Moves,
         inside: &[TrainNo],
         notes: &Notes,
-        waiting: &Waiting,
         ahead: &mut Ahead,
         train: TrainNo,
         place: u16,
@@ -135,7 +141,6 @@ impl Worksheet {
     ) -> bool
         requires ready { IsReady moves.now self.old }
         requires listed { IsListing (moves_in moves.now) self.old.places.positions inside.now }
-        requires waiting { IsIndexOf (moves_in moves.now) self.old.places.positions notes.now.stops depth inside.now waiting.now }
         requires train { train < length moves.now }
         requires room { depth < 255 }
         requires none { HasNoSafeLeg (moves_in moves.now) self.old.places.positions }
@@ -146,14 +151,15 @@ impl Worksheet {
         ensures none { result ≡ false
             → IsBack self.old self.new × (Finds (moves_in moves.now) depth (set self.old.places.positions train place) → ⊥) }
     {
-        if depth == 0 && self.frees_nobody(moves, inside, notes, waiting, ahead, train, place) {
+        if depth == 0 && self.frees_nobody(moves, inside, notes, ahead, train, place) {
             return false;
         }
         let mark = self.list.len();
-        let mut then = notes.anew();
+        let mut then = *notes;
+        then.forget_falls();
         self.note_leg(moves, train, place, &mut then);
         self.go_to(moves, train, place);
-        if self.search(moves, inside, &mut then, depth) {
+        if self.search(moves, inside, &mut then, ahead, depth) {
             return true;
         }
         self.go_back(moves, mark);
@@ -161,22 +167,20 @@ impl Worksheet {
     }
 
     /// Whether it shows before they are tried that none of the train's legs helps: it can't go on; or nothing
-    /// is found with the train out of the way, since what can be found can be found without a train. For the
-    /// last free leg, and where the train has few legs, a look at what that would free is all that pays.
+    /// is found with the train out of the way, since what can be found can be found without a train. Where the
+    /// train has few legs, to try them costs less than that.
     #[cycle(search)]
     fn is_hopeless(
         &mut self,
         moves: &Moves,
         inside: &[TrainNo],
         notes: &Notes,
-        waiting: &Waiting,
         ahead: &mut Ahead,
         train: TrainNo,
         depth: u8,
     ) -> bool
         requires ready { IsReady moves.now self.old }
         requires listed { IsListing (moves_in moves.now) self.old.places.positions inside.now }
-        requires waiting { IsIndexOf (moves_in moves.now) self.old.places.positions notes.now.stops depth inside.now waiting.now }
         requires train { train < length moves.now }
         requires room { depth < 255 }
         requires settled { IsSettled (moves_in moves.now) self.old.places.positions notes.now.stops }
@@ -188,14 +192,10 @@ impl Worksheet {
         if !self.can_go_on(moves, notes, train) {
             return true;
         }
-        let last = moves.places(train);
-        if depth == 0 && self.frees_nobody(moves, inside, notes, waiting, ahead, train, last) {
-            return true;
-        }
         if !self.has_ends(moves, train, ends_for(depth)) {
             return false;
         }
-        !self.is_found_without(moves, inside, notes, train, depth)
+        !self.is_found_without(moves, inside, notes, ahead, train, depth)
     }
 
     /// Whether, with the train out of the way, nobody is left inside after legs of which at most `depth`
@@ -206,6 +206,7 @@ impl Worksheet {
         moves: &Moves,
         inside: &[TrainNo],
         notes: &Notes,
+        ahead: &mut Ahead,
         train: TrainNo,
         depth: u8,
     ) -> bool
@@ -223,10 +224,11 @@ impl Worksheet {
         let mark = self.list.len();
         let place = self.places.position(train);
         let last = moves.places(train);
-        let mut then = notes.anew();
+        let mut then = *notes;
+        then.forget_falls();
         self.note_leg(moves, train, last, &mut then);
         self.take_out(moves, train);
-        let found = self.search(moves, inside, &mut then, depth);
+        let found = self.search(moves, inside, &mut then, ahead, depth);
         self.go_back(moves, mark);
         self.put(moves, train, place);
         found
@@ -254,7 +256,7 @@ impl Worksheet {
         ensures inside { IsTrue result → IsTrue (is_inside (moves_in moves.now) self.now.places.positions train) }
         ensures none { result ≡ false → (p : ℕ) → is_leg (moves_in moves.now) self.now.places.positions (leg_to train p) ≡ false }
     {
-        if let Stop::Next(_) = notes.stop(train) {
+        if notes.stop(train).is_next() {
             return false;
         }
         let place = self.places.position(train);

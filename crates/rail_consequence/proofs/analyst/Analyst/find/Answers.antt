@@ -1,17 +1,13 @@
-use Rattle.std.proofs.Common.{◌≡◌, ℕ, false, List, ◌++◌, refl, sym, ap, ◌∙◌, subst}
+use Rattle.std.proofs.Common.{◌≡◌, ℕ, List, ◌++◌, refl, sym, ap, ◌∙◌, subst}
 use Rattle.std.proofs.lemmas.Bool.{true≢false}
 use Rattle.rail_rules.specs.Moves.{Moves}
 use Rattle.rail_rules.specs.Places.{completes}
 use Rattle.rail_place.specs.Tables.{moves_in}
-use Rattle.rail_sets.specs.Sets.{has}
-use Rattle.rail_consequence.specs.Stops.{IsNoted, IsNotedTo, stop_of}
+use Rattle.rail_consequence.specs.Stops.{IsNotedTo}
 use Rattle.rail_consequence.specs.Workspace.{IsListing}
 use Rattle.rail_consequence.proofs.Listing.{listed_at}
 use Rattle.rail_consequence.proofs.Played.{played_completes}
 use Rattle.rail_consequence.proofs.Walks.{finds_at}
-use Rattle.rail_consequence.specs.declared.notes.Notes.{Notes}
-use Rattle.rail_consequence.specs.declared.notes.Stop.{Stop}
-use Rattle.rail_consequence.specs.declared.notes.Stop.TheVariants.{Unknown}
 use Rattle.rail_consequence.proofs.analyst.Analyst.find.Goals as goal
 
 pub search-requires-clause-listed : goal.search-requires-clause-listed
@@ -19,18 +15,8 @@ search-requires-clause-listed c =
     let plan : Moves = moves_in c.args.moves.now in
     let s = c.args.places.now.positions in
     let P : List ℕ → Type 0 = λ xs. IsListing plan s xs in
-    listed_at plan s c.begin.new.self.places.positions c.as_slice-inside.result.now (sym c.begin.ensures.positions) (subst P (sym c.as_slice-inside.ensures.value) c.follow.ensures.listed)
-
--- where nothing is noted of any train, and no section fell, what is noted holds
-noted_none : (plan : Moves) (s : List ℕ) (notes : Notes) → ((u : ℕ) → stop_of notes.stops u ≡ Unknown) → ((x : ℕ) → has notes.fell x ≡ false) → IsNotedTo plan s notes
-noted_none plan s notes unknown none =
-    record {
-      each = λ u inside. let P : Stop → Type 0 = λ stop. IsNoted plan s notes.fell u stop in subst P (sym (unknown u)) tt;
-      none = λ no x. none x;
-    }
-
-pub search-requires-clause-noted : goal.search-requires-clause-noted
-search-requires-clause-noted c = noted_none (moves_in c.args.moves.now) c.begin.new.self.places.positions c.none-notes.result c.none-notes.ensures.stops c.none-notes.ensures.fell
+    let listed : P c.follow.new.inside = listed_at plan c.follow.new.self.positions s c.follow.new.inside c.follow.ensures.positions c.follow.ensures.listed in
+    listed_at plan s c.begin.new.self.places.positions c.as_slice-inside.result.now (sym c.begin.ensures.positions) (subst P (sym c.as_slice-inside.ensures) listed)
 
 pub returns-then-search : goal.returns-then-search
 returns-then-search c =
@@ -40,8 +26,9 @@ returns-then-search c =
     let d = c.search.new.self in
     let found = c.search.ensures.found c.if-search.true in
     let same : a.places.positions ≡ s = c.begin.ensures.positions in
+    let N : List ℕ → Type 0 = λ q. IsNotedTo plan q c.look_again.new.notes in
     let list : c.list.result.now ≡ found.0.more = c.list.ensures ∙ found.0.list ∙ ap (λ xs. xs ++ found.0.more) c.begin.ensures.list in (
-      (refl, λ _. tt, record { tally = c.follow.ensures.kept; rows = c.search.ensures.ready.rows }),
+      (refl, λ _. tt, record { listed = c.follow.ensures.listed; tally = c.follow.ensures.kept; noted = subst N (same ∙ sym c.follow.ensures.positions) c.look_again.ensures; rows = c.search.ensures.ready.rows }),
       record {
         own = tt;
         some = ap (λ xs. completes plan s xs) list ∙ ap (λ r. completes plan r found.0.more) (sym same) ∙ played_completes plan a.places.positions found.0.more d.places.positions found.0.played found.1;

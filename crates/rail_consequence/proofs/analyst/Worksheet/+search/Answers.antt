@@ -1,21 +1,19 @@
-use Rattle.std.proofs.Common.{◌≡◌, ℕ, ◌+◌, ◌-◌, Bool, List, Option, None, Some, is_some, true, false, length, set, refl, sym, ap, ◌∙◌, subst, ⊎_elim, arith}
+use Rattle.std.proofs.Common.{◌≡◌, ℕ, ◌+◌, ◌-◌, Bool, List, Option, None, Some, is_some, true, false, length, set, take, refl, sym, ap, ◌∙◌, subst, ⊎_elim, arith}
 use Rattle.std.specs.Prelude.{MatchOption}
 use Rattle.std.proofs.lemmas.Bool.{cases_Bool, cases_lt, false≢true, not-true}
 use Rattle.rail_rules.specs.Numbers.{is_in}
 use Rattle.rail_rules.specs.Moves.{Moves}
-use Rattle.rail_rules.specs.Places.{place_of, is_inside, nobody_inside}
+use Rattle.rail_rules.specs.Places.{place_of, nobody_inside}
 use Rattle.rail_rules.specs.Analysis.{Finds, Leg, after_leg, is_leg}
 use Rattle.rail_place.specs.Tables.{moves_in, MoveLists}
-use Rattle.rail_consequence.specs.Freeing.{Chains, FreesNobody, IsIndexOf}
-use Rattle.rail_sets.specs.Sets.{has}
-use Rattle.rail_consequence.specs.Searches.{HasNoSafeLeg, IsCleared}
-use Rattle.rail_consequence.specs.Stops.{IsHeldByOther, IsNoted, IsNotedTo, IsSettled, section_of, stop_of}
-use Rattle.rail_consequence.specs.declared.notes.Notes.{Notes}
+use Rattle.rail_consequence.specs.Freeing.{is_marked}
+use Rattle.rail_consequence.specs.Searches.{FindsByNoLegOf, HasNoSafeLeg, IsCleared}
+use Rattle.rail_consequence.specs.Stops.{IsHeldByOther, IsSettled}
 use Rattle.rail_consequence.specs.declared.notes.Stop.{Stop}
-use Rattle.rail_consequence.specs.declared.notes.Stop.TheVariants.{Unknown, Next, Later}
-use Rattle.rail_consequence.specs.Workspace.{Work, GoesOn, IsBack, IsListing}
+use Rattle.rail_consequence.specs.Workspace.{Work, GoesOn, IsBack, IsListing, IsReady}
 use Rattle.rail_consequence.proofs.Counts.{in_at, in_take_all}
-use Rattle.rail_consequence.proofs.Freeing.{leg_finds_none, no_leg_helps}
+use Rattle.rail_consequence.proofs.Noting.{noted_anew}
+use Rattle.rail_consequence.proofs.Freeing.{leg_finds_none}
 use Rattle.rail_consequence.proofs.Legs.{goes_parts, inside_listed, inside_parts}
 use Rattle.rail_consequence.proofs.Listing.{listed_at, listed_on}
 use Rattle.rail_consequence.proofs.Played.{back_by, goes_further, goes_played}
@@ -24,6 +22,7 @@ use Rattle.rail_consequence.proofs.Stopping.{leg_short, open_leads, open_more}
 use Rattle.rail_consequence.proofs.Walks.{back_twice, cost_most, false_both, finds_at, found_by_free, found_nobody, goes_back, tried_more}
 use Rattle.rail_consequence.proofs.Without.{IsOut, out_back, out_entered, out_few, out_free}
 use Rattle.rail_consequence.proofs.analyst.Worksheet.+search.Goals as goal
+use Rattle.rail_consequence.proofs.analyst.Worksheet.+search.Goals.{try_free_legs-then-depth-eq0+then-are_several_inside, try_free_legs-else-depth-eq0, try_free_legs-else-has-via-then-has+else-try_legs_of, try_free_legs-else-has-via-else-has}
 
 pub search-returns-then-is_done-clause-found : goal.search-returns-then-is_done-clause-found
 search-returns-then-is_done-clause-found t c =
@@ -76,17 +75,39 @@ search-returns-clause-none t c =
           none.1 first.0 first.1 first.3,
     )
 
+pub try_free_legs-has-requires : goal.try_free_legs-has-requires
+try_free_legs-has-requires t c =
+    let known = c.requires.listed.trains c.train-item.result (in_at c.train-item.result c.args.inside.now c.loop-train.train-index c.loop-train-test.true c.train-item.is) in
+    omega (arith, known, c.requires.ready.made.moves.few)
+
 pub try_free_legs-loop-train-preserved : goal.try_free_legs-loop-train-preserved
 try_free_legs-loop-train-preserved t c =
     let plan : Moves = moves_in c.args.moves.now in
     let a = c.args.self.now in
+    let s = a.places.positions in
     let b = c.loop-train.self in
-    let none = c.try_legs_of.ensures.none c.if-try_legs_of.false in
-    record {
-      ready = c.try_legs_of.ensures.ready;
-      back = back_twice a b c.try_legs_of.new.self c.loop-train.invariant.back none.0;
-      none = tried_more plan c.args.depth a.places.positions b.places.positions c.train-item.result c.loop-train.train-index c.args.inside.now c.loop-train-test.true c.train-item.is c.loop-train.invariant.back.positions c.loop-train.invariant.none none.1;
-    }
+    let n = c.train-item.result in
+    let openers = c.if-depth-eq0.openers in
+    let marked : List Bool → Type 0 = λ marks. is_marked marks n ≡ false → FindsByNoLegOf plan c.args.depth s n in
+    let unmarked : marked openers = elim c.if-depth-eq0.branch [
+      | try_free_legs-then-depth-eq0+then-are_several_inside w ↦
+          let D : ℕ → Type 0 = λ k. FindsByNoLegOf plan k s n in
+          subst marked (sym w.openers-is) (λ out. subst D (sym w.if-depth-eq0.true) (w.find_openers.ensures n out))
+      | try_free_legs-else-depth-eq0 w ↦ subst marked (sym w.openers-is) (λ out. absurd (false≢true (sym out ∙ c.all-openers.ensures n)))
+    ] in
+    let more : (d : List ℕ) → d ≡ s → ((p : ℕ) → is_leg plan d (record { train = n; place = p }) ≡ true → Finds plan c.args.depth (set d n p) → ⊥)
+    → (u p : ℕ) → is_in u (take (c.loop-train.train-index + 1) c.args.inside.now) ≡ true → is_leg plan s (record { train = u; place = p }) ≡ true → Finds plan c.args.depth (set s u p) → ⊥ =
+    λ d same here. tried_more plan c.args.depth s d n c.loop-train.train-index c.args.inside.now c.loop-train-test.true c.train-item.is same c.loop-train.invariant.none here in
+    let P : Work → Type 0 = λ w. IsReady c.args.moves.now w × IsBack a w in
+    elim c.else-has.branch [
+      | try_free_legs-else-has-via-then-has+else-try_legs_of w ↦
+          let none = w.try_legs_of.ensures.none w.if-try_legs_of.false in
+          let both = subst P (sym w.self-is) (w.try_legs_of.ensures.ready, back_twice a b w.try_legs_of.new.self c.loop-train.invariant.back none.0) in
+          record { ready = both.0; back = both.1; none = more b.places.positions c.loop-train.invariant.back.positions none.1 }
+      | try_free_legs-else-has-via-else-has w ↦
+          let both = subst P (sym w.self-is) (c.loop-train.invariant.ready, c.loop-train.invariant.back) in
+          record { ready = both.0; back = both.1; none = more s refl (unmarked (sym c.has.ensures ∙ w.if-has.false)) }
+    ]
 
 pub try_free_legs-returns-clause-none : goal.try_free_legs-returns-clause-none
 try_free_legs-returns-clause-none t c =
@@ -132,27 +153,6 @@ module _ (table : List MoveLists) (depth : ℕ) (inside : List ℕ) (a b : Work)
   pub listed_still : IsListing plan a.places.positions inside → IsListing plan b.places.positions inside
   listed_still listed = listed_at plan a.places.positions b.places.positions inside (sym back.positions) listed
 
-  pub index_back : (stops : List Stop) (chains : Chains) → IsIndexOf plan a.places.positions stops depth inside chains → IsIndexOf plan b.places.positions stops depth inside chains
-  index_back stops chains index = let P : List ℕ → Type 0 = λ q. IsIndexOf plan q stops depth inside chains in subst P (sym back.positions) index
-
--- notes of trains that they stop are notes that hold, with nothing fallen
-pub noted_anew : (plan : Moves) (s : List ℕ) (stops : List Stop) (notes : Notes) → IsSettled plan s stops → notes.stops ≡ stops → ((x : ℕ) → has notes.fell x ≡ false) → IsNotedTo plan s notes
-noted_anew plan s stops notes settled same none = record {
-  each = λ u is. ap_note u is (stop_of notes.stops u) (ap (λ xs. stop_of xs u) (sym same));
-  none = λ _ x. none x;
-}
-  where
-    ap_note : (u : ℕ) → is_inside plan s u ≡ true → (stop : Stop) → stop_of stops u ≡ stop → IsNoted plan s notes.fell u stop
-    ap_note u is Unknown at = tt
-    ap_note u is (Next x) at = settled.next u x is at
-    ap_note u is (Later x) at = λ _. let stop = settled.stopped u x is (ap section_of at) in record {
-      place = stop.place;
-      from = stop.from;
-      below = stop.below;
-      needed = stop.needed;
-      unsafe = stop.unsafe;
-    }
-
 pub try_free_legs-try_legs_of-requires : goal.try_free_legs-try_legs_of-requires
 try_free_legs-try_legs_of-requires t c =
     let table = c.args.moves.now in
@@ -165,15 +165,12 @@ try_free_legs-try_legs_of-requires t c =
         (
           listed_still table c.args.depth c.args.inside.now a b inv.back c.requires.listed,
           (
-            index_back table c.args.depth c.args.inside.now a b inv.back c.args.notes.now.stops c.waiting-waiting.result c.waiting-waiting.ensures,
+            c.requires.listed.trains c.train-item.result (in_at c.train-item.result c.args.inside.now c.loop-train.train-index c.loop-train-test.true c.train-item.is),
             (
-              c.requires.listed.trains c.train-item.result (in_at c.train-item.result c.args.inside.now c.loop-train.train-index c.loop-train-test.true c.train-item.is),
+              c.requires.room,
               (
-                c.requires.room,
-                (
-                  none_still table c.args.depth c.args.inside.now a b inv.back c.requires.none,
-                  settled_back table c.args.depth c.args.inside.now a b inv.back c.args.notes.now.stops c.requires.settled,
-                ),
+                none_still table c.args.depth c.args.inside.now a b inv.back c.requires.none,
+                settled_back table c.args.depth c.args.inside.now a b inv.back c.args.notes.now.stops c.requires.settled,
               ),
             ),
           ),
@@ -271,14 +268,6 @@ unshown A B (Some x) is told = absurd (false≢true (sym is))
 pub is_hopeless-returns-then-not-can_go_on-clause-none : goal.is_hopeless-returns-then-not-can_go_on-clause-none
 is_hopeless-returns-then-not-can_go_on-clause-none t c = λ _ p is found. false≢true (sym (c.can_go_on.ensures.none c.if-not-can_go_on.true p) ∙ is)
 
-pub is_hopeless-returns-then-frees_nobody-clause-none : goal.is_hopeless-returns-then-frees_nobody-clause-none
-is_hopeless-returns-then-frees_nobody-clause-none t c =
-    let plan : Moves = moves_in c.args.moves.now in
-    let s = c.args.self.now.places.positions in
-    let P : ℕ → Type 0 = λ p. FreesNobody plan s c.args.train p in
-    let frees = subst P c.places-last.ensures (c.frees_nobody.ensures c.if-frees_nobody.true) in
-    λ _ p is found. no_leg_helps plan s c.args.train c.args.depth p c.if-depth-eq0.true frees is found
-
 pub is_hopeless-returns-clause-none : goal.is_hopeless-returns-clause-none
 is_hopeless-returns-clause-none t c =
     let plan : Moves = moves_in c.args.moves.now in
@@ -365,15 +354,12 @@ try_legs_of-try_leg-requires t c =
         (
           listed_still table c.args.depth c.args.inside.now a b inv.back c.requires.listed,
           (
-            index_back table c.args.depth c.args.inside.now a b inv.back c.args.notes.now.stops c.args.waiting.now c.requires.waiting,
+            c.requires.train,
             (
-              c.requires.train,
+              c.requires.room,
               (
-                c.requires.room,
-                (
-                  none_still table c.args.depth c.args.inside.now a b inv.back c.requires.none,
-                  (settled_back table c.args.depth c.args.inside.now a b inv.back c.args.notes.now.stops c.requires.settled, subst L (sym inv.back.positions) leg),
-                ),
+                none_still table c.args.depth c.args.inside.now a b inv.back c.requires.none,
+                (settled_back table c.args.depth c.args.inside.now a b inv.back c.args.notes.now.stops c.requires.settled, subst L (sym inv.back.positions) leg),
               ),
             ),
           ),
@@ -415,9 +401,9 @@ try_legs_of-returns-clause-none t c =
 pub is_found_without-note_leg-requires-clause-noted : goal.is_found_without-note_leg-requires-clause-noted
 is_found_without-note_leg-requires-clause-noted t c =
     let plan : Moves = moves_in c.args.moves.now in
-    noted_anew plan c.args.self.now.places.positions c.args.notes.now.stops c.anew-then.result c.requires.settled c.anew-then.ensures.stops c.anew-then.ensures.fell
+    noted_anew plan c.args.self.now.places.positions c.args.notes.now.stops c.forget_falls.new.self c.requires.settled c.forget_falls.ensures.stops c.forget_falls.ensures.fell
 
 pub try_leg-note_leg-requires-clause-noted : goal.try_leg-note_leg-requires-clause-noted
 try_leg-note_leg-requires-clause-noted t c =
     let plan : Moves = moves_in c.args.moves.now in
-    noted_anew plan c.args.self.now.places.positions c.args.notes.now.stops c.anew-then.result c.requires.settled c.anew-then.ensures.stops c.anew-then.ensures.fell
+    noted_anew plan c.args.self.now.places.positions c.args.notes.now.stops c.forget_falls.new.self c.requires.settled c.forget_falls.ensures.stops c.forget_falls.ensures.fell

@@ -16,13 +16,14 @@ shown : (A : Type 0) (B : ℕ → Type 0) (o : Option ℕ) → is_some o ≡ tru
 shown A B None is told = absurd (false≢true is)
 shown A B (Some x) is told = (x, told)
 
-pub returns-in-Next-clause-none : goal.returns-in-Next-clause-none
-returns-in-Next-clause-none c = λ _ p.
+pub returns-then-is_next-clause-none : goal.returns-then-is_next-clause-none
+returns-then-is_next-clause-none c = λ _ p.
     let plan : Moves = moves_in c.args.moves.now in
     let s = c.args.self.now.places.positions in
     let u = c.args.train in
-    let x = c.in-Next.field-0 in
-    let noted = sym c.stop.ensures ∙ c.in-Next.is in
+    let next = c.is_next.ensures.some c.if-is_next.true in
+    let x = next.0 in
+    let noted = sym c.stop.ensures ∙ next.1 in
     ⊎_elim
     (λ is.
     let goes = goes_parts plan s (record { train = u; place = p }) is in

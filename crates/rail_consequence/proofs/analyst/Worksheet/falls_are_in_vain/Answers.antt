@@ -1,11 +1,13 @@
-use Rattle.std.proofs.Common.{◌≡◌, ◌≢◌, ℕ, eqb, set, sym, ◌∙◌, subst, ◌⊎◌, ⊎_elim}
+use Rattle.std.proofs.Common.{◌≡◌, ◌≢◌, ℕ, eqb, set, sym, ◌∙◌, subst, ◌⊎◌, inl, ⊎_elim}
 use Rattle.std.proofs.lemmas.Bool.{eqb-true, not-false}
 use Rattle.rail_rules.specs.Moves.{Moves}
+use Rattle.rail_rules.specs.Places.{place_of}
 use Rattle.rail_place.specs.Tables.{moves_in}
 use Rattle.rail_consequence.specs.Searches.{HasNoSafeLegOf}
 use Rattle.rail_consequence.specs.Stops.{IsUntouched, stop_of}
 use Rattle.rail_consequence.specs.declared.notes.Stop.TheVariants.{Later}
 use Rattle.rail_consequence.proofs.Counts.{in_at, in_take_all, in_take_more}
+use Rattle.rail_consequence.proofs.Freeing.{needs_few}
 use Rattle.rail_consequence.proofs.analyst.Worksheet.falls_are_in_vain.Goals as goal
 use Rattle.rail_consequence.proofs.analyst.Worksheet.falls_are_in_vain.Goals.{else-ne-via-then-ne+else-not-falls_in_vain, else-ne-via-else-ne}
 
@@ -31,3 +33,9 @@ loop-other-preserved c =
 
 pub returns : goal.returns
 returns c = λ _ u x listed. c.loop-other.invariant u x (in_take_all u c.args.inside.now c.loop-other.other-index c.loop-other-test.false listed)
+
+pub returns-then-not-ahead : goal.returns-then-not-ahead
+returns-then-not-ahead c = λ _ u x listed ne later.
+    let plan : Moves = moves_in c.args.moves.now in
+    let w = c.args.self.now in
+    inl (λ y needed. c.requires.none c.if-not-ahead.true y (needs_few plan w.rows u (place_of w.places.positions u) y c.requires.ready.rows (c.requires.listed.trains u listed) needed))

@@ -1,31 +1,14 @@
-use Rattle.std.proofs.Common.{◌≡◌, ℕ, ◌<◌, false, List, length, refl, sym, ap, ◌∙◌, subst, ⊎_elim, arith}
-use Rattle.std.proofs.lemmas.Bool.{cases_eq}
+use Rattle.std.proofs.Common.{◌<◌, length, refl, ap, arith}
 use Rattle.rail_rules.specs.Moves.{Moves}
 use Rattle.rail_rules.specs.Analysis.{Leg, moves_left}
 use Rattle.rail_rules.proofs.CallerLemmas.{state_parts}
 use Rattle.rail_place.specs.Tables.{moves_in}
-use Rattle.rail_sets.specs.Sets.{has}
-use Rattle.rail_consequence.specs.Searches.{HasNoSafeLegOf}
-use Rattle.rail_consequence.specs.declared.notes.Stop.{Stop}
-use Rattle.rail_consequence.specs.declared.notes.Stop.TheVariants.{Unknown, Next, Later}
-use Rattle.rail_consequence.specs.Stops.{IsNoted, ShowsStop, stop_of}
 use Rattle.rail_consequence.proofs.Legs.{goes_parts}
 use Rattle.rail_consequence.proofs.Played.{fewer_at}
 use Rattle.rail_consequence.proofs.Walks.{leg_finds}
 use Rattle.rail_consequence.proofs.Stopping.{stopped_unsafe}
+use Rattle.rail_consequence.proofs.Noting.{note_one, shown_noted, shown_unsafe}
 use Rattle.rail_consequence.proofs.analyst.Worksheet.make_safe_leg.Goals as goal
-
--- a train of which a look shows what stops it has no safe leg
-shown_unsafe : (plan : Moves) (s : List ℕ) (t : ℕ) (stop : Stop) → ShowsStop plan s t stop → HasNoSafeLegOf plan s t
-shown_unsafe plan s t Unknown shown = absurd shown
-shown_unsafe plan s t (Next x) shown = λ p is. stopped_unsafe plan s t x p shown.0 is
-shown_unsafe plan s t (Later x) shown = λ p is. stopped_unsafe plan s t x p shown is
-
--- and it may be noted
-shown_noted : (plan : Moves) (s fell : List ℕ) (t : ℕ) (stop : Stop) → ShowsStop plan s t stop → IsNoted plan s fell t stop
-shown_noted plan s fell t Unknown shown = absurd shown
-shown_noted plan s fell t (Next x) shown = shown.1
-shown_noted plan s fell t (Later x) shown = λ _. record { place = shown.place; from = shown.from; below = shown.below; needed = shown.needed; unsafe = shown.unsafe }
 
 pub returns-then-is_stopped-clause-none : goal.returns-then-is_stopped-clause-none
 returns-then-is_stopped-clause-none c =
@@ -46,26 +29,9 @@ pub returns-in-Stopped-clause-noted : goal.returns-in-Stopped-clause-noted
 returns-in-Stopped-clause-noted c =
     let plan : Moves = moves_in c.args.moves.now in
     let s = c.args.self.now.places.positions in
-    let t = c.args.train in
-    let stops = c.set.new.self.stops in
-    let fell = c.set.new.self.fell in
-    let old = c.args.notes.now in
-    record {
-      each = λ u inside.
-          let F : List ℕ → Type 0 = λ set. IsNoted plan s set u (stop_of old.stops u) in
-          ⊎_elim
-          (λ same.
-          let Q : ℕ → Type 0 = λ v. IsNoted plan s fell v (stop_of stops v) in
-          let R : Stop → Type 0 = λ stop. IsNoted plan s fell t stop in
-          subst Q (sym same) (subst R (sym c.set.ensures.here) (shown_noted plan s fell t c.in-Stopped.stop c.in-Stopped.ensures)))
-          (λ ne.
-          let R : Stop → Type 0 = λ stop. IsNoted plan s fell u stop in
-          subst R (sym (c.set.ensures.others u ne)) (subst F (sym c.set.ensures.fell) (c.requires.noted.each u inside)))
-          (cases_eq u t);
-      none = λ e x.
-          let F : List ℕ → Type 0 = λ set. has set x ≡ false in
-          subst F (sym c.set.ensures.fell) (c.requires.noted.none (sym c.set.ensures.has_fallen ∙ e) x);
-    }
+    let new = c.set.new.self in
+    note_one plan s c.args.notes.now new c.args.train c.in-Stopped.stop c.requires.noted (shown_noted plan s new.fell c.args.train c.in-Stopped.stop c.in-Stopped.ensures)
+    c.set.ensures.here c.set.ensures.others c.set.ensures.fell c.set.ensures.has_fallen
 
 pub returns-in-Leads-clause-same : goal.returns-in-Leads-clause-same
 returns-in-Leads-clause-same c =

@@ -1,16 +1,10 @@
-use Rattle.std.proofs.Common.{◌≢◌, ℕ, ◌≤◌, length, set}
+use Rattle.std.proofs.Common.{◌≡◌, ◌≢◌, ℕ, true, set, take}
+use Rattle.rail_rules.specs.Numbers.{is_in}
 use Rattle.rail_place.specs.Tables.{moves_in}
-use Rattle.rail_consequence.specs.Freeing.{IsMet}
+use Rattle.rail_consequence.specs.Freeing.{MayWaitFor}
 use Rattle.rail_consequence.specs.Searches.{HasNoSafeLegOf}
 use Rattle.rail_consequence.proofs.analyst.Worksheet.stay_without_leg.Given as goal
 
--- what holds of all that are met from the number on holds of all that are met from the last one on
-abbrev pub invariant-loop-number : goal.invariant-loop-number
-invariant-loop-number l = record {
-  within : l.number ≤ length l.inside;
-  met : ((k u : ℕ) → IsMet l.waiting l.inside k l.number u → u ≢ l.train → HasNoSafeLegOf (moves_in l.moves) (set l.self.places.positions l.train l.place) u)
-      → (k u : ℕ) → IsMet l.waiting l.inside k l.fn.last u → u ≢ l.train → HasNoSafeLegOf (moves_in l.moves) (set l.self.places.positions l.train l.place) u;
-}
-
-abbrev pub decreases-loop-number : goal.decreases-loop-number
-decreases-loop-number l = l.number
+abbrev pub invariant-loop-other : goal.invariant-loop-other
+invariant-loop-other l = (u : ℕ) → is_in u (take l.other-index l.inside) ≡ true → u ≢ l.fn.train
+    → MayWaitFor (moves_in l.moves) l.self.places.positions l.notes.stops u l.fn.train → HasNoSafeLegOf (moves_in l.moves) (set l.self.places.positions l.fn.train l.fn.place) u

@@ -14,8 +14,8 @@ returns c =
     let p = c.args.place in
     let rows : c.args.self.now.rows ≡ c.self.inside.rows.items = sym (ap (λ (r : SetRows). r.rows) c.self.view_is) in
     let number : t ≡ c.from.result = omega (arith, c.from.ensures, c.train.view_is) in
-    let row : get_or c.args.self.now.rows t [] ≡ c.row.inside.places.items =
-    ap (λ xs. get_or xs t []) rows ∙ get_or_default c.self.inside.rows.items t [] c.index-row.result.now (omega (arith, c.requires.rows.long, c.requires.train, ap length rows))
-    ∙ ap (λ k. get_or c.self.inside.rows.items k c.index-row.result.now) number ∙ sym c.index-row.ensures ∙ sym c.row.view_is in
+    let row : get_or c.args.self.now.rows t [] ≡ c.behind-self.inside.places.items =
+    ap (λ xs. get_or xs t []) rows ∙ get_or_default c.self.inside.rows.items t [] c.index.result.now (omega (arith, c.requires.rows.long, c.requires.train, ap length rows))
+    ∙ ap (λ k. get_or c.self.inside.rows.items k c.index.result.now) number ∙ sym c.index.ensures ∙ sym c.behind-self.view_is in
     let P : List PlaceSets → Type 0 = λ r. IsSetRow plan t (plan.moves t + 1) r in
-    place_of_row plan t p c.from-2.result c.row.inside.places.items c.index.result.now (subst P row (c.requires.rows.told t c.requires.train)) c.requires.within (omega (arith, c.from-2.ensures, c.places.ensures)) c.index.ensures
+    place_of_row plan t p c.from-2.result c.behind-self.inside.places.items c.index-2.result.now (subst P row (c.requires.rows.told t c.requires.train)) c.requires.within c.from-2.ensures c.index-2.ensures

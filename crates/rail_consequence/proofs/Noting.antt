@@ -1,0 +1,65 @@
+-- What may be noted of trains.
+use Rattle.std.proofs.Common.{◌≡◌, ◌≢◌, ℕ, true, false, List, sym, ap, ◌∙◌, subst, ⊎_elim}
+use Rattle.std.proofs.lemmas.Bool.{cases_eq}
+use Rattle.rail_rules.specs.Moves.{Moves}
+use Rattle.rail_rules.specs.Places.{is_inside}
+use Rattle.rail_sets.specs.Sets.{has}
+use Rattle.rail_consequence.specs.Searches.{HasNoSafeLegOf}
+use Rattle.rail_consequence.specs.Stops.{IsNoted, IsNotedTo, IsSettled, ShowsStop, section_of, stop_of}
+use Rattle.rail_consequence.specs.declared.notes.Notes.{Notes}
+use Rattle.rail_consequence.specs.declared.notes.Stop.{Stop}
+use Rattle.rail_consequence.specs.declared.notes.Stop.TheVariants.{Unknown, Free, Next, Later}
+use Rattle.rail_consequence.proofs.Stopping.{stopped_unsafe}
+
+-- a train of which a look shows what stops it has no safe leg
+pub shown_unsafe : (plan : Moves) (s : List ℕ) (t : ℕ) (stop : Stop) → ShowsStop plan s t stop → HasNoSafeLegOf plan s t
+shown_unsafe plan s t Unknown shown = absurd shown
+shown_unsafe plan s t Free shown = absurd shown
+shown_unsafe plan s t (Next x) shown = λ p is. stopped_unsafe plan s t x p shown.0 is
+shown_unsafe plan s t (Later x) shown = λ p is. stopped_unsafe plan s t x p shown is
+
+-- and it may be noted
+pub shown_noted : (plan : Moves) (s fell : List ℕ) (t : ℕ) (stop : Stop) → ShowsStop plan s t stop → IsNoted plan s fell t stop
+shown_noted plan s fell t Unknown shown = absurd shown
+shown_noted plan s fell t Free shown = absurd shown
+shown_noted plan s fell t (Next x) shown = shown.1
+shown_noted plan s fell t (Later x) shown = λ _. record { place = shown.place; from = shown.from; below = shown.below; needed = shown.needed; unsafe = shown.unsafe }
+
+-- one note more that holds
+pub note_one : (plan : Moves) (s : List ℕ) (old new : Notes) (t : ℕ) (stop : Stop) → IsNotedTo plan s old → IsNoted plan s new.fell t stop → stop_of new.stops t ≡ stop → ((u : ℕ) → u ≢ t → stop_of new.stops u ≡ stop_of old.stops u)
+    → new.fell ≡ old.fell → new.has_fallen ≡ old.has_fallen → IsNotedTo plan s new
+note_one plan s old new t stop noted told here others fell has_fallen = record {
+  each = λ u inside.
+      let F : List ℕ → Type 0 = λ set. IsNoted plan s set u (stop_of old.stops u) in
+      ⊎_elim
+      (λ same.
+      let Q : ℕ → Type 0 = λ v. IsNoted plan s new.fell v (stop_of new.stops v) in
+      let R : Stop → Type 0 = λ stop. IsNoted plan s new.fell t stop in
+      subst Q (sym same) (subst R (sym here) told))
+      (λ ne.
+      let R : Stop → Type 0 = λ stop. IsNoted plan s new.fell u stop in
+      subst R (sym (others u ne)) (subst F (sym fell) (noted.each u inside)))
+      (cases_eq u t);
+  none = λ e x.
+      let F : List ℕ → Type 0 = λ set. has set x ≡ false in
+      subst F (sym fell) (noted.none (sym has_fallen ∙ e) x);
+}
+
+-- notes of trains that they stop are notes that hold, with nothing fallen
+pub noted_anew : (plan : Moves) (s : List ℕ) (stops : List Stop) (notes : Notes) → IsSettled plan s stops → notes.stops ≡ stops → ((x : ℕ) → has notes.fell x ≡ false) → IsNotedTo plan s notes
+noted_anew plan s stops notes settled same none = record {
+  each = λ u is. ap_note u is (stop_of notes.stops u) (ap (λ xs. stop_of xs u) (sym same));
+  none = λ _ x. none x;
+}
+  where
+    ap_note : (u : ℕ) → is_inside plan s u ≡ true → (stop : Stop) → stop_of stops u ≡ stop → IsNoted plan s notes.fell u stop
+    ap_note u is Unknown at = tt
+    ap_note u is Free at = tt
+    ap_note u is (Next x) at = settled.next u x is at
+    ap_note u is (Later x) at = λ _. let stop = settled.stopped u x is (ap section_of at) in record {
+      place = stop.place;
+      from = stop.from;
+      below = stop.below;
+      needed = stop.needed;
+      unsafe = stop.unsafe;
+    }

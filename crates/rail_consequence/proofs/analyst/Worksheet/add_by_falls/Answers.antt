@@ -1,0 +1,33 @@
+use Rattle.std.proofs.Common.{ℕ, [], sym, ap, ◌∙◌, subst, inl, inr}
+use Rattle.std.proofs.lemmas.Bool.{false≢true}
+use Rattle.rail_rules.specs.Moves.{Moves}
+use Rattle.rail_rules.specs.Places.{is_inside}
+use Rattle.rail_place.specs.Tables.{moves_in}
+use Rattle.rail_sets.proofs.CallerLemmas.{none_in_zeros}
+use Rattle.rail_consequence.specs.Freeing.{FallsInVain}
+use Rattle.rail_consequence.specs.Workspace.{Work}
+use Rattle.rail_consequence.proofs.analyst.Worksheet.add_by_falls.Goals as goal
+use Rattle.rail_consequence.proofs.analyst.Worksheet.add_by_falls.Goals.{then-has-via-then-has, then-has-via-else-has+then-is_next, then-has-via-else-has+else-is_next+then-not-stands_inside, then-has-via-else-has+else-is_next+else-not-stands_inside+then-not-has_pairs}
+
+pub returns-then-has-clause-here : goal.returns-then-has-clause-here
+returns-then-has-clause-here c = λ unmarked here.
+    elim c.then-has.branch [
+      | then-has-via-then-has w ↦ absurd (false≢true (sym unmarked ∙ sym c.has.ensures ∙ w.if-has.true))
+      | then-has-via-else-has+then-is_next w ↦
+          let next = w.is_next.ensures.some w.if-is_next.true in
+          inl (next.0, sym w.stop.ensures ∙ next.1)
+      | then-has-via-else-has+else-is_next+then-not-stands_inside w ↦ absurd (false≢true (sym w.if-not-stands_inside.true ∙ w.stands_inside.ensures ∙ ap (λ (v : Work). is_inside (moves_in c.args.moves.now) v.places.positions c.args.train) c.self.view_is ∙ here))
+      | then-has-via-else-has+else-is_next+else-not-stands_inside+then-not-has_pairs w ↦
+          inr (record { fell = []; falls = w.has_pairs.ensures w.if-not-has_pairs.true; vain = λ u x listed ne later. inl (λ y needed. none_in_zeros 0 y) })
+    ]
+
+pub returns-else-not-falls_are_in_vain-clause-here : goal.returns-else-not-falls_are_in_vain-clause-here
+returns-else-not-falls_are_in_vain-clause-here c = λ unmarked here.
+    let plan : Moves = moves_in c.args.moves.now in
+    let w = c.args.self.now in
+    let F : ℕ → Type 0 = λ p. FallsInVain plan w.places.positions w.needs w.rows.width c.args.notes.now.stops c.args.inside.now c.args.train p in
+    inr (subst F c.places-last.ensures (record {
+      fell = c.look_ahead.new.ahead.fell;
+      falls = c.look_ahead.ensures.fell;
+      vain = λ u x listed ne later. c.falls_are_in_vain.ensures c.if-not-falls_are_in_vain.false u x listed ne later;
+    }))

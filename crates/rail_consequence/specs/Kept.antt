@@ -1,0 +1,21 @@
+-- What an analyst keeps from search to search.
+use Rattle.std.specs.Prelude.{ℕ, List}
+use Rattle.rail_rules.specs.Moves.{Moves}
+use Rattle.rail_consequence.specs.Needs.{IsRowsOf, IsTallyFor, Placed, SetRows}
+use Rattle.rail_consequence.specs.Stops.{IsNotedTo}
+use Rattle.rail_consequence.specs.Workspace.{IsListing}
+use Rattle.rail_consequence.specs.declared.notes.Notes.{Notes}
+
+-- the list of the trains that are inside at the places of a tally, the tally, what is noted of the trains there, and the sets of the trains at each place
+pub record Tallied : Type 0 where
+  pub inside : List ℕ
+  pub tally : Placed
+  pub notes : Notes
+  pub rows : SetRows
+
+-- all of this belongs to the moves
+pub record IsAnalystFor (plan : Moves) (tallied : Tallied) : Type 0 where
+  pub listed : IsListing plan tallied.tally.positions tallied.inside
+  pub tally : IsTallyFor plan tallied.tally
+  pub noted : IsNotedTo plan tallied.tally.positions tallied.notes
+  pub rows : IsRowsOf plan tallied.rows

@@ -1,0 +1,82 @@
+//! A list of trains by number.
+
+ghost use Rattle.std.specs.Prelude.{◌≡◌, ℕ, ◌<◌, ◌≤◌, ◌&&◌, ◌||◌, ◌==◌, [], not, get_or, length, IfOk};
+ghost use Rattle.rail_rules.specs.Numbers.{is_in};
+
+use rail_base::limits::TRAINS;
+use rail_base::{OutOfMemory, TrainNo};
+use std::alloc::Global;
+use std::marker::Model;
+
+/// Trains by number, each of them once.
+#[derive(Debug, Drop)]
+pub struct TrainList {
+    trains: Vec<TrainNo>,
+}
+
+impl Model for TrainList {
+    ghost use Rattle.std.specs.Prelude.{ℕ, List, ◌<◌, ◌≤◌, vec_capacity};
+    ghost use Rattle.std.specs.List.{All};
+    ghost use Rattle.std.specs.List.Sorted.{IsStrictlyIncreasing};
+    ghost use Rattle.rail_base.specs.declared.limits.TheConstants.{TRAINS};
+
+    ghost Value = { List ℕ };
+
+    ghost view = { λ list. list.trains.items };
+
+    ghost invariant = { λ list. IsStrictlyIncreasing list.trains.items × All (λ t. t < TRAINS) list.trains.items × (TRAINS ≤ vec_capacity list.trains) };
+}
+
+impl TrainList {
+    /// No trains, with all the memory that the list ever takes.
+    pub fn new(alloc: Global) -> Result<TrainList, OutOfMemory>
+        ensures { IfOk result (λ list. list ≡ []) }
+    {
+        Ok(TrainList {
+            trains: Vec::with_capacity(alloc, TRAINS)?,
+        })
+    }
+
+    /// The trains of the list.
+    pub fn as_slice(&self) -> &[TrainNo]
+        ensures { result.now ≡ self.now }
+    {
+        self.trains.as_slice()
+    }
+
+    /// Puts the train into the list, where it isn't there.
+    pub fn include(&mut self, train: TrainNo)
+        requires { train < TRAINS }
+        ensures { (u : ℕ) → is_in u self.new ≡ (u == train || is_in u self.old) }
+    {
+        let place = place_in(&self.trains, train);
+        if place == self.trains.len() || self.trains[place] != train {
+            self.trains.insert(place, train).unwrap();
+        }
+    }
+
+    /// Takes the train out of the list, where it is there.
+    pub fn exclude(&mut self, train: TrainNo)
+        ensures { (u : ℕ) → is_in u self.new ≡ (not (u == train) && is_in u self.old) }
+    {
+        let place = place_in(&self.trains, train);
+        if place < self.trains.len() && self.trains[place] == train {
+            self.trains.remove(place);
+        }
+    }
+}
+
+/// The place of the first train whose number is not below this one, counted from 0; that behind the last train where there
+/// is none.
+fn place_in(trains: &[TrainNo], train: TrainNo) -> usize
+    ensures bound { result ≤ length trains.now }
+    ensures front { (k d : ℕ) → k < result → get_or trains.now k d < train }
+    ensures here { (d : ℕ) → result < length trains.now → train ≤ get_or trains.now result d }
+{
+    for (place, other) in trains.iter().enumerate() {
+        if other.0 >= train.0 {
+            return place;
+        }
+    }
+    trains.len()
+}
