@@ -1,5 +1,5 @@
 -- Counting the trains that need a section for a move that they have left.
-use Rattle.std.proofs.Common.{◌≡◌, ◌≢◌, ℕ, zero, suc, ◌+◌, ◌*◌, ◌<◌, ◌≤◌, Bool, true, false, cond, not, ◌&&◌, ◌||◌, eqb, ltb, leb, List, ◌∷◌, length, get_or, set, take, replicate, refl, sym, ap, ◌∙◌, subst, ◌⊎◌, inl, inr, ⊎_elim, arith}
+use Rattle.std.proofs.Common.{◌≡◌, ◌≢◌, ℕ, zero, suc, ◌+◌, ◌*◌, ◌<◌, ◌≤◌, Bool, true, false, cond, not, ◌&&◌, ◌||◌, eqb, ltb, leb, List, [], ◌∷◌, length, get_or, set, take, replicate, refl, sym, ap, ◌∙◌, subst, ◌⊎◌, inl, inr, ⊎_elim, arith}
 use Rattle.std.proofs.lemmas.Bool.{cases_lt, cases_eq, cases_Bool, false≢true, eqb-true, eq-eqb, le-leb, leb-true, lt-leb, lt-ltb, le-ltb, cond-true, cond-false, and_from, and_left, and_right, and_parts, or_cases, or_from, or_left, or_right}
 use Rattle.std.proofs.lemmas.List.{get_or-set_same, get_or-set_other, length-set, get_or_past, get_or-replicate, length-replicate, take_all}
 use Rattle.std.proofs.lemmas.List.Folds.{list_any_at, list_any_more}
@@ -44,6 +44,14 @@ in_take_earlier x y xs i lt is ne found = ⊎_elim (λ earlier. earlier) (λ her
 
 pub in_take_all : (x : ℕ) (xs : List ℕ) (i : ℕ) → length xs ≤ i → is_in x xs ≡ true → is_in x (take i xs) ≡ true
 in_take_all x xs i le is = ap (is_in x) (take_all i xs le) ∙ is
+
+-- a number of a list has an index in it
+pub in_index : (x : ℕ) (xs : List ℕ) → is_in x xs ≡ true → (i : ℕ) × (i < length xs) × (get_or xs i 0 ≡ x)
+in_index x [] found = absurd (false≢true found)
+in_index x (y ∷ ys) found = ⊎_elim
+    (λ here. (0, omega arith, eqb-true y x here))
+    (λ later. let rest = in_index x ys later in (suc rest.0, omega (arith, rest.1), rest.2))
+    (or_cases (eqb y x) (is_in x ys) found)
 
 -- counts that are all 0
 pub zeros_at : (n i : ℕ) → get_or {A = ℕ} (replicate n 0) i 0 ≡ 0

@@ -1,11 +1,12 @@
 -- Trains that have no safe leg, and what stops them.
-use Rattle.std.specs.Prelude.{◌≡◌, ◌≢◌, ℕ, ◌<◌, ◌≤◌, false, List, Option, Some, None, get_or, IsTrue}
+use Rattle.std.specs.Prelude.{◌≡◌, ◌≢◌, ℕ, ◌<◌, ◌≤◌, false, List, Option, Some, None, get_or, length, IsTrue}
 use Rattle.rail_rules.specs.Numbers.{is_in}
 use Rattle.rail_rules.specs.Moves.{Moves}
 use Rattle.rail_rules.specs.Places.{place_of, is_inside, holds}
 use Rattle.rail_rules.specs.Analysis.{is_leg, is_safe}
 use Rattle.rail_sets.specs.Sets.{has}
 use Rattle.rail_consequence.specs.Needs.{needs_left}
+use Rattle.rail_consequence.specs.Searches.{HasNoSafeLegOf}
 use Rattle.rail_consequence.specs.declared.analyst.closing.Look.{Look}
 use Rattle.rail_consequence.specs.declared.analyst.closing.Look.TheVariants.{Idle, Leads, Stopped}
 use Rattle.rail_consequence.specs.declared.notes.Notes.{Notes}
@@ -68,6 +69,15 @@ pub record IsNotedTo (plan : Moves) (s : List ℕ) (notes : Notes) : Type 0 wher
 pub record IsSettled (plan : Moves) (s : List ℕ) (stops : List Stop) : Type 0 where
   pub stopped : (u x : ℕ) → IsTrue (is_inside plan s u) → section_of (stop_of stops u) ≡ Some x → IsStopped plan s u x
   pub next : (u x : ℕ) → IsTrue (is_inside plan s u) → stop_of stops u ≡ Next x → IsTrue (is_in x (plan.claim u (place_of s u)))
+
+-- no leg of the train is safe, and what is noted of it stops it, if it is inside
+pub record IsSettledTrain (plan : Moves) (s : List ℕ) (stops : List Stop) (t : ℕ) : Type 0 where
+  pub none : HasNoSafeLegOf plan s t
+  pub stopped : (x : ℕ) → IsTrue (is_inside plan s t) → section_of (stop_of stops t) ≡ Some x → IsStopped plan s t x
+
+-- the trains of the list from an index on are settled
+abbrev pub AreSettledFrom : Moves → List ℕ → List Stop → List ℕ → ℕ → Type 0
+AreSettledFrom plan s stops trains from = (i : ℕ) → from ≤ i → i < length trains → IsSettledTrain plan s stops (get_or trains i 0)
 
 -- what a look at a train may note of it
 abbrev pub ShowsStop : Moves → List ℕ → ℕ → Stop → Type 0

@@ -6,7 +6,7 @@ ghost use Rattle.rail_rules.specs.Numbers.{is_in};
 ghost use Rattle.rail_rules.specs.Places.{is_inside, place_of};
 ghost use Rattle.rail_place.specs.Tables.{moves_in};
 ghost use Rattle.rail_consequence.specs.Searches.{FindsSame, HasNoSafeLeg, HasNoSafeLegOf, leg_to};
-ghost use Rattle.rail_consequence.specs.Stops.{IsHeldByOther, IsNotedTo, IsSettled, IsStopped, IsUntouched, Shows, section_of, stop_of};
+ghost use Rattle.rail_consequence.specs.Stops.{AreSettledFrom, IsHeldByOther, IsNotedTo, IsSettled, IsStopped, IsUntouched, Shows, section_of, stop_of};
 ghost use Rattle.rail_consequence.specs.Workspace.{GoesOn, IsBack, IsListing, IsReady};
 
 use super::Worksheet;
@@ -38,31 +38,51 @@ impl Worksheet {
         ensures none { HasNoSafeLeg (moves_in moves.now) self.new.places.positions }
         ensures settled { IsSettled (moves_in moves.now) self.new.places.positions notes.new.stops }
     {
-        while self.make_safe_legs(moves, inside, notes) {}
+        let mut upto = inside.len();
+        // The trains behind the one that made the last leg were looked at since.
+        while upto > 0 {
+            upto = self.make_safe_legs(moves, inside, notes, upto);
+        }
     }
 
-    /// Makes a safe leg of each train that has one at its turn, and says whether any was made.
+    /// Goes over the first so many trains of the list, and over those behind them, too, once a leg is made: makes a
+    /// safe leg of each that has one at its turn. Only the first so many, as it says, may have a safe leg then;
+    /// none, where no leg was made.
     #[inline(never)]
-    fn make_safe_legs(&mut self, moves: &Moves, inside: &[TrainNo], notes: &mut Notes) -> bool
+    fn make_safe_legs(
+        &mut self,
+        moves: &Moves,
+        inside: &[TrainNo],
+        notes: &mut Notes,
+        upto: usize,
+    ) -> usize
         requires ready { IsReady moves.now self.old }
         requires listed { IsListing (moves_in moves.now) self.old.places.positions inside.now }
         requires noted { IsNotedTo (moves_in moves.now) self.old.places.positions notes.old }
+        requires within { upto ≤ length inside.now }
+        requires settled { AreSettledFrom (moves_in moves.now) self.old.places.positions notes.old.stops inside.now upto }
         ensures ready { IsReady moves.now self.new }
         ensures moves { GoesOn (moves_in moves.now) self.old self.new }
         ensures same { FindsSame (moves_in moves.now) self.old.places.positions self.new.places.positions }
-        ensures fewer { IsTrue result → moves_left (moves_in moves.now) self.new.places.positions
+        ensures fewer { 0 < result → moves_left (moves_in moves.now) self.new.places.positions
             < moves_left (moves_in moves.now) self.old.places.positions }
-        ensures none { result ≡ false → HasNoSafeLeg (moves_in moves.now) self.new.places.positions }
-        ensures settled { result ≡ false → IsSettled (moves_in moves.now) self.new.places.positions notes.new.stops }
+        ensures within { result ≤ length inside.now }
+        ensures settled { AreSettledFrom (moves_in moves.now) self.new.places.positions notes.new.stops inside.now result }
         ensures noted { IsNotedTo (moves_in moves.now) self.new.places.positions notes.new }
     {
-        let mut moved = false;
-        for train in inside {
-            if self.make_safe_leg(moves, *train, notes) {
-                moved = true;
+        let mut loose = 0;
+        let mut end = upto;
+        let mut index = 0;
+        while index < end {
+            let train = inside[index];
+            index += 1;
+            if self.make_safe_leg(moves, train, notes) {
+                // Each train may have a safe leg now.
+                loose = index;
+                end = inside.len();
             }
         }
-        moved
+        loose
     }
 
     /// Makes the farthest safe leg of the train; or notes what stops it, where it has none. A train is
@@ -211,7 +231,7 @@ impl Worksheet {
             // A leg that ends out is safe.
             return Look::Leads(last);
         }
-        for made in place..last {
+        for made in place + 1..last {
             if let Some(section) = self.stop_of(moves, train, made) {
                 return match self.last_safe(moves, train, made) {
                     Some(end) => Look::Leads(end),

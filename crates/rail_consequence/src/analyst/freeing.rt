@@ -21,6 +21,9 @@ use rail_base::TrainNo;
 use rail_place::Moves;
 use rail_sets::{fill_replaced, meet, meet_beyond};
 
+/// Where a train has more places before it than this, it is first asked whether it can go out, and then place by place.
+const FAR: u16 = 24;
+
 impl Worksheet {
     /// Finds the trains of which it may help that they make the last free leg, where two are inside or more. Of the others a
     /// look at what is noted tells that they can't go on, or that nobody gets a safe leg even where they have gone out.
@@ -67,11 +70,10 @@ impl Worksheet {
         ensures here { (t : ℕ) → is_marked openers.new t ≡ false
             → IsNotAwaited (moves_in moves.now) self.now.places.positions notes.now.stops t other }
     {
-        if !stands_inside(moves, &self.places, other) {
-            return;
-        }
         let Some(train) = self.awaited(moves, notes, other) else {
-            openers.add_all();
+            if stands_inside(moves, &self.places, other) {
+                openers.add_all();
+            }
             return;
         };
         if openers.has(train) || train == other || notes.stop(train).is_next() {
@@ -355,10 +357,11 @@ impl Worksheet {
     {
         let at = self.places.position(stopped);
         let own = self.rows.stand(moves, stopped, at);
-        if !meet_beyond(self.rows.rest(moves, stopped, at), &ahead.held, own) {
+        let last = moves.places(stopped);
+        if last - at > FAR && !meet_beyond(self.rows.rest(moves, stopped, at), &ahead.held, own) {
             return false;
         }
-        for made in at..moves.places(stopped) {
+        for made in at..last {
             if meet_beyond(self.rows.need(moves, stopped, made), &ahead.held, own) {
                 return true;
             }

@@ -19,6 +19,11 @@ stand-own-requires-clause-within c =
     let at = c.position-at.ensures ∙ ap (λ (w : Work). place_of w.places.positions c.args.stopped) c.self.view_is in
     omega (arith, at, place_within c.args.moves.now c.args.self.now.places c.args.stopped c.requires.ready.made c.requires.stopped)
 
+pub overflow_sub-last : goal.overflow_sub-last
+overflow_sub-last c =
+    let at = c.position-at.ensures ∙ ap (λ (w : Work). place_of w.places.positions c.args.stopped) c.self.view_is in
+    omega (arith, at, c.places-last.ensures, place_within c.args.moves.now c.args.self.now.places c.args.stopped c.requires.ready.made c.requires.stopped)
+
 pub rest-requires-clause-within : goal.rest-requires-clause-within
 rest-requires-clause-within c =
     let at = c.position-at.ensures ∙ ap (λ (w : Work). place_of w.places.positions c.args.stopped) c.self.view_is in
