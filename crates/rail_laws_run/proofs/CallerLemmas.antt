@@ -36,6 +36,8 @@ pub use Rattle.rail_laws_run.proofs.HoldersKept.{frees_one}
 pub use Rattle.rail_laws_run.proofs.HoldersKept.{kept}
 -- An admission over sections that nobody holds makes its train their holder.
 pub use Rattle.rail_laws_run.proofs.HoldersKept.{takes}
+-- The table after a train takes sections: it is as long as before, and the holders of other sections stay.
+pub use Rattle.rail_laws_run.proofs.HoldersKept.{taken_long, taken_out}
 -- Blocking: at a decision the holders are the blockers.
 
 -- So the first needed section that is blocked, and by whom, is told by the table of holders.

@@ -229,7 +229,7 @@ taken_in h (x ∷ xs) t y lt there =
     (or_cases (eqb x y) (is_in y xs) there))
     (cases_Bool (is_in y xs))
 
-taken_long : (h : List (Option ℕ)) (xs : List ℕ) (t : ℕ) → length (taken_by h xs t) ≡ length h
+pub taken_long : (h : List (Option ℕ)) (xs : List ℕ) (t : ℕ) → length (taken_by h xs t) ≡ length h
 taken_long h [] t = refl
 taken_long h (x ∷ xs) t = taken_long (set h x (Some t)) xs t ∙ length-set h x (Some t)
 

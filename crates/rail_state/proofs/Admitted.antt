@@ -1,18 +1,18 @@
 -- An admission: what it changes.
-use Rattle.std.proofs.Common.{◌≡◌, ℕ, zero, suc, ◌+◌, ◌-◌, ◌<◌, max, Bool, true, false, not, ◌&&◌, cond, eqb, List, [], ◌∷◌, ◌++◌, length, get_or, Option, Some, None, is_some, refl, sym, ap, ◌∙◌, subst, ◌⊎◌, inl, ⊎_elim, arith}
+use Rattle.std.proofs.Common.{◌≡◌, ℕ, zero, suc, ◌+◌, ◌-◌, ◌<◌, max, Bool, true, false, not, ◌&&◌, cond, ◌||◌, eqb, List, [], ◌∷◌, ◌++◌, length, Option, Some, None, is_some, refl, sym, ap, ◌∙◌, subst, ◌⊎◌, inl, ⊎_elim, arith}
 use Rattle.std.specs.Prelude.{count_by, nat_lt}
-use Rattle.std.proofs.lemmas.Bool.{and_parts, and_from, and_left, and_right, or_left, or_right, cases_Bool, cases_lt, eqb-true, eq-eqb, ne_eqb, lt-ltb, ltb-true, false≢true, cond-true, cond-false, cond_both, not_from_true, not_from_false, not-true}
+use Rattle.std.proofs.lemmas.Bool.{and_parts, and_from, and_right, cases_Bool, eqb-true, eq-eqb, ne_eqb, lt-ltb, false≢true, cond-true, cond-false, not_from_false, not-true}
 use Rattle.std.proofs.lemmas.Option.{none-some}
 use Rattle.rail_base.specs.declared.history.Entry.{Entry}
 use Rattle.rail_base.specs.declared.history.Note.{Note}
 use Rattle.rail_base.specs.declared.history.Cause.{Cause}
-use Rattle.rail_rules.specs.Numbers.{gather, is_in, or_else}
+use Rattle.rail_rules.specs.Numbers.{gather, or_else}
 use Rattle.rail_rules.specs.Plant.{Plant, is_forced, move_row, trains, moves, moves_of, needed, step_section, steps}
 use Rattle.rail_rules.specs.Times.{admitted, arrive, does_pass, free_run, go, passes, previous, ready, signal_time, stop_at, stop_time}
 use Rattle.rail_rules.specs.Fronts.{Front, Line, admissions, has_ended, instant, kept, places}
 use Rattle.rail_rules.specs.Intervals.{end_of}
 use Rattle.rail_rules.specs.Events.{arrive_line, enter_line, free_lines, move_events, out_lines}
-use Rattle.rail_rules.specs.Causes.{closed_cause, is_deciding, is_ready, last_hold, place, stop_cause}
+use Rattle.rail_rules.specs.Causes.{closed_cause, is_deciding, is_ready, is_repairable, last_hold, list_cause, place, places_after, stop_cause}
 use Rattle.rail_rules.specs.Orders.{told, Dispatch, input_of}
 use Rattle.rail_laws_front.specs.Premises.{IsWellFormed}
 use Rattle.rail_laws_front.proofs.CallerLemmas.{agree_added, admitted_added, free_run_agrees, is_added, length_added, ready_agrees, arrives_passing, arrives_stopping, go_after_admission, not_admitted, run_after_go, admission_added, admission_of_other}
@@ -28,8 +28,12 @@ use Rattle.rail_queue.specs.declared.event.Class.TheVariants as class
 use Rattle.rail_state.specs.Events.{end_lines, event_of, deferred_event, step_lines, train_event}
 use Rattle.rail_laws_run.proofs.CallerLemmas.{no_later_hold, unheld, unready_by_admission, admission_due}
 use Rattle.rail_state.specs.declared.train.TrainState.{TrainState}
-use Rattle.rail_state.specs.TrainStates.{state_of}
+use Rattle.rail_state.specs.TrainStates.{after_taking, outlasts_taking, state_of}
 use Rattle.rail_state.specs.TrainStates.{admitted as admitted_state}
+use Rattle.rail_state.specs.SeenCauses.{seen_bar, seen_cause}
+use Rattle.rail_state.proofs.Outlasting.{StillHold, each_free, outlasting_known, seen_outlasting, taking_holds}
+use Rattle.rail_state.proofs.Seen.{tells_none}
+use Rattle.rail_rules.specs.Analysis.{finds}
 use Rattle.rail_state.specs.Representation.{IsAdmissible, IsAdmitLine, IsBound, IsDeferred, MayKeep, Represents, admit_line, deferred_events, passing_event}
 use Rattle.rail_state.proofs.Below.{ready_runs, well_formed_plant, head_kept, holders_taken, out_kept}
 use Rattle.rail_state.proofs.Admitting.{admits, lawful_line, left_of_ready, no_hold, ready_it, waits_it}
@@ -38,19 +42,6 @@ use Rattle.rail_state.proofs.Next.{carried_ready}
 use Rattle.rail_state.proofs.Early.{held_before_now}
 use Rattle.rail_rules.specs.Events.{due_lines}
 use Rattle.rail_state.specs.declared.run_state.RunState.{RunState}
-
--- where no needed section is held, each is free
-pub each_free : (h : List (Option ℕ)) (xs : List ℕ) → held_cause h xs ≡ None → (x : ℕ) → is_in x xs ≡ true → get_or h x None ≡ None
-each_free h [] free x there = absurd (false≢true there)
-each_free h (y ∷ ys) free x there = at (get_or h y None) refl free (λ free_rest in_rest. each_free h ys free_rest x in_rest)
-  where
-    at : (o : Option ℕ) → get_or h y None ≡ o → or_else (Rattle.std.specs.Option.option_map (Rattle.rail_base.specs.declared.history.Cause.TheVariants.Blocked y) o) (held_cause h ys) ≡ None → (held_cause h ys ≡ None → is_in x ys ≡ true → get_or h x None ≡ None) → get_or h x None ≡ None
-    at (Some u) is free' deeper = absurd (none-some _ (sym free'))
-    at None is free' deeper =
-        ⊎_elim
-        (λ here. subst (λ z. get_or h z None ≡ None) (eqb-true y x here) is)
-        (λ later. deeper free' later)
-        (Rattle.std.proofs.lemmas.Bool.or_cases (eqb y x) (is_in x ys) there)
 
 -- where nothing bars, nothing holds
 bar_free : (a b c : Option Cause) → or_else a (or_else b c) ≡ None → c ≡ None
@@ -83,8 +74,8 @@ module _ (dispatch : Dispatch) (plant : Plant) (front : Front) (state : RunState
   this_state : state_of after_it.trains t ≡ admitted_state times arrival (state_of state.trains t)
   this_state = has.trains t next.known_train ∙ cond-true (eqb t t) (admitted_state times arrival (state_of state.trains t)) _ (eq-eqb t t refl)
 
-  other_state : (u : ℕ) → u < trains plant → (u ≡ t → ⊥) → state_of after_it.trains u ≡ record (state_of state.trains u) { known = None }
-  other_state u lt other = has.trains u lt ∙ cond-false (eqb t u) _ (record (state_of state.trains u) { known = None }) (ne_eqb t u (λ e. other (sym e)))
+  other_state : (u : ℕ) → u < trains plant → (u ≡ t → ⊥) → state_of after_it.trains u ≡ after_taking plant after_it.holders u (state_of state.trains u)
+  other_state u lt other = has.trains u lt ∙ cond-false (eqb t u) _ (after_taking plant after_it.holders u (state_of state.trains u)) (ne_eqb t u (λ e. other (sym e)))
 
   -- the times of the old and the new place
   old_times : (state_of state.trains t).times ≡ times_at plant t (admissions front t) (place front t)
@@ -343,19 +334,54 @@ module _ (dispatch : Dispatch) (plant : Plant) (front : Front) (state : RunState
           (has.not_deferred (sym (ap (λ (r : TrainState). r.deferred) this_state) ∙ none'))
 
   -- a part of a train that an admission leaves, of this train too
-  same_part : {B : Type 0} (part : TrainState → B) → ((r : TrainState) → part (admitted_state times arrival r) ≡ part r) → ((r : TrainState) → part (record r { known = None }) ≡ part r) → (u : ℕ) → u < trains plant → part (state_of after_it.trains u) ≡ part (state_of state.trains u)
+  same_part : {B : Type 0} (part : TrainState → B) → ((r : TrainState) → part (admitted_state times arrival r) ≡ part r) → ((r : TrainState) (known : Option Cause) → part (record r { known = known }) ≡ part r) → (u : ℕ) → u < trains plant → part (state_of after_it.trains u) ≡ part (state_of state.trains u)
   same_part part this other u lt =
       ⊎_elim
       (λ here. let e : t ≡ u = sym (eqb-true u t here) in subst (λ v. part (state_of after_it.trains v) ≡ part (state_of state.trains v)) e (ap part this_state ∙ this (state_of state.trains t)))
-      (λ other_train. ap part (other_state u lt (λ e. false≢true (sym other_train ∙ eq-eqb u t e))) ∙ other (state_of state.trains u))
+      (λ other_train. ap part (other_state u lt (λ e. false≢true (sym other_train ∙ eq-eqb u t e))) ∙ other (state_of state.trains u) (after_taking plant after_it.holders u (state_of state.trains u)).known)
       (cases_Bool (eqb u t))
 
-  none_known : (u : ℕ) → u < trains plant → (state_of after_it.trains u).known ≡ None
-  none_known u lt =
+  -- the needed sections of the move were free
+  free_before : held_cause state.holders (needed plant t (place front t)) ≡ None
+  free_before = bar_free (stop_cause t (told dispatch.commands front)) (closed_cause (needed plant t (place front t)) (told dispatch.commands front)) (held_cause state.holders (needed plant t (place front t))) next.free
+
+  still_hold : StillHold state.holders after_it.holders
+  still_hold = subst (StillHold state.holders) (sym has.holders) (taking_holds state.holders (needed plant t (place front t)) t free_before)
+
+  -- what is known then was known of another train that waits, and outlasts the taking
+  known_before : (u : ℕ) (why : Cause) → u < trains plant → (state_of after_it.trains u).known ≡ Some why
+      → (u ≡ t → ⊥) × (((state_of state.trains u).waits && outlasts_taking after_it.holders (needed plant u (state_of state.trains u).place) (state_of state.trains u).known) ≡ true)
+      × ((state_of state.trains u).known ≡ Some why)
+  known_before u why lt is =
       ⊎_elim
-      (λ here. let e : t ≡ u = sym (eqb-true u t here) in subst (λ v. (state_of after_it.trains v).known ≡ None) e (ap (λ (r : TrainState). r.known) this_state))
-      (λ other_train. ap (λ (r : TrainState). r.known) (other_state u lt (λ e. false≢true (sym other_train ∙ eq-eqb u t e))))
+      (λ here.
+      let e : t ≡ u = sym (eqb-true u t here) in
+      absurd (none-some why (subst (λ v. (state_of after_it.trains v).known ≡ Some why → None ≡ Some why) e (λ known. sym (ap (λ (r : TrainState). r.known) this_state) ∙ known) is)))
+      (λ other_train.
+      let other : u ≡ t → ⊥ = λ e. false≢true (sym other_train ∙ eq-eqb u t e) in
+      let train_state : TrainState = state_of state.trains u in
+      let was = outlasting_known (train_state.waits && outlasts_taking after_it.holders (needed plant u train_state.place) train_state.known) train_state.known why
+      (sym (ap (λ (r : TrainState). r.known) (other_state u lt other)) ∙ is) in
+      (other, was.0, was.1))
       (cases_Bool (eqb u t))
+
+  -- it is the cause still
+  cause_still : (u : ℕ) (why : Cause) → u < trains plant → (state_of after_it.trains u).known ≡ Some why → seen_cause (input_of dispatch plant) (line ∷ front) after_it.holders u ≡ Some why
+  cause_still u why lt is =
+      let was = known_before u why lt is in
+      let train_state : TrainState = state_of state.trains u in
+      let sections : List ℕ = needed plant u (place front u) in
+      let orders : told dispatch.commands (line ∷ front) ≡ told dispatch.commands front = tells_none dispatch line front refl in
+      let same_place : place (line ∷ front) u ≡ place front u = ap length (others u was.0) in
+      let outlasts : outlasts_taking after_it.holders sections (Some why) ≡ true =
+      ap (λ p. outlasts_taking after_it.holders (needed plant u p) (Some why)) (sym (rep.times.places u lt))
+      ∙ ap (outlasts_taking after_it.holders (needed plant u train_state.place)) (sym was.2)
+      ∙ (and_parts train_state.waits (outlasts_taking after_it.holders (needed plant u train_state.place) train_state.known) was.1).1 in
+      let input = input_of dispatch plant in
+      let known_list : Front → Bool = λ f. is_repairable input f u || finds (moves_of plant) plant.tables.depth (places_after input f u) in
+      (λ i. or_else (seen_bar (orders i) after_it.holders u (needed plant u (same_place i))) (list_cause input (line ∷ front) u))
+      ∙ seen_outlasting state.holders after_it.holders still_hold sections (stop_cause u (told dispatch.commands front)) (closed_cause sections (told dispatch.commands front))
+      (known_list front) (known_list (line ∷ front)) why (rep.known.cause u why lt was.2) outlasts
 
   -- the run stands for the front with the line
   pub admitted_line : Represents dispatch plant (line ∷ front) after_it
@@ -390,9 +416,9 @@ module _ (dispatch : Dispatch) (plant : Plant) (front : Front) (state : RunState
         };
         pending = record { counted = counted; deferred = held_after; bound = bound_after };
         heads = record {
-          place_counts = λ u lt. subst (λ h. 0 < h.place) (sym (same_part (λ r. r.head) (λ r. refl) (λ r. refl) u lt)) (rep.heads.place_counts u lt);
-          step_counts = λ u lt. subst (λ h. 0 < h.step) (sym (same_part (λ r. r.head) (λ r. refl) (λ r. refl) u lt)) (rep.heads.step_counts u lt);
-          heads = λ u lt. subst (λ h. IsHead plant (line ∷ front) u (h.place - 1) (h.step - 1)) (sym (same_part (λ r. r.head) (λ r. refl) (λ r. refl) u lt))
+          place_counts = λ u lt. subst (λ h. 0 < h.place) (sym (same_part (λ r. r.head) (λ r. refl) (λ r known. refl) u lt)) (rep.heads.place_counts u lt);
+          step_counts = λ u lt. subst (λ h. 0 < h.step) (sym (same_part (λ r. r.head) (λ r. refl) (λ r known. refl) u lt)) (rep.heads.step_counts u lt);
+          heads = λ u lt. subst (λ h. IsHead plant (line ∷ front) u (h.place - 1) (h.step - 1)) (sym (same_part (λ r. r.head) (λ r. refl) (λ r known. refl) u lt))
               (head_kept (input_of dispatch plant) fine line front lawful u ((state_of state.trains u).head.place - 1) ((state_of state.trains u).head.step - 1) refl (rep.heads.heads u lt));
         };
         waiting = record {
@@ -414,16 +440,18 @@ module _ (dispatch : Dispatch) (plant : Plant) (front : Front) (state : RunState
               let other : u ≡ t → ⊥ = λ e. false≢true (sym other_train ∙ eq-eqb u t e) in
               ap (λ (r : TrainState). r.last_hold) (other_state u lt other) ∙ rep.waiting.told u lt ∙ sym (unheld line front u (suc (place front u)) refl) ∙ sym (ap (λ k. last_hold (line ∷ front) u (suc k)) (ap length (others u other))))
               (cases_Bool (eqb u t));
-          out = λ u lt. same_part (λ r. r.is_out) (λ r. refl) (λ r. refl) u lt ∙ rep.waiting.out u lt ∙ sym (out_kept line front u refl);
+          out = λ u lt. same_part (λ r. r.is_out) (λ r. refl) (λ r known. refl) u lt ∙ rep.waiting.out u lt ∙ sym (out_kept line front u refl);
         };
         holders = subst (AreHolders plant (line ∷ front)) (sym has.holders)
             (holders_taken (input_of dispatch plant) rep.accepted line front lawful t (suc (place front t)) note by_it state.holders
-            (each_free state.holders (needed plant t (place front t))
-            (bar_free (stop_cause t (told dispatch.commands front)) (closed_cause (needed plant t (place front t)) (told dispatch.commands front))
-            (held_cause state.holders (needed plant t (place front t))) next.free)) rep.holders);
+            (each_free state.holders (needed plant t (place front t)) free_before) rep.holders);
         known = record {
-          cause = λ u c lt k. absurd (none-some c (sym (none_known u lt) ∙ k));
-          waits = λ u c lt k. absurd (none-some c (sym (none_known u lt) ∙ k));
+          cause = cause_still;
+          waits = λ u why lt is.
+              let was = known_before u why lt is in
+              let train_state : TrainState = state_of state.trains u in
+              ap (λ (r : TrainState). r.waits) (other_state u lt was.0)
+              ∙ (and_parts train_state.waits (outlasts_taking after_it.holders (needed plant u train_state.place) train_state.known) was.1).0;
           no_more = λ held_last u lt waits. absurd (false≢true held_last);
         };
         settled = λ settled. absurd (false≢true (sym has.settled ∙ settled));

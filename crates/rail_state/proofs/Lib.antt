@@ -23,6 +23,7 @@ mod Settling
 mod Lines
 mod Changed
 mod Freed
+mod Outlasting
 mod Happening
 mod Happened
 mod Holding

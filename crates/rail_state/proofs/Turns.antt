@@ -15,14 +15,14 @@ use Rattle.rail_rules.specs.Orders.{is_cancelled}
 use Rattle.rail_rules.specs.Plant.{Plant, claimed, moves, needed, trains}
 use Rattle.rail_block.specs.declared.times.MoveTimes.{MoveTimes}
 use Rattle.rail_state.specs.declared.train.TrainState.{TrainState}
-use Rattle.rail_state.specs.TrainStates.{admitted, is_blocked_at, lacks_hold_line, is_untried, is_touched, looked_at, no_state, state_admitted, state_of, state_told, without_known}
+use Rattle.rail_state.specs.TrainStates.{admitted, after_taking, is_blocked_at, lacks_hold_line, is_untried, is_touched, looked_at, no_state, outlasts_taking, state_admitted, state_of, state_told, without_known}
 use Rattle.rail_state.specs.FirstUntried.{earlier, first_with, ready_of}
 use Rattle.rail_state.specs.declared.span.Span.{Span}
 use Rattle.rail_state.specs.Spans.{AreAmong, Holds, IsAround, is_held}
-use Rattle.rail_state.specs.Watched.{AreWatched, forget, heed, is_watched, look_again, look_at, unknown}
+use Rattle.rail_state.specs.Watched.{AreWatched, heed, is_watched, look_again, look_at, note_taking}
 use Rattle.rail_state.proofs.TrainsChanged.{IsChanged, changed_none, changed_more, changed_over, changed_all}
 use Rattle.rail_state.proofs.First.{IsLookedAt, looked_none, looked_more, looked_over}
-use Rattle.rail_state.proofs.Seeking.{among_none, found_among, held_passes, lacks_none, passed_twice}
+use Rattle.rail_state.proofs.Seeking.{among_at, among_none, found_among, held_passes, lacks_none, passed_twice}
 use Rattle.rail_state.proofs.TrainNumbers.{few_pass, first_is_least, IsLeast, in_turn, numbers, passes_both, passing_below, passing_there, same_pass}
 use Rattle.rail_state.proofs.WatchedKept.{is_watched_in, none_known, not_blocked, not_known, not_waiting, still_watched, untold_watched, written}
 
@@ -34,66 +34,92 @@ all_watched {S} step Holds s states watched kept start more over =
     let P : List ℕ → Type 0 = λ list. Holds (fold step s list) (length states) in
     subst P (sym kept.exact) (in_turn step (is_watched_in states) Holds s (length states) start (λ now i lt _. more now i lt) (λ now i _. over now i))
 
--- all causes are forgotten
-pub all_forgotten : (states : List TrainState) (watched : Vec ℕ) → AreWatched states watched → IsChanged (λ _. unknown) states (fold forget states watched.items) (length states)
-all_forgotten states watched kept =
-    all_watched forget (IsChanged (λ _. unknown) states) states states watched kept (changed_none (λ _. unknown) states)
-    (changed_more (λ _. unknown) states)
-    (λ now i off. changed_over (λ _. unknown) states now i (let train_state : TrainState = state_of states i in ap (λ known. record train_state { known = known }) (none_known train_state.known (not_known train_state off))))
+-- what would be noted of a train that neither waits nor has a known cause is so already
+taking_none : (plant : Plant) (holders : List (Option ℕ)) (t : ℕ) (train_state : TrainState) → is_watched train_state ≡ false → after_taking plant holders t train_state ≡ train_state
+taking_none plant holders t train_state off = ap (λ known. record train_state { known = known }) (same (train_state.waits && outlasts_taking holders (claimed plant t train_state.place) train_state.known))
+  where
+    same : (b : Bool) → cond b train_state.known None ≡ train_state.known
+    same true = refl
+    same false = none_known train_state.known (not_known train_state off)
 
--- each cause is forgotten
-pub forgotten_each : (old mid : List TrainState) → IsChanged (λ _. unknown) old mid (length old) → (u : ℕ) → state_of mid u ≡ unknown (state_of old u)
-forgotten_each old mid changed = changed_all (λ _. unknown) old mid changed (λ u. refl)
+-- each watched train notes that sections were taken, and so all trains do
+pub taking_noted : (plant : Plant) (holders : List (Option ℕ)) (states shown new : List TrainState) (watched : Vec ℕ) (list : List ℕ) → AreWatched states watched → shown ≡ states
+    → list ≡ watched.items → new ≡ fold (note_taking plant holders) shown list → IsChanged (after_taking plant holders) states new (length states)
+taking_noted plant holders states shown new watched list kept shown_is list_is is =
+    let whole : new ≡ fold (note_taking plant holders) states watched.items =
+    is ∙ ap (λ (rs : List TrainState). fold (note_taking plant holders) rs list) shown_is ∙ ap (fold (note_taking plant holders) states) list_is in
+    subst (λ (now : List TrainState). IsChanged (after_taking plant holders) states now (length states)) (sym whole)
+    (all_watched (note_taking plant holders) (IsChanged (after_taking plant holders) states) states states watched kept (changed_none (after_taking plant holders) states)
+    (changed_more (after_taking plant holders) states)
+    (λ now i off. changed_over (after_taking plant holders) states now i (taking_none plant holders i (state_of states i) off)))
 
--- the causes of the trains of the list are forgotten
-pub forgotten_now : (states shown new : List TrainState) (watched : Vec ℕ) (list : List ℕ) → AreWatched states watched → shown ≡ states → list ≡ watched.items → new ≡ fold forget shown list → IsChanged (λ _. unknown) states new (length states)
-forgotten_now states shown new watched list kept shown_is list_is is =
-    let whole : new ≡ fold forget states watched.items = is ∙ ap (λ (rs : List TrainState). fold forget rs list) shown_is ∙ ap (fold forget states) list_is in
-    subst (λ (now : List TrainState). IsChanged (λ _. unknown) states now (length states)) (sym whole) (all_forgotten states watched kept)
+-- each train is so then
+pub taking_each : (plant : Plant) (holders : List (Option ℕ)) (old mid : List TrainState) → IsChanged (after_taking plant holders) old mid (length old) → (u : ℕ) → state_of mid u ≡ after_taking plant holders u (state_of old u)
+taking_each plant holders old mid changed = changed_all (after_taking plant holders) old mid changed (λ u. refl)
+
+-- a train that doesn't wait has no known cause then
+pub idle_unknown : (plant : Plant) (holders : List (Option ℕ)) (t : ℕ) (train_state : TrainState) → train_state.waits ≡ false → (after_taking plant holders t train_state).known ≡ None
+idle_unknown plant holders t train_state off = ap (λ waits. cond (waits && outlasts_taking holders (claimed plant t train_state.place) train_state.known) train_state.known None) off
+
+-- a train that lacks a hold line then lacked it before
+pub lacks_kept : (plant : Plant) (holders : List (Option ℕ)) (t : ℕ) (train_state : TrainState) → lacks_hold_line (after_taking plant holders t train_state) ≡ true → lacks_hold_line train_state ≡ true
+lacks_kept plant holders t train_state = by (train_state.waits && outlasts_taking holders (claimed plant t train_state.place) train_state.known)
+  where
+    by : (b : Bool) → lacks_hold_line (record train_state { known = cond b train_state.known None }) ≡ true → lacks_hold_line train_state ≡ true
+    by true is = is
+    by false is = absurd (false≢true (sym (lacks_none (record train_state { known = None }) refl) ∙ is))
 
 pub or_none : (b : Bool) → (b || false) ≡ b
 or_none true = refl
 or_none false = refl
 
--- then no cause is known
-pub unknown_each : (old mid : List TrainState) (t : ℕ) (train_state : TrainState) → IsChanged (λ _. unknown) old mid (length old) → t < length old → train_state.known ≡ None
-    → (u : ℕ) → (state_of (set mid t train_state) u).known ≡ None
-unknown_each old mid t train_state changed lt none =
-    written (λ u now. now.known ≡ None) mid t train_state (omega (arith, lt, changed.long)) none (λ u _. ap (λ (r : TrainState). r.known) (forgotten_each old mid changed u))
-
 -- behind an admission those of the watched trains are watched that wait still
-pub admitted_kept : (old mid : List TrainState) (watched now : Vec ℕ) (t : ℕ) (train_state : TrainState) → AreWatched old watched → IsChanged (λ _. unknown) old mid (length old)
+pub admitted_kept : (plant : Plant) (holders : List (Option ℕ)) (old mid : List TrainState) (watched now : Vec ℕ) (t : ℕ) (train_state : TrainState) → AreWatched old watched
+    → IsChanged (after_taking plant holders) old mid (length old)
     → t < length old → train_state.waits ≡ false → train_state.known ≡ None → now.items ≡ filter (λ u. (state_of (set mid t train_state) u).waits) watched.items
     → vec_capacity now ≡ vec_capacity watched → AreWatched (set mid t train_state) now
-admitted_kept old mid watched now t train_state kept changed lt off none items room =
+admitted_kept plant holders old mid watched now t train_state kept changed lt off none items room =
     let new : List TrainState = set mid t train_state in
     let waits : ℕ → Bool = λ u. (state_of new u).waits in
     let within : t < length mid = omega (arith, lt, changed.long) in
     let long : length new ≡ length old = length-set mid t train_state ∙ changed.long in
-    let each : (u : ℕ) → state_of mid u ≡ unknown (state_of old u) = forgotten_each old mid changed in
-    let unknown_now : (u : ℕ) → (state_of new u).known ≡ None = unknown_each old mid t train_state changed lt none in
+    let each : (u : ℕ) → state_of mid u ≡ after_taking plant holders u (state_of old u) = taking_each plant holders old mid changed in
+    let idle : (u : ℕ) → waits u ≡ false → (state_of new u).known ≡ None =
+    written (λ u now. now.waits ≡ false → now.known ≡ None) mid t train_state within (λ _. none)
+    (λ u _ is. ap (λ (r : TrainState). r.known) (each u) ∙ idle_unknown plant holders u (state_of old u) (sym (ap (λ (r : TrainState). r.waits) (each u)) ∙ is)) in
     let waited : (u : ℕ) → waits u ≡ true → is_watched_in old u ≡ true =
     written (λ u now. now.waits ≡ true → is_watched_in old u ≡ true) mid t train_state within
     (λ is. absurd (false≢true (sym off ∙ is)))
     (λ u _ is. ap (λ waits. waits || is_some (state_of old u).known) (sym (ap (λ (r : TrainState). r.waits) (each u)) ∙ is)) in
+    let watched_is : (u : ℕ) → waits u ≡ is_watched_in new u = λ u.
+    ⊎_elim
+    (λ is. is ∙ sym (ap (λ w. w || is_some (state_of new u).known) is))
+    (λ is. is ∙ sym (ap (λ w. w || is_some (state_of new u).known) is ∙ ap is_some (idle u is)))
+    (cases_Bool (waits u)) in
     record {
       few = omega (arith, kept.few, long);
       exact = items
           ∙ ap (filter waits) kept.exact
           ∙ passes_both (is_watched_in old) waits (numbers (length old)) waited
-          ∙ same_pass waits (is_watched_in new) (length old) (λ u _. sym (ap (λ known. waits u || is_some known) (unknown_now u) ∙ or_none (waits u)))
+          ∙ same_pass waits (is_watched_in new) (length old) (λ u _. watched_is u)
           ∙ ap (λ n. filter (is_watched_in new) (numbers n)) (sym long);
       room = omega (arith, kept.room, long, room);
-      free = λ u x _. ap (is_blocked_at x) (unknown_now u);
+      free = λ u x is. ap (is_blocked_at x) (idle u is);
     }
 
 -- an admission changes the trains so
-pub admitted_each : (old mid : List TrainState) (t : ℕ) (times : MoveTimes) (arrival : Option ℕ) → IsChanged (λ _. unknown) old mid (length old) → t < length old → (u : ℕ) → state_of (set mid t (admitted times arrival (state_of mid t))) u ≡ state_admitted t times arrival u (state_of old u)
-admitted_each old mid t times arrival changed lt =
-    let each : (u : ℕ) → state_of mid u ≡ unknown (state_of old u) = forgotten_each old mid changed in
-    written (λ u now. now ≡ state_admitted t times arrival u (state_of old u)) mid t (admitted times arrival (state_of mid t)) (omega (arith, lt, changed.long))
-    (ap (admitted times arrival) (each t) ∙ sym (cond-true (t == t) (admitted times arrival (state_of old t)) (unknown (state_of old t)) (eq-eqb t t refl)))
-    (λ u ne. each u ∙ sym (cond-false (t == u) (admitted times arrival (state_of old u)) (unknown (state_of old u)) (grind (arith, nat_tests))))
+pub admitted_each : (plant : Plant) (holders : List (Option ℕ)) (old mid : List TrainState) (t : ℕ) (times : MoveTimes) (arrival : Option ℕ) → IsChanged (after_taking plant holders) old mid (length old)
+    → t < length old → (u : ℕ) → state_of (set mid t (admitted times arrival (state_of mid t))) u ≡ state_admitted plant holders t times arrival u (state_of old u)
+admitted_each plant holders old mid t times arrival changed lt =
+    let each : (u : ℕ) → state_of mid u ≡ after_taking plant holders u (state_of old u) = taking_each plant holders old mid changed in
+    written (λ u now. now ≡ state_admitted plant holders t times arrival u (state_of old u)) mid t (admitted times arrival (state_of mid t)) (omega (arith, lt, changed.long))
+    (ap (admitted times arrival) (each t) ∙ sym (cond-true (t == t) (admitted times arrival (state_of old t)) (after_taking plant holders t (state_of old t)) (eq-eqb t t refl)))
+    (λ u ne. each u ∙ sym (cond-false (t == u) (admitted times arrival (state_of old u)) (after_taking plant holders u (state_of old u)) (grind (arith, nat_tests))))
+
+-- the trains that are untried or lack a hold line behind an admission are among those of the others that were so then
+pub admitted_among : (test : TrainState → Bool) (mid : List TrainState) (span : Span) (t : ℕ) (train_state : TrainState) → t < length mid → test train_state ≡ false
+    → AreAmong test mid span → AreAmong test (set mid t train_state) span
+admitted_among test mid span t train_state lt off = among_at test mid span span t train_state lt (λ is. absurd (false≢true (sym off ∙ is))) (λ u _ holds. holds)
 
 -- a train that neither waits nor has a known cause heeds no order
 heeds_none : (plant : Plant) (orders : List Order) (t : ℕ) (train_state : TrainState) → is_watched train_state ≡ false → state_told plant orders t train_state ≡ train_state
@@ -291,6 +317,23 @@ pub moves_stay : (plant : Plant) (bar : ℕ → List ℕ → Option Cause) (rows
 moves_stay plant bar rows new t lt new_is before =
     subst (λ (rs : List TrainState). (u : ℕ) → u < trains plant → (state_of rs u).waits ≡ true → (state_of rs u).place < moves plant u) (sym new_is)
     (written (λ u train_state. u < trains plant → train_state.waits ≡ true → train_state.place < moves plant u) rows t (looked_at plant bar t (state_of rows t)) lt (before t) (λ u _. before u))
+
+-- one more train of the list notes that sections were taken
+pub taking_step : (plant : Plant) (holders : List (Option ℕ)) (start : List TrainState) (list : List ℕ) (rows new : List TrainState) (i t : ℕ) → rows ≡ fold (note_taking plant holders) start (take i list)
+    → i < length list → t ≡ get_or list i t → new ≡ set rows t (after_taking plant holders t (state_of rows t)) → new ≡ fold (note_taking plant holders) start (take (i + 1) list)
+taking_step plant holders start list rows new i t so_far lt item new_is =
+    new_is
+    ∙ ap (λ (now : List TrainState). note_taking plant holders now t) so_far
+    ∙ ap (note_taking plant holders (fold (note_taking plant holders) start (take i list))) item
+    ∙ sym (fold_more (note_taking plant holders) start list i t lt)
+
+-- where one train is written that waits as before at the same place, each waiting train has a next move still
+pub moves_on : (plant : Plant) (rows : List TrainState) (t : ℕ) (now : TrainState) → t < length rows → now.waits ≡ (state_of rows t).waits → now.place ≡ (state_of rows t).place
+    → ((u : ℕ) → u < trains plant → (state_of rows u).waits ≡ true → (state_of rows u).place < moves plant u) → (u : ℕ) → u < trains plant → (state_of (set rows t now) u).waits ≡ true
+    → (state_of (set rows t now) u).place < moves plant u
+moves_on plant rows t now lt waits place before =
+    written (λ u train_state. u < trains plant → train_state.waits ≡ true → train_state.place < moves plant u) rows t now lt
+    (λ below is. subst (λ (p : ℕ). p < moves plant t) (sym place) (before t below (sym waits ∙ is))) (λ u _. before u)
 
 -- one more train of the list is looked at again
 pub looked_again_step : (x : ℕ) (start : List TrainState × Bool) (list : List ℕ) (rows new : List TrainState) (any some : Bool) (i t : ℕ) → (rows, any) ≡ fold (look_again x) start (take i list)

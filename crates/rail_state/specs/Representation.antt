@@ -202,7 +202,8 @@ pub record IsAdmitLine (plant : Plant) (front : Front) (t : ℕ) (times : MoveTi
       × (at ≡ stop_time plant t times.free_run)
   pub not_deferred : arrival ≡ None → (is_forced plant t (suc (place front t)) ≡ true) ⊎ (suc (place front t) ≡ moves plant t)
   pub many : length after.trains ≡ length before.trains
-  pub trains : (u : ℕ) → u < trains plant → state_of after.trains u ≡ state_admitted t times arrival u (state_of before.trains u)
+  pub trains : (u : ℕ) → u < trains plant → state_of after.trains u
+      ≡ state_admitted plant after.holders t times arrival u (state_of before.trains u)
   pub holders : after.holders ≡ taken_by before.holders (claimed plant t (place front t)) t
   pub time : after.instant ≡ before.instant
   pub going : after.has_ended ≡ before.has_ended

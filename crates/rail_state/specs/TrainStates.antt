@@ -4,7 +4,7 @@ use Rattle.std.specs.List.{list_any}
 use Rattle.rail_base.specs.declared.history.What.{What}
 use Rattle.rail_base.specs.declared.history.What.TheVariants.{Free, Enter, Out, Ready}
 use Rattle.rail_base.specs.declared.history.Cause.{Cause}
-use Rattle.rail_base.specs.declared.history.Cause.TheVariants.{Blocked}
+use Rattle.rail_base.specs.declared.history.Cause.TheVariants.{Blocked, NoList}
 use Rattle.rail_base.specs.declared.orders.Order.{Order}
 use Rattle.rail_rules.specs.Orders.{is_cancelled}
 use Rattle.rail_rules.specs.Plant.{Plant, claimed, steps}
@@ -128,9 +128,27 @@ admitted times arrival train_state =
       known = None;
     }
 
--- what is kept of the trains after an admission of one of them: no cause is known
-abbrev pub state_admitted : ℕ → MoveTimes → Option ℕ → ℕ → TrainState → TrainState
-state_admitted u times arrival t train_state = cond (u == t) (admitted times arrival train_state) (record train_state { known = None })
+-- a section that stands before this one on the way is held
+abbrev pub is_held_before : List (Option ℕ) → ℕ → List ℕ → Bool
+is_held_before holders x [] = false
+is_held_before holders x (y ∷ sections) = not (y == x) && (is_some (get_or holders y None) || is_held_before holders x sections)
+
+-- the cause of a move over these sections is the same behind an admission, which leaves these holders: no section before the blocked one is held; that no list is known may have changed
+abbrev pub outlasts_taking : List (Option ℕ) → List ℕ → Option Cause → Bool
+outlasts_taking holders sections (Some (Blocked x u)) = not (is_held_before holders x sections)
+outlasts_taking holders sections (Some NoList) = false
+outlasts_taking holders sections _ = true
+
+-- what is kept of a train after another one took its sections, which leaves these holders: its cause is known as long as it waits and the cause is the same
+abbrev pub after_taking : Plant → List (Option ℕ) → ℕ → TrainState → TrainState
+after_taking plant holders t train_state =
+    record train_state {
+      known = cond (train_state.waits && outlasts_taking holders (claimed plant t train_state.place) train_state.known) train_state.known None;
+    }
+
+-- what is kept of the trains after an admission of one of them, which leaves these holders
+abbrev pub state_admitted : Plant → List (Option ℕ) → ℕ → MoveTimes → Option ℕ → ℕ → TrainState → TrainState
+state_admitted plant holders u times arrival t train_state = cond (u == t) (admitted times arrival train_state) (after_taking plant holders t train_state)
 
 -- the orders told may change the cause of the train's next move, or end its waiting
 abbrev pub is_touched : Plant → List Order → ℕ → TrainState → Bool

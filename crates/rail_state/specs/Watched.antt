@@ -1,5 +1,5 @@
 -- Which trains a run watches, and what it does to each of them in turn.
-use Rattle.std.specs.Prelude.{◌≡◌, ℕ, ◌<◌, ◌≤◌, Bool, false, ◌||◌, cond, nat_lt, is_some, List, [], ◌∷◌, length, set, Option, None, vec_capacity}
+use Rattle.std.specs.Prelude.{◌≡◌, ℕ, ◌<◌, ◌≤◌, Bool, false, ◌||◌, cond, nat_lt, is_some, List, [], ◌∷◌, length, set, Option, vec_capacity}
 use Rattle.std.specs.List.{filter}
 use Rattle.std.specs.Global.{Vec}
 use Rattle.rail_base.specs.declared.history.Cause.{Cause}
@@ -7,7 +7,7 @@ use Rattle.rail_base.specs.declared.orders.Order.{Order}
 use Rattle.rail_rules.specs.Plant.{Plant}
 use Rattle.rail_rules.specs.Numbers.{listed}
 use Rattle.rail_state.specs.declared.train.TrainState.{TrainState}
-use Rattle.rail_state.specs.TrainStates.{state_of, is_blocked_at, is_untried, lacks_hold_line, looked_at, state_told, without_known}
+use Rattle.rail_state.specs.TrainStates.{state_of, after_taking, is_blocked_at, is_untried, lacks_hold_line, looked_at, state_told, without_known}
 use Rattle.rail_state.specs.declared.span.Span.{Span}
 use Rattle.rail_state.specs.Spans.{AreAmong}
 use Rattle.rail_state.specs.FirstUntried.{first_with}
@@ -52,10 +52,6 @@ look_again x so_far t = (set so_far.0 t (without_known x (state_of so_far.0 t)),
 abbrev pub heed : Plant → List Order → List TrainState → ℕ → List TrainState
 heed plant orders states t = set states t (state_told plant orders t (state_of states t))
 
--- what is kept of a train once no cause of its next move is known
-abbrev pub unknown : TrainState → TrainState
-unknown train_state = record train_state { known = None }
-
--- the cause of this train is no longer known
-abbrev pub forget : List TrainState → ℕ → List TrainState
-forget states t = set states t (unknown (state_of states t))
+-- this train notes that sections were taken, which leaves these holders
+abbrev pub note_taking : Plant → List (Option ℕ) → List TrainState → ℕ → List TrainState
+note_taking plant holders states t = set states t (after_taking plant holders t (state_of states t))

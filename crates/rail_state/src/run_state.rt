@@ -208,6 +208,8 @@ impl RunState {
         requires room { MOVE_EVENTS ≤ self.old.queue.spare }
         requires sections { length self.old.holders ≡ length plant.now.tables.sections }
         requires free { held_cause self.old.holders (claimed plant.now train (state_of self.old.trains train).place) ≡ None }
+        requires moves { (t : ℕ) → t < trains plant.now → (state_of self.old.trains t).waits ≡ true
+            → (state_of self.old.trains t).place < moves plant.now t }
         ensures given { (front : Front) → IsGivable plant.now front self.old.trains self.old.instant train
             → (times : MoveTimes) × (arrival : Option ℕ) × IsAdmitLine plant.now front train times arrival self.old self.new }
         ensures room { length self.new.queue.events + self.new.queue.spare ≡ length self.old.queue.events + self.old.queue.spare }
@@ -217,8 +219,9 @@ impl RunState {
         let times = times_of(plant, train, place, self.instant, &before.times);
         let known = KnownMove::new(plant, train, place);
         let arrival = push_move(&known, &mut self.queue, &times);
-        self.trains.admit(train, times, arrival);
         take_sections(&known, &mut self.holders);
+        self.trains
+            .admit(plant, &self.holders, train, times, arrival);
         self.is_settled = false;
     }
 

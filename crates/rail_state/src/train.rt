@@ -1,12 +1,12 @@
 //! One train.
 
-ghost use Rattle.std.specs.Prelude.{◌≡◌, ◌-◌, ◌<◌, ◌≤◌, ◌||◌, not, [], ◌∷◌, ◌++◌, get_or, length, true, false, None, vec_len, vec_capacity};
+ghost use Rattle.std.specs.Prelude.{◌≡◌, ◌-◌, ◌<◌, ◌≤◌, ◌&&◌, ◌||◌, not, [], ◌∷◌, ◌++◌, get_or, length, true, false, None, vec_len, vec_capacity};
 ghost use Rattle.std.specs.List.{All};
 ghost use Rattle.rail_base.specs.declared.limits.TheConstants.{ITINERARY_ROUTES};
-ghost use Rattle.rail_rules.specs.Plant.{moves, needed, step_section, steps, trains};
+ghost use Rattle.rail_rules.specs.Plant.{claimed, moves, needed, step_section, steps, trains};
 ghost use Rattle.rail_laws_run.specs.HolderTables.{held_cause};
 ghost use Rattle.rail_state.specs.TrainStates.{is_touched, state_told};
-ghost use Rattle.rail_state.specs.TrainStates.{admitted, bar_by, head_behind, is_blocked_at, lacks_hold_line, is_untried, looked_at, outside, after_hold_line, without_known};
+ghost use Rattle.rail_state.specs.TrainStates.{admitted, after_taking, bar_by, head_behind, is_blocked_at, is_held_before, lacks_hold_line, is_untried, looked_at, outside, outlasts_taking, after_hold_line, without_known};
 ghost use Rattle.rail_state.specs.Watched.{is_watched};
 
 use rail_base::{Cause, Order, SectionNo, Time, TrainNo};
@@ -110,6 +110,37 @@ impl TrainState {
             has_few_moves(plant, train);
             let row = plant.move_row(train, self.place + 1);
             self.known = bar_of(orders, holders, train, row.sections.as_slice());
+        }
+    }
+
+    /// Another train took sections, which leaves these holders: the cause stays known as long as the train waits and the
+    /// cause is the same.
+    pub(crate) fn note_taking(&mut self, plant: &Plant, holders: &Holders, train: TrainNo)
+        requires known { train < trains plant.now }
+        requires sections { length holders.now ≡ length plant.now.tables.sections }
+        requires moves { self.old.waits ≡ true → self.old.place < moves plant.now train }
+        ensures { self.new ≡ after_taking plant.now holders.now train self.old }
+    {
+        if !(self.waits && self.outlasts_taking(plant, holders, train)) {
+            self.known = None;
+        }
+    }
+
+    /// Whether the cause of the train's next move is the same behind an admission, which leaves these holders.
+    fn outlasts_taking(&self, plant: &Plant, holders: &Holders, train: TrainNo) -> bool
+        requires known { train < trains plant.now }
+        requires sections { length holders.now ≡ length plant.now.tables.sections }
+        requires moves { self.now.place < moves plant.now train }
+        ensures { result ≡ outlasts_taking holders.now (claimed plant.now train self.now.place) self.now.known }
+    {
+        match self.known {
+            Some(Cause::Blocked { section, .. }) => {
+                has_few_moves(plant, train);
+                let row = plant.move_row(train, self.place + 1);
+                !is_held_before(holders, section, row.sections.as_slice())
+            }
+            Some(Cause::NoList) => false,
+            _ => true,
         }
     }
 
@@ -265,4 +296,20 @@ pub fn held_cause(holders: &Holders, sections: &[SectionNo]) -> Option<Cause>
         }
     }
     None
+}
+
+/// Whether a section that stands before this one among these is held.
+fn is_held_before(holders: &Holders, section: SectionNo, sections: &[SectionNo]) -> bool
+    requires { All (λ x. x < length holders.now) sections.now }
+    ensures { result ≡ is_held_before holders.now section sections.now }
+{
+    for other in sections {
+        if *other == section {
+            return false;
+        }
+        if holders.holder(*other).is_some() {
+            return true;
+        }
+    }
+    false
 }

@@ -12,8 +12,8 @@ ghost use Rattle.rail_state.specs.TrainStates.{IsAnyWaiting, IsReadyFirst, bar_b
 use crate::span::{Sought, Span, around, within};
 use crate::train::{TrainState, head_behind, push_outside, section_at};
 use crate::watched::{
-    first_lacking, forget_causes, heed_each, is_any_waiting, keep_waiting, look_again_at_each,
-    look_at_each, watch,
+    first_lacking, heed_each, is_any_waiting, keep_waiting, look_again_at_each, look_at_each,
+    note_taking_each, watch,
 };
 use rail_base::{Cause, Order, OutOfMemory, SectionNo, Time, TrainNo};
 use rail_block::MoveTimes;
@@ -268,17 +268,33 @@ impl TrainStates {
         arrival
     }
 
-    /// The train's next move is admitted, with these times; `arrival` is deferred. No cause is known then.
-    pub fn admit(&mut self, train: TrainNo, times: MoveTimes, arrival: Option<Time>)
+    /// The train's next move is admitted, with these times, which leaves these holders; `arrival` is deferred. The
+    /// causes of the others stay known where they are the same.
+    pub fn admit(
+        &mut self,
+        plant: &Plant,
+        holders: &Holders,
+        train: TrainNo,
+        times: MoveTimes,
+        arrival: Option<Time>,
+    )
         requires train { train < length self.old }
+        requires known { length self.old ≡ trains plant.now }
+        requires sections { length holders.now ≡ length plant.now.tables.sections }
+        requires moves { (t : ℕ) → t < trains plant.now → (state_of self.old t).waits ≡ true
+            → (state_of self.old t).place < moves plant.now t }
         requires place { (state_of self.old train).place < 65535 }
         ensures length { length self.new ≡ length self.old }
         ensures trains { (t : ℕ) → t < length self.old → state_of self.new t
-            ≡ state_admitted train times arrival t (state_of self.old t) }
+            ≡ state_admitted plant.now holders.now train times arrival t (state_of self.old t) }
     {
-        self.sought.untried = Span::below(self.rows.len());
-        self.sought.lacking = Span::none();
-        forget_causes(&mut self.rows, &self.watched);
+        note_taking_each(
+            &mut self.rows,
+            &self.watched,
+            plant,
+            holders,
+            &mut self.sought.untried,
+        );
         let train_state = &mut self.rows[usize::from(train.0)];
         train_state.admit(times, arrival);
         keep_waiting(&mut self.watched, &self.rows);

@@ -8,7 +8,7 @@ ghost use Rattle.rail_rules.specs.Plant.{moves, trains};
 ghost use Rattle.rail_state.specs.TrainStates.{IsAnyWaiting, bar_by, is_untried, lacks_hold_line, looked_at, state_of};
 ghost use Rattle.rail_state.specs.FirstUntried.{earlier};
 ghost use Rattle.rail_state.specs.Spans.{AreAmong, Holds};
-ghost use Rattle.rail_state.specs.Watched.{AreWatched, forget, heed, inserted, is_watched, look_again, look_at};
+ghost use Rattle.rail_state.specs.Watched.{AreWatched, heed, inserted, is_watched, look_again, look_at, note_taking};
 
 use crate::span::{Sought, Span};
 use crate::train::TrainState;
@@ -205,12 +205,28 @@ pub(crate) fn heed_each(rows: &mut [TrainState], watched: &[TrainNo], plant: &Pl
     }
 }
 
-/// The causes of these trains are no longer known.
-pub(crate) fn forget_causes(rows: &mut [TrainState], watched: &[TrainNo])
-    requires { All (λ t. t < length rows.old) watched.now }
-    ensures { rows.new ≡ fold forget rows.old watched.now }
+/// A train took sections, which leaves these holders: each of these trains notes it, and those that are untried then
+/// come into the span of the untried trains.
+pub(crate) fn note_taking_each(
+    rows: &mut [TrainState],
+    watched: &[TrainNo],
+    plant: &Plant,
+    holders: &Holders,
+    untried: &mut Span,
+)
+    requires watched { All (λ t. t < length rows.old) watched.now }
+    requires known { length rows.old ≡ trains plant.now }
+    requires sections { length holders.now ≡ length plant.now.tables.sections }
+    requires moves { (t : ℕ) → t < trains plant.now → (state_of rows.old t).waits ≡ true
+        → (state_of rows.old t).place < moves plant.now t }
+    ensures noted { rows.new ≡ fold (note_taking plant.now holders.now) rows.old watched.now }
+    ensures untried { AreAmong is_untried rows.old untried.old → AreAmong is_untried rows.new untried.new }
 {
-    for train in watched {
-        rows[usize::from(train.0)].known = None;
+    for other in watched {
+        let train_state = &mut rows[usize::from(other.0)];
+        train_state.note_taking(plant, holders, *other);
+        if train_state.is_untried() {
+            untried.include(*other);
+        }
     }
 }

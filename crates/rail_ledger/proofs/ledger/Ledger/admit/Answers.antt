@@ -1,4 +1,4 @@
-use Rattle.std.proofs.Common.{◌≡◌, ℕ, suc, ◌+◌, ◌≤◌, ◌∷◌, length, None, refl, sym, ap, ◌∙◌, subst, arith}
+use Rattle.std.proofs.Common.{◌≡◌, ℕ, suc, ◌+◌, ◌<◌, ◌≤◌, ◌∷◌, true, length, None, refl, sym, ap, ◌∙◌, subst, arith}
 use Rattle.std.specs.Prelude.{IsTrue}
 use Rattle.rail_base.specs.declared.history.What.{What}
 use Rattle.rail_base.specs.declared.history.What.TheVariants.{Admit}
@@ -6,7 +6,7 @@ use Rattle.rail_base.specs.declared.history.Note.{Note}
 use Rattle.rail_rules.specs.Fronts.{Line}
 use Rattle.rail_rules.specs.Causes.{place}
 use Rattle.rail_ledger.specs.Inputs.{dispatch_in, input_in}
-use Rattle.rail_rules.specs.Plant.{claimed}
+use Rattle.rail_rules.specs.Plant.{claimed, moves, trains}
 use Rattle.rail_rules.specs.RunHistories.{is_run}
 use Rattle.rail_laws_run.specs.HolderTables.{held_cause}
 use Rattle.rail_state.specs.declared.pushes.TheConstants.{MOVE_EVENTS}
@@ -21,6 +21,7 @@ use Rattle.rail_ledger.specs.declared.ledger.Listed.{Listed}
 use Rattle.rail_ledger.specs.Ledgers.{HasList, IsAt, line_in, list_with}
 use Rattle.rail_rules.specs.Orders.{told}
 use Rattle.rail_ledger.proofs.Ordered.{held_free}
+use Rattle.rail_ledger.proofs.Commands.{waiting_left}
 use Rattle.rail_ledger.proofs.Making.{admitted_at, alike_ledger, givable, listed_with}
 use Rattle.rail_ledger.proofs.Room.{place_fits, room_left}
 use Rattle.rail_ledger.proofs.ledger.Ledger.admit.Goals as goal
@@ -65,6 +66,11 @@ admit-requires-clause-free c =
     let t : ℕ = c.args.train in
     subst (λ (r : Ledger). held_cause r.state.holders (claimed r.input.plant t (state_of r.state.trains t).place) ≡ None) (sym (alike_ledger old c.find_list.new.self c.in_ok-note.ensures.alike c.in_ok-note.ensures.found.0))
     (ap (λ p. held_cause old.state.holders (claimed old.input.plant t p)) (at.rep.times.places t next.known_train) ∙ held_free (told old.input.commands.items front) old.state.holders t (claimed old.input.plant t (place front t)) next.free)
+
+pub admit-requires-clause-moves : goal.admit-requires-clause-moves
+admit-requires-clause-moves c =
+    subst (λ (r : Ledger). (t : ℕ) → t < trains r.input.plant → (state_of r.state.trains t).waits ≡ true → (state_of r.state.trains t).place < moves r.input.plant t)
+    (sym (alike_ledger c.args.self.now c.find_list.new.self c.in_ok-note.ensures.alike c.in_ok-note.ensures.found.0)) (waiting_left c.requires.running.front c.args.self.now c.requires.running.at)
 
 pub returns-clause-line : goal.returns-clause-line
 returns-clause-line c = λ front at.

@@ -1,4 +1,4 @@
-use Rattle.std.proofs.Common.{◌≡◌, true, refl, sym, ap, ◌∙◌, ⊎_elim}
+use Rattle.std.proofs.Common.{refl, sym, ap, ◌∙◌, ⊎_elim}
 use Rattle.std.proofs.lemmas.Option.{none-some}
 use Rattle.rail_queue.specs.Order.{first_time_of}
 use Rattle.rail_ledger.proofs.ledger.Ledger.is_next.Goals as goal

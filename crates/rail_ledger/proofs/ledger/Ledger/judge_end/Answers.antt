@@ -1,10 +1,10 @@
-use Rattle.std.proofs.Common.{◌≡◌, ◌+◌, ◌∷◌, false, true, refl, sym, ap, ◌∙◌, subst}
+use Rattle.std.proofs.Common.{◌≡◌, ◌+◌, ◌∷◌, true, refl, sym, ap, ◌∙◌, subst}
 use Rattle.std.proofs.lemmas.Bool.{cond-false, cond-true}
 use Rattle.rail_base.specs.declared.history.What.TheVariants.{Hold}
 use Rattle.rail_state.specs.Representation.{bare_at}
 use Rattle.rail_state.specs.TrainStates.{state_of}
 use Rattle.rail_state.proofs.CallerLemmas.{cause_known}
-use Rattle.rail_rules.specs.Fronts.{Front, Line}
+use Rattle.rail_rules.specs.Fronts.{Line}
 use Rattle.rail_rules.specs.Lawful.{is_lawful}
 use Rattle.rail_judging.specs.Verdicts.{is_undecided}
 use Rattle.rail_judging.proofs.CallerLemmas.{undecided_before_hold, undecided_where_one_goes}

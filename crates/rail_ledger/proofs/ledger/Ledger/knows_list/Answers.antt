@@ -1,4 +1,4 @@
-use Rattle.std.proofs.Common.{◌≡◌, ◌<◌, ℕ, refl, sym, ap, ◌∙◌, subst, false, arith}
+use Rattle.std.proofs.Common.{◌≡◌, ◌<◌, ℕ, refl, sym, ◌∙◌, subst, false, arith}
 use Rattle.rail_list.specs.Repairs.{is_known}
 use Rattle.rail_place.specs.Tables.{moves_in}
 use Rattle.rail_state.proofs.CallerLemmas.{goes_known}

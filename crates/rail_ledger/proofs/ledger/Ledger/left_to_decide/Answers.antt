@@ -1,10 +1,9 @@
-use Rattle.std.proofs.Common.{◌≡◌, ◌<◌, ◌∷◌, ℕ, Some, false, refl, sym, ap, ◌∙◌, subst, true}
+use Rattle.std.proofs.Common.{◌≡◌, ℕ, Some, false, refl, sym, ap, ◌∙◌, subst, true}
 use Rattle.std.proofs.lemmas.Bool.{false≢true}
 use Rattle.rail_queue.specs.Queue.{Queue}
 use Rattle.rail_queue.specs.Order.{first_time_of, is_sorted}
 use Rattle.rail_rules.specs.Causes.{could_go, is_deciding}
 use Rattle.rail_rules.specs.Fronts.{Front}
-use Rattle.rail_state.specs.TrainStates.{lacks_hold_line, state_of}
 use Rattle.rail_ledger.specs.declared.judgement.Left.{Left}
 use Rattle.rail_ledger.specs.declared.judgement.Left.TheVariants.{Hold}
 use Rattle.rail_ledger.specs.declared.input.RunInput.{RunInput}

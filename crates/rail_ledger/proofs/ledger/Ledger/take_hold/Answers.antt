@@ -1,10 +1,10 @@
-use Rattle.std.proofs.Common.{◌≡◌, ◌+◌, ℕ, Some, [], ◌∷◌, true, refl, sym, ap, ◌∙◌, subst, arith}
+use Rattle.std.proofs.Common.{◌≡◌, ◌+◌, ℕ, Some, ◌∷◌, true, sym, ap, ◌∙◌, subst, arith}
 use Rattle.std.proofs.lemmas.Bool.{and_parts, false≢true}
 use Rattle.rail_base.specs.declared.history.Cause.{Cause}
 use Rattle.rail_base.specs.declared.history.What.{What}
 use Rattle.rail_base.specs.declared.history.What.TheVariants.{Hold}
 use Rattle.rail_judging.proofs.CallerLemmas.{one_other, refused_held}
-use Rattle.rail_rules.specs.Fronts.{Front, Line, at_time, is_hold}
+use Rattle.rail_rules.specs.Fronts.{Front, Line, is_hold}
 use Rattle.rail_rules.specs.Lawful.{is_lawful, may_follow}
 use Rattle.rail_state.specs.Representation.{bare_at}
 use Rattle.rail_state.specs.TrainStates.{state_of}

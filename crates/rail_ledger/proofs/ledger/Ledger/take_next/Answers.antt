@@ -1,7 +1,7 @@
-use Rattle.std.proofs.Common.{◌≡◌, ◌∷◌, true, false, sym, ap, ◌∙◌, subst}
+use Rattle.std.proofs.Common.{◌≡◌, ◌∷◌, true, sym, ap, ◌∙◌, subst}
 use Rattle.std.proofs.lemmas.Bool.{and_parts, false≢true}
 use Rattle.rail_judging.proofs.CallerLemmas.{one_other, refused_next}
-use Rattle.rail_rules.specs.Fronts.{Front, Line}
+use Rattle.rail_rules.specs.Fronts.{Line}
 use Rattle.rail_rules.specs.Lawful.{is_lawful, may_follow}
 use Rattle.rail_ledger.specs.Inputs.{input_in}
 use Rattle.rail_ledger.specs.Ledgers.{IsAt, MayGoOn, line_in, line_with}

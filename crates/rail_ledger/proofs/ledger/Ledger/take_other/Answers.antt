@@ -1,11 +1,11 @@
-use Rattle.std.proofs.Common.{◌≡◌, ◌∷◌, ℕ, true, false, refl, sym, ◌∙◌, subst}
+use Rattle.std.proofs.Common.{◌≡◌, ℕ, false, refl, sym, ◌∙◌, subst}
 use Rattle.std.specs.Prelude.{IfSome, Option}
-use Rattle.rail_rules.specs.Fronts.{Front, Line}
+use Rattle.rail_rules.specs.Fronts.{Line}
 use Rattle.rail_rules.specs.Lawful.{may_follow}
 use Rattle.rail_judging.specs.Verdicts.{broken_law}
 use Rattle.rail_judging.proofs.CallerLemmas.{refused_open}
 use Rattle.rail_ledger.specs.declared.ledger.Ledger.{Ledger}
-use Rattle.rail_ledger.specs.Ledgers.{IsAt, IsRefused, StandsAsBefore, line_with}
+use Rattle.rail_ledger.specs.Ledgers.{IsRefused, StandsAsBefore, line_with}
 use Rattle.rail_ledger.specs.declared.ledger.Listed.TheVariants as which
 use Rattle.rail_ledger.proofs.Judged.{listed_as, mapped}
 use Rattle.rail_ledger.proofs.ledger.Ledger.take_other.Goals as goal

@@ -9,6 +9,7 @@ use Rattle.rail_state.specs.declared.train.TrainState.{TrainState}
 use Rattle.rail_rules.specs.Fronts.{Front, admissions}
 use Rattle.rail_rules.specs.Plant.{Plant, is_forced, moves, needed}
 use Rattle.rail_rules.specs.Times.{stop_time}
+use Rattle.rail_laws_run.proofs.CallerLemmas.{taken_long}
 use Rattle.rail_state.proofs.GivenMoves.{ArePushed, as_made, next_place, next_times, pushed_at}
 use Rattle.rail_state.proofs.run_state.RunState.admit.Goals as goal
 
@@ -18,6 +19,11 @@ push_move-arrival-requires-clause-times c =
     let givable = c.requires.givable.1 in
     let times = next_times c.args.plant.now front c.args.self.now.trains c.args.self.now.instant c.args.train c.get.result.now c.times_of-times.result givable c.get.ensures c.times_of-times.ensures.times in
     subst (AreBelow (2 ^ 51)) (sym times) givable.below_next
+
+pub admit-requires-clause-sections : goal.admit-requires-clause-sections
+admit-requires-clause-sections c =
+    let known = c.new-known.result in
+    ap length c.take_sections.ensures ∙ taken_long c.args.self.now.holders (needed known.plant.now known.train (known.place - 1)) known.train ∙ c.requires.sections
 
 pub returns-clause-given : goal.returns-clause-given
 returns-clause-given c = λ front givable.
