@@ -10,7 +10,7 @@ use Rattle.rail_rules.specs.Analysis.{Leg, is_leg, is_safe, Finds}
 use Rattle.rail_rules.proofs.CallerLemmas.{state_parts}
 use Rattle.rail_sets.specs.Counts.{Columns}
 use Rattle.rail_sets.specs.Sets.{has}
-use Rattle.rail_consequence.specs.Needs.{IsCounted, IsRowsOf, SetRows, count_of, needs_from, needs_left, one_if}
+use Rattle.rail_consequence.specs.Needs.{AreWords, IsCounted, count_of, needs_from, needs_left, one_if}
 use Rattle.rail_consequence.specs.Searches.{FindsByNoLegOf, HasNoSafeLeg, HasNoSafeLegOf}
 use Rattle.rail_consequence.specs.Stops.{IsSettled, IsStopped, IsUntouched, section_of, stop_of}
 use Rattle.rail_consequence.specs.declared.notes.Stop.{Stop}
@@ -97,17 +97,17 @@ no_leg_helps plan s t k q zero frees is found =
 abbrev pub IsWithin : Moves → List ℕ → ℕ → ℕ → Type 0
 IsWithin plan s width t = (x : ℕ) → needs_from plan t (place_of s t) x ≡ true → x < 64 * width
 
--- those of the rows have each section that a train needs that has entered
-pub needs_few : (plan : Moves) (rows : SetRows) (u p y : ℕ) → IsRowsOf plan rows → u < plan.trains → needs_left plan u p y ≡ true → y < 64 * rows.width
-needs_few plan rows u p y told known needed =
+-- they have each section that a train needs that has entered
+pub needs_few : (plan : Moves) (words u p y : ℕ) → AreWords plan words → u < plan.trains → needs_left plan u p y ≡ true → y < 64 * words
+needs_few plan words u p y are known needed =
     let at = needs_at plan u p y (and_parts (ltb 0 p) (needs_from plan u p y) needed).1 in
-    told.narrow u at.0 y known at.1
+    are.all u at.0 y known at.1
 
 -- and each that one needs that is inside
-pub rest_within : (plan : Moves) (s : List ℕ) (rows : SetRows) (t : ℕ) → IsRowsOf plan rows → is_valid_state plan s ≡ true → is_inside plan s t ≡ true → IsWithin plan s rows.width t
-rest_within plan s rows t told valid inside = λ x needs.
+pub rest_within : (plan : Moves) (s : List ℕ) (words t : ℕ) → AreWords plan words → is_valid_state plan s ≡ true → is_inside plan s t ≡ true → IsWithin plan s words t
+rest_within plan s words t are valid inside = λ x needs.
     let at = needs_at plan t (place_of s t) x needs in
-    told.narrow t at.0 x (omega (arith, inside_listed plan s t inside, (state_parts plan s valid).long)) at.1
+    are.all t at.0 x (omega (arith, inside_listed plan s t inside, (state_parts plan s valid).long)) at.1
 
 -- a stopped train whose section a third one holds has no safe leg once another has gone on
 module _ (plan : Moves) (s : List ℕ) (t p u x v : ℕ) (valid : is_valid plan ≡ true) (state : is_valid_state plan s ≡ true) (was : is_inside plan s t ≡ true) (ahead : place_of s t < p)

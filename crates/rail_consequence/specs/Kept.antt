@@ -6,12 +6,13 @@ use Rattle.rail_consequence.specs.Stops.{IsNotedTo}
 use Rattle.rail_consequence.specs.Workspace.{IsListing}
 use Rattle.rail_consequence.specs.declared.notes.Notes.{Notes}
 
--- the list of the trains that are inside at the places of a tally, the tally, what is noted of the trains there, and the sets of the trains at each place
+-- the list of the trains that are inside at the places of a tally, the tally, what is noted of the trains there, the sets of the trains at each place, and the moves that the last search made
 pub record Tallied : Type 0 where
   pub inside : List ℕ
   pub tally : Placed
   pub notes : Notes
   pub rows : SetRows
+  pub list : List ℕ
 
 -- all of this belongs to the moves
 pub record IsAnalystFor (plan : Moves) (tallied : Tallied) : Type 0 where

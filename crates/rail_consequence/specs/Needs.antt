@@ -4,6 +4,7 @@ use Rattle.rail_base.specs.declared.limits.TheConstants.{SECTIONS, TRAINS}
 use Rattle.rail_rules.specs.Numbers.{any_below, is_in, sum_below}
 use Rattle.rail_rules.specs.Moves.{Moves, stand}
 use Rattle.rail_sets.specs.Sets.{has}
+use Rattle.rail_sets.specs.declared.sets.TheConstants.{WORDS}
 use Rattle.rail_sets.specs.Counts.{Columns}
 pub use Rattle.rail_sets.specs.Counts.{count_of, one_if}
 use Rattle.rail_consequence.specs.declared.rows.PlaceSets.{PlaceSets}
@@ -81,3 +82,8 @@ pub record AreRows (plan : Moves) (n : ℕ) (table : SetRows) : Type 0 where
 -- each train has such a row
 abbrev pub IsRowsOf : Moves → SetRows → Type 0
 IsRowsOf plan table = AreRows plan plan.trains table
+
+-- so many words of a set, which it has, have all sections that the trains need
+pub record AreWords (plan : Moves) (words : ℕ) : Type 0 where
+  pub few : words ≤ WORDS
+  pub all : (t i x : ℕ) → t < plan.trains → IsTrue (is_in x (plan.claim t i)) → x < 64 * words

@@ -10,7 +10,7 @@ ghost use Rattle.rail_place.specs.Tables.{moves_in};
 ghost use Rattle.rail_rules.specs.Moves.{stand};
 ghost use Rattle.rail_rules.specs.Numbers.{are_apart};
 ghost use Rattle.rail_consequence.specs.Kept.{IsAnalystFor};
-ghost use Rattle.rail_consequence.specs.Needs.{IsCounted, IsRowsOf, IsSet};
+ghost use Rattle.rail_consequence.specs.Needs.{AreWords, IsCounted, IsRowsOf, IsSet};
 ghost use Rattle.rail_consequence.specs.Searches.{leg_to};
 ghost use Rattle.rail_consequence.specs.Workspace.{GoesOn, IsListing, IsPlayedFrom, IsReady};
 
@@ -20,6 +20,7 @@ use crate::notes::Notes;
 use crate::rows::Rows;
 use crate::tally::{Tally, stands_inside};
 use crate::train_list::TrainList;
+use crate::width::{All, Four, One, Two, Width};
 use rail_base::limits::LIST_TRAINS;
 use rail_base::{OutOfMemory, TrainNo};
 use rail_place::{Moves, Places};
@@ -61,7 +62,7 @@ impl Model for Analyst {
 
     ghost Value = { Tallied };
 
-    ghost view = { λ analyst. record { inside = analyst.inside; tally = analyst.tally; notes = analyst.notes; rows = analyst.sheet.rows } };
+    ghost view = { λ analyst. record { inside = analyst.inside; tally = analyst.tally; notes = analyst.notes; rows = analyst.sheet.rows; list = analyst.sheet.list } };
 }
 
 /// What a search works on. Nobody enters in a search: the calls that go over trains are handed a list
@@ -123,7 +124,46 @@ impl Analyst {
         ensures some { IfSome result (λ list. IsTrue (completes (moves_in moves.now) places.now.positions list.now)) }
         ensures none { IsNone result ↔ (Finds (moves_in moves.now) depth places.now.positions → ⊥) }
     {
-        self.tally.follow(
+        if self.search(moves, places, depth) {
+            Some(self.sheet.list())
+        } else {
+            None
+        }
+    }
+
+    /// Makes a list of moves that completes from the places, by legs of which at most `depth` are free. Whether there is
+    /// one. Sets are looked at as far as the moves need.
+    fn search(&mut self, moves: &Moves, places: &Places, depth: u8) -> bool
+        requires made { IsMadeFor moves.now places.now }
+        requires own { IsAnalystFor (moves_in moves.now) self.old }
+        ensures own { IsAnalystFor (moves_in moves.now) self.new }
+        ensures list { IsTrue result → IsTrue (completes (moves_in moves.now) places.now.positions self.new.list) }
+        ensures some { IsTrue result → Finds (moves_in moves.now) depth places.now.positions }
+        ensures none { result ≡ false → Finds (moves_in moves.now) depth places.now.positions → ⊥ }
+    {
+        let words = self.sheet.rows().width();
+        if words <= One::WORDS {
+            self.search_in::<One>(moves, places, depth)
+        } else if words <= Two::WORDS {
+            self.search_in::<Two>(moves, places, depth)
+        } else if words <= Four::WORDS {
+            self.search_in::<Four>(moves, places, depth)
+        } else {
+            self.search_in::<All>(moves, places, depth)
+        }
+    }
+
+    /// The same with so many words of each set.
+    fn search_in<W: Width>(&mut self, moves: &Moves, places: &Places, depth: u8) -> bool
+        requires words { AreWords (moves_in moves.now) W.WORDS }
+        requires made { IsMadeFor moves.now places.now }
+        requires own { IsAnalystFor (moves_in moves.now) self.old }
+        ensures own { IsAnalystFor (moves_in moves.now) self.new }
+        ensures list { IsTrue result → IsTrue (completes (moves_in moves.now) places.now.positions self.new.list) }
+        ensures some { IsTrue result → Finds (moves_in moves.now) depth places.now.positions }
+        ensures none { result ≡ false → Finds (moves_in moves.now) depth places.now.positions → ⊥ }
+    {
+        self.tally.follow::<W>(
             moves,
             self.sheet.rows(),
             places,
@@ -131,18 +171,13 @@ impl Analyst {
             &mut self.notes,
         );
         let inside = self.inside.as_slice();
-        self.sheet.begin(moves, places, self.tally.needs(), inside);
-        self.sheet.look_again(moves, inside, &mut self.notes);
+        self.sheet
+            .begin::<W>(moves, places, self.tally.needs(), inside);
+        self.sheet.look_again::<W>(moves, inside, &mut self.notes);
         let mut notes = self.notes;
         let mut ahead = Ahead::new();
-        if self
-            .sheet
-            .search(moves, inside, &mut notes, &mut ahead, depth)
-        {
-            Some(self.sheet.list())
-        } else {
-            None
-        }
+        self.sheet
+            .search::<W>(moves, inside, &mut notes, &mut ahead, depth)
     }
 }
 
@@ -167,7 +202,13 @@ fn repeats_at_end(train: TrainNo, list: &[TrainNo]) -> usize
 }
 
 /// The sections that the trains hold at the places.
-fn held_by(moves: &Moves, rows: &Rows, places: &Places, inside: &[TrainNo]) -> [u64; WORDS]
+fn held_by<W: Width>(
+    moves: &Moves,
+    rows: &Rows,
+    places: &Places,
+    inside: &[TrainNo],
+) -> [u64; WORDS]
+    requires words { AreWords (moves_in moves.now) W.WORDS }
     requires made { IsMadeFor moves.now places.now }
     requires rows { IsRowsOf (moves_in moves.now) rows.now }
     requires listed { IsListing (moves_in moves.now) places.now.positions inside.now }
@@ -177,7 +218,7 @@ fn held_by(moves: &Moves, rows: &Rows, places: &Places, inside: &[TrainNo]) -> [
     for train in inside {
         join(
             &mut held,
-            rows.stand(moves, *train, places.position(*train)),
+            rows.stand::<W>(moves, *train, places.position(*train)),
         );
     }
     held
@@ -205,7 +246,14 @@ impl Worksheet {
     }
 
     /// Begins a search from the places, with the needs there: no moves are made.
-    fn begin(&mut self, moves: &Moves, places: &Places, needs: &Counts, inside: &[TrainNo])
+    fn begin<W: Width>(
+        &mut self,
+        moves: &Moves,
+        places: &Places,
+        needs: &Counts,
+        inside: &[TrainNo],
+    )
+        requires words { AreWords (moves_in moves.now) W.WORDS }
         requires made { IsMadeFor moves.now places.now }
         requires rows { IsRowsOf (moves_in moves.now) self.old.rows }
         requires counted { IsCounted (moves_in moves.now) places.now.positions needs.now }
@@ -215,7 +263,7 @@ impl Worksheet {
         ensures list { self.new.list ≡ [] }
     {
         self.places.copy_from(places);
-        self.held = held_by(moves, &self.rows, places, inside);
+        self.held = held_by::<W>(moves, &self.rows, places, inside);
         self.needs.copy_from(needs);
         self.list.clear();
     }
@@ -229,7 +277,8 @@ impl Worksheet {
 
     /// Puts the train at the place, which is no move of the list. No other train holds a section of its
     /// standing set there.
-    fn put(&mut self, moves: &Moves, train: TrainNo, place: u16)
+    fn put<W: Width>(&mut self, moves: &Moves, train: TrainNo, place: u16)
+        requires words { AreWords (moves_in moves.now) W.WORDS }
         requires ready { IsReady moves.now self.old }
         requires train { train < length moves.now }
         requires entered { 0 < place_of self.old.places.positions train }
@@ -244,15 +293,16 @@ impl Worksheet {
         ensures list { self.new.list ≡ self.old.list }
     {
         let from = self.places.position(train);
-        let gone = self.rows.stand(moves, train, from);
-        let come = self.rows.stand(moves, train, place);
+        let gone = self.rows.stand::<W>(moves, train, from);
+        let come = self.rows.stand::<W>(moves, train, place);
         replace(&mut self.held, gone, come);
-        recount(&mut self.needs, moves, &self.rows, train, from, place);
+        recount::<W>(&mut self.needs, moves, &self.rows, train, from, place);
         self.places.put(moves, train, place);
     }
 
     /// Makes the moves of a leg, all at once.
-    fn go_to(&mut self, moves: &Moves, train: TrainNo, place: u16)
+    fn go_to<W: Width>(&mut self, moves: &Moves, train: TrainNo, place: u16)
+        requires words { AreWords (moves_in moves.now) W.WORDS }
         requires ready { IsReady moves.now self.old }
         requires train { train < length moves.now }
         requires leg { IsTrue (is_leg (moves_in moves.now) self.old.places.positions (leg_to train place)) }
@@ -261,12 +311,13 @@ impl Worksheet {
         ensures positions { self.new.places.positions ≡ set self.old.places.positions train place }
     {
         let count = place - self.places.position(train);
-        self.put(moves, train, place);
+        self.put::<W>(moves, train, place);
         push_times(&mut self.list, train, count);
     }
 
     /// Takes the moves back that were made since the list had this length.
-    fn go_back(&mut self, moves: &Moves, mark: usize)
+    fn go_back<W: Width>(&mut self, moves: &Moves, mark: usize)
+        requires words { AreWords (moves_in moves.now) W.WORDS }
         requires ready { IsReady moves.now self.old }
         requires mark { mark ≤ length self.old.list }
         requires played { IsPlayedFrom (moves_in moves.now) mark self.old }
@@ -277,12 +328,13 @@ impl Worksheet {
             → self.new.places.positions ≡ s }
     {
         while self.list.len() > mark {
-            self.take_run_back(moves, mark);
+            self.take_run_back::<W>(moves, mark);
         }
     }
 
     /// Takes the last moves of the list back that one train made in a row, but none of the first `mark`.
-    fn take_run_back(&mut self, moves: &Moves, mark: usize)
+    fn take_run_back<W: Width>(&mut self, moves: &Moves, mark: usize)
+        requires words { AreWords (moves_in moves.now) W.WORDS }
         requires ready { IsReady moves.now self.old }
         requires mark { mark < length self.old.list }
         requires played { IsPlayedFrom (moves_in moves.now) mark self.old }
@@ -301,7 +353,7 @@ impl Worksheet {
         let count = repeats_at_end(train, made);
         self.list.truncate(self.list.len() - count);
         let place = self.places.position(train) - count as u16;
-        self.put(moves, train, place);
+        self.put::<W>(moves, train, place);
     }
 
     /// Nobody is inside.

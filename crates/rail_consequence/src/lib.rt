@@ -36,6 +36,7 @@ mod openers;
 mod rows;
 mod tally;
 mod train_list;
+mod width;
 
 pub use analyst::Analyst;
 pub use laws::{

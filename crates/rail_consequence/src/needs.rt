@@ -5,17 +5,26 @@ ghost use Rattle.rail_place.specs.Tables.{IsTable, moves_in};
 ghost use Rattle.rail_sets.specs.Sets.{has};
 ghost use Rattle.rail_consequence.specs.declared.notes.Stop.TheVariants.{Unknown};
 ghost use Rattle.rail_consequence.specs.Stops.{stop_of};
-ghost use Rattle.rail_consequence.specs.Needs.{IsAmong, IsRecounted, IsRowsOf, count_of, needs_left};
+ghost use Rattle.rail_consequence.specs.Needs.{AreWords, IsAmong, IsRecounted, IsRowsOf, count_of, needs_left};
 
 use crate::notes::{Notes, Stop};
 use crate::rows::Rows;
+use crate::width::Width;
 use rail_base::TrainNo;
 use rail_place::Moves;
 use rail_sets::Counts;
 
 /// Counts the train, which was counted as at the one place, as at the other. A train that has not entered counts for
 /// nothing.
-pub fn recount(needs: &mut Counts, moves: &Moves, rows: &Rows, train: TrainNo, from: u16, to: u16)
+pub fn recount<W: Width>(
+    needs: &mut Counts,
+    moves: &Moves,
+    rows: &Rows,
+    train: TrainNo,
+    from: u16,
+    to: u16,
+)
+    requires words { AreWords (moves_in moves.now) W.WORDS }
     requires rows { IsRowsOf (moves_in moves.now) rows.now }
     requires train { train < length moves.now }
     requires from { from ≤ (moves_in moves.now).moves train }
@@ -27,20 +36,20 @@ pub fn recount(needs: &mut Counts, moves: &Moves, rows: &Rows, train: TrainNo, f
     let last = place_or_last(moves, train, to);
     if first < last {
         needs.count_down(
-            rows.rest(moves, train, first),
-            rows.rest(moves, train, last),
+            rows.rest::<W>(moves, train, first),
+            rows.rest::<W>(moves, train, last),
         );
     } else if last < first {
         needs.count_up(
-            rows.rest(moves, train, last),
-            rows.rest(moves, train, first),
+            rows.rest::<W>(moves, train, last),
+            rows.rest::<W>(moves, train, first),
         );
     }
 }
 
 /// Takes back what is noted of the train, which is counted as at the one place and is to be counted as at the other, and
 /// notes the sections that fall to one train then.
-pub fn note_move(
+pub fn note_move<W: Width>(
     notes: &mut Notes,
     needs: &Counts,
     moves: &Moves,
@@ -49,6 +58,7 @@ pub fn note_move(
     from: u16,
     to: u16,
 )
+    requires words { AreWords (moves_in moves.now) W.WORDS }
     requires rows { IsRowsOf (moves_in moves.now) rows.now }
     requires table { IsTable moves.now }
     requires train { train < length moves.now }
@@ -68,8 +78,8 @@ pub fn note_move(
     if first >= last {
         return;
     }
-    let needed = rows.rest(moves, train, first);
-    let later = rows.rest(moves, train, last);
+    let needed = rows.rest::<W>(moves, train, first);
+    let later = rows.rest::<W>(moves, train, last);
     if needs.has_falls(needed, later) {
         needs.add_falls(&mut notes.fell, needed, later);
         notes.has_fallen = true;

@@ -6,8 +6,9 @@ ghost use Rattle.rail_rules.specs.Numbers.{is_in};
 ghost use Rattle.rail_place.specs.Tables.{IsTable, moves_in};
 ghost use Rattle.rail_sets.specs.declared.sets.TheConstants.{WORDS};
 ghost use Rattle.rail_consequence.specs.Needs.{needs_from};
-ghost use Rattle.rail_consequence.specs.Needs.{IsPlaceSets, IsRowsOf, IsSet, IsSetRow};
+ghost use Rattle.rail_consequence.specs.Needs.{AreWords, IsPlaceSets, IsRowsOf, IsSet, IsSetRow};
 
+use crate::width::Width;
 use rail_base::{OutOfMemory, TrainNo};
 use rail_place::Moves;
 use rail_sets::{WORDS, add_all, join, width_of};
@@ -88,39 +89,42 @@ impl Rows {
 
     /// The sections that the train's next move needs at the place.
     #[inline(always)]
-    pub fn need(&self, moves: &Moves, train: TrainNo, place: u16) -> &[u64]
+    pub fn need<W: Width>(&self, moves: &Moves, train: TrainNo, place: u16) -> &[u64]
+        requires words { AreWords (moves_in moves.now) W.WORDS }
         requires rows { IsRowsOf (moves_in moves.now) self.now }
         requires train { train < length moves.now }
         requires within { place ≤ (moves_in moves.now).moves train }
         ensures set { IsSet result.now (λ x. is_in x ((moves_in moves.now).claim train place)) }
-        ensures long { length result.now ≡ self.now.width }
+        ensures long { length result.now ≡ W.WORDS }
     {
-        &self.at(moves, train, place).need[..self.width]
+        &self.at(moves, train, place).need[..W::WORDS]
     }
 
     /// The sections that the moves need that the train has left at the place.
     #[inline(always)]
-    pub fn rest(&self, moves: &Moves, train: TrainNo, place: u16) -> &[u64]
+    pub fn rest<W: Width>(&self, moves: &Moves, train: TrainNo, place: u16) -> &[u64]
+        requires words { AreWords (moves_in moves.now) W.WORDS }
         requires rows { IsRowsOf (moves_in moves.now) self.now }
         requires train { train < length moves.now }
         requires within { place ≤ (moves_in moves.now).moves train }
         ensures set { IsSet result.now (needs_from (moves_in moves.now) train place) }
-        ensures long { length result.now ≡ self.now.width }
+        ensures long { length result.now ≡ W.WORDS }
     {
-        &self.at(moves, train, place).rest[..self.width]
+        &self.at(moves, train, place).rest[..W::WORDS]
     }
 
     /// The sections on which the train stands at the place.
     #[inline(always)]
-    pub fn stand(&self, moves: &Moves, train: TrainNo, place: u16) -> &[u64]
+    pub fn stand<W: Width>(&self, moves: &Moves, train: TrainNo, place: u16) -> &[u64]
+        requires words { AreWords (moves_in moves.now) W.WORDS }
         requires rows { IsRowsOf (moves_in moves.now) self.now }
         requires table { IsTable moves.now }
         requires train { train < length moves.now }
         requires within { place ≤ (moves_in moves.now).moves train }
         ensures set { IsSet result.now (λ x. is_in x (stand (moves_in moves.now) train place)) }
-        ensures long { length result.now ≡ self.now.width }
+        ensures long { length result.now ≡ W.WORDS }
     {
-        &self.at(moves, train, place).stand[..self.width]
+        &self.at(moves, train, place).stand[..W::WORDS]
     }
 
     /// The sets of the train at the place.

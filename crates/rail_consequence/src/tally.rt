@@ -5,7 +5,7 @@ ghost use Rattle.rail_consequence.specs.declared.tally.TheConstants.{STRIDE};
 ghost use Rattle.rail_rules.specs.Places.{is_inside, place_of};
 ghost use Rattle.rail_place.specs.Made.{IsMadeFor};
 ghost use Rattle.rail_place.specs.Tables.{IsTable, moves_in};
-ghost use Rattle.rail_consequence.specs.Needs.{IsRowsOf, IsTallyFor};
+ghost use Rattle.rail_consequence.specs.Needs.{AreWords, IsRowsOf, IsTallyFor};
 ghost use Rattle.rail_consequence.specs.Stops.{IsNotedTo};
 ghost use Rattle.rail_consequence.specs.Workspace.{IsListing};
 
@@ -13,6 +13,7 @@ use crate::needs::{note_move, recount};
 use crate::notes::Notes;
 use crate::rows::Rows;
 use crate::train_list::TrainList;
+use crate::width::Width;
 use rail_base::{OutOfMemory, TrainNo};
 use rail_place::{Moves, Places};
 use rail_sets::Counts;
@@ -52,7 +53,7 @@ impl Tally {
 
     /// Goes over to these places with what is noted of the trains, and with the list of those that are inside. It looks for
     /// the trains that stand at other places, some at once.
-    pub fn follow(
+    pub fn follow<W: Width>(
         &mut self,
         moves: &Moves,
         rows: &Rows,
@@ -60,6 +61,7 @@ impl Tally {
         inside: &mut TrainList,
         notes: &mut Notes,
     )
+        requires words { AreWords (moves_in moves.now) W.WORDS }
         requires made { IsMadeFor moves.now places.now }
         requires rows { IsRowsOf (moves_in moves.now) rows.now }
         requires kept { IsTallyFor (moves_in moves.now) self.old }
@@ -73,7 +75,7 @@ impl Tally {
         let mut number = first_other(&self.positions, places.positions(), 0);
         while number < self.positions.len() {
             let train = TrainNo(number as u16);
-            self.follow_train(moves, rows, train, places.position(train), notes);
+            self.follow_train::<W>(moves, rows, train, places.position(train), notes);
             if stands_inside(moves, places, train) {
                 inside.include(train);
             } else {
@@ -84,7 +86,7 @@ impl Tally {
     }
 
     /// Goes over to this place of the train, which stands at another.
-    fn follow_train(
+    fn follow_train<W: Width>(
         &mut self,
         moves: &Moves,
         rows: &Rows,
@@ -92,6 +94,7 @@ impl Tally {
         place: u16,
         notes: &mut Notes,
     )
+        requires words { AreWords (moves_in moves.now) W.WORDS }
         requires table { IsTable moves.now }
         requires rows { IsRowsOf (moves_in moves.now) rows.now }
         requires train { train < length moves.now }
@@ -103,8 +106,8 @@ impl Tally {
         ensures noted { IsNotedTo (moves_in moves.now) self.new.positions notes.new }
     {
         let from = self.positions[usize::from(train.0)];
-        note_move(notes, &self.needs, moves, rows, train, from, place);
-        recount(&mut self.needs, moves, rows, train, from, place);
+        note_move::<W>(notes, &self.needs, moves, rows, train, from, place);
+        recount::<W>(&mut self.needs, moves, rows, train, from, place);
         self.positions[usize::from(train.0)] = place;
     }
 

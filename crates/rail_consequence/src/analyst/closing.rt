@@ -5,12 +5,14 @@ ghost use Rattle.rail_rules.specs.Analysis.{is_leg, is_safe, moves_left};
 ghost use Rattle.rail_rules.specs.Numbers.{is_in};
 ghost use Rattle.rail_rules.specs.Places.{is_inside, place_of};
 ghost use Rattle.rail_place.specs.Tables.{moves_in};
+ghost use Rattle.rail_consequence.specs.Needs.{AreWords};
 ghost use Rattle.rail_consequence.specs.Searches.{FindsSame, HasNoSafeLeg, HasNoSafeLegOf, leg_to};
 ghost use Rattle.rail_consequence.specs.Stops.{AreSettledFrom, IsHeldByOther, IsNotedTo, IsSettled, IsStopped, IsUntouched, Shows, section_of, stop_of};
 ghost use Rattle.rail_consequence.specs.Workspace.{GoesOn, IsBack, IsListing, IsReady};
 
 use super::Worksheet;
 use crate::notes::{Notes, Stop};
+use crate::width::Width;
 use rail_base::{SectionNo, TrainNo};
 use rail_place::Moves;
 use rail_sets::{first_common, meet, meet_beyond};
@@ -28,7 +30,8 @@ pub enum Look {
 
 impl Worksheet {
     /// Makes safe legs until there is none, and leaves what stops each train that is inside.
-    pub(super) fn close(&mut self, moves: &Moves, inside: &[TrainNo], notes: &mut Notes)
+    pub(super) fn close<W: Width>(&mut self, moves: &Moves, inside: &[TrainNo], notes: &mut Notes)
+        requires words { AreWords (moves_in moves.now) W.WORDS }
         requires ready { IsReady moves.now self.old }
         requires listed { IsListing (moves_in moves.now) self.old.places.positions inside.now }
         requires noted { IsNotedTo (moves_in moves.now) self.old.places.positions notes.old }
@@ -41,7 +44,7 @@ impl Worksheet {
         let mut upto = inside.len();
         // The trains behind the one that made the last leg were looked at since.
         while upto > 0 {
-            upto = self.make_safe_legs(moves, inside, notes, upto);
+            upto = self.make_safe_legs::<W>(moves, inside, notes, upto);
         }
     }
 
@@ -49,13 +52,14 @@ impl Worksheet {
     /// safe leg of each that has one at its turn. Only the first so many, as it says, may have a safe leg then;
     /// none, where no leg was made.
     #[inline(never)]
-    fn make_safe_legs(
+    fn make_safe_legs<W: Width>(
         &mut self,
         moves: &Moves,
         inside: &[TrainNo],
         notes: &mut Notes,
         upto: usize,
     ) -> usize
+        requires words { AreWords (moves_in moves.now) W.WORDS }
         requires ready { IsReady moves.now self.old }
         requires listed { IsListing (moves_in moves.now) self.old.places.positions inside.now }
         requires noted { IsNotedTo (moves_in moves.now) self.old.places.positions notes.old }
@@ -76,7 +80,7 @@ impl Worksheet {
         while index < end {
             let train = inside[index];
             index += 1;
-            if self.make_safe_leg(moves, train, notes) {
+            if self.make_safe_leg::<W>(moves, train, notes) {
                 // Each train may have a safe leg now.
                 loose = index;
                 end = inside.len();
@@ -88,7 +92,8 @@ impl Worksheet {
     /// Makes the farthest safe leg of the train; or notes what stops it, where it has none. A train is
     /// not looked at again as long as what stopped it does.
     #[inline(always)]
-    fn make_safe_leg(&mut self, moves: &Moves, train: TrainNo, notes: &mut Notes) -> bool
+    fn make_safe_leg<W: Width>(&mut self, moves: &Moves, train: TrainNo, notes: &mut Notes) -> bool
+        requires words { AreWords (moves_in moves.now) W.WORDS }
         requires ready { IsReady moves.now self.old }
         requires train { train < length moves.now }
         requires noted { IsNotedTo (moves_in moves.now) self.old.places.positions notes.old }
@@ -105,18 +110,18 @@ impl Worksheet {
         ensures others { result ≡ false → (u : ℕ) → u ≢ train → stop_of notes.new.stops u ≡ stop_of notes.old.stops u }
         ensures noted { IsNotedTo (moves_in moves.now) self.new.places.positions notes.new }
     {
-        if self.is_stopped(moves, notes, train) {
+        if self.is_stopped::<W>(moves, notes, train) {
             return false;
         }
-        match self.look(moves, train) {
+        match self.look::<W>(moves, train) {
             Look::Idle => false,
             Look::Stopped(stop) => {
                 notes.set(train, stop);
                 false
             }
             Look::Leads(place) => {
-                self.note_leg(moves, train, place, notes);
-                self.go_to(moves, train, place);
+                self.note_leg::<W>(moves, train, place, notes);
+                self.go_to::<W>(moves, train, place);
                 true
             }
         }
@@ -124,20 +129,22 @@ impl Worksheet {
 
     /// Looks at the trains inside that nothing of what is noted stops, and notes what does. No section has fallen
     /// since.
-    pub(super) fn look_again(&self, moves: &Moves, inside: &[TrainNo], notes: &mut Notes)
+    pub(super) fn look_again<W: Width>(&self, moves: &Moves, inside: &[TrainNo], notes: &mut Notes)
+        requires words { AreWords (moves_in moves.now) W.WORDS }
         requires ready { IsReady moves.now self.now }
         requires listed { IsListing (moves_in moves.now) self.now.places.positions inside.now }
         requires noted { IsNotedTo (moves_in moves.now) self.now.places.positions notes.old }
         ensures { IsNotedTo (moves_in moves.now) self.now.places.positions notes.new }
     {
         for train in inside {
-            self.look_at(moves, *train, notes);
+            self.look_at::<W>(moves, *train, notes);
         }
         notes.forget_falls();
     }
 
     /// Looks at the train if nothing of what is noted stops it, and notes what does.
-    fn look_at(&self, moves: &Moves, train: TrainNo, notes: &mut Notes)
+    fn look_at<W: Width>(&self, moves: &Moves, train: TrainNo, notes: &mut Notes)
+        requires words { AreWords (moves_in moves.now) W.WORDS }
         requires ready { IsReady moves.now self.now }
         requires train { train < length moves.now }
         requires noted { IsNotedTo (moves_in moves.now) self.now.places.positions notes.old }
@@ -147,10 +154,10 @@ impl Worksheet {
         ensures others { (u : ℕ) → u ≢ train → stop_of notes.new.stops u ≡ stop_of notes.old.stops u }
         ensures noted { IsNotedTo (moves_in moves.now) self.now.places.positions notes.new }
     {
-        if notes.stop(train).is_free() || self.is_stopped(moves, notes, train) {
+        if notes.stop(train).is_free() || self.is_stopped::<W>(moves, notes, train) {
             return;
         }
-        match self.look(moves, train) {
+        match self.look::<W>(moves, train) {
             Look::Stopped(stop) => notes.set(train, stop),
             Look::Leads(_) => notes.set(train, Stop::Free),
             Look::Idle => notes.set(train, Stop::Unknown),
@@ -159,7 +166,14 @@ impl Worksheet {
 
     /// Takes back what is noted of the train, which is to go on to the place, and notes the sections that fall to
     /// one train then.
-    pub(super) fn note_leg(&self, moves: &Moves, train: TrainNo, place: u16, notes: &mut Notes)
+    pub(super) fn note_leg<W: Width>(
+        &self,
+        moves: &Moves,
+        train: TrainNo,
+        place: u16,
+        notes: &mut Notes,
+    )
+        requires words { AreWords (moves_in moves.now) W.WORDS }
         requires ready { IsReady moves.now self.now }
         requires train { train < length moves.now }
         requires inside { IsTrue (is_inside (moves_in moves.now) self.now.places.positions train) }
@@ -170,8 +184,8 @@ impl Worksheet {
     {
         notes.set(train, Stop::Unknown);
         let from = self.places.position(train);
-        let needed = self.rows.rest(moves, train, from);
-        let later = self.rows.rest(moves, train, place);
+        let needed = self.rows.rest::<W>(moves, train, from);
+        let later = self.rows.rest::<W>(moves, train, place);
         if self.needs.has_falls(needed, later) {
             self.needs.add_falls(&mut notes.fell, needed, later);
             notes.has_fallen = true;
@@ -179,7 +193,8 @@ impl Worksheet {
     }
 
     /// What is noted of the train stops it still.
-    fn is_stopped(&self, moves: &Moves, notes: &Notes, train: TrainNo) -> bool
+    fn is_stopped<W: Width>(&self, moves: &Moves, notes: &Notes, train: TrainNo) -> bool
+        requires words { AreWords (moves_in moves.now) W.WORDS }
         requires ready { IsReady moves.now self.now }
         requires train { train < length moves.now }
         requires noted { IsNotedTo (moves_in moves.now) self.now.places.positions notes.now }
@@ -191,13 +206,14 @@ impl Worksheet {
             Stop::Unknown | Stop::Free => false,
             Stop::Next(section) => self.is_held_by_other(train, section),
             Stop::Later(section) => {
-                self.is_held_by_other(train, section) && !self.is_touched(moves, notes, train)
+                self.is_held_by_other(train, section) && !self.is_touched::<W>(moves, notes, train)
             }
         }
     }
 
     /// A section fell to one train that this train may need.
-    fn is_touched(&self, moves: &Moves, notes: &Notes, train: TrainNo) -> bool
+    fn is_touched<W: Width>(&self, moves: &Moves, notes: &Notes, train: TrainNo) -> bool
+        requires words { AreWords (moves_in moves.now) W.WORDS }
         requires ready { IsReady moves.now self.now }
         requires train { train < length moves.now }
         requires noted { IsNotedTo (moves_in moves.now) self.now.places.positions notes.now }
@@ -205,7 +221,8 @@ impl Worksheet {
     {
         notes.has_fallen
             && meet(
-                self.rows.rest(moves, train, self.places.position(train)),
+                self.rows
+                    .rest::<W>(moves, train, self.places.position(train)),
                 &notes.fell,
             )
     }
@@ -213,7 +230,8 @@ impl Worksheet {
     /// Looks how far the train can go on while all others stand, and for the last place on its way to which
     /// a leg is safe.
     #[inline(always)]
-    fn look(&self, moves: &Moves, train: TrainNo) -> Look
+    fn look<W: Width>(&self, moves: &Moves, train: TrainNo) -> Look
+        requires words { AreWords (moves_in moves.now) W.WORDS }
         requires ready { IsReady moves.now self.now }
         requires train { train < length moves.now }
         ensures { Shows (moves_in moves.now) self.now.places.positions train result }
@@ -223,17 +241,17 @@ impl Worksheet {
         if place == 0 || place >= last {
             return Look::Idle;
         }
-        if let Some(section) = self.stop_of(moves, train, place) {
+        if let Some(section) = self.stop_of::<W>(moves, train, place) {
             return Look::Stopped(Stop::Next(section));
         }
-        let own = self.rows.stand(moves, train, place);
-        if !meet_beyond(self.rows.rest(moves, train, place), &self.held, own) {
+        let own = self.rows.stand::<W>(moves, train, place);
+        if !meet_beyond(self.rows.rest::<W>(moves, train, place), &self.held, own) {
             // A leg that ends out is safe.
             return Look::Leads(last);
         }
         for made in place + 1..last {
-            if let Some(section) = self.stop_of(moves, train, made) {
-                return match self.last_safe(moves, train, made) {
+            if let Some(section) = self.stop_of::<W>(moves, train, made) {
+                return match self.last_safe::<W>(moves, train, made) {
                     Some(end) => Look::Leads(end),
                     None => Look::Stopped(Stop::Later(section)),
                 };
@@ -244,7 +262,8 @@ impl Worksheet {
 
     /// The last place on the train's way up to this one to which a leg is safe. No other train holds a section that
     /// its moves up to there need.
-    fn last_safe(&self, moves: &Moves, train: TrainNo, most: u16) -> Option<u16>
+    fn last_safe<W: Width>(&self, moves: &Moves, train: TrainNo, most: u16) -> Option<u16>
+        requires words { AreWords (moves_in moves.now) W.WORDS }
         requires ready { IsReady moves.now self.now }
         requires train { train < length moves.now }
         requires entered { 0 < place_of self.now.places.positions train }
@@ -261,7 +280,7 @@ impl Worksheet {
         let from = self.places.position(train);
         let mut end = most;
         while end > from {
-            if self.is_safe_at(moves, train, end) {
+            if self.is_safe_at::<W>(moves, train, end) {
                 return Some(end);
             }
             end -= 1;
@@ -270,7 +289,13 @@ impl Worksheet {
     }
 
     /// A section of the train's move from this place that another train holds.
-    pub(super) fn stop_of(&self, moves: &Moves, train: TrainNo, made: u16) -> Option<SectionNo>
+    pub(super) fn stop_of<W: Width>(
+        &self,
+        moves: &Moves,
+        train: TrainNo,
+        made: u16,
+    ) -> Option<SectionNo>
+        requires words { AreWords (moves_in moves.now) W.WORDS }
         requires ready { IsReady moves.now self.now }
         requires train { train < length moves.now }
         requires within { made < (moves_in moves.now).moves train }
@@ -280,8 +305,10 @@ impl Worksheet {
             (λ x. IsTrue (is_in x ((moves_in moves.now).claim train made))
             × IsHeldByOther (moves_in moves.now) self.now.places.positions train x) }
     {
-        let own = self.rows.stand(moves, train, self.places.position(train));
-        first_common(self.rows.need(moves, train, made), &self.held, own)
+        let own = self
+            .rows
+            .stand::<W>(moves, train, self.places.position(train));
+        first_common(self.rows.need::<W>(moves, train, made), &self.held, own)
     }
 
     /// Another train holds the section.
@@ -299,7 +326,8 @@ impl Worksheet {
 
     /// A leg of the train, which is inside, to the place ahead is safe: it ends out, or no other train inside needs its
     /// standing set later.
-    fn is_safe_at(&self, moves: &Moves, train: TrainNo, place: u16) -> bool
+    fn is_safe_at<W: Width>(&self, moves: &Moves, train: TrainNo, place: u16) -> bool
+        requires words { AreWords (moves_in moves.now) W.WORDS }
         requires ready { IsReady moves.now self.now }
         requires train { train < length moves.now }
         requires entered { 0 < place_of self.now.places.positions train }
@@ -307,6 +335,7 @@ impl Worksheet {
         requires within { place ≤ (moves_in moves.now).moves train }
         ensures { result ≡ is_safe (moves_in moves.now) self.now.places.positions (leg_to train place) }
     {
-        self.needs.are_once(self.rows.stand(moves, train, place))
+        self.needs
+            .are_once(self.rows.stand::<W>(moves, train, place))
     }
 }

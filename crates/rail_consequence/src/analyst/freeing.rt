@@ -5,6 +5,7 @@ ghost use Rattle.rail_rules.specs.Places.{is_inside, place_of};
 ghost use Rattle.rail_place.specs.Tables.{moves_in};
 ghost use Rattle.rail_rules.specs.Numbers.{is_in};
 ghost use Rattle.rail_sets.specs.Sets.{has};
+ghost use Rattle.rail_consequence.specs.Needs.{AreWords};
 ghost use Rattle.rail_consequence.specs.Searches.{FindsByNoLegOf, HasNoSafeLegOf};
 ghost use Rattle.rail_consequence.specs.Freeing.{AreSeveral, FallsInVain, FreesNobody, HasFalls, HasOther, IsAhead, IsNextStop, IsNotAwaited, MayWaitFor, WaitsFor, is_marked};
 ghost use Rattle.rail_consequence.specs.Stops.{IsSettled, IsUntouched, stop_of};
@@ -17,6 +18,7 @@ use crate::ahead::Ahead;
 use crate::notes::{Notes, Stop};
 use crate::openers::Openers;
 use crate::tally::stands_inside;
+use crate::width::Width;
 use rail_base::TrainNo;
 use rail_place::Moves;
 use rail_sets::{fill_replaced, meet, meet_beyond};
@@ -30,7 +32,7 @@ impl Worksheet {
     ///
     /// It goes over the trains that are stopped, and asks of each only what would hold it where the train were gone for
     /// which it waits.
-    pub(super) fn find_openers(
+    pub(super) fn find_openers<W: Width>(
         &self,
         moves: &Moves,
         inside: &[TrainNo],
@@ -38,6 +40,7 @@ impl Worksheet {
         ahead: &mut Ahead,
         openers: &mut Openers,
     )
+        requires words { AreWords (moves_in moves.now) W.WORDS }
         requires ready { IsReady moves.now self.now }
         requires listed { IsListing (moves_in moves.now) self.now.places.positions inside.now }
         requires settled { IsSettled (moves_in moves.now) self.now.places.positions notes.now.stops }
@@ -46,16 +49,16 @@ impl Worksheet {
     {
         openers.clear();
         for other in inside {
-            self.add_awaited(moves, notes, ahead, *other, openers);
+            self.add_awaited::<W>(moves, notes, ahead, *other, openers);
         }
         for train in inside {
-            self.add_by_falls(moves, inside, notes, ahead, *train, openers);
+            self.add_by_falls::<W>(moves, inside, notes, ahead, *train, openers);
         }
     }
 
     /// Adds the train for which this one waits, where this one may get a safe leg once that one has gone out; all trains
     /// where it waits for none.
-    fn add_awaited(
+    fn add_awaited<W: Width>(
         &self,
         moves: &Moves,
         notes: &Notes,
@@ -63,6 +66,7 @@ impl Worksheet {
         other: TrainNo,
         openers: &mut Openers,
     )
+        requires words { AreWords (moves_in moves.now) W.WORDS }
         requires ready { IsReady moves.now self.now }
         requires other { other < length moves.now }
         requires settled { IsSettled (moves_in moves.now) self.now.places.positions notes.now.stops }
@@ -80,8 +84,8 @@ impl Worksheet {
             return;
         }
         let last = moves.places(train);
-        self.look_ahead(moves, train, last, ahead);
-        if !self.is_kept_from_legs(moves, ahead, other, train, last) {
+        self.look_ahead::<W>(moves, train, last, ahead);
+        if !self.is_kept_from_legs::<W>(moves, ahead, other, train, last) {
             openers.add(train);
         }
     }
@@ -102,7 +106,7 @@ impl Worksheet {
     }
 
     /// Adds the train where a section falls to another one once it has gone out, which may get a safe leg.
-    fn add_by_falls(
+    fn add_by_falls<W: Width>(
         &self,
         moves: &Moves,
         inside: &[TrainNo],
@@ -111,42 +115,46 @@ impl Worksheet {
         train: TrainNo,
         openers: &mut Openers,
     )
+        requires words { AreWords (moves_in moves.now) W.WORDS }
         requires ready { IsReady moves.now self.now }
         requires listed { IsListing (moves_in moves.now) self.now.places.positions inside.now }
         requires train { train < length moves.now }
         ensures more { (t : ℕ) → is_marked openers.new t ≡ false → is_marked openers.old t ≡ false }
         ensures here { is_marked openers.new train ≡ false → IsTrue (is_inside (moves_in moves.now) self.now.places.positions train)
             → IsNextStop notes.now.stops train
-            ⊎ FallsInVain (moves_in moves.now) self.now.places.positions self.now.needs self.now.rows.width notes.now.stops inside.now train ((moves_in moves.now).moves train) }
+            ⊎ FallsInVain (moves_in moves.now) self.now.places.positions self.now.needs W.WORDS notes.now.stops inside.now train ((moves_in moves.now).moves train) }
     {
         if openers.has(train)
             || notes.stop(train).is_next()
             || !stands_inside(moves, &self.places, train)
-            || !self.has_pairs(moves, train)
+            || !self.has_pairs::<W>(moves, train)
         {
             return;
         }
         let last = moves.places(train);
-        self.look_ahead(moves, train, last, ahead);
-        if !self.falls_are_in_vain(moves, inside, notes, ahead, train, last) {
+        self.look_ahead::<W>(moves, train, last, ahead);
+        if !self.falls_are_in_vain::<W>(moves, inside, notes, ahead, train, last) {
             openers.add(train);
         }
     }
 
     /// Whether a section that the train needs is needed by one other.
-    fn has_pairs(&self, moves: &Moves, train: TrainNo) -> bool
+    fn has_pairs<W: Width>(&self, moves: &Moves, train: TrainNo) -> bool
+        requires words { AreWords (moves_in moves.now) W.WORDS }
         requires ready { IsReady moves.now self.now }
         requires train { train < length moves.now }
-        ensures { result ≡ false → HasFalls (moves_in moves.now) self.now.places.positions self.now.needs self.now.rows.width train ((moves_in moves.now).moves train) [] }
+        ensures { result ≡ false → HasFalls (moves_in moves.now) self.now.places.positions self.now.needs W.WORDS train ((moves_in moves.now).moves train) [] }
     {
-        self.needs
-            .has_pairs(self.rows.rest(moves, train, self.places.position(train)))
+        self.needs.has_pairs(
+            self.rows
+                .rest::<W>(moves, train, self.places.position(train)),
+        )
     }
 
     /// Whether no other train inside gets a safe leg where the train goes on to the place: there is another, and
     /// each stays without one. A train that is stopped by a third one does, unless a section that it needs falls to
     /// it: a look at those that wait for the train, and at those left alone in need of a section is enough.
-    pub(super) fn frees_nobody(
+    pub(super) fn frees_nobody<W: Width>(
         &self,
         moves: &Moves,
         inside: &[TrainNo],
@@ -155,6 +163,7 @@ impl Worksheet {
         train: TrainNo,
         place: u16,
     ) -> bool
+        requires words { AreWords (moves_in moves.now) W.WORDS }
         requires ready { IsReady moves.now self.now }
         requires listed { IsListing (moves_in moves.now) self.now.places.positions inside.now }
         requires train { train < length moves.now }
@@ -167,41 +176,42 @@ impl Worksheet {
         if !self.has_other_inside(moves, inside, train) {
             return false;
         }
-        self.look_ahead(moves, train, place, ahead);
-        self.stay_without_leg(moves, inside, notes, ahead, train, place)
-            && self.falls_are_in_vain(moves, inside, notes, ahead, train, place)
+        self.look_ahead::<W>(moves, train, place, ahead);
+        self.stay_without_leg::<W>(moves, inside, notes, ahead, train, place)
+            && self.falls_are_in_vain::<W>(moves, inside, notes, ahead, train, place)
     }
 
     /// Looks which sections fall to another train, which are held and which more than one train needs, where the train,
     /// which is inside, goes on to the place.
-    fn look_ahead(&self, moves: &Moves, train: TrainNo, place: u16, ahead: &mut Ahead)
+    fn look_ahead<W: Width>(&self, moves: &Moves, train: TrainNo, place: u16, ahead: &mut Ahead)
+        requires words { AreWords (moves_in moves.now) W.WORDS }
         requires ready { IsReady moves.now self.now }
         requires train { train < length moves.now }
         requires inside { IsTrue (is_inside (moves_in moves.now) self.now.places.positions train) }
         requires within { place ≤ (moves_in moves.now).moves train }
         requires later { 0 < place }
-        ensures sets { IsAhead (moves_in moves.now) self.now.places.positions self.now.needs self.now.rows.width train place ahead.new }
-        ensures fell { HasFalls (moves_in moves.now) self.now.places.positions self.now.needs self.now.rows.width train place ahead.new.fell }
-        ensures none { ahead.new.has_fallen ≡ false → (x : ℕ) → x < 64 * self.now.rows.width → has ahead.new.fell x ≡ false }
+        ensures sets { IsAhead (moves_in moves.now) self.now.places.positions self.now.needs W.WORDS train place ahead.new }
+        ensures fell { HasFalls (moves_in moves.now) self.now.places.positions self.now.needs W.WORDS train place ahead.new.fell }
+        ensures none { ahead.new.has_fallen ≡ false → (x : ℕ) → x < 64 * W.WORDS → has ahead.new.fell x ≡ false }
     {
         let from = self.places.position(train);
         ahead.has_fallen = self.needs.fill_falls(
             &mut ahead.fell,
             &mut ahead.shared,
-            self.rows.rest(moves, train, from),
-            self.rows.rest(moves, train, place),
+            self.rows.rest::<W>(moves, train, from),
+            self.rows.rest::<W>(moves, train, place),
         );
         fill_replaced(
             &mut ahead.held,
             &self.held,
-            self.rows.stand(moves, train, from),
-            self.rows.stand(moves, train, place),
+            self.rows.stand::<W>(moves, train, from),
+            self.rows.stand::<W>(moves, train, place),
         );
     }
 
     /// Whether each other train of the list that waits for this one, or for none, has no safe leg once it has gone on to the
     /// place.
-    fn stay_without_leg(
+    fn stay_without_leg<W: Width>(
         &self,
         moves: &Moves,
         inside: &[TrainNo],
@@ -210,12 +220,13 @@ impl Worksheet {
         train: TrainNo,
         place: u16,
     ) -> bool
+        requires words { AreWords (moves_in moves.now) W.WORDS }
         requires ready { IsReady moves.now self.now }
         requires listed { IsListing (moves_in moves.now) self.now.places.positions inside.now }
         requires train { train < length moves.now }
         requires later { 0 < place }
         requires within { place ≤ (moves_in moves.now).moves train }
-        requires ahead { IsAhead (moves_in moves.now) self.now.places.positions self.now.needs self.now.rows.width train place ahead.now }
+        requires ahead { IsAhead (moves_in moves.now) self.now.places.positions self.now.needs W.WORDS train place ahead.now }
         ensures { IsTrue result → (u : ℕ) → IsTrue (is_in u inside.now) → u ≢ train
             → MayWaitFor (moves_in moves.now) self.now.places.positions notes.now.stops u train
             → HasNoSafeLegOf (moves_in moves.now) (set self.now.places.positions train place) u }
@@ -223,7 +234,7 @@ impl Worksheet {
         for other in inside {
             if *other != train
                 && self.may_wait_for(moves, notes, *other, train)
-                && !self.is_kept_from_legs(moves, ahead, *other, train, place)
+                && !self.is_kept_from_legs::<W>(moves, ahead, *other, train, place)
             {
                 return false;
             }
@@ -245,7 +256,7 @@ impl Worksheet {
 
     /// Whether each train of the list, if it is another one than that which goes on to the place, and a section falls
     /// to it though a later move of it is barred, has no safe leg then.
-    fn falls_are_in_vain(
+    fn falls_are_in_vain<W: Width>(
         &self,
         moves: &Moves,
         inside: &[TrainNo],
@@ -254,13 +265,14 @@ impl Worksheet {
         train: TrainNo,
         place: u16,
     ) -> bool
+        requires words { AreWords (moves_in moves.now) W.WORDS }
         requires ready { IsReady moves.now self.now }
         requires listed { IsListing (moves_in moves.now) self.now.places.positions inside.now }
         requires train { train < length moves.now }
         requires later { 0 < place }
         requires within { place ≤ (moves_in moves.now).moves train }
-        requires ahead { IsAhead (moves_in moves.now) self.now.places.positions self.now.needs self.now.rows.width train place ahead.now }
-        requires none { ahead.now.has_fallen ≡ false → (x : ℕ) → x < 64 * self.now.rows.width → has ahead.now.fell x ≡ false }
+        requires ahead { IsAhead (moves_in moves.now) self.now.places.positions self.now.needs W.WORDS train place ahead.now }
+        requires none { ahead.now.has_fallen ≡ false → (x : ℕ) → x < 64 * W.WORDS → has ahead.now.fell x ≡ false }
         ensures { IsTrue result → (u x : ℕ) → IsTrue (is_in u inside.now) → u ≢ train → stop_of notes.now.stops u ≡ Later x
             → IsUntouched (moves_in moves.now) self.now.places.positions ahead.now.fell u
             ⊎ HasNoSafeLegOf (moves_in moves.now) (set self.now.places.positions train place) u }
@@ -269,7 +281,9 @@ impl Worksheet {
             return true;
         }
         for other in inside {
-            if *other != train && !self.falls_in_vain(moves, notes, ahead, *other, train, place) {
+            if *other != train
+                && !self.falls_in_vain::<W>(moves, notes, ahead, *other, train, place)
+            {
                 return false;
             }
         }
@@ -277,7 +291,7 @@ impl Worksheet {
     }
 
     /// The same for one train.
-    fn falls_in_vain(
+    fn falls_in_vain<W: Width>(
         &self,
         moves: &Moves,
         notes: &Notes,
@@ -286,13 +300,14 @@ impl Worksheet {
         train: TrainNo,
         place: u16,
     ) -> bool
+        requires words { AreWords (moves_in moves.now) W.WORDS }
         requires ready { IsReady moves.now self.now }
         requires other { other < length moves.now }
         requires train { train < length moves.now }
         requires differs { other ≢ train }
         requires later { 0 < place }
         requires within { place ≤ (moves_in moves.now).moves train }
-        requires ahead { IsAhead (moves_in moves.now) self.now.places.positions self.now.needs self.now.rows.width train place ahead.now }
+        requires ahead { IsAhead (moves_in moves.now) self.now.places.positions self.now.needs W.WORDS train place ahead.now }
         ensures { IsTrue result → (x : ℕ) → stop_of notes.now.stops other ≡ Later x
             → IsUntouched (moves_in moves.now) self.now.places.positions ahead.now.fell other
             ⊎ HasNoSafeLegOf (moves_in moves.now) (set self.now.places.positions train place) other }
@@ -301,9 +316,10 @@ impl Worksheet {
             return true;
         };
         !meet(
-            self.rows.rest(moves, other, self.places.position(other)),
+            self.rows
+                .rest::<W>(moves, other, self.places.position(other)),
             &ahead.fell,
-        ) || self.is_kept_from_legs(moves, ahead, other, train, place)
+        ) || self.is_kept_from_legs::<W>(moves, ahead, other, train, place)
     }
 
     /// Whether two trains are inside.
@@ -338,7 +354,7 @@ impl Worksheet {
     /// place: a section that one of its moves needs is held then, and at each end of a leg up to there it would stand on
     /// a section that another train needs.
     #[inline(never)]
-    fn is_kept_from_legs(
+    fn is_kept_from_legs<W: Width>(
         &self,
         moves: &Moves,
         ahead: &Ahead,
@@ -346,26 +362,32 @@ impl Worksheet {
         train: TrainNo,
         place: u16,
     ) -> bool
+        requires words { AreWords (moves_in moves.now) W.WORDS }
         requires ready { IsReady moves.now self.now }
         requires stopped { stopped < length moves.now }
         requires train { train < length moves.now }
         requires other { stopped ≢ train }
         requires later { 0 < place }
         requires within { place ≤ (moves_in moves.now).moves train }
-        requires ahead { IsAhead (moves_in moves.now) self.now.places.positions self.now.needs self.now.rows.width train place ahead.now }
+        requires ahead { IsAhead (moves_in moves.now) self.now.places.positions self.now.needs W.WORDS train place ahead.now }
         ensures { IsTrue result → HasNoSafeLegOf (moves_in moves.now) (set self.now.places.positions train place) stopped }
     {
         let at = self.places.position(stopped);
-        let own = self.rows.stand(moves, stopped, at);
+        let own = self.rows.stand::<W>(moves, stopped, at);
         let last = moves.places(stopped);
-        if last - at > FAR && !meet_beyond(self.rows.rest(moves, stopped, at), &ahead.held, own) {
+        if last - at > FAR
+            && !meet_beyond(self.rows.rest::<W>(moves, stopped, at), &ahead.held, own)
+        {
             return false;
         }
         for made in at..last {
-            if meet_beyond(self.rows.need(moves, stopped, made), &ahead.held, own) {
+            if meet_beyond(self.rows.need::<W>(moves, stopped, made), &ahead.held, own) {
                 return true;
             }
-            if !meet(self.rows.stand(moves, stopped, made + 1), &ahead.shared) {
+            if !meet(
+                self.rows.stand::<W>(moves, stopped, made + 1),
+                &ahead.shared,
+            ) {
                 return false;
             }
         }

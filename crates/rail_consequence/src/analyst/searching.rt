@@ -4,6 +4,7 @@ ghost use Rattle.std.specs.Prelude.{◌≡◌, ℕ, ◌+◌, ◌<◌, ◌≤◌,
 ghost use Rattle.rail_rules.specs.Analysis.{Finds, is_leg};
 ghost use Rattle.rail_rules.specs.Places.{is_inside};
 ghost use Rattle.rail_place.specs.Tables.{moves_in};
+ghost use Rattle.rail_consequence.specs.Needs.{AreWords};
 ghost use Rattle.rail_consequence.specs.Searches.{FindsByNoLeg, FindsByNoLegOf, HasNoSafeLeg, IsCleared, leg_to};
 ghost use Rattle.rail_consequence.specs.Stops.{IsNotedTo, IsSettled};
 ghost use Rattle.rail_consequence.specs.Workspace.{IsBack, IsListing, IsReady};
@@ -12,6 +13,7 @@ use super::Worksheet;
 use crate::ahead::Ahead;
 use crate::notes::Notes;
 use crate::openers::Openers;
+use crate::width::Width;
 use rail_base::TrainNo;
 use rail_place::Moves;
 
@@ -25,7 +27,7 @@ impl Worksheet {
     /// Makes moves until nobody is inside, by legs of which at most `depth` are free; or leaves all as
     /// it was where that can't be done.
     #[cycle(search)]
-    pub(super) fn search(
+    pub(super) fn search<W: Width>(
         &mut self,
         moves: &Moves,
         inside: &[TrainNo],
@@ -33,6 +35,7 @@ impl Worksheet {
         ahead: &mut Ahead,
         depth: u8,
     ) -> bool
+        requires words { AreWords (moves_in moves.now) W.WORDS }
         requires ready { IsReady moves.now self.old }
         requires listed { IsListing (moves_in moves.now) self.old.places.positions inside.now }
         requires noted { IsNotedTo (moves_in moves.now) self.old.places.positions notes.old }
@@ -42,24 +45,24 @@ impl Worksheet {
             → IsBack self.old self.new × (Finds (moves_in moves.now) depth self.old.places.positions → ⊥) }
     {
         let mark = self.list.len();
-        self.close(moves, inside, notes);
+        self.close::<W>(moves, inside, notes);
         if self.is_done(moves, inside) {
             return true;
         }
         if depth == 0 {
-            self.go_back(moves, mark);
+            self.go_back::<W>(moves, mark);
             return false;
         }
-        if self.try_free_legs(moves, inside, notes, ahead, depth - 1) {
+        if self.try_free_legs::<W>(moves, inside, notes, ahead, depth - 1) {
             return true;
         }
-        self.go_back(moves, mark);
+        self.go_back::<W>(moves, mark);
         false
     }
 
     /// As `search`, with a first leg of any train, from places where no leg is safe.
     #[cycle(search)]
-    fn try_free_legs(
+    fn try_free_legs<W: Width>(
         &mut self,
         moves: &Moves,
         inside: &[TrainNo],
@@ -67,6 +70,7 @@ impl Worksheet {
         ahead: &mut Ahead,
         depth: u8,
     ) -> bool
+        requires words { AreWords (moves_in moves.now) W.WORDS }
         requires ready { IsReady moves.now self.old }
         requires listed { IsListing (moves_in moves.now) self.old.places.positions inside.now }
         requires room { depth < 255 }
@@ -78,10 +82,12 @@ impl Worksheet {
     {
         let mut openers = Openers::all();
         if depth == 0 && self.are_several_inside(moves, inside) {
-            self.find_openers(moves, inside, notes, ahead, &mut openers);
+            self.find_openers::<W>(moves, inside, notes, ahead, &mut openers);
         }
         for train in inside {
-            if openers.has(*train) && self.try_legs_of(moves, inside, notes, ahead, *train, depth) {
+            if openers.has(*train)
+                && self.try_legs_of::<W>(moves, inside, notes, ahead, *train, depth)
+            {
                 return true;
             }
         }
@@ -91,7 +97,7 @@ impl Worksheet {
     /// As `search`, with a first leg of this train: each place that it can go on to is tried, but where it
     /// shows before that none helps.
     #[cycle(search)]
-    fn try_legs_of(
+    fn try_legs_of<W: Width>(
         &mut self,
         moves: &Moves,
         inside: &[TrainNo],
@@ -100,6 +106,7 @@ impl Worksheet {
         train: TrainNo,
         depth: u8,
     ) -> bool
+        requires words { AreWords (moves_in moves.now) W.WORDS }
         requires ready { IsReady moves.now self.old }
         requires listed { IsListing (moves_in moves.now) self.old.places.positions inside.now }
         requires train { train < length moves.now }
@@ -111,16 +118,16 @@ impl Worksheet {
         ensures none { result ≡ false
             → IsBack self.old self.new × FindsByNoLegOf (moves_in moves.now) depth self.old.places.positions train }
     {
-        if self.is_hopeless(moves, inside, notes, ahead, train, depth) {
+        if self.is_hopeless::<W>(moves, inside, notes, ahead, train, depth) {
             return false;
         }
         let from = self.places.position(train);
         let last = moves.places(train);
         for made in from..last {
-            if self.stop_of(moves, train, made).is_some() {
+            if self.stop_of::<W>(moves, train, made).is_some() {
                 return false;
             }
-            if self.try_leg(moves, inside, notes, ahead, train, made + 1, depth) {
+            if self.try_leg::<W>(moves, inside, notes, ahead, train, made + 1, depth) {
                 return true;
             }
         }
@@ -129,7 +136,7 @@ impl Worksheet {
 
     /// As `search`, with this leg first.
     #[cycle(search)]
-    fn try_leg(
+    fn try_leg<W: Width>(
         &mut self,
         moves: &Moves,
         inside: &[TrainNo],
@@ -139,6 +146,7 @@ impl Worksheet {
         place: u16,
         depth: u8,
     ) -> bool
+        requires words { AreWords (moves_in moves.now) W.WORDS }
         requires ready { IsReady moves.now self.old }
         requires listed { IsListing (moves_in moves.now) self.old.places.positions inside.now }
         requires train { train < length moves.now }
@@ -151,18 +159,18 @@ impl Worksheet {
         ensures none { result ≡ false
             → IsBack self.old self.new × (Finds (moves_in moves.now) depth (set self.old.places.positions train place) → ⊥) }
     {
-        if depth == 0 && self.frees_nobody(moves, inside, notes, ahead, train, place) {
+        if depth == 0 && self.frees_nobody::<W>(moves, inside, notes, ahead, train, place) {
             return false;
         }
         let mark = self.list.len();
         let mut then = *notes;
         then.forget_falls();
-        self.note_leg(moves, train, place, &mut then);
-        self.go_to(moves, train, place);
-        if self.search(moves, inside, &mut then, ahead, depth) {
+        self.note_leg::<W>(moves, train, place, &mut then);
+        self.go_to::<W>(moves, train, place);
+        if self.search::<W>(moves, inside, &mut then, ahead, depth) {
             return true;
         }
-        self.go_back(moves, mark);
+        self.go_back::<W>(moves, mark);
         false
     }
 
@@ -170,7 +178,7 @@ impl Worksheet {
     /// is found with the train out of the way, since what can be found can be found without a train. Where the
     /// train has few legs, to try them costs less than that.
     #[cycle(search)]
-    fn is_hopeless(
+    fn is_hopeless<W: Width>(
         &mut self,
         moves: &Moves,
         inside: &[TrainNo],
@@ -179,6 +187,7 @@ impl Worksheet {
         train: TrainNo,
         depth: u8,
     ) -> bool
+        requires words { AreWords (moves_in moves.now) W.WORDS }
         requires ready { IsReady moves.now self.old }
         requires listed { IsListing (moves_in moves.now) self.old.places.positions inside.now }
         requires train { train < length moves.now }
@@ -189,19 +198,19 @@ impl Worksheet {
         ensures inside { result ≡ false → IsTrue (is_inside (moves_in moves.now) self.old.places.positions train) }
         ensures none { IsTrue result → FindsByNoLegOf (moves_in moves.now) depth self.old.places.positions train }
     {
-        if !self.can_go_on(moves, notes, train) {
+        if !self.can_go_on::<W>(moves, notes, train) {
             return true;
         }
-        if !self.has_ends(moves, train, ends_for(depth)) {
+        if !self.has_ends::<W>(moves, train, ends_for(depth)) {
             return false;
         }
-        !self.is_found_without(moves, inside, notes, ahead, train, depth)
+        !self.is_found_without::<W>(moves, inside, notes, ahead, train, depth)
     }
 
     /// Whether, with the train out of the way, nobody is left inside after legs of which at most `depth`
     /// are free. What can be found can be found without a train that is inside.
     #[cycle(search)]
-    fn is_found_without(
+    fn is_found_without<W: Width>(
         &mut self,
         moves: &Moves,
         inside: &[TrainNo],
@@ -210,6 +219,7 @@ impl Worksheet {
         train: TrainNo,
         depth: u8,
     ) -> bool
+        requires words { AreWords (moves_in moves.now) W.WORDS }
         requires ready { IsReady moves.now self.old }
         requires listed { IsListing (moves_in moves.now) self.old.places.positions inside.now }
         requires train { train < length moves.now }
@@ -226,16 +236,17 @@ impl Worksheet {
         let last = moves.places(train);
         let mut then = *notes;
         then.forget_falls();
-        self.note_leg(moves, train, last, &mut then);
-        self.take_out(moves, train);
-        let found = self.search(moves, inside, &mut then, ahead, depth);
-        self.go_back(moves, mark);
-        self.put(moves, train, place);
+        self.note_leg::<W>(moves, train, last, &mut then);
+        self.take_out::<W>(moves, train);
+        let found = self.search::<W>(moves, inside, &mut then, ahead, depth);
+        self.go_back::<W>(moves, mark);
+        self.put::<W>(moves, train, place);
         found
     }
 
     /// Takes the train out, as if it had made its moves.
-    fn take_out(&mut self, moves: &Moves, train: TrainNo)
+    fn take_out<W: Width>(&mut self, moves: &Moves, train: TrainNo)
+        requires words { AreWords (moves_in moves.now) W.WORDS }
         requires ready { IsReady moves.now self.old }
         requires train { train < length moves.now }
         requires inside { IsTrue (is_inside (moves_in moves.now) self.old.places.positions train) }
@@ -244,12 +255,13 @@ impl Worksheet {
             ≡ set self.old.places.positions train ((moves_in moves.now).moves train) }
         ensures list { self.new.list ≡ self.old.list }
     {
-        self.put(moves, train, moves.places(train));
+        self.put::<W>(moves, train, moves.places(train));
     }
 
     /// The train is inside, and no other one holds a section that its next move needs. No leg of it leads on
     /// otherwise.
-    fn can_go_on(&self, moves: &Moves, notes: &Notes, train: TrainNo) -> bool
+    fn can_go_on<W: Width>(&self, moves: &Moves, notes: &Notes, train: TrainNo) -> bool
+        requires words { AreWords (moves_in moves.now) W.WORDS }
         requires ready { IsReady moves.now self.now }
         requires train { train < length moves.now }
         requires settled { IsSettled (moves_in moves.now) self.now.places.positions notes.now.stops }
@@ -263,11 +275,12 @@ impl Worksheet {
         if place == 0 || place >= moves.places(train) {
             return false;
         }
-        self.stop_of(moves, train, place).is_none()
+        self.stop_of::<W>(moves, train, place).is_none()
     }
 
     /// Whether the train is inside and can go on to at least so many places while all others stand.
-    fn has_ends(&self, moves: &Moves, train: TrainNo, count: u16) -> bool
+    fn has_ends<W: Width>(&self, moves: &Moves, train: TrainNo, count: u16) -> bool
+        requires words { AreWords (moves_in moves.now) W.WORDS }
         requires ready { IsReady moves.now self.now }
         requires train { train < length moves.now }
         ensures { IsTrue result → IsTrue (is_inside (moves_in moves.now) self.now.places.positions train) }
@@ -278,7 +291,7 @@ impl Worksheet {
             return false;
         }
         for made in place..place + count {
-            if self.stop_of(moves, train, made).is_some() {
+            if self.stop_of::<W>(moves, train, made).is_some() {
                 return false;
             }
         }

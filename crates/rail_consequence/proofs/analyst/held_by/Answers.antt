@@ -9,29 +9,29 @@ use Rattle.rail_consequence.proofs.Holding.{all_held, held_more, place_within}
 use Rattle.rail_consequence.proofs.analyst.held_by.Goals as goal
 
 pub position-requires : goal.position-requires
-position-requires c =
+position-requires g c =
     let plan : Moves = moves_in c.args.moves.now in
     let t = c.train-item.result in
     let known = c.requires.listed.trains t (in_at t c.args.inside.now c.loop-train.train-index c.loop-train-test.true c.train-item.is) in
     omega (arith, known, (state_parts plan c.args.places.now.positions c.requires.made.valid).long)
 
 pub stand-requires-clause-within : goal.stand-requires-clause-within
-stand-requires-clause-within c =
+stand-requires-clause-within g c =
     let t = c.train-item.result in
     let known = c.requires.listed.trains t (in_at t c.args.inside.now c.loop-train.train-index c.loop-train-test.true c.train-item.is) in
     omega (arith, c.position.ensures, place_within c.args.moves.now c.args.places.now t c.requires.made known)
 
 pub loop-train-init : goal.loop-train-init
-loop-train-init c = record {
+loop-train-init g c = record {
   wide = refl;
   only = λ x is. absurd (false≢true (sym (none_in_zeros 8 x) ∙ is));
   all = λ v x member holder. absurd (false≢true member);
 }
 
 pub loop-train-preserved : goal.loop-train-preserved
-loop-train-preserved c =
+loop-train-preserved g c =
     held_more (moves_in c.args.moves.now) c.args.places.now.positions c.args.inside.now c.loop-train.held c.join.new.set c.stand.result.now c.train-item.result c.position.result c.loop-train.train-index
     c.loop-train.invariant c.loop-train-test.true c.train-item.is c.position.ensures c.join.ensures.long c.join.ensures.set c.stand.ensures.set
 
 pub returns : goal.returns
-returns c = all_held c.args.moves.now c.args.places.now c.requires.made c.args.inside.now c.requires.listed c.loop-train.held c.loop-train.train-index c.loop-train-test.false c.loop-train.invariant
+returns g c = all_held c.args.moves.now c.args.places.now c.requires.made c.args.inside.now c.requires.listed c.loop-train.held c.loop-train.train-index c.loop-train-test.false c.loop-train.invariant

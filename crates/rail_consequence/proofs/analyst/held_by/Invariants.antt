@@ -4,4 +4,4 @@ use Rattle.rail_consequence.proofs.Holding.{HasHeld}
 use Rattle.rail_consequence.proofs.analyst.held_by.Given as goal
 
 abbrev pub invariant-loop-train : goal.invariant-loop-train
-invariant-loop-train l = HasHeld (moves_in l.moves) l.places.positions (take l.train-index l.inside) l.held
+invariant-loop-train g l = HasHeld (moves_in l.moves) l.places.positions (take l.train-index l.inside) l.held

@@ -25,7 +25,7 @@ kept_back plan t p q x entered earlier needs =
     (cases_lt 0 p)
 
 pub returns-then-first-last-clause-falls : goal.returns-then-first-last-clause-falls
-returns-then-first-last-clause-falls c = λ x needs gone two.
+returns-then-first-last-clause-falls g c = λ x needs gone two.
     let plan : Moves = moves_in c.args.moves.now in
     let first = c.place_or_last-first in
     let last = c.place_or_last-last in
@@ -33,7 +33,7 @@ returns-then-first-last-clause-falls c = λ x needs gone two.
     absurd (false≢true (sym (last.ensures.alike x ∙ gone) ∙ still))
 
 pub returns-then-has_falls-clause-falls : goal.returns-then-has_falls-clause-falls
-returns-then-has_falls-clause-falls c = λ x needs gone two.
+returns-then-has_falls-clause-falls g c = λ x needs gone two.
     let plan : Moves = moves_in c.args.moves.now in
     let t = c.args.train in
     let first = c.place_or_last-first in
@@ -47,7 +47,7 @@ returns-then-has_falls-clause-falls c = λ x needs gone two.
     ∙ or_right (has c.set.new.self.fell x) (needed && not later && eqb n 2) (falls_so needed later n (c.rest-needed.ensures.set x ∙ now) (c.rest-later.ensures.set x ∙ past) two)
 
 pub returns-else-has_falls-clause-falls : goal.returns-else-has_falls-clause-falls
-returns-else-has_falls-clause-falls c = λ x needs gone two.
+returns-else-has_falls-clause-falls g c = λ x needs gone two.
     let plan : Moves = moves_in c.args.moves.now in
     let t = c.args.train in
     let first = c.place_or_last-first in

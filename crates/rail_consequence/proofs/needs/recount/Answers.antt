@@ -5,7 +5,7 @@ use Rattle.rail_consequence.proofs.Counts.{recounted_down, recounted_up}
 use Rattle.rail_consequence.proofs.needs.recount.Goals as goal
 
 pub returns-then-first-last : goal.returns-then-first-last
-returns-then-first-last c =
+returns-then-first-last g c =
     let plan : Moves = moves_in c.args.moves.now in
     let first : ℕ = c.place_or_last-first.result in
     let last : ℕ = c.place_or_last-last.result in
@@ -16,7 +16,7 @@ returns-then-first-last c =
     c.place_or_last-first.ensures.alike c.place_or_last-last.ensures.alike c.count_down.ensures
 
 pub returns-then-last-first : goal.returns-then-last-first
-returns-then-last-first c =
+returns-then-last-first g c =
     let plan : Moves = moves_in c.args.moves.now in
     let first : ℕ = c.place_or_last-first.result in
     let last : ℕ = c.place_or_last-last.result in

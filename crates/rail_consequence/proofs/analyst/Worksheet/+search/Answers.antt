@@ -25,14 +25,14 @@ use Rattle.rail_consequence.proofs.analyst.Worksheet.+search.Goals as goal
 use Rattle.rail_consequence.proofs.analyst.Worksheet.+search.Goals.{try_free_legs-then-depth-eq0+then-are_several_inside, try_free_legs-else-depth-eq0, try_free_legs-else-has-via-then-has+else-try_legs_of, try_free_legs-else-has-via-else-has}
 
 pub search-returns-then-is_done-clause-found : goal.search-returns-then-is_done-clause-found
-search-returns-then-is_done-clause-found t c =
+search-returns-then-is_done-clause-found g t c =
     let plan : Moves = moves_in c.args.moves.now in
     let b = c.close.new.self in
     let nobody = c.is_done.ensures.0 c.if-is_done.true in
     λ _. (c.close.ensures.moves, nobody, (c.close.ensures.same c.args.depth).1 (found_nobody plan c.args.depth b.places.positions nobody))
 
 pub search-returns-then-depth-eq0-clause-none : goal.search-returns-then-depth-eq0-clause-none
-search-returns-then-depth-eq0-clause-none t c =
+search-returns-then-depth-eq0-clause-none g t c =
     let plan : Moves = moves_in c.args.moves.now in
     let a = c.args.self.now in
     let b = c.close.new.self in
@@ -46,7 +46,7 @@ search-returns-then-depth-eq0-clause-none t c =
     )
 
 pub search-returns-then-try_free_legs-clause-found : goal.search-returns-then-try_free_legs-clause-found
-search-returns-then-try_free_legs-clause-found t c =
+search-returns-then-try_free_legs-clause-found g t c =
     let plan : Moves = moves_in c.args.moves.now in
     let b = c.close.new.self in
     let found = c.try_free_legs.ensures.found c.if-try_free_legs.true in
@@ -59,7 +59,7 @@ search-returns-then-try_free_legs-clause-found t c =
     )
 
 pub search-returns-clause-none : goal.search-returns-clause-none
-search-returns-clause-none t c =
+search-returns-clause-none g t c =
     let plan : Moves = moves_in c.args.moves.now in
     let a = c.args.self.now in
     let b = c.close.new.self in
@@ -76,12 +76,12 @@ search-returns-clause-none t c =
     )
 
 pub try_free_legs-has-requires : goal.try_free_legs-has-requires
-try_free_legs-has-requires t c =
+try_free_legs-has-requires g t c =
     let known = c.requires.listed.trains c.train-item.result (in_at c.train-item.result c.args.inside.now c.loop-train.train-index c.loop-train-test.true c.train-item.is) in
     omega (arith, known, c.requires.ready.made.moves.few)
 
 pub try_free_legs-loop-train-preserved : goal.try_free_legs-loop-train-preserved
-try_free_legs-loop-train-preserved t c =
+try_free_legs-loop-train-preserved g t c =
     let plan : Moves = moves_in c.args.moves.now in
     let a = c.args.self.now in
     let s = a.places.positions in
@@ -110,7 +110,7 @@ try_free_legs-loop-train-preserved t c =
     ]
 
 pub try_free_legs-returns-clause-none : goal.try_free_legs-returns-clause-none
-try_free_legs-returns-clause-none t c =
+try_free_legs-returns-clause-none g t c =
     let plan : Moves = moves_in c.args.moves.now in
     let a = c.args.self.now in
     λ _. (
@@ -119,21 +119,27 @@ try_free_legs-returns-clause-none t c =
     )
 
 pub search-is_done-requires-clause-listed : goal.search-is_done-requires-clause-listed
-search-is_done-requires-clause-listed t c = listed_on (moves_in c.args.moves.now) c.args.self.now c.close.new.self c.args.inside.now c.close.ensures.moves c.requires.listed
+search-is_done-requires-clause-listed g t c = listed_on (moves_in c.args.moves.now) c.args.self.now c.close.new.self c.args.inside.now c.close.ensures.moves c.requires.listed
 
 pub search-try_free_legs-requires : goal.search-try_free_legs-requires
-search-try_free_legs-requires t c =
+search-try_free_legs-requires g t c _ within =
     let plan : Moves = moves_in c.args.moves.now in
     let b = c.close.new.self in
     let more : c.args.depth - 1 + 1 ≡ c.args.depth = omega (arith, c.if-depth-eq0.false) in (
       omega (arith, c.if-depth-eq0.false),
       (
-        c.close.ensures.ready,
+        within,
         (
-          listed_on plan c.args.self.now b c.args.inside.now c.close.ensures.moves c.requires.listed,
+          c.requires.words,
           (
-            omega (arith, c.if-depth-eq0.false, c.ranges.depth.fits),
-            (c.close.ensures.none, c.close.ensures.settled),
+            c.close.ensures.ready,
+            (
+              listed_on plan c.args.self.now b c.args.inside.now c.close.ensures.moves c.requires.listed,
+              (
+                omega (arith, c.if-depth-eq0.false, c.ranges.depth.fits),
+                (c.close.ensures.none, c.close.ensures.settled),
+              ),
+            ),
           ),
         ),
       ),
@@ -154,23 +160,29 @@ module _ (table : List MoveLists) (depth : ℕ) (inside : List ℕ) (a b : Work)
   listed_still listed = listed_at plan a.places.positions b.places.positions inside (sym back.positions) listed
 
 pub try_free_legs-try_legs_of-requires : goal.try_free_legs-try_legs_of-requires
-try_free_legs-try_legs_of-requires t c =
+try_free_legs-try_legs_of-requires g t c _ within =
     let table = c.args.moves.now in
     let a = c.args.self.now in
     let b = c.loop-train.self in
     let inv = c.loop-train.invariant in (
       omega arith,
       (
-        inv.ready,
+        within,
         (
-          listed_still table c.args.depth c.args.inside.now a b inv.back c.requires.listed,
+          c.requires.words,
           (
-            c.requires.listed.trains c.train-item.result (in_at c.train-item.result c.args.inside.now c.loop-train.train-index c.loop-train-test.true c.train-item.is),
+            inv.ready,
             (
-              c.requires.room,
+              listed_still table c.args.depth c.args.inside.now a b inv.back c.requires.listed,
               (
-                none_still table c.args.depth c.args.inside.now a b inv.back c.requires.none,
-                settled_back table c.args.depth c.args.inside.now a b inv.back c.args.notes.now.stops c.requires.settled,
+                c.requires.listed.trains c.train-item.result (in_at c.train-item.result c.args.inside.now c.loop-train.train-index c.loop-train-test.true c.train-item.is),
+                (
+                  c.requires.room,
+                  (
+                    none_still table c.args.depth c.args.inside.now a b inv.back c.requires.none,
+                    settled_back table c.args.depth c.args.inside.now a b inv.back c.args.notes.now.stops c.requires.settled,
+                  ),
+                ),
               ),
             ),
           ),
@@ -183,7 +195,7 @@ pub goes_searched : (plan : Moves) (depth : ℕ) (b d : Work) (found : Bool) →
 goes_searched plan depth b d found cleared none = ⊎_elim (λ yes. (cleared yes).0) (λ no. goes_back plan b d (none no).0) (cases_Bool found)
 
 pub is_found_without-go_back-requires-clause-played : goal.is_found_without-go_back-requires-clause-played
-is_found_without-go_back-requires-clause-played t c =
+is_found_without-go_back-requires-clause-played g t c =
     let table = c.args.moves.now in
     let plan : Moves = moves_in table in
     let a = c.args.self.now in
@@ -194,7 +206,7 @@ is_found_without-go_back-requires-clause-played t c =
     goes_played table b d c.len-mark.result c.take_out.ensures.ready goes mark
 
 pub is_found_without-put-requires-clause-entered : goal.is_found_without-put-requires-clause-entered
-is_found_without-put-requires-clause-entered t c =
+is_found_without-put-requires-clause-entered g t c =
     let table = c.args.moves.now in
     let plan : Moves = moves_in table in
     let a = c.args.self.now in
@@ -209,7 +221,7 @@ is_found_without-put-requires-clause-entered t c =
     out_entered table c.args.train c.position-place.result a e c.requires.ready c.requires.inside at out
 
 pub is_found_without-put-requires-clause-free : goal.is_found_without-put-requires-clause-free
-is_found_without-put-requires-clause-free t c =
+is_found_without-put-requires-clause-free g t c =
     let table = c.args.moves.now in
     let plan : Moves = moves_in table in
     let a = c.args.self.now in
@@ -224,7 +236,7 @@ is_found_without-put-requires-clause-free t c =
     out_free table c.args.train c.position-place.result a e c.requires.ready c.requires.inside at out
 
 pub is_found_without-put-requires-clause-few : goal.is_found_without-put-requires-clause-few
-is_found_without-put-requires-clause-few t c =
+is_found_without-put-requires-clause-few g t c =
     let table = c.args.moves.now in
     let plan : Moves = moves_in table in
     let a = c.args.self.now in
@@ -239,7 +251,7 @@ is_found_without-put-requires-clause-few t c =
     out_few table c.args.train c.position-place.result a e c.requires.ready c.requires.inside at out
 
 pub is_found_without-returns-clause-back : goal.is_found_without-returns-clause-back
-is_found_without-returns-clause-back t c =
+is_found_without-returns-clause-back g t c =
     let table = c.args.moves.now in
     let plan : Moves = moves_in table in
     let a = c.args.self.now in
@@ -266,23 +278,23 @@ unshown A B None is told = told
 unshown A B (Some x) is told = absurd (false≢true (sym is))
 
 pub is_hopeless-returns-then-not-can_go_on-clause-none : goal.is_hopeless-returns-then-not-can_go_on-clause-none
-is_hopeless-returns-then-not-can_go_on-clause-none t c = λ _ p is found. false≢true (sym (c.can_go_on.ensures.none c.if-not-can_go_on.true p) ∙ is)
+is_hopeless-returns-then-not-can_go_on-clause-none g t c = λ _ p is found. false≢true (sym (c.can_go_on.ensures.none c.if-not-can_go_on.true p) ∙ is)
 
 pub is_hopeless-returns-clause-none : goal.is_hopeless-returns-clause-none
-is_hopeless-returns-clause-none t c =
+is_hopeless-returns-clause-none g t c =
     let plan : Moves = moves_in c.args.moves.now in
     λ yes p is found.
     c.is_found_without.ensures.none (not-true c.is_found_without.result yes) (found_past_leg plan c.args.depth c.args.self.now.places.positions c.args.train p is found)
 
 pub try_leg-returns-then-frees_nobody-clause-none : goal.try_leg-returns-then-frees_nobody-clause-none
-try_leg-returns-then-frees_nobody-clause-none t c =
+try_leg-returns-then-frees_nobody-clause-none g t c =
     let plan : Moves = moves_in c.args.moves.now in
     let s = c.args.self.now.places.positions in
     let P : ℕ → Type 0 = λ k. Finds plan k (set s c.args.train c.args.place) in
     λ _. (record { list = refl; positions = refl }, λ found. leg_finds_none plan s c.args.train c.args.place (c.frees_nobody.ensures c.if-frees_nobody.true) c.requires.none c.requires.leg (subst P c.if-depth-eq0.true found))
 
 pub try_leg-returns-then-search-clause-found : goal.try_leg-returns-then-search-clause-found
-try_leg-returns-then-search-clause-found t c =
+try_leg-returns-then-search-clause-found g t c =
     let plan : Moves = moves_in c.args.moves.now in
     let a = c.args.self.now in
     let n = c.go_to.new.self in
@@ -295,7 +307,7 @@ try_leg-returns-then-search-clause-found t c =
     )
 
 pub try_leg-go_back-requires-clause-played : goal.try_leg-go_back-requires-clause-played
-try_leg-go_back-requires-clause-played t c =
+try_leg-go_back-requires-clause-played g t c =
     let table = c.args.moves.now in
     let plan : Moves = moves_in table in
     let a = c.args.self.now in
@@ -305,7 +317,7 @@ try_leg-go_back-requires-clause-played t c =
     goes_played table a d c.len-mark.result c.requires.ready (goes_further plan a n d c.go_to.ensures.moves (goes_back plan n d (c.search.ensures.none c.if-search.false).0)) mark
 
 pub try_leg-returns-clause-none : goal.try_leg-returns-clause-none
-try_leg-returns-clause-none t c =
+try_leg-returns-clause-none g t c =
     let plan : Moves = moves_in c.args.moves.now in
     let a = c.args.self.now in
     let n = c.go_to.new.self in
@@ -317,7 +329,7 @@ try_leg-returns-clause-none t c =
     )
 
 pub try_legs_of-returns-then-is_some-clause-none : goal.try_legs_of-returns-then-is_some-clause-none
-try_legs_of-returns-then-is_some-clause-none t c =
+try_legs_of-returns-then-is_some-clause-none g t c =
     let plan : Moves = moves_in c.args.moves.now in
     let s = c.args.self.now.places.positions in
     let u = c.args.train in
@@ -334,7 +346,7 @@ try_legs_of-returns-then-is_some-clause-none t c =
     )
 
 pub try_legs_of-try_leg-requires : goal.try_legs_of-try_leg-requires
-try_legs_of-try_leg-requires t c =
+try_legs_of-try_leg-requires g t c _ within =
     let table = c.args.moves.now in
     let plan : Moves = moves_in table in
     let a = c.args.self.now in
@@ -350,16 +362,22 @@ try_legs_of-try_leg-requires t c =
     let leg = open_leads plan a.places.positions u c.loop-made.made c.requires.ready.made.moves.valid c.requires.train (inside_listed plan a.places.positions u inside) parts.0 (omega (arith, at, c.loop-made.auto.made)) (omega (arith, c.loop-made-test.true, c.places-last.ensures)) (open_more plan a.places.positions u c.loop-made.made inv.free free) in (
       omega arith,
       (
-        inv.ready,
+        within,
         (
-          listed_still table c.args.depth c.args.inside.now a b inv.back c.requires.listed,
+          c.requires.words,
           (
-            c.requires.train,
+            inv.ready,
             (
-              c.requires.room,
+              listed_still table c.args.depth c.args.inside.now a b inv.back c.requires.listed,
               (
-                none_still table c.args.depth c.args.inside.now a b inv.back c.requires.none,
-                (settled_back table c.args.depth c.args.inside.now a b inv.back c.args.notes.now.stops c.requires.settled, subst L (sym inv.back.positions) leg),
+                c.requires.train,
+                (
+                  c.requires.room,
+                  (
+                    none_still table c.args.depth c.args.inside.now a b inv.back c.requires.none,
+                    (settled_back table c.args.depth c.args.inside.now a b inv.back c.args.notes.now.stops c.requires.settled, subst L (sym inv.back.positions) leg),
+                  ),
+                ),
               ),
             ),
           ),
@@ -368,7 +386,7 @@ try_legs_of-try_leg-requires t c =
     )
 
 pub try_legs_of-loop-made-preserved : goal.try_legs_of-loop-made-preserved
-try_legs_of-loop-made-preserved t c =
+try_legs_of-loop-made-preserved g t c =
     let plan : Moves = moves_in c.args.moves.now in
     let s = c.args.self.now.places.positions in
     let u = c.args.train in
@@ -390,7 +408,7 @@ try_legs_of-loop-made-preserved t c =
     }
 
 pub try_legs_of-returns-clause-none : goal.try_legs_of-returns-clause-none
-try_legs_of-returns-clause-none t c =
+try_legs_of-returns-clause-none g t c =
     let plan : Moves = moves_in c.args.moves.now in
     let s = c.args.self.now.places.positions in
     λ _. (
@@ -399,11 +417,11 @@ try_legs_of-returns-clause-none t c =
     )
 
 pub is_found_without-note_leg-requires-clause-noted : goal.is_found_without-note_leg-requires-clause-noted
-is_found_without-note_leg-requires-clause-noted t c =
+is_found_without-note_leg-requires-clause-noted g t c =
     let plan : Moves = moves_in c.args.moves.now in
     noted_anew plan c.args.self.now.places.positions c.args.notes.now.stops c.forget_falls.new.self c.requires.settled c.forget_falls.ensures.stops c.forget_falls.ensures.fell
 
 pub try_leg-note_leg-requires-clause-noted : goal.try_leg-note_leg-requires-clause-noted
-try_leg-note_leg-requires-clause-noted t c =
+try_leg-note_leg-requires-clause-noted g t c =
     let plan : Moves = moves_in c.args.moves.now in
     noted_anew plan c.args.self.now.places.positions c.args.notes.now.stops c.forget_falls.new.self c.requires.settled c.forget_falls.ensures.stops c.forget_falls.ensures.fell

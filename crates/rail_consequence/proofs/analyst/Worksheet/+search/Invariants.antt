@@ -8,32 +8,32 @@ use Rattle.rail_consequence.proofs.Stopping.{IsOpen}
 use Rattle.rail_consequence.proofs.analyst.Worksheet.+search.Given as goal
 
 abbrev pub decreases-search : goal.decreases-search
-decreases-search l = 5 * l.depth
+decreases-search g l = 5 * l.depth
 
 abbrev pub decreases-try_free_legs : goal.decreases-try_free_legs
-decreases-try_free_legs l = 5 * l.depth + 4
+decreases-try_free_legs g l = 5 * l.depth + 4
 
 abbrev pub decreases-try_legs_of : goal.decreases-try_legs_of
-decreases-try_legs_of l = 5 * l.depth + 3
+decreases-try_legs_of g l = 5 * l.depth + 3
 
 abbrev pub decreases-try_leg : goal.decreases-try_leg
-decreases-try_leg l = 5 * l.depth + 2
+decreases-try_leg g l = 5 * l.depth + 2
 
 abbrev pub decreases-is_hopeless : goal.decreases-is_hopeless
-decreases-is_hopeless l = 5 * l.depth + 2
+decreases-is_hopeless g l = 5 * l.depth + 2
 
 abbrev pub decreases-is_found_without : goal.decreases-is_found_without
-decreases-is_found_without l = 5 * l.depth + 1
+decreases-is_found_without g l = 5 * l.depth + 1
 
 abbrev pub invariant-try_free_legs-loop-train : goal.invariant-try_free_legs-loop-train
-invariant-try_free_legs-loop-train l = record {
+invariant-try_free_legs-loop-train g l = record {
   ready : IsReady l.moves l.self;
   back : IsBack l.fn.self l.self;
   none : (u p : ℕ) → is_in u (take l.train-index l.inside) ≡ true → is_leg (moves_in l.moves) l.fn.self.places.positions (record { train = u; place = p }) ≡ true → Finds (moves_in l.moves) l.depth (set l.fn.self.places.positions u p) → ⊥;
 }
 
 abbrev pub invariant-try_legs_of-loop-made : goal.invariant-try_legs_of-loop-made
-invariant-try_legs_of-loop-made l = record {
+invariant-try_legs_of-loop-made g l = record {
   ready : IsReady l.moves l.self;
   back : IsBack l.fn.self l.self;
   free : IsOpen (moves_in l.moves) l.fn.self.places.positions l.train l.made;

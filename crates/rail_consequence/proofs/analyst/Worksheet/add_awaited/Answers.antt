@@ -19,7 +19,7 @@ the_one plan s stops u t h o exact is may =
     may
 
 pub returns-then-has-clause-here : goal.returns-then-has-clause-here
-returns-then-has-clause-here c = λ t unmarked ne here may.
+returns-then-has-clause-here g c = λ t unmarked ne here may.
     let plan : Moves = moves_in c.args.moves.now in
     let s = c.args.self.now.places.positions in
     let stops = c.args.notes.now.stops in
@@ -34,7 +34,7 @@ returns-then-has-clause-here c = λ t unmarked ne here may.
     ]
 
 pub returns-then-not-is_kept_from_legs-clause-here : goal.returns-then-not-is_kept_from_legs-clause-here
-returns-then-not-is_kept_from_legs-clause-here c = λ t unmarked ne here may.
+returns-then-not-is_kept_from_legs-clause-here g c = λ t unmarked ne here may.
     let plan : Moves = moves_in c.args.moves.now in
     let s = c.args.self.now.places.positions in
     let h = c.in-Some.train in
@@ -42,7 +42,7 @@ returns-then-not-is_kept_from_legs-clause-here c = λ t unmarked ne here may.
     absurd (false≢true (sym unmarked ∙ ap (is_marked c.add.new.self) same ∙ c.add.ensures.here))
 
 pub returns-else-not-is_kept_from_legs-clause-here : goal.returns-else-not-is_kept_from_legs-clause-here
-returns-else-not-is_kept_from_legs-clause-here c = λ t unmarked ne here may.
+returns-else-not-is_kept_from_legs-clause-here g c = λ t unmarked ne here may.
     let plan : Moves = moves_in c.args.moves.now in
     let s = c.args.self.now.places.positions in
     let h = c.in-Some.train in

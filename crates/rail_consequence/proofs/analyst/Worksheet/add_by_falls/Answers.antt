@@ -10,7 +10,7 @@ use Rattle.rail_consequence.proofs.analyst.Worksheet.add_by_falls.Goals as goal
 use Rattle.rail_consequence.proofs.analyst.Worksheet.add_by_falls.Goals.{then-has-via-then-has, then-has-via-else-has+then-is_next, then-has-via-else-has+else-is_next+then-not-stands_inside, then-has-via-else-has+else-is_next+else-not-stands_inside+then-not-has_pairs}
 
 pub returns-then-has-clause-here : goal.returns-then-has-clause-here
-returns-then-has-clause-here c = λ unmarked here.
+returns-then-has-clause-here g c = λ unmarked here.
     elim c.then-has.branch [
       | then-has-via-then-has w ↦ absurd (false≢true (sym unmarked ∙ sym c.has.ensures ∙ w.if-has.true))
       | then-has-via-else-has+then-is_next w ↦
@@ -22,10 +22,10 @@ returns-then-has-clause-here c = λ unmarked here.
     ]
 
 pub returns-else-not-falls_are_in_vain-clause-here : goal.returns-else-not-falls_are_in_vain-clause-here
-returns-else-not-falls_are_in_vain-clause-here c = λ unmarked here.
+returns-else-not-falls_are_in_vain-clause-here g c = λ unmarked here.
     let plan : Moves = moves_in c.args.moves.now in
     let w = c.args.self.now in
-    let F : ℕ → Type 0 = λ p. FallsInVain plan w.places.positions w.needs w.rows.width c.args.notes.now.stops c.args.inside.now c.args.train p in
+    let F : ℕ → Type 0 = λ p. FallsInVain plan w.places.positions w.needs g.W.Width.WORDS c.args.notes.now.stops c.args.inside.now c.args.train p in
     inr (subst F c.places-last.ensures (record {
       fell = c.look_ahead.new.ahead.fell;
       falls = c.look_ahead.ensures.fell;

@@ -8,7 +8,7 @@ use Rattle.rail_consequence.proofs.Played.{left_few}
 use Rattle.rail_consequence.proofs.analyst.Worksheet.begin.Goals as goal
 
 pub returns-clause-ready : goal.returns-clause-ready
-returns-clause-ready c =
+returns-clause-ready g c =
     let table = c.args.moves.now in
     let places : State = c.copy_from.new.self in
     let made : IsMadeFor table places = c.copy_from.ensures.made table c.requires.made in

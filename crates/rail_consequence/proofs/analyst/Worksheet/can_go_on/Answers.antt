@@ -17,7 +17,7 @@ shown A B None is told = absurd (false≢true is)
 shown A B (Some x) is told = (x, told)
 
 pub returns-then-is_next-clause-none : goal.returns-then-is_next-clause-none
-returns-then-is_next-clause-none c = λ _ p.
+returns-then-is_next-clause-none g c = λ _ p.
     let plan : Moves = moves_in c.args.moves.now in
     let s = c.args.self.now.places.positions in
     let u = c.args.train in
@@ -33,7 +33,7 @@ returns-then-is_next-clause-none c = λ _ p.
     (cases_Bool (is_leg plan s (record { train = u; place = p })))
 
 pub returns : goal.returns
-returns c =
+returns g c =
     let plan : Moves = moves_in c.args.moves.now in
     let s = c.args.self.now.places.positions in
     let u = c.args.train in

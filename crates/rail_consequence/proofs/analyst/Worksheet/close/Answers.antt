@@ -20,10 +20,10 @@ all_settled plan s stops trains from u none listed settled inside =
     subst P found.2 (settled found.0 (omega (arith, none)) found.1)
 
 pub make_safe_legs-upto-requires-clause-listed : goal.make_safe_legs-upto-requires-clause-listed
-make_safe_legs-upto-requires-clause-listed c = listed_on (moves_in c.args.moves.now) c.args.self.now c.loop-upto.self c.args.inside.now c.loop-upto.invariant.goes c.requires.listed
+make_safe_legs-upto-requires-clause-listed g c = listed_on (moves_in c.args.moves.now) c.args.self.now c.loop-upto.self c.args.inside.now c.loop-upto.invariant.goes c.requires.listed
 
 pub loop-upto-preserved : goal.loop-upto-preserved
-loop-upto-preserved c =
+loop-upto-preserved g c =
     let plan : Moves = moves_in c.args.moves.now in
     let a = c.args.self.now in
     let b = c.loop-upto.self in
@@ -38,14 +38,14 @@ loop-upto-preserved c =
     }
 
 pub returns-clause-none : goal.returns-clause-none
-returns-clause-none c =
+returns-clause-none g c =
     let plan : Moves = moves_in c.args.moves.now in
     let s = c.loop-upto.self.places.positions in
     let listed = listed_on plan c.args.self.now c.loop-upto.self c.args.inside.now c.loop-upto.invariant.goes c.requires.listed in
     λ leg is. (all_settled plan s c.loop-upto.notes.stops c.args.inside.now c.loop-upto.upto leg.train (omega arith) listed c.loop-upto.invariant.settled (goes_parts plan s leg is).inside).none leg.place is
 
 pub returns-clause-settled : goal.returns-clause-settled
-returns-clause-settled c =
+returns-clause-settled g c =
     let plan : Moves = moves_in c.args.moves.now in
     let s = c.loop-upto.self.places.positions in
     let stops : List Stop = c.loop-upto.notes.stops in

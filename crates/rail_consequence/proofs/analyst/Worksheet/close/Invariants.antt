@@ -6,7 +6,7 @@ use Rattle.rail_consequence.specs.Workspace.{GoesOn, IsReady}
 use Rattle.rail_consequence.proofs.analyst.Worksheet.close.Given as goal
 
 abbrev pub invariant-loop-upto : goal.invariant-loop-upto
-invariant-loop-upto l = record {
+invariant-loop-upto g l = record {
   ready : IsReady l.moves l.self;
   noted : IsNotedTo (moves_in l.moves) l.self.places.positions l.notes;
   goes : GoesOn (moves_in l.moves) l.fn.self l.self;
@@ -17,4 +17,4 @@ invariant-loop-upto l = record {
 
 -- a pass in which no leg is made is the last
 abbrev pub decreases-loop-upto : goal.decreases-loop-upto
-decreases-loop-upto l = cond (eqb l.upto 0) 0 (suc (moves_left (moves_in l.moves) l.self.places.positions))
+decreases-loop-upto g l = cond (eqb l.upto 0) 0 (suc (moves_left (moves_in l.moves) l.self.places.positions))

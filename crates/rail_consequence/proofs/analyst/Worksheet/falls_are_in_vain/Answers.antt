@@ -12,10 +12,10 @@ use Rattle.rail_consequence.proofs.analyst.Worksheet.falls_are_in_vain.Goals as 
 use Rattle.rail_consequence.proofs.analyst.Worksheet.falls_are_in_vain.Goals.{else-ne-via-then-ne+else-not-falls_in_vain, else-ne-via-else-ne}
 
 pub falls_in_vain-requires-clause-other : goal.falls_in_vain-requires-clause-other
-falls_in_vain-requires-clause-other c = c.requires.listed.trains c.other-item.result (in_at c.other-item.result c.args.inside.now c.loop-other.other-index c.loop-other-test.true c.other-item.is)
+falls_in_vain-requires-clause-other g c = c.requires.listed.trains c.other-item.result (in_at c.other-item.result c.args.inside.now c.loop-other.other-index c.loop-other-test.true c.other-item.is)
 
 pub loop-other-preserved : goal.loop-other-preserved
-loop-other-preserved c =
+loop-other-preserved g c =
     let plan : Moves = moves_in c.args.moves.now in
     let s = c.args.self.now.places.positions in
     let t = c.args.train in
@@ -32,10 +32,10 @@ loop-other-preserved c =
     (in_take_more u y c.args.inside.now c.loop-other.other-index c.loop-other-test.true c.other-item.is found)
 
 pub returns : goal.returns
-returns c = λ _ u x listed. c.loop-other.invariant u x (in_take_all u c.args.inside.now c.loop-other.other-index c.loop-other-test.false listed)
+returns g c = λ _ u x listed. c.loop-other.invariant u x (in_take_all u c.args.inside.now c.loop-other.other-index c.loop-other-test.false listed)
 
 pub returns-then-not-ahead : goal.returns-then-not-ahead
-returns-then-not-ahead c = λ _ u x listed ne later.
+returns-then-not-ahead g c = λ _ u x listed ne later.
     let plan : Moves = moves_in c.args.moves.now in
     let w = c.args.self.now in
-    inl (λ y needed. c.requires.none c.if-not-ahead.true y (needs_few plan w.rows u (place_of w.places.positions u) y c.requires.ready.rows (c.requires.listed.trains u listed) needed))
+    inl (λ y needed. c.requires.none c.if-not-ahead.true y (needs_few plan g.W.Width.WORDS u (place_of w.places.positions u) y c.requires.words (c.requires.listed.trains u listed) needed))

@@ -5,9 +5,9 @@ use Rattle.rail_consequence.proofs.Holding.{place_within}
 use Rattle.rail_consequence.proofs.analyst.Worksheet.falls_in_vain.Goals as goal
 
 pub rest-requires-clause-within : goal.rest-requires-clause-within
-rest-requires-clause-within c =
+rest-requires-clause-within g c =
     let at = c.position.ensures ∙ ap (λ (w : Work). place_of w.places.positions c.args.other) c.self.view_is in
     omega (arith, at, place_within c.args.moves.now c.args.self.now.places c.args.other c.requires.ready.made c.requires.other)
 
 pub returns-else-not-meet : goal.returns-else-not-meet
-returns-else-not-meet c = λ yes x _. inr (c.is_kept_from_legs.ensures yes)
+returns-else-not-meet g c = λ yes x _. inr (c.is_kept_from_legs.ensures yes)

@@ -5,7 +5,7 @@ use Rattle.rail_consequence.specs.Workspace.{IsPlayedFrom, IsReady}
 use Rattle.rail_consequence.proofs.analyst.Worksheet.go_back.Given as goal
 
 abbrev pub invariant-loop-self : goal.invariant-loop-self
-invariant-loop-self l = record {
+invariant-loop-self g l = record {
   ready : IsReady l.moves l.self;
   above : l.mark ≤ length l.self.list;
   list : l.self.list ≡ take (length l.self.list) l.fn.self.list;
@@ -14,4 +14,4 @@ invariant-loop-self l = record {
 }
 
 abbrev pub decreases-loop-self : goal.decreases-loop-self
-decreases-loop-self l = length l.self.list
+decreases-loop-self g l = length l.self.list

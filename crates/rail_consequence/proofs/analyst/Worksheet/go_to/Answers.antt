@@ -12,7 +12,7 @@ use Rattle.rail_consequence.proofs.Played.{moves_left_at, ready_as}
 use Rattle.rail_consequence.proofs.analyst.Worksheet.go_to.Goals as goal
 
 pub put-requires-clause-free : goal.put-requires-clause-free
-put-requires-clause-free c =
+put-requires-clause-free g c =
     let plan : Moves = moves_in c.args.moves.now in
     let s = c.args.self.now.places.positions in
     let t = c.args.train in
@@ -20,7 +20,7 @@ put-requires-clause-free c =
     leg_free plan s t c.args.place (c.args.place - place_of s t) c.requires.ready.made.moves.valid c.requires.ready.made.valid c.requires.leg (omega (arith, goes.ahead))
 
 pub put-requires-clause-few : goal.put-requires-clause-few
-put-requires-clause-few c =
+put-requires-clause-few g c =
     let plan : Moves = moves_in c.args.moves.now in
     let s = c.args.self.now.places.positions in
     let t = c.args.train in
@@ -29,7 +29,7 @@ put-requires-clause-few c =
     omega (arith, c.requires.ready.few, fewer)
 
 pub push_times-requires : goal.push_times-requires
-push_times-requires c =
+push_times-requires g c =
     let plan : Moves = moves_in c.args.moves.now in
     let s = c.args.self.now.places.positions in
     let t = c.args.train in
@@ -39,7 +39,7 @@ push_times-requires c =
     omega (arith, c.requires.ready.few, fewer, at, ap length c.put.ensures.list, ap (λ (w : Work). length w.list) c.self-2.view_is, c.self-2.inside.list.ok, c.self-2.invariant)
 
 pub returns-clause-ready : goal.returns-clause-ready
-returns-clause-ready c =
+returns-clause-ready g c =
     let table = c.args.moves.now in
     let plan : Moves = moves_in table in
     let s = c.args.self.now.places.positions in
@@ -63,7 +63,7 @@ returns-clause-ready c =
     }
 
 pub returns-clause-moves : goal.returns-clause-moves
-returns-clause-moves c =
+returns-clause-moves g c =
     let plan : Moves = moves_in c.args.moves.now in
     let s = c.args.self.now.places.positions in
     let t = c.args.train in

@@ -10,7 +10,7 @@ use Rattle.rail_consequence.proofs.Holding.{place_within}
 use Rattle.rail_consequence.proofs.analyst.Worksheet.has_pairs.Goals as goal
 
 pub rest-requires-clause-within : goal.rest-requires-clause-within
-rest-requires-clause-within c =
+rest-requires-clause-within g c =
     let at = c.position.ensures ∙ ap (λ (w : Work). place_of w.places.positions c.args.train) c.self.view_is in
     omega (arith, at, place_within c.args.moves.now c.args.self.now.places c.args.train c.requires.ready.made c.requires.train)
 
@@ -21,7 +21,7 @@ not_all true false c none = none
 not_all false b c none = refl
 
 pub returns : goal.returns
-returns c = λ no x low.
+returns g c = λ no x low.
     let plan : Moves = moves_in c.args.moves.now in
     let t = c.args.train in
     let w = c.args.self.now in

@@ -10,7 +10,7 @@ use Rattle.rail_consequence.proofs.Clear.{safe_at}
 use Rattle.rail_consequence.proofs.analyst.Worksheet.is_safe_at.Goals as goal
 
 pub returns : goal.returns
-returns c =
+returns g c =
     let table = c.args.moves.now in
     let plan : Moves = moves_in table in
     let t = c.args.train in

@@ -9,7 +9,7 @@ use Rattle.rail_consequence.proofs.Stopping.{later_stopped, next_stopped}
 use Rattle.rail_consequence.proofs.analyst.Worksheet.is_stopped.Goals as goal
 
 pub returns-in-Next : goal.returns-in-Next
-returns-in-Next c =
+returns-in-Next g c =
     let plan : Moves = moves_in c.args.moves.now in
     let s = c.args.self.now.places.positions in
     let t = c.args.train in
@@ -22,7 +22,7 @@ returns-in-Next c =
     (x, ap section_of noted, next_stopped plan s t x inside (subst P noted (c.requires.noted.each t inside)) held)
 
 pub returns-then-is_held_by_other : goal.returns-then-is_held_by_other
-returns-then-is_held_by_other c =
+returns-then-is_held_by_other g c =
     let plan : Moves = moves_in c.args.moves.now in
     let s = c.args.self.now.places.positions in
     let t = c.args.train in

@@ -10,7 +10,7 @@ use Rattle.rail_consequence.proofs.Stopping.{free_leads}
 use Rattle.rail_consequence.proofs.analyst.Worksheet.last_safe.Goals as goal
 
 pub loop-end-preserved : goal.loop-end-preserved
-loop-end-preserved c =
+loop-end-preserved g c =
     let plan : Moves = moves_in c.args.moves.now in
     let s = c.args.self.now.places.positions in
     record {
@@ -25,7 +25,7 @@ loop-end-preserved c =
     }
 
 pub returns-then-is_safe_at : goal.returns-then-is_safe_at
-returns-then-is_safe_at c =
+returns-then-is_safe_at g c =
     let plan : Moves = moves_in c.args.moves.now in
     let s = c.args.self.now.places.positions in
     let t = c.args.train in
@@ -38,6 +38,6 @@ returns-then-is_safe_at c =
     )
 
 pub returns : goal.returns
-returns c =
+returns g c =
     let at : c.position-from.result ≡ place_of c.args.self.now.places.positions c.args.train = c.position-from.ensures ∙ ap (λ (w : Work). place_of w.places.positions c.args.train) c.self.view_is in
     λ p low high. c.loop-end.invariant.unsafe p (omega (arith, low, at, c.loop-end-test.false)) high

@@ -14,10 +14,10 @@ use Rattle.rail_consequence.proofs.Stopping.{leads_out_free, open_more}
 use Rattle.rail_consequence.proofs.analyst.Worksheet.look.Goals as goal
 
 pub loop-made-preserved : goal.loop-made-preserved
-loop-made-preserved c = open_more (moves_in c.args.moves.now) c.args.self.now.places.positions c.args.train c.loop-made.made c.loop-made.invariant c.in_default-stop_of.ensures
+loop-made-preserved g c = open_more (moves_in c.args.moves.now) c.args.self.now.places.positions c.args.train c.loop-made.made c.loop-made.invariant c.in_default-stop_of.ensures
 
 pub returns : goal.returns
-returns c =
+returns g c =
     let plan : Moves = moves_in c.args.moves.now in
     let s = c.args.self.now.places.positions in
     let t = c.args.train in
@@ -27,7 +27,7 @@ returns c =
     (λ i from below. c.loop-made.invariant i from (omega (arith, below, c.loop-made-test.false)))
 
 pub returns-then-not-meet_beyond : goal.returns-then-not-meet_beyond
-returns-then-not-meet_beyond c =
+returns-then-not-meet_beyond g c =
     let table = c.args.moves.now in
     let plan : Moves = moves_in table in
     let t = c.args.train in

@@ -10,10 +10,10 @@ use Rattle.rail_consequence.proofs.Noting.{noted_anew}
 use Rattle.rail_consequence.proofs.analyst.Worksheet.look_again.Goals as goal
 
 pub look_at-requires-clause-train : goal.look_at-requires-clause-train
-look_at-requires-clause-train c = c.requires.listed.trains c.train-item.result (in_at c.train-item.result c.args.inside.now c.loop-train.train-index c.loop-train-test.true c.train-item.is)
+look_at-requires-clause-train g c = c.requires.listed.trains c.train-item.result (in_at c.train-item.result c.args.inside.now c.loop-train.train-index c.loop-train-test.true c.train-item.is)
 
 pub loop-train-preserved : goal.loop-train-preserved
-loop-train-preserved c =
+loop-train-preserved g c =
     let plan : Moves = moves_in c.args.moves.now in
     let s = c.args.self.now.places.positions in
     let y = c.train-item.result in
@@ -31,7 +31,7 @@ loop-train-preserved c =
     }
 
 pub returns : goal.returns
-returns c =
+returns g c =
     let plan : Moves = moves_in c.args.moves.now in
     let s = c.args.self.now.places.positions in
     let notes = c.loop-train.notes in

@@ -6,7 +6,7 @@ use Rattle.rail_consequence.specs.Stops.{IsNotedTo, IsStopped, section_of, stop_
 use Rattle.rail_consequence.proofs.analyst.Worksheet.look_again.Given as goal
 
 abbrev pub invariant-loop-train : goal.invariant-loop-train
-invariant-loop-train l = record {
+invariant-loop-train g l = record {
   noted : IsNotedTo (moves_in l.moves) l.self.places.positions l.notes;
   stopped : (u x : ℕ) → is_in u (take l.train-index l.inside) ≡ true → is_inside (moves_in l.moves) l.self.places.positions u ≡ true → section_of (stop_of l.notes.stops u) ≡ Some x → IsStopped (moves_in l.moves) l.self.places.positions u x;
 }

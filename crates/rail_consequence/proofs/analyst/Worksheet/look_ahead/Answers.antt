@@ -19,20 +19,19 @@ fallen : (from to was will : Bool) (n m : ℕ) → from ≡ was → to ≡ will 
 fallen from to was will n m first later same = ap (λ b. b && not to && eqb n 2) first ∙ ap (λ b. was && not b && eqb n 2) later ∙ ap (λ k. was && not will && eqb k 2) same
 
 pub returns-clause-fell : goal.returns-clause-fell
-returns-clause-fell c = λ x low.
+returns-clause-fell g c = λ x low.
     let plan : Moves = moves_in c.args.moves.now in
     let t = c.args.train in
     let w = c.args.self.now in
     let at = c.position-from.ensures ∙ ap (λ (v : Work). place_of v.places.positions t) c.self.view_is in
-    let wide = ap (λ (v : Work). v.rows.width) c.self.view_is in
-    c.fill_falls-ahead.ensures.fell x (omega (arith, low, c.rest.ensures.long, wide))
+    c.fill_falls-ahead.ensures.fell x (omega (arith, low, c.rest.ensures.long))
     ∙ fallen _ _ (needs_from plan t (place_of w.places.positions t) x) (needs_from plan t c.args.place x) (count_of c.self.inside.needs x) (count_of w.needs x)
     (c.rest.ensures.set x ∙ ap (λ q. needs_from plan t q x) at)
     (c.rest-2.ensures.set x)
     (ap (λ (v : Work). count_of v.needs x) c.self.view_is)
 
 pub returns-clause-sets : goal.returns-clause-sets
-returns-clause-sets c =
+returns-clause-sets g c =
     let table = c.args.moves.now in
     let plan : Moves = moves_in table in
     let t = c.args.train in
@@ -42,13 +41,13 @@ returns-clause-sets c =
     let s = own.places.positions in
     let fell = c.fill_falls-ahead.new.fell in
     let G : ℕ → Type 0 = λ q. IsSet c.stand.result.now (λ x. is_in x (stand plan t q)) in
-    let P : Work → Type 0 = λ w. IsAhead plan w.places.positions w.needs w.rows.width t p (record { held = c.fill_replaced.new.set; shared = c.fill_falls-ahead.new.shared; fell = fell; has_fallen = c.fill_falls-ahead.result }) in
+    let P : Work → Type 0 = λ w. IsAhead plan w.places.positions w.needs g.W.Width.WORDS t p (record { held = c.fill_replaced.new.set; shared = c.fill_falls-ahead.new.shared; fell = fell; has_fallen = c.fill_falls-ahead.result }) in
     let I : Work → Type 0 = λ w. is_inside plan w.places.positions t ≡ true in
     let inside = subst I (sym c.self.view_is) c.requires.inside in
     let known : t < length s = omega (arith, c.requires.train, (state_parts plan s ready.made.valid).long) in
     let R : ℕ → Type 0 = λ q. IsSet c.rest.result.now (needs_from plan t q) in
     let from : R (place_of s t) = subst R c.position-from.ensures c.rest.ensures.set in
-    let falls : HasFalls plan s own.needs own.rows.width t p fell = λ x low.
+    let falls : HasFalls plan s own.needs g.W.Width.WORDS t p fell = λ x low.
     c.fill_falls-ahead.ensures.fell x (omega (arith, low, c.rest.ensures.long))
     ∙ fallen _ _ (needs_from plan t (place_of s t) x) (needs_from plan t p x) (count_of own.needs x) (count_of own.needs x) (from x) (c.rest-2.ensures.set x) refl in
     subst P c.self.view_is (record {
@@ -57,5 +56,5 @@ returns-clause-sets c =
           x (c.fill_replaced.ensures.set x (omega (arith, low, c.stand-2.ensures.long))) is;
       shared = λ x u low is.
           let parts = and_parts (leb 2 (count_of own.needs x)) (not (has fell x)) (sym (c.fill_falls-ahead.ensures.shared x (omega (arith, low, c.rest.ensures.long))) ∙ is) in
-          shared_then plan s own.needs own.rows.width t p u x fell inside low falls (leb-true 2 (count_of own.needs x) parts.0) (not-true (has fell x) parts.1);
+          shared_then plan s own.needs g.W.Width.WORDS t p u x fell inside low falls (leb-true 2 (count_of own.needs x) parts.0) (not-true (has fell x) parts.1);
     })

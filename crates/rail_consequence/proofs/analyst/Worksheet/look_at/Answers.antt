@@ -4,7 +4,7 @@ use Rattle.rail_consequence.proofs.Noting.{note_one, shown_noted}
 use Rattle.rail_consequence.proofs.analyst.Worksheet.look_at.Goals as goal
 
 pub returns-in-Stopped-clause-noted : goal.returns-in-Stopped-clause-noted
-returns-in-Stopped-clause-noted c =
+returns-in-Stopped-clause-noted g c =
     let plan : Moves = moves_in c.args.moves.now in
     let s = c.args.self.now.places.positions in
     let new = c.set.new.self in

@@ -11,7 +11,7 @@ use Rattle.rail_consequence.proofs.Noting.{note_one, shown_noted, shown_unsafe}
 use Rattle.rail_consequence.proofs.analyst.Worksheet.make_safe_leg.Goals as goal
 
 pub returns-then-is_stopped-clause-none : goal.returns-then-is_stopped-clause-none
-returns-then-is_stopped-clause-none c =
+returns-then-is_stopped-clause-none g c =
     let plan : Moves = moves_in c.args.moves.now in
     let s = c.args.self.now.places.positions in
     let t = c.args.train in
@@ -23,10 +23,10 @@ returns-then-is_stopped-clause-none c =
     )
 
 pub returns-in-Stopped-clause-none : goal.returns-in-Stopped-clause-none
-returns-in-Stopped-clause-none c = λ _. (record { list = refl; positions = refl }, shown_unsafe (moves_in c.args.moves.now) c.args.self.now.places.positions c.args.train c.in-Stopped.stop c.in-Stopped.ensures)
+returns-in-Stopped-clause-none g c = λ _. (record { list = refl; positions = refl }, shown_unsafe (moves_in c.args.moves.now) c.args.self.now.places.positions c.args.train c.in-Stopped.stop c.in-Stopped.ensures)
 
 pub returns-in-Stopped-clause-noted : goal.returns-in-Stopped-clause-noted
-returns-in-Stopped-clause-noted c =
+returns-in-Stopped-clause-noted g c =
     let plan : Moves = moves_in c.args.moves.now in
     let s = c.args.self.now.places.positions in
     let new = c.set.new.self in
@@ -34,14 +34,14 @@ returns-in-Stopped-clause-noted c =
     c.set.ensures.here c.set.ensures.others c.set.ensures.fell c.set.ensures.has_fallen
 
 pub returns-in-Leads-clause-same : goal.returns-in-Leads-clause-same
-returns-in-Leads-clause-same c =
+returns-in-Leads-clause-same g c =
     let plan : Moves = moves_in c.args.moves.now in
     let s = c.args.self.now.places.positions in
     let leg : Leg = record { train = c.args.train; place = c.in-Leads.place } in
     λ k. leg_finds plan k s c.go_to.new.self.places.positions leg c.in-Leads.ensures.0 c.in-Leads.ensures.1 c.go_to.ensures.positions
 
 pub returns-in-Leads-clause-fewer : goal.returns-in-Leads-clause-fewer
-returns-in-Leads-clause-fewer c =
+returns-in-Leads-clause-fewer g c =
     let plan : Moves = moves_in c.args.moves.now in
     let s = c.args.self.now.places.positions in
     let t = c.args.train in

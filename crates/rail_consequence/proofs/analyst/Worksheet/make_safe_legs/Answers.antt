@@ -30,12 +30,12 @@ still_settled plan b c stops later t u back others here before =
     (cases_eq u t)
 
 pub make_safe_leg-requires-clause-train : goal.make_safe_leg-requires-clause-train
-make_safe_leg-requires-clause-train c =
+make_safe_leg-requires-clause-train g c =
     c.requires.listed.trains c.index-inside-index.result
     (in_at c.index-inside-index.result c.args.inside.now c.loop-index.index (omega arith) c.index-inside-index.is)
 
 pub loop-index-preserved-then-make_safe_leg : goal.loop-index-preserved-then-make_safe_leg
-loop-index-preserved-then-make_safe_leg c =
+loop-index-preserved-then-make_safe_leg g c =
     let plan : Moves = moves_in c.args.moves.now in
     let a = c.args.self.now in
     let b = c.loop-index.self in
@@ -54,7 +54,7 @@ loop-index-preserved-then-make_safe_leg c =
     }
 
 pub loop-index-preserved : goal.loop-index-preserved
-loop-index-preserved c =
+loop-index-preserved g c =
     let plan : Moves = moves_in c.args.moves.now in
     let a = c.args.self.now in
     let b = c.loop-index.self in
@@ -94,7 +94,7 @@ loop-index-preserved c =
     }
 
 pub returns-clause-settled : goal.returns-clause-settled
-returns-clause-settled c = λ i from below.
+returns-clause-settled g c = λ i from below.
     ⊎_elim
     (λ earlier. c.loop-index.invariant.looked_at i from earlier)
     (λ later. c.loop-index.invariant.behind i (omega (arith, later)) below)

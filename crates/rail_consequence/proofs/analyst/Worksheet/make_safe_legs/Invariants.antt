@@ -7,7 +7,7 @@ use Rattle.rail_consequence.proofs.analyst.Worksheet.make_safe_legs.Given as goa
 
 -- the trains that were looked at since the last leg are settled, and so are those behind the end
 abbrev pub invariant-loop-index : goal.invariant-loop-index
-invariant-loop-index l = record {
+invariant-loop-index g l = record {
   ready : IsReady l.moves l.self;
   noted : IsNotedTo (moves_in l.moves) l.self.places.positions l.notes;
   goes : GoesOn (moves_in l.moves) l.fn.self l.self;
@@ -21,4 +21,4 @@ invariant-loop-index l = record {
 }
 
 abbrev pub decreases-loop-index : goal.decreases-loop-index
-decreases-loop-index l = length l.inside - l.index
+decreases-loop-index g l = length l.inside - l.index

@@ -14,7 +14,7 @@ falls_so : (a b : Bool) (n : ℕ) → a ≡ true → b ≡ false → n ≡ 2 →
 falls_so a b n one none two = and_from (a && not b) (eqb n 2) (and_from a (not b) one (not_from_false b none)) (eq-eqb n 2 two)
 
 pub returns-then-has_falls : goal.returns-then-has_falls
-returns-then-has_falls c =
+returns-then-has_falls g c =
     let plan : Moves = moves_in c.args.moves.now in
     let s = c.args.self.now.places.positions in
     let t = c.args.train in
@@ -37,7 +37,7 @@ returns-then-has_falls c =
     (λ e. absurd (false≢true (sym e)))
 
 pub returns-else-has_falls : goal.returns-else-has_falls
-returns-else-has_falls c =
+returns-else-has_falls g c =
     let plan : Moves = moves_in c.args.moves.now in
     let s = c.args.self.now.places.positions in
     let t = c.args.train in

@@ -13,17 +13,17 @@ use Rattle.rail_consequence.proofs.Played.{ready_as}
 use Rattle.rail_consequence.proofs.analyst.Worksheet.put.Goals as goal
 
 pub stand-gone-requires-clause-within : goal.stand-gone-requires-clause-within
-stand-gone-requires-clause-within c =
+stand-gone-requires-clause-within g c =
     let at = c.position-from.ensures ∙ ap (λ (w : Work). place_of w.places.positions c.args.train) c.self.view_is in
     omega (arith, at, place_within c.args.moves.now c.args.self.now.places c.args.train c.requires.ready.made c.requires.train)
 
 pub recount-requires-clause-from : goal.recount-requires-clause-from
-recount-requires-clause-from c =
+recount-requires-clause-from g c =
     let at = c.position-from.ensures ∙ ap (λ (w : Work). place_of w.places.positions c.args.train) c.self.view_is in
     omega (arith, at, place_within c.args.moves.now c.args.self.now.places c.args.train c.requires.ready.made c.requires.train)
 
 pub recount-requires-clause-among : goal.recount-requires-clause-among
-recount-requires-clause-among c =
+recount-requires-clause-among g c =
     let table = c.args.moves.now in
     let plan : Moves = moves_in table in
     let t = c.args.train in
@@ -35,7 +35,7 @@ recount-requires-clause-among c =
     (among_counted plan own.places.positions own.needs ready.counted t (omega (arith, c.requires.train, long)) (omega (arith, long, ready.made.moves.few)))
 
 pub returns-clause-ready : goal.returns-clause-ready
-returns-clause-ready c =
+returns-clause-ready g c =
     let table = c.args.moves.now in
     let plan : Moves = moves_in table in
     let t = c.args.train in

@@ -9,16 +9,16 @@ use Rattle.rail_consequence.proofs.analyst.Worksheet.stay_without_leg.Goals as g
 use Rattle.rail_consequence.proofs.analyst.Worksheet.stay_without_leg.Goals.{else-ne-via-then-ne+then-may_wait_for+else-not-is_kept_from_legs, else-ne-via-then-ne+else-may_wait_for, else-ne-via-else-ne}
 
 pub returns : goal.returns
-returns c = λ _ u listed. c.loop-other.invariant u (in_take_all u c.args.inside.now c.loop-other.other-index c.loop-other-test.false listed)
+returns g c = λ _ u listed. c.loop-other.invariant u (in_take_all u c.args.inside.now c.loop-other.other-index c.loop-other-test.false listed)
 
 pub may_wait_for-requires-clause-other : goal.may_wait_for-requires-clause-other
-may_wait_for-requires-clause-other c = c.requires.listed.trains c.other-item.result (in_at c.other-item.result c.args.inside.now c.loop-other.other-index c.loop-other-test.true c.other-item.is)
+may_wait_for-requires-clause-other g c = c.requires.listed.trains c.other-item.result (in_at c.other-item.result c.args.inside.now c.loop-other.other-index c.loop-other-test.true c.other-item.is)
 
 pub is_kept_from_legs-requires-clause-stopped : goal.is_kept_from_legs-requires-clause-stopped
-is_kept_from_legs-requires-clause-stopped c = c.requires.listed.trains c.other-item.result (in_at c.other-item.result c.args.inside.now c.loop-other.other-index c.loop-other-test.true c.other-item.is)
+is_kept_from_legs-requires-clause-stopped g c = c.requires.listed.trains c.other-item.result (in_at c.other-item.result c.args.inside.now c.loop-other.other-index c.loop-other-test.true c.other-item.is)
 
 pub loop-other-preserved : goal.loop-other-preserved
-loop-other-preserved c =
+loop-other-preserved g c =
     let plan : Moves = moves_in c.args.moves.now in
     let s = c.args.self.now.places.positions in
     let t = c.args.train in

@@ -6,5 +6,5 @@ use Rattle.rail_consequence.specs.Searches.{HasNoSafeLegOf}
 use Rattle.rail_consequence.proofs.analyst.Worksheet.stay_without_leg.Given as goal
 
 abbrev pub invariant-loop-other : goal.invariant-loop-other
-invariant-loop-other l = (u : ℕ) → is_in u (take l.other-index l.inside) ≡ true → u ≢ l.fn.train
+invariant-loop-other g l = (u : ℕ) → is_in u (take l.other-index l.inside) ≡ true → u ≢ l.fn.train
     → MayWaitFor (moves_in l.moves) l.self.places.positions l.notes.stops u l.fn.train → HasNoSafeLegOf (moves_in l.moves) (set l.self.places.positions l.fn.train l.fn.place) u

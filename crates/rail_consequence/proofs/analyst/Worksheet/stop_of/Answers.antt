@@ -13,7 +13,7 @@ use Rattle.rail_consequence.proofs.Played.{ready_as}
 use Rattle.rail_consequence.proofs.analyst.Worksheet.stop_of.Goals as goal
 
 pub stand-own-requires-clause-within : goal.stand-own-requires-clause-within
-stand-own-requires-clause-within c =
+stand-own-requires-clause-within g c =
     let at = c.position.ensures ∙ ap (λ (w : Work). place_of w.places.positions c.args.train) c.self.view_is in
     omega (arith, at, place_within c.args.moves.now c.args.self.now.places c.args.train c.requires.ready.made c.requires.train)
 
@@ -22,7 +22,7 @@ matched A B C D None first later told = first told
 matched A B C D (Some x) first later told = later x told
 
 pub returns : goal.returns
-returns c =
+returns g c =
     let table = c.args.moves.now in
     let plan : Moves = moves_in table in
     let t = c.args.train in

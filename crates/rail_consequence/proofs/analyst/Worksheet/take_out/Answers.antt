@@ -7,7 +7,7 @@ use Rattle.rail_consequence.proofs.Played.{moves_left_at}
 use Rattle.rail_consequence.proofs.analyst.Worksheet.take_out.Goals as goal
 
 pub put-requires-clause-few : goal.put-requires-clause-few
-put-requires-clause-few c =
+put-requires-clause-few g c =
     let plan : Moves = moves_in c.args.moves.now in
     let a = c.args.self.now in
     let s = a.places.positions in

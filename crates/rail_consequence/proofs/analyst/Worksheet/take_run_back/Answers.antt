@@ -1,24 +1,34 @@
-use Rattle.std.proofs.Common.{◌≡◌, ℕ, ◌-◌, List, length, take, drop, refl, sym, ap, ◌∙◌, subst, arith, rules}
+use Rattle.std.proofs.Common.{◌≡◌, ℕ, ◌-◌, List, length, take, drop, refl, sym, ap, ◌∙◌, subst, arith}
 use Rattle.rail_rules.specs.Moves.{Moves}
 use Rattle.rail_place.specs.Tables.{moves_in}
 use Rattle.rail_place.specs.Plays.{IsPlayed}
 use Rattle.rail_consequence.specs.Workspace.{Work}
 use Rattle.rail_consequence.proofs.Backward.{counted_run}
+use Rattle.rail_consequence.proofs.Played.{ready_as}
 use Rattle.rail_consequence.proofs.analyst.Worksheet.take_run_back.Goals as goal
 
 pub position-requires : goal.position-requires
-position-requires c = (counted_run c.self.view_is c.requires.ready c.requires.played c.requires.mark c.deref.ensures.value (c.in-Some.ensures ∙ c.last.ensures.value) c.repeats_at_end-count.ensures.count refl).placed
+position-requires g c = (counted_run c.self.view_is c.requires.ready c.requires.played c.requires.mark c.deref.ensures.value (c.in-Some.ensures ∙ c.last.ensures.value) c.repeats_at_end-count.ensures.count refl).placed
 
 pub overflow_sub-place : goal.overflow_sub-place
-overflow_sub-place c =
+overflow_sub-place g c =
     let run = counted_run c.self.view_is c.requires.ready c.requires.played c.requires.mark c.deref.ensures.value (c.in-Some.ensures ∙ c.last.ensures.value) c.repeats_at_end-count.ensures.count c.position.ensures in
     omega (arith, run.ahead)
 
 pub put-requires : goal.put-requires
-put-requires c =
+put-requires g c =
     let run = counted_run c.self.view_is c.requires.ready c.requires.played c.requires.mark c.deref.ensures.value (c.in-Some.ensures ∙ c.last.ensures.value) c.repeats_at_end-count.ensures.count c.position.ensures in
+    let old = ready_as c.args.moves.now _ c.args.self.now c.self.view_is c.requires.ready in
     record {
-      ready = search rules;
+      words = c.requires.words;
+      ready = record {
+        rows = old.rows;
+        made = old.made;
+        held = old.held;
+        wide = old.wide;
+        counted = old.counted;
+        few = omega (arith, old.few, c.truncate.ensures.len, c.truncate.new.self.ok, c.self.inside.list.ok, c.len.ensures);
+      };
       train = run.listed;
       entered = omega (arith, run.ahead, c.position.ensures);
       within = run.within;
@@ -28,12 +38,12 @@ put-requires c =
     }
 
 pub returns-clause-fewer : goal.returns-clause-fewer
-returns-clause-fewer c =
+returns-clause-fewer g c =
     let run = counted_run c.self.view_is c.requires.ready c.requires.played c.requires.mark c.deref.ensures.value (c.in-Some.ensures ∙ c.last.ensures.value) c.repeats_at_end-count.ensures.count c.position.ensures in
     omega (arith, run.some, c.requires.mark, c.truncate.ensures.len, c.len.ensures, c.self.inside.list.ok, c.truncate.new.self.ok, ap length c.put.ensures.list, ap (λ (w : Work). length w.list) c.self.view_is)
 
 pub returns-clause-positions : goal.returns-clause-positions
-returns-clause-positions c =
+returns-clause-positions g c =
     let plan : Moves = moves_in c.args.moves.now in
     let run = counted_run c.self.view_is c.requires.ready c.requires.played c.requires.mark c.deref.ensures.value (c.in-Some.ensures ∙ c.last.ensures.value) c.repeats_at_end-count.ensures.count c.position.ensures in
     let k : ℕ = c.repeats_at_end-count.result in

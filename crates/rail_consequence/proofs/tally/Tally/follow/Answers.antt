@@ -26,13 +26,13 @@ same_more s old new ours theirs n m place moved there within our their same next
     (cases_lt u n)
 
 pub follow_train-requires-clause-within : goal.follow_train-requires-clause-within
-follow_train-requires-clause-within c =
+follow_train-requires-clause-within g c =
     let plan : Moves = moves_in c.args.moves.now in
     let state = state_parts plan c.args.places.now.positions c.requires.made.valid in
     omega (arith, c.position.ensures, state.within c.loop-number.number (omega (arith, state.long, c.loop-number.invariant.kept.long, c.len.ensures, ap (λ a. length a.positions) c.self-in-loop-number.view_is, c.loop-number-test.true)))
 
 pub loop-number-preserved : goal.loop-number-preserved
-loop-number-preserved c =
+loop-number-preserved g c =
     let plan : Moves = moves_in c.args.moves.now in
     let s : List ℕ = c.args.places.now.positions in
     let n = c.loop-number.number in
@@ -62,7 +62,7 @@ loop-number-preserved c =
     }
 
 pub returns-clause-positions : goal.returns-clause-positions
-returns-clause-positions c =
+returns-clause-positions g c =
     let plan : Moves = moves_in c.args.moves.now in
     let s : List ℕ = c.args.places.now.positions in
     let state = state_parts plan s c.requires.made.valid in

@@ -7,7 +7,7 @@ use Rattle.rail_consequence.specs.Workspace.{IsListing}
 use Rattle.rail_consequence.proofs.tally.Tally.follow.Given as goal
 
 abbrev pub invariant-loop-number : goal.invariant-loop-number
-invariant-loop-number l = record {
+invariant-loop-number g l = record {
   kept : IsTallyFor (moves_in l.moves) l.self;
   same : (u : ℕ) → u < l.number → place_of l.self.positions u ≡ place_of l.places.positions u;
   bound : l.number ≤ length l.self.positions;
@@ -16,4 +16,4 @@ invariant-loop-number l = record {
 }
 
 abbrev pub decreases-loop-number : goal.decreases-loop-number
-decreases-loop-number l = length l.places.positions - l.number
+decreases-loop-number g l = length l.places.positions - l.number

@@ -15,7 +15,7 @@ read_is : (s : List ℕ) (t i p : ℕ) → p ≡ get_or s i p → i ≡ t → t 
 read_is s t i p read at lt = sym (read ∙ ap (λ k. get_or s k p) at ∙ get_or_default_zero s t p lt)
 
 pub recount-requires-clause-among : goal.recount-requires-clause-among
-recount-requires-clause-among c =
+recount-requires-clause-among g c =
     let plan : Moves = moves_in c.args.moves.now in
     let t = c.args.train in
     let own : Placed = record { positions = c.self.inside.positions.items; counts = c.self.inside.needs } in
@@ -27,7 +27,7 @@ recount-requires-clause-among c =
     subst Q at (among_counted plan own.positions own.counts kept.counted t listed (omega (arith, kept.long, c.requires.table.few)))
 
 pub returns-clause-kept : goal.returns-clause-kept
-returns-clause-kept c =
+returns-clause-kept g c =
     let plan : Moves = moves_in c.args.moves.now in
     let t = c.args.train in
     let own : Placed = record { positions = c.self.inside.positions.items; counts = c.self.inside.needs } in
@@ -41,7 +41,7 @@ returns-clause-kept c =
     (tallied_on plan own t c.args.place c.recount.new.needs kept c.requires.train c.requires.within (subst Q (sym at) c.recount.ensures))
 
 pub returns-clause-noted : goal.returns-clause-noted
-returns-clause-noted c =
+returns-clause-noted g c =
     let plan : Moves = moves_in c.args.moves.now in
     let t = c.args.train in
     let own : Placed = record { positions = c.self.inside.positions.items; counts = c.self.inside.needs } in
