@@ -8,7 +8,8 @@
 //! each free leg, going back on those that do not help.
 //!
 //! What a train needs and where it stands are sets of sections for each of its places, made with the
-//! analyst. For each section it is counted how many trains need it for moves that they have left, a set at
+//! analyst. Of a set so many words are looked at as its sections take, of a few numbers for each of which the
+//! search is compiled. For each section it is counted how many trains need it for moves that they have left, a set at
 //! a time; the counts tell whether a leg is safe. What stops a train is noted. The search after a free leg
 //! is handed the notes, with the set of sections that fell to one train since. Whether a note lasts shows
 //! where it is used: a train is looked at again only where no other train holds the section any more, or a
