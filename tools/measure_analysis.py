@@ -26,8 +26,8 @@ import tomllib
 LIBRARIES = ("rail_base", "rail_rules", "rail_sets", "rail_place", "rail_consequence")
 
 # The checks of moves and places that the tests have, with their proofs.
-HELPERS = ("push_rows", "share_one", "stands_in", "move_is_valid", "all_in", "row_is_valid", "row_is_small", "all_small",
-           "all_within")
+HELPERS = ("push_rows", "push_lists", "lists", "share_one", "stands_in", "move_is_valid", "all_in", "row_is_valid",
+           "row_is_small", "all_small", "all_within")
 
 MAIN = """//! Reads rows of numbers, and looks for a list from the places that they tell, before a move and after it.
 #![tactic(auto)]
@@ -42,7 +42,7 @@ use std::test::Fail;
 
 ghost use Rattle.rail_place.specs.Made.{IsMadeFor};
 ghost use Rattle.rail_place.specs.Tables.{moves_in};
-ghost use Rattle.rail_consequence.specs.Needs.{IsAnalystFor};
+ghost use Rattle.rail_consequence.specs.Kept.{IsAnalystFor};
 
 fn numbers(alloc: Global, line: &str) -> Result<Vec<u16>, Fail> {
     let mut found = Vec::new(alloc);
@@ -100,7 +100,7 @@ ghost use Rattle.rail_place.specs.Tables.{moves_in, lists_of};
 
 use rail_base::limits::{ITINERARY_ROUTES, ROUTE_SECTIONS, SECTIONS, TRAINS};
 use rail_base::{SectionNo, Seq, TrainNo};
-use rail_place::{Moves, Places, PlacesFault};
+use rail_place::{Moves, Places, PlacesFault, SectionLists};
 use std::alloc::{AllocError, Global};
 use std::test::Fail;
 
@@ -200,7 +200,7 @@ def make_program(repository, folder):
     """Copies the libraries, built where they are so there, and writes the crate of the program."""
     crates = folder / "crates"
     shutil.rmtree(crates, ignore_errors=True)
-    for name, part in itertools.product(LIBRARIES, ("src", "specs", "proofs", "out/rlib")):
+    for name, part in itertools.product(LIBRARIES, ("src", "specs", "proofs", "out")):
         if (repository / "crates" / name / part).is_dir():
             shutil.copytree(repository / "crates" / name / part, crates / name / part)
     lines = (repository / "crates.txt").read_text().splitlines()
