@@ -1,6 +1,8 @@
 -- What an analyst keeps from search to search.
-use Rattle.std.specs.Prelude.{ℕ, List}
+use Rattle.std.specs.Prelude.{◌≡◌, ℕ, Bool, false, List, IsTrue}
 use Rattle.rail_rules.specs.Moves.{Moves}
+use Rattle.rail_rules.specs.Places.{completes}
+use Rattle.rail_rules.specs.Analysis.{Finds}
 use Rattle.rail_consequence.specs.Needs.{IsRowsOf, IsTallyFor, Placed, SetRows}
 use Rattle.rail_consequence.specs.Stops.{IsNotedTo}
 use Rattle.rail_consequence.specs.Workspace.{IsListing}
@@ -20,3 +22,9 @@ pub record IsAnalystFor (plan : Moves) (tallied : Tallied) : Type 0 where
   pub tally : IsTallyFor plan tallied.tally
   pub noted : IsNotedTo plan tallied.tally.positions tallied.notes
   pub rows : IsRowsOf plan tallied.rows
+
+-- the answer of a search from the places, by at most so many free legs: the moves that it made complete where it says so, and else none can be found
+pub record IsAnswered (plan : Moves) (s : List ℕ) (depth : ℕ) (found : Bool) (list : List ℕ) : Type 0 where
+  pub complete : IsTrue found → IsTrue (completes plan s list)
+  pub some : IsTrue found → Finds plan depth s
+  pub none : found ≡ false → Finds plan depth s → ⊥

@@ -9,7 +9,7 @@ ghost use Rattle.rail_place.specs.Plays.{IsPlayed};
 ghost use Rattle.rail_place.specs.Tables.{moves_in};
 ghost use Rattle.rail_rules.specs.Moves.{stand};
 ghost use Rattle.rail_rules.specs.Numbers.{are_apart};
-ghost use Rattle.rail_consequence.specs.Kept.{IsAnalystFor};
+ghost use Rattle.rail_consequence.specs.Kept.{IsAnalystFor, IsAnswered};
 ghost use Rattle.rail_consequence.specs.Needs.{AreWords, IsCounted, IsRowsOf, IsSet};
 ghost use Rattle.rail_consequence.specs.Searches.{leg_to};
 ghost use Rattle.rail_consequence.specs.Workspace.{GoesOn, IsListing, IsPlayedFrom, IsReady};
@@ -137,9 +137,7 @@ impl Analyst {
         requires made { IsMadeFor moves.now places.now }
         requires own { IsAnalystFor (moves_in moves.now) self.old }
         ensures own { IsAnalystFor (moves_in moves.now) self.new }
-        ensures list { IsTrue result → IsTrue (completes (moves_in moves.now) places.now.positions self.new.list) }
-        ensures some { IsTrue result → Finds (moves_in moves.now) depth places.now.positions }
-        ensures none { result ≡ false → Finds (moves_in moves.now) depth places.now.positions → ⊥ }
+        ensures answer { IsAnswered (moves_in moves.now) places.now.positions depth result self.new.list }
     {
         let words = self.sheet.rows().width();
         if words <= One::WORDS {
@@ -159,9 +157,7 @@ impl Analyst {
         requires made { IsMadeFor moves.now places.now }
         requires own { IsAnalystFor (moves_in moves.now) self.old }
         ensures own { IsAnalystFor (moves_in moves.now) self.new }
-        ensures list { IsTrue result → IsTrue (completes (moves_in moves.now) places.now.positions self.new.list) }
-        ensures some { IsTrue result → Finds (moves_in moves.now) depth places.now.positions }
-        ensures none { result ≡ false → Finds (moves_in moves.now) depth places.now.positions → ⊥ }
+        ensures answer { IsAnswered (moves_in moves.now) places.now.positions depth result self.new.list }
     {
         self.tally.follow::<W>(
             moves,
