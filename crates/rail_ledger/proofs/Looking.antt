@@ -1,5 +1,5 @@
 -- What looking at the trains gives.
-use Rattle.std.proofs.Common.{◌≡◌, ℕ, zero, suc, ◌<◌, ◌≤◌, true, false, not, ◌&&◌, cond, List, length, Option, Some, None, is_some, refl, sym, ap, ◌∙◌, subst, ◌⊎◌, ⊎_elim, arith}
+use Rattle.std.proofs.Common.{◌≡◌, ℕ, zero, suc, ◌<◌, ◌≤◌, Bool, true, false, not, ◌&&◌, cond, List, length, Option, Some, None, is_some, refl, sym, ap, ◌∙◌, subst, ◌⊎◌, ⊎_elim, arith}
 use Rattle.std.specs.Prelude.{IfSome, MatchOption}
 use Rattle.std.proofs.lemmas.Bool.{and_parts, cases_Bool, cond-true, cond-false, false≢true, not-true}
 use Rattle.rail_base.specs.declared.history.Cause.{Cause}
@@ -10,7 +10,7 @@ use Rattle.rail_rules.specs.Causes.{place}
 use Rattle.rail_state.specs.declared.train.TrainState.{TrainState}
 use Rattle.rail_rules.specs.Orders.{told}
 use Rattle.rail_state.specs.SeenCauses.{seen_bar}
-use Rattle.rail_state.specs.TrainStates.{IsReadyFirst, bar_by, is_untried, looked_at, state_of}
+use Rattle.rail_state.specs.TrainStates.{IsReadyFirst, bar_by, is_at_first, is_untried, looked_at, state_of}
 use Rattle.rail_state.specs.Representation.{IsNext}
 use Rattle.rail_state.proofs.CallerLemmas.{looked_stands}
 use Rattle.rail_ledger.specs.declared.ledger.Ledger.{Ledger}
@@ -19,20 +19,28 @@ use Rattle.rail_ledger.specs.Inputs.{dispatch_in, input_in}
 use Rattle.rail_ledger.proofs.Admissions.{left_of}
 use Rattle.rail_ledger.proofs.Ordered.{bar_is, input_parts, sections_known}
 
+-- what bars the next move is the same by both, where the train is untried
+same_look : (plant : Plant) (one two : ℕ → List ℕ → Option Cause) (t : ℕ) (r : TrainState)
+    → (is_untried r ≡ true → one t (needed plant t r.place) ≡ two t (needed plant t r.place)) → looked_at plant one t r ≡ looked_at plant two t r
+same_look plant one two t r same =
+    let sections : List ℕ = needed plant t r.place in
+    let by : Bool → Option Cause → TrainState = λ b bar. record r { known = cond b bar r.known; at_first = cond b (is_at_first bar sections) r.at_first } in
+    ⊎_elim
+    (λ untried. ap (by (is_untried r)) (same untried))
+    (λ tried. ap (λ (b : Bool). by b (one t sections)) tried ∙ sym (ap (λ (b : Bool). by b (two t sections)) tried))
+    (cases_Bool (is_untried r))
+
 -- a look by the tables is one by the orders that were told
 looked_same : (front : Front) (ledger : Ledger) → IsAt front ledger → (t : ℕ) → t < trains ledger.input.plant
     → looked_at ledger.input.plant (bar_by ledger.orders ledger.state.holders) t (state_of ledger.state.trains t)
     ≡ looked_at ledger.input.plant (seen_bar (told ledger.input.commands.items front) ledger.state.holders) t (state_of ledger.state.trains t)
-looked_same front ledger at t lt = let train_state : TrainState = state_of ledger.state.trains t in
-    ⊎_elim
+looked_same front ledger at t lt =
+    let train_state : TrainState = state_of ledger.state.trains t in
+    same_look ledger.input.plant (bar_by ledger.orders ledger.state.holders) (seen_bar (told ledger.input.commands.items front) ledger.state.holders) t train_state
     (λ untried.
     let waits = (and_parts train_state.waits (not (is_some train_state.known)) untried).0 in
-    ap (λ (c : Option Cause). record train_state { known = cond (is_untried train_state) c train_state.known })
-    (bar_is front ledger at t lt (needed ledger.input.plant t train_state.place)
-    (sections_known ledger.input.plant (input_parts (input_in ledger.input) at.accepted).plant t lt train_state.place (omega (arith, at.rep.times.places t lt, left_of front ledger at t waits)))))
-    (λ tried. ap (λ (c : Option Cause). record train_state { known = c })
-    (cond-false (is_untried train_state) _ train_state.known tried ∙ sym (cond-false (is_untried train_state) _ train_state.known tried)))
-    (cases_Bool (is_untried train_state))
+    bar_is front ledger at t lt (needed ledger.input.plant t train_state.place)
+    (sections_known ledger.input.plant (input_parts (input_in ledger.input) at.accepted).plant t lt train_state.place (omega (arith, at.rep.times.places t lt, left_of front ledger at t waits))))
 
 pub looked : (front : Front) (ledger : Ledger) → IsAt front ledger → (states : List TrainState) → length states ≡ length ledger.state.trains
     → ((t : ℕ) → t < length ledger.state.trains → state_of states t ≡ looked_at ledger.input.plant (bar_by ledger.orders ledger.state.holders) t (state_of ledger.state.trains t))

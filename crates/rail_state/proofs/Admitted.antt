@@ -32,6 +32,7 @@ use Rattle.rail_state.specs.TrainStates.{after_taking, outlasts_taking, state_of
 use Rattle.rail_state.specs.TrainStates.{admitted as admitted_state}
 use Rattle.rail_state.specs.SeenCauses.{seen_bar, seen_cause}
 use Rattle.rail_state.proofs.Outlasting.{StillHold, each_free, outlasting_known, seen_outlasting, taking_holds}
+use Rattle.rail_state.proofs.Firm.{firm_kept}
 use Rattle.rail_state.proofs.Seen.{tells_none}
 use Rattle.rail_rules.specs.Analysis.{finds}
 use Rattle.rail_state.specs.Representation.{IsAdmissible, IsAdmitLine, IsBound, IsDeferred, MayKeep, Represents, admit_line, deferred_events, passing_event}
@@ -452,6 +453,9 @@ module _ (dispatch : Dispatch) (plant : Plant) (front : Front) (state : RunState
               let train_state : TrainState = state_of state.trains u in
               ap (λ (r : TrainState). r.waits) (other_state u lt was.0)
               ∙ (and_parts train_state.waits (outlasts_taking after_it.holders (needed plant u train_state.place) train_state.known) was.1).0;
+          firm = λ u why lt is.
+              let was = known_before u why lt is in
+              firm_kept plant state.trains after_it.trains u why lt rep.known.firm was.2 (ap (λ (r : TrainState). r.place) (other_state u lt was.0)) (ap (λ (r : TrainState). r.at_first) (other_state u lt was.0));
           no_more = λ held_last u lt waits. absurd (false≢true held_last);
         };
         settled = λ settled. absurd (false≢true (sym has.settled ∙ settled));

@@ -7,7 +7,7 @@ use Rattle.rail_rules.specs.Plant.{Plant, needed}
 use Rattle.rail_rules.specs.Numbers.{comes_before}
 use Rattle.rail_base.specs.declared.history.Cause.{Cause}
 use Rattle.rail_state.specs.declared.train.TrainState.{TrainState}
-use Rattle.rail_state.specs.TrainStates.{IsReadyFirst, no_state, state_of, is_untried, looked_at, turn}
+use Rattle.rail_state.specs.TrainStates.{IsReadyFirst, is_at_first, no_state, state_of, is_untried, looked_at, turn}
 use Rattle.rail_state.specs.FirstUntried.{ready_of, earlier, first_with}
 use Rattle.rail_state.proofs.TrainsChanged.{IsChanged, changed_none, changed_more, changed_over}
 
@@ -145,7 +145,7 @@ pub looked_over : (plant : Plant) (bar : ℕ → List ℕ → Option Cause) (old
 looked_over plant bar old now i first tried h =
     let train_state : TrainState = state_of old i in
     record {
-      trains = changed_over (looked_at plant bar) old now i (ap (λ b. record train_state { known = cond b (bar i (needed plant i train_state.place)) train_state.known }) tried) h.trains;
+      trains = changed_over (looked_at plant bar) old now i (ap (λ b. record train_state { known = cond b (bar i (needed plant i train_state.place)) train_state.known; at_first = cond b (is_at_first (bar i (needed plant i train_state.place)) (needed plant i train_state.place)) train_state.at_first }) tried) h.trains;
       first = first_kept now i first (ap is_untried (h.trains.from i (omega arith)) ∙ tried) h.first;
     }
 

@@ -31,6 +31,7 @@ use Rattle.rail_rules.specs.Causes.{closed_cause, stop_cause}
 use Rattle.rail_state.proofs.Next.{carried_ready}
 use Rattle.rail_state.proofs.Times.{place_kept}
 use Rattle.rail_state.proofs.Freed.{kept_cause}
+use Rattle.rail_state.proofs.Firm.{firm_kept}
 use Rattle.rail_state.proofs.Lines.{EntersOne, FreesOne, enter_view, free_view, is_free_line, is_ready_line, out_view, ready_view}
 use Rattle.rail_state.proofs.Changed.{head_next, head_same, known_kept, out_now_state, out_same, waits_kept, waits_now}
 use Rattle.rail_state.specs.declared.run_state.RunState.{RunState}
@@ -113,6 +114,9 @@ module _ (dispatch : Dispatch) (plant : Plant) (front : Front) (state : RunState
 
   pub same_told : (t : ℕ) → t < trains plant → (state_of after t).last_hold ≡ (state_of state.trains t).last_hold
   same_told = same_part (λ r. r.last_hold) (λ r k. refl) (λ r k. refl) (λ r k. refl) (λ r k. refl)
+
+  same_first : (t : ℕ) → t < trains plant → (state_of after t).at_first ≡ (state_of state.trains t).at_first
+  same_first = same_part (λ r. r.at_first) (λ r k. refl) (λ r k. refl) (λ r k. refl) (λ r k. refl)
 
   idle : is_admission w ≡ false
   idle = event_idle w kind
@@ -268,6 +272,12 @@ module _ (dispatch : Dispatch) (plant : Plant) (front : Front) (state : RunState
         (λ one. rep.known.waits t why lt (known_before t why lt one is).0)
         (λ other. rep.known.waits t why lt (sym (known_same t lt other) ∙ is))
         (free_view w));
+    firm = λ t why lt is. firm_kept plant state.trains after t why lt rep.known.firm
+        (⊎_elim
+        (λ one. (known_before t why lt one is).0)
+        (λ other. sym (known_same t lt other) ∙ is)
+        (free_view w))
+        (same_place t lt) (same_first t lt);
     no_more = λ held t lt waits. absurd (false≢true (sym (event_no_hold w kind) ∙ held));
   }
     where

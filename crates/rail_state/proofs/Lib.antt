@@ -10,6 +10,7 @@ mod Seeking
 mod TrainsChanged
 mod First
 mod WatchedKept
+mod Tables
 mod Turns
 -- Lemmas on what a run stands for, which the laws cite.
 mod Below
@@ -23,6 +24,7 @@ mod Settling
 mod Lines
 mod Changed
 mod Freed
+mod Firm
 mod Outlasting
 mod Happening
 mod Happened
@@ -47,3 +49,6 @@ mod Early
 mod GivenMoves
 mod EventClasses
 mod QueueRoom
+-- Lemmas on sets of trains, and on the trains that an admission or a section that is free again loosens.
+mod TrainSetLemmas
+mod Loosening

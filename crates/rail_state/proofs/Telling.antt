@@ -41,6 +41,7 @@ use Rattle.rail_state.specs.declared.train.TrainState.{TrainState}
 use Rattle.rail_state.specs.TrainStates.{state_of}
 use Rattle.rail_state.specs.TrainStates.{is_touched}
 use Rattle.rail_state.specs.Representation.{HasTold, IsBound, Represents, bare_at, deferred_events}
+use Rattle.rail_state.proofs.Firm.{firm_kept}
 use Rattle.rail_state.proofs.Pending.{held_same}
 use Rattle.rail_state.proofs.Times.{times_kept}
 use Rattle.rail_state.specs.declared.run_state.RunState.{RunState}
@@ -280,6 +281,7 @@ module _ (dispatch : Dispatch) (plant : Plant) (front : Front) (state : RunState
             let before = still_known t why lt known in
             let apart = or_parts (is_cancelled t orders) (list_any (λ order. Rattle.rail_state.specs.SeenCauses.touches order t (needed plant t (state_of state.trains t).place)) orders) before.1 in
             waits_is t lt ∙ and_from (not (is_cancelled t orders)) (state_of state.trains t).waits (not_from_false (is_cancelled t orders) apart.0) (rep.known.waits t why lt before.0);
+        firm = λ t why lt known. firm_kept plant state.trains after.trains t why lt rep.known.firm (still_known t why lt known).0 (same_part (λ r. r.place) (λ r c w. refl) t lt) (same_part (λ r. r.at_first) (λ r c w. refl) t lt);
         no_more = λ held. absurd (false≢true (sym no_hold ∙ held));
       };
       settled = λ settled t lt waits.

@@ -5,7 +5,7 @@ use Rattle.rail_state.specs.SeenCauses.{touches}
 use Rattle.std.specs.Option.{ForSome}
 use Rattle.std.specs.Global.{Vec}
 use Rattle.std.proofs.lemmas.List.{length-set, get_or_past}
-use Rattle.std.proofs.lemmas.Bool.{cases_lt, cases_Bool, false≢true, or_cases, or_parts, and_from, and_parts, cond-true, cond-false, eq-eqb}
+use Rattle.std.proofs.lemmas.Bool.{cases_lt, cases_Bool, false≢true, and_from, and_parts, cond-true, cond-false, eq-eqb}
 use Rattle.std.proofs.lemmas.Bool.Decides.{nat_tests}
 use Rattle.std.proofs.lemmas.List.Sums.{fold_more}
 use Rattle.std.proofs.lemmas.Option.{same_Some}
@@ -19,7 +19,7 @@ use Rattle.rail_state.specs.TrainStates.{admitted, after_taking, is_blocked_at, 
 use Rattle.rail_state.specs.FirstUntried.{earlier, first_with, ready_of}
 use Rattle.rail_state.specs.declared.span.Span.{Span}
 use Rattle.rail_state.specs.Spans.{AreAmong, Holds, IsAround, is_held}
-use Rattle.rail_state.specs.Watched.{AreWatched, heed, is_watched, look_again, look_at, note_taking}
+use Rattle.rail_state.specs.Watched.{AreWatched, heed, is_watched, look_at}
 use Rattle.rail_state.proofs.TrainsChanged.{IsChanged, changed_none, changed_more, changed_over, changed_all}
 use Rattle.rail_state.proofs.First.{IsLookedAt, looked_none, looked_more, looked_over}
 use Rattle.rail_state.proofs.Seeking.{among_at, among_none, found_among, held_passes, lacks_none, passed_twice}
@@ -34,24 +34,15 @@ all_watched {S} step Holds s states watched kept start more over =
     let P : List ℕ → Type 0 = λ list. Holds (fold step s list) (length states) in
     subst P (sym kept.exact) (in_turn step (is_watched_in states) Holds s (length states) start (λ now i lt _. more now i lt) (λ now i _. over now i))
 
--- what would be noted of a train that neither waits nor has a known cause is so already
-taking_none : (plant : Plant) (holders : List (Option ℕ)) (t : ℕ) (train_state : TrainState) → is_watched train_state ≡ false → after_taking plant holders t train_state ≡ train_state
-taking_none plant holders t train_state off = ap (λ known. record train_state { known = known }) (same (train_state.waits && outlasts_taking holders (claimed plant t train_state.place) train_state.known))
-  where
-    same : (b : Bool) → cond b train_state.known None ≡ train_state.known
-    same true = refl
-    same false = none_known train_state.known (not_known train_state off)
-
--- each watched train notes that sections were taken, and so all trains do
-pub taking_noted : (plant : Plant) (holders : List (Option ℕ)) (states shown new : List TrainState) (watched : Vec ℕ) (list : List ℕ) → AreWatched states watched → shown ≡ states
-    → list ≡ watched.items → new ≡ fold (note_taking plant holders) shown list → IsChanged (after_taking plant holders) states new (length states)
-taking_noted plant holders states shown new watched list kept shown_is list_is is =
-    let whole : new ≡ fold (note_taking plant holders) states watched.items =
-    is ∙ ap (λ (rs : List TrainState). fold (note_taking plant holders) rs list) shown_is ∙ ap (fold (note_taking plant holders) states) list_is in
-    subst (λ (now : List TrainState). IsChanged (after_taking plant holders) states now (length states)) (sym whole)
-    (all_watched (note_taking plant holders) (IsChanged (after_taking plant holders) states) states states watched kept (changed_none (after_taking plant holders) states)
-    (changed_more (after_taking plant holders) states)
-    (λ now i off. changed_over (after_taking plant holders) states now i (taking_none plant holders i (state_of states i) off)))
+-- each train notes that sections were taken, where those that were read do
+pub taking_noted : (plant : Plant) (holders : List (Option ℕ)) (states shown new : List TrainState) → shown ≡ states → length new ≡ length shown
+    → ((t : ℕ) → t < length shown → state_of new t ≡ after_taking plant holders t (state_of shown t)) → IsChanged (after_taking plant holders) states new (length states)
+taking_noted plant holders states shown new shown_is long noted =
+    subst (λ (rows : List TrainState). IsChanged (after_taking plant holders) rows new (length rows)) shown_is (record {
+      long = long;
+      below = noted;
+      from = λ t past. get_or_past new t no_state (omega (arith, past, long)) ∙ sym (get_or_past shown t no_state past);
+    })
 
 -- each train is so then
 pub taking_each : (plant : Plant) (holders : List (Option ℕ)) (old mid : List TrainState) → IsChanged (after_taking plant holders) old mid (length old) → (u : ℕ) → state_of mid u ≡ after_taking plant holders u (state_of old u)
@@ -68,10 +59,6 @@ lacks_kept plant holders t train_state = by (train_state.waits && outlasts_takin
     by : (b : Bool) → lacks_hold_line (record train_state { known = cond b train_state.known None }) ≡ true → lacks_hold_line train_state ≡ true
     by true is = is
     by false is = absurd (false≢true (sym (lacks_none (record train_state { known = None }) refl) ∙ is))
-
-pub or_none : (b : Bool) → (b || false) ≡ b
-or_none true = refl
-or_none false = refl
 
 -- behind an admission those of the watched trains are watched that wait still
 pub admitted_kept : (plant : Plant) (holders : List (Option ℕ)) (old mid : List TrainState) (watched now : Vec ℕ) (t : ℕ) (train_state : TrainState) → AreWatched old watched
@@ -318,34 +305,6 @@ moves_stay plant bar rows new t lt new_is before =
     subst (λ (rs : List TrainState). (u : ℕ) → u < trains plant → (state_of rs u).waits ≡ true → (state_of rs u).place < moves plant u) (sym new_is)
     (written (λ u train_state. u < trains plant → train_state.waits ≡ true → train_state.place < moves plant u) rows t (looked_at plant bar t (state_of rows t)) lt (before t) (λ u _. before u))
 
--- one more train of the list notes that sections were taken
-pub taking_step : (plant : Plant) (holders : List (Option ℕ)) (start : List TrainState) (list : List ℕ) (rows new : List TrainState) (i t : ℕ) → rows ≡ fold (note_taking plant holders) start (take i list)
-    → i < length list → t ≡ get_or list i t → new ≡ set rows t (after_taking plant holders t (state_of rows t)) → new ≡ fold (note_taking plant holders) start (take (i + 1) list)
-taking_step plant holders start list rows new i t so_far lt item new_is =
-    new_is
-    ∙ ap (λ (now : List TrainState). note_taking plant holders now t) so_far
-    ∙ ap (note_taking plant holders (fold (note_taking plant holders) start (take i list))) item
-    ∙ sym (fold_more (note_taking plant holders) start list i t lt)
-
--- where one train is written that waits as before at the same place, each waiting train has a next move still
-pub moves_on : (plant : Plant) (rows : List TrainState) (t : ℕ) (now : TrainState) → t < length rows → now.waits ≡ (state_of rows t).waits → now.place ≡ (state_of rows t).place
-    → ((u : ℕ) → u < trains plant → (state_of rows u).waits ≡ true → (state_of rows u).place < moves plant u) → (u : ℕ) → u < trains plant → (state_of (set rows t now) u).waits ≡ true
-    → (state_of (set rows t now) u).place < moves plant u
-moves_on plant rows t now lt waits place before =
-    written (λ u train_state. u < trains plant → train_state.waits ≡ true → train_state.place < moves plant u) rows t now lt
-    (λ below is. subst (λ (p : ℕ). p < moves plant t) (sym place) (before t below (sym waits ∙ is))) (λ u _. before u)
-
--- one more train of the list is looked at again
-pub looked_again_step : (x : ℕ) (start : List TrainState × Bool) (list : List ℕ) (rows new : List TrainState) (any some : Bool) (i t : ℕ) → (rows, any) ≡ fold (look_again x) start (take i list)
-    → i < length list → t ≡ get_or list i t → new ≡ set rows t (without_known x (state_of rows t)) → some ≡ (any || is_blocked_at x (state_of rows t).known)
-    → (new, some) ≡ fold (look_again x) start (take (i + 1) list)
-looked_again_step x start list rows new any some i t so_far lt item new_is some_is =
-    ap (λ (b : Bool). (new, b)) some_is
-    ∙ ap (λ (rs : List TrainState). (rs, any || is_blocked_at x (state_of rows t).known)) new_is
-    ∙ ap (λ (now : List TrainState × Bool). look_again x now t) so_far
-    ∙ ap (look_again x (fold (look_again x) start (take i list))) item
-    ∙ sym (fold_more (look_again x) start list i t lt)
-
 either_below : (b : Bool) (u t n : ℕ) → u < n → t < n → cond b u t < n
 either_below true u t n first second = first
 either_below false u t n first second = second
@@ -363,61 +322,6 @@ first_below rows first chosen t n before lt chosen_is =
     (λ off. rw off before)
     (cases_Bool (is_untried (state_of rows t))))
 
--- the trains below the bound were looked at again, and some was blocked at the section
-pub record IsLookedAgain (x : ℕ) (old now : List TrainState) (bound : ℕ) (any : Bool) : Type 0 where
-  pub trains : IsChanged (λ _. without_known x) old now bound
-  pub none : any ≡ false → (t : ℕ) → t < bound → is_blocked_at x (state_of old t).known ≡ false
-  pub some : any ≡ true → (t : ℕ) × (is_blocked_at x (state_of old t).known ≡ true)
-
-looked_again_more : (x : ℕ) (old now : List TrainState) (i : ℕ) (any : Bool) → i < length old → IsLookedAgain x old now i any → IsLookedAgain x old (set now i (without_known x (state_of now i))) (i + 1) (any || is_blocked_at x (state_of now i).known)
-looked_again_more x old now i any lt h =
-    let same : is_blocked_at x (state_of now i).known ≡ is_blocked_at x (state_of old i).known = ap (λ (r : TrainState). is_blocked_at x r.known) (h.trains.from i (omega arith)) in
-    record {
-      trains = changed_more (λ _. without_known x) old now i lt h.trains;
-      none = λ off t within.
-          let parts = or_parts any (is_blocked_at x (state_of now i).known) off in
-          ⊎_elim
-          (λ below. h.none parts.0 t below)
-          (λ above.
-          let here : i ≡ t = omega arith in
-          let P : ℕ → Type 0 = λ k. is_blocked_at x (state_of old k).known ≡ false in
-          subst P here (sym same ∙ parts.1))
-          (cases_lt t i);
-      some = λ yes. ⊎_elim (λ before. h.some before) (λ here. (i, sym same ∙ here)) (or_cases any (is_blocked_at x (state_of now i).known) yes);
-    }
-
-looked_again_over : (x : ℕ) (old now : List TrainState) (i : ℕ) (any : Bool) → is_blocked_at x (state_of old i).known ≡ false → IsLookedAgain x old now i any → IsLookedAgain x old now (i + 1) any
-looked_again_over x old now i any off h =
-    let train_state : TrainState = state_of old i in
-    record {
-      trains = changed_over (λ _. without_known x) old now i (ap (λ b. record train_state { known = cond b None train_state.known }) off) h.trains;
-      none = λ fails t within.
-          ⊎_elim
-          (λ below. h.none fails t below)
-          (λ above.
-          let here : i ≡ t = omega arith in
-          let P : ℕ → Type 0 = λ k. is_blocked_at x (state_of old k).known ≡ false in
-          subst P here off)
-          (cases_lt t i);
-      some = h.some;
-    }
-
--- all trains were looked at again
-pub all_looked_again : (x : ℕ) (states : List TrainState) (watched : Vec ℕ) → AreWatched states watched → IsLookedAgain x states (fold (look_again x) (states, false) watched.items).0 (length states) (fold (look_again x) (states, false) watched.items).1
-all_looked_again x states watched kept =
-    let Holds : List TrainState × Bool → ℕ → Type 0 = λ now i. IsLookedAgain x states now.0 i now.1 in
-    all_watched (look_again x) Holds (states, false) states watched kept
-    (record { trains = changed_none (λ _. without_known x) states; none = λ _ t lt. absurd (omega (arith, lt)); some = λ yes. absurd (false≢true yes) })
-    (λ now i lt h. looked_again_more x states now.0 i now.1 lt h)
-    (λ now i off h. looked_again_over x states now.0 i now.1 (not_blocked x (state_of states i).known (not_known (state_of states i) off)) h)
-
--- the trains of the list were looked at again
-pub looked_again_now : (x : ℕ) (states shown new : List TrainState) (watched : Vec ℕ) (list : List ℕ) (any : Bool) → AreWatched states watched → shown ≡ states → list ≡ watched.items → (new, any) ≡ fold (look_again x) (shown, false) list → IsLookedAgain x states new (length states) any
-looked_again_now x states shown new watched list any kept shown_is list_is is =
-    let whole : (new, any) ≡ fold (look_again x) (states, false) watched.items = is ∙ ap (λ (rs : List TrainState). fold (look_again x) (rs, false) list) shown_is ∙ ap (fold (look_again x) (states, false)) list_is in
-    let P : List TrainState × Bool → Type 0 = λ now. IsLookedAgain x states now.0 (length states) now.1 in
-    subst P (sym whole) (all_looked_again x states watched kept)
-
 -- a train that doesn't wait is as it was where it is looked at again
 again_same : (x : ℕ) (train_state : TrainState) → is_blocked_at x train_state.known ≡ false → without_known x train_state ≡ train_state
 again_same x train_state off = ap (λ b. record train_state { known = cond b None train_state.known }) off
@@ -430,11 +334,10 @@ lacks_still x train_state is =
     (λ off. ap lacks_hold_line (sym (again_same x train_state off)) ∙ is)
     (cases_Bool (is_blocked_at x train_state.known))
 
--- all trains were looked at again, and the list stays
-pub looked_again_kept : (x : ℕ) (old new : List TrainState) (watched : Vec ℕ) (any : Bool) → AreWatched old watched → IsLookedAgain x old new (length old) any → AreWatched new watched
-looked_again_kept x old new watched any kept looked =
-    let each : (t : ℕ) → state_of new t ≡ without_known x (state_of old t) = changed_all (λ _. without_known x) old new looked.trains (λ t. refl) in
-    still_watched old new watched kept looked.trains.long
+-- where all trains were looked at again, the list stays
+pub looked_again_kept : (x : ℕ) (old new : List TrainState) (watched : Vec ℕ) → AreWatched old watched → length new ≡ length old → ((t : ℕ) → state_of new t ≡ without_known x (state_of old t)) → AreWatched new watched
+looked_again_kept x old new watched kept long each =
+    still_watched old new watched kept long
     (λ t.
     let train_state : TrainState = state_of old t in
     ⊎_elim
@@ -446,14 +349,6 @@ looked_again_kept x old new watched any kept looked =
     let train_state : TrainState = state_of old t in
     let waits : train_state.waits ≡ false = sym (ap (λ (r : TrainState). r.waits) (each t)) ∙ off in
     ap (λ (r : TrainState). is_blocked_at y r.known) (each t ∙ again_same x train_state (kept.free t x waits)) ∙ kept.free t y waits)
-
--- no train was blocked at the section, where none was so far
-pub none_blocked : (x : ℕ) (old new : List TrainState) (any : Bool) → IsLookedAgain x old new (length old) any → any ≡ false → (t : ℕ) → is_blocked_at x (state_of old t).known ≡ false
-none_blocked x old new any looked off t =
-    ⊎_elim
-    (λ below. looked.none off t below)
-    (λ above. ap (λ (r : TrainState). is_blocked_at x r.known) (get_or_past old t no_state above))
-    (cases_lt t (length old))
 
 -- the first watched train that wasn't told is the first of all
 pub first_lacking_of_all : (states : List TrainState) (watched : Vec ℕ) → AreWatched states watched → IsLeast (λ t. lacks_hold_line (state_of states t)) (length states) (find (λ t. lacks_hold_line (state_of states t)) watched.items)

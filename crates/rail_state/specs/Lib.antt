@@ -2,6 +2,7 @@
 pub mod Events
 -- What a run keeps of each train.
 pub mod TrainStates
+pub mod TrainSets
 pub mod FirstUntried
 pub mod Spans
 pub mod Watched

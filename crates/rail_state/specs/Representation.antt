@@ -34,7 +34,7 @@ use Rattle.rail_queue.specs.declared.event.Class.{Class}
 use Rattle.rail_queue.specs.declared.event.Class.TheVariants as class
 use Rattle.rail_state.specs.Events.{end_lines, event_of, deferred_event, step_lines, train_event}
 use Rattle.rail_state.specs.declared.train.TrainState.{TrainState}
-use Rattle.rail_state.specs.TrainStates.{is_blocked_at, is_touched, is_untried, outside, state_admitted, state_after, state_of, state_told, after_hold_line}
+use Rattle.rail_state.specs.TrainStates.{AreFirm, is_blocked_at, is_touched, is_untried, outside, state_admitted, state_after, state_of, state_told, after_hold_line}
 use Rattle.rail_state.specs.declared.run_state.RunState.{RunState}
 
 -- how many moves of each train are admitted, and the times carried for it
@@ -86,6 +86,7 @@ pub record AreKnown (dispatch : Dispatch) (plant : Plant) (front : Front) (holde
   pub cause : (t : ℕ) (why : Cause) → t < trains plant → (state_of states t).known ≡ Some why
       → seen_cause (input_of dispatch plant) front holders t ≡ Some why
   pub waits : (t : ℕ) (why : Cause) → t < trains plant → (state_of states t).known ≡ Some why → (state_of states t).waits ≡ true
+  pub firm : AreFirm plant states
   pub no_more : has_held front ≡ true → (t : ℕ) → t < trains plant → (state_of states t).waits ≡ true
       → is_some (state_of states t).known ≡ true
 

@@ -7,7 +7,7 @@ use Rattle.rail_base.specs.declared.history.Cause.{Cause}
 use Rattle.rail_base.specs.declared.history.Cause.TheVariants.{Blocked, NoList}
 use Rattle.rail_base.specs.declared.orders.Order.{Order}
 use Rattle.rail_rules.specs.Orders.{is_cancelled}
-use Rattle.rail_rules.specs.Plant.{Plant, claimed, steps}
+use Rattle.rail_rules.specs.Plant.{Plant, claimed, steps, trains}
 use Rattle.rail_rules.specs.Fronts.{same_cause}
 use Rattle.rail_rules.specs.Numbers.{comes_before, or_else}
 use Rattle.rail_orders.specs.Told.{Told, closed_in, stop_in}
@@ -33,6 +33,7 @@ no_state =
       waits = false;
       last_hold = None;
       known = None;
+      at_first = false;
       is_out = false;
     }
 
@@ -51,6 +52,7 @@ outside plant t =
       waits = false;
       last_hold = None;
       known = None;
+      at_first = false;
       is_out = false;
     }
 
@@ -92,11 +94,23 @@ pub record IsAnyWaiting (states : List TrainState) : Type 0 where
   pub there : train < length states
   pub waits : (state_of states train).waits ≡ true
 
+-- the cause is that a section is blocked
+abbrev pub is_blocked : Cause → Bool
+is_blocked (Blocked x u) = true
+is_blocked _ = false
+
+-- the cause is that the first of these sections is blocked
+abbrev pub is_at_first : Option Cause → List ℕ → Bool
+is_at_first (Some (Blocked x u)) (y ∷ sections) = x == y
+is_at_first _ _ = false
+
 -- a train that is untried is looked at: what bars its next move is its cause
 abbrev pub looked_at : Plant → (ℕ → List ℕ → Option Cause) → ℕ → TrainState → TrainState
 looked_at plant bar t train_state =
+    let sections = claimed plant t train_state.place in
     record train_state {
-      known = cond (is_untried train_state) (bar t (claimed plant t train_state.place)) train_state.known;
+      known = cond (is_untried train_state) (bar t sections) train_state.known;
+      at_first = cond (is_untried train_state) (is_at_first (bar t sections) sections) train_state.at_first;
     }
 
 -- what orders the waiting trains: when they are ready, then their number
@@ -162,3 +176,8 @@ state_told plant orders t train_state =
       known = cond (is_touched plant orders t train_state) None train_state.known;
       waits = not (is_cancelled t orders) && train_state.waits;
     }
+
+-- a train that is known to be held for the first section of its next move is so
+abbrev pub AreFirm : Plant → List TrainState → Type 0
+AreFirm plant states = (t : ℕ) (why : Cause) → t < trains plant → (state_of states t).known ≡ Some why → (state_of states t).at_first ≡ true
+    → is_blocked why ≡ true → is_at_first (Some why) (claimed plant t (state_of states t).place) ≡ true

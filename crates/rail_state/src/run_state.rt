@@ -14,7 +14,7 @@ ghost use Rattle.rail_state.specs.Admissions.{IsGivable};
 ghost use Rattle.rail_state.specs.Events.{command_events, deferred_event, train_event};
 ghost use Rattle.rail_state.specs.Representation.{IsAdmitLine, IsHoldLine, IsReadyFor, StaysSettled, holders_after, what_of};
 ghost use Rattle.rail_state.specs.SeenCauses.{cancelled_by, stays};
-ghost use Rattle.rail_state.specs.TrainStates.{outside, lacks_hold_line, state_after, state_of, state_told};
+ghost use Rattle.rail_state.specs.TrainStates.{AreFirm, outside, lacks_hold_line, state_after, state_of, state_told};
 ghost use Rattle.std.specs.List.{filter};
 ghost use Rattle.rail_base.specs.declared.limits.TheConstants.{COMMANDS};
 ghost use Rattle.rail_state.specs.declared.pushes.TheConstants.{MOVE_EVENTS};
@@ -210,6 +210,8 @@ impl RunState {
         requires free { held_cause self.old.holders (claimed plant.now train (state_of self.old.trains train).place) ≡ None }
         requires moves { (t : ℕ) → t < trains plant.now → (state_of self.old.trains t).waits ≡ true
             → (state_of self.old.trains t).place < moves plant.now t }
+        requires waits { (t : ℕ) → (state_of self.old.trains t).waits ≡ false → (state_of self.old.trains t).known ≡ None }
+        requires firm { AreFirm plant.now self.old.trains }
         ensures given { (front : Front) → IsGivable plant.now front self.old.trains self.old.instant train
             → (times : MoveTimes) × (arrival : Option ℕ) × IsAdmitLine plant.now front train times arrival self.old self.new }
         ensures room { length self.new.queue.events + self.new.queue.spare ≡ length self.old.queue.events + self.old.queue.spare }

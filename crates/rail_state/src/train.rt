@@ -1,14 +1,16 @@
 //! One train.
 
-ghost use Rattle.std.specs.Prelude.{◌≡◌, ◌-◌, ◌<◌, ◌≤◌, ◌&&◌, ◌||◌, not, [], ◌∷◌, ◌++◌, get_or, length, true, false, None, vec_len, vec_capacity};
+ghost use Rattle.std.specs.Prelude.{◌≡◌, ℕ, ◌-◌, ◌<◌, ◌≤◌, ◌&&◌, ◌||◌, not, [], ◌∷◌, ◌++◌, get_or, length, true, false, None, vec_len, vec_capacity};
 ghost use Rattle.std.specs.List.{All};
-ghost use Rattle.rail_base.specs.declared.limits.TheConstants.{ITINERARY_ROUTES};
+ghost use Rattle.rail_base.specs.declared.limits.TheConstants.{ITINERARY_ROUTES, SECTIONS, TRAINS};
+ghost use Rattle.rail_state.specs.TrainSets.{has_train, set_at};
 ghost use Rattle.rail_rules.specs.Plant.{claimed, moves, needed, step_section, steps, trains};
 ghost use Rattle.rail_laws_run.specs.HolderTables.{held_cause};
 ghost use Rattle.rail_state.specs.TrainStates.{is_touched, state_told};
-ghost use Rattle.rail_state.specs.TrainStates.{admitted, after_taking, bar_by, head_behind, is_blocked_at, is_held_before, lacks_hold_line, is_untried, looked_at, outside, outlasts_taking, after_hold_line, without_known};
-ghost use Rattle.rail_state.specs.Watched.{is_watched};
+ghost use Rattle.rail_state.specs.TrainStates.{admitted, after_taking, bar_by, head_behind, is_at_first, is_blocked_at, is_held_before, lacks_hold_line, is_untried, looked_at, outside, outlasts_taking, after_hold_line, without_known};
+ghost use Rattle.rail_state.specs.Watched.{is_loose, is_watched};
 
+use crate::train_set::HeldFor;
 use rail_base::{Cause, Order, SectionNo, Time, TrainNo};
 use rail_block::{MoveTimes, entry_times};
 use rail_orders::ToldOrders;
@@ -38,6 +40,9 @@ pub struct TrainState {
     pub last_hold: Option<Cause>,
     /// Why its next move isn't admitted, where this is known.
     pub known: Option<Cause>,
+    /// Where the known cause is that a section is held, whether it is the first one of its next move: then no admission
+    /// changes the cause.
+    pub at_first: bool,
     /// Its out line was given.
     pub is_out: bool,
 }
@@ -69,6 +74,17 @@ impl TrainState {
         ensures { result ≡ not (self.now.is_out || get_or orders.now.cancelled train false) }
     {
         !self.is_out && !orders.is_cancelled(train)
+    }
+
+    /// Whether an admission of another train may change the known cause.
+    pub(crate) fn is_loose(&self) -> bool
+        ensures { result ≡ is_loose self.now }
+    {
+        match self.known {
+            Some(Cause::Blocked { .. }) => !self.at_first,
+            Some(Cause::NoList) => true,
+            _ => false,
+        }
     }
 
     /// Whether the known cause is that this section is blocked.
@@ -109,7 +125,32 @@ impl TrainState {
         if self.is_untried() {
             has_few_moves(plant, train);
             let row = plant.move_row(train, self.place + 1);
-            self.known = bar_of(orders, holders, train, row.sections.as_slice());
+            let sections = row.sections.as_slice();
+            self.known = bar_of(orders, holders, train, sections);
+            self.at_first = self.is_held_at_first(sections);
+        }
+    }
+
+    /// Whether the known cause is that the first of these sections is blocked.
+    fn is_held_at_first(&self, sections: &[SectionNo]) -> bool
+        ensures { result ≡ is_at_first self.now.known sections.now }
+    {
+        match self.known {
+            Some(Cause::Blocked { section, .. }) => sections.first() == Some(&section),
+            _ => false,
+        }
+    }
+
+    /// Where the known cause is that a section is blocked, the train is noted as held for it.
+    pub(crate) fn note_in(&self, held: &mut HeldFor, train: TrainNo)
+        requires section { (x : ℕ) → is_blocked_at x self.now.known ≡ true → x < SECTIONS }
+        requires train { train < TRAINS }
+        ensures here { (x : ℕ) → is_blocked_at x self.now.known ≡ true → has_train (set_at held.new x) train ≡ true }
+        ensures others { (x t : ℕ) → has_train (set_at held.old x) t ≡ true → has_train (set_at held.new x) t ≡ true }
+    {
+        match self.known {
+            Some(Cause::Blocked { section, .. }) => held.insert(section, train),
+            _ => {}
         }
     }
 
@@ -214,6 +255,7 @@ pub(crate) fn push_outside(states: &mut Vec<TrainState>, plant: &Plant, train: T
         waits: false,
         last_hold: None,
         known: None,
+        at_first: false,
         is_out: false,
     });
 }

@@ -7,10 +7,11 @@ ghost use Rattle.rail_base.specs.declared.history.What.TheVariants.{Free, Enter,
 ghost use Rattle.rail_rules.specs.Plant.{Plant, moves, step_section, steps, trains};
 ghost use Rattle.rail_rules.specs.Numbers.{listed};
 ghost use Rattle.rail_state.specs.TrainStates.{state_told};
-ghost use Rattle.rail_state.specs.TrainStates.{IsAnyWaiting, IsReadyFirst, bar_by, is_blocked_at, lacks_hold_line, is_untried, looked_at, outside, state_admitted, state_after, state_of, after_hold_line};
+ghost use Rattle.rail_state.specs.TrainStates.{AreFirm, IsAnyWaiting, IsReadyFirst, bar_by, is_blocked_at, lacks_hold_line, is_untried, looked_at, outside, state_admitted, state_after, state_of, after_hold_line};
 
 use crate::span::{Sought, Span, around, within};
 use crate::train::{TrainState, head_behind, push_outside, section_at};
+use crate::train_set::{HeldFor, TrainSet};
 use crate::watched::{
     first_lacking, heed_each, is_any_waiting, keep_waiting, look_again_at_each, look_at_each,
     note_taking_each, watch,
@@ -32,6 +33,10 @@ pub struct TrainStates {
     watched: Vec<TrainNo>,
     /// Among which of the watched trains a look and a hold line seek theirs.
     sought: Sought,
+    /// For each section the trains that are held for it.
+    held: HeldFor,
+    /// The trains whose causes an admission may change.
+    loose: TrainSet,
 }
 
 impl Drop for TrainStates {
@@ -40,6 +45,8 @@ impl Drop for TrainStates {
             rows: _rows,
             watched: _watched,
             sought: _,
+            held: _held,
+            loose: _,
         } = self;
     }
 }
@@ -53,7 +60,7 @@ impl Model for TrainStates {
 
     ghost view = { λ states. states.rows.items };
 
-    ghost invariant = { λ states. AreKept states.rows.items states.watched states.sought.untried states.sought.lacking };
+    ghost invariant = { λ states. AreKept states.rows.items states.watched states.sought.untried states.sought.lacking states.held states.loose };
 }
 
 impl TrainStates {
@@ -74,6 +81,8 @@ impl TrainStates {
                 untried: Span::none(),
                 lacking: Span::none(),
             },
+            held: HeldFor::new(alloc)?,
+            loose: TrainSet::none(),
         })
     }
 
@@ -187,7 +196,7 @@ impl TrainStates {
     {
         look_again_at_each(
             &mut self.rows,
-            &self.watched,
+            self.held.take(section),
             section,
             &mut self.sought.untried,
         )
@@ -215,6 +224,8 @@ impl TrainStates {
             orders,
             holders,
             &mut self.sought,
+            &mut self.held,
+            &mut self.loose,
         )
     }
 
@@ -243,6 +254,7 @@ impl TrainStates {
         watch(&mut self.watched, &self.rows, train);
         let train_state = &mut self.rows[usize::from(train.0)];
         train_state.known = Some(Cause::NoList);
+        self.loose.insert(train);
     }
 
     /// The first train that has a known cause which its last hold line doesn't name.
@@ -283,6 +295,8 @@ impl TrainStates {
         requires sections { length holders.now ≡ length plant.now.tables.sections }
         requires moves { (t : ℕ) → t < trains plant.now → (state_of self.old t).waits ≡ true
             → (state_of self.old t).place < moves plant.now t }
+        requires waits { (t : ℕ) → (state_of self.old t).waits ≡ false → (state_of self.old t).known ≡ None }
+        requires firm { AreFirm plant.now self.old }
         requires place { (state_of self.old train).place < 65535 }
         ensures length { length self.new ≡ length self.old }
         ensures trains { (t : ℕ) → t < length self.old → state_of self.new t
@@ -290,7 +304,7 @@ impl TrainStates {
     {
         note_taking_each(
             &mut self.rows,
-            &self.watched,
+            &mut self.loose,
             plant,
             holders,
             &mut self.sought.untried,

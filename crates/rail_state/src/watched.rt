@@ -1,17 +1,20 @@
 //! The trains that a run watches: those that wait, and those with a known cause.
 
-ghost use Rattle.std.specs.Prelude.{◌≡◌, ℕ, ◌<◌, [], ◌∷◌, true, false, cond, get_or, length, set, vec_len, vec_capacity, IsTrue, None};
+ghost use Rattle.std.specs.Prelude.{◌≡◌, ℕ, ◌<◌, ◌≤◌, [], ◌∷◌, true, false, cond, get_or, length, set, vec_len, vec_capacity, IsTrue, None};
 ghost use Rattle.std.specs.List.{All, filter, find, fold};
 ghost use Rattle.std.specs.List.Sorted.{IsNonDecreasing};
 ghost use Rattle.std.specs.Option.{ForSome};
 ghost use Rattle.rail_rules.specs.Plant.{moves, trains};
-ghost use Rattle.rail_state.specs.TrainStates.{IsAnyWaiting, bar_by, is_untried, lacks_hold_line, looked_at, state_of};
+ghost use Rattle.rail_state.specs.TrainStates.{AreFirm, IsAnyWaiting, after_taking, is_blocked_at, without_known, bar_by, is_untried, lacks_hold_line, looked_at, state_of};
 ghost use Rattle.rail_state.specs.FirstUntried.{earlier};
 ghost use Rattle.rail_state.specs.Spans.{AreAmong, Holds};
-ghost use Rattle.rail_state.specs.Watched.{AreWatched, heed, inserted, is_watched, look_again, look_at, note_taking};
+ghost use Rattle.rail_base.specs.declared.limits.TheConstants.{SECTIONS, TRAINS};
+ghost use Rattle.rail_state.specs.TrainSets.{has_train};
+ghost use Rattle.rail_state.specs.Watched.{AreHeldFor, AreLoose, AreWatched, heed, inserted, is_watched, look_at};
 
 use crate::span::{Sought, Span};
 use crate::train::TrainState;
+use crate::train_set::{HeldFor, TrainSet};
 use rail_base::{Order, SectionNo, Time, TrainNo};
 use rail_orders::ToldOrders;
 use rail_plan::Plant;
@@ -81,7 +84,10 @@ pub(crate) fn look_at_each(
     orders: &ToldOrders,
     holders: &Holders,
     sought: &mut Sought,
+    held: &mut HeldFor,
+    loose: &mut TrainSet,
 ) -> Option<TrainNo>
+    requires few { length rows.old ≤ TRAINS }
     requires watched { All (λ t. t < length rows.old) watched.now }
     requires known { length rows.old ≡ trains plant.now }
     requires sections { length holders.now ≡ length plant.now.tables.sections }
@@ -91,10 +97,12 @@ pub(crate) fn look_at_each(
     ensures untried { (k d : ℕ) → k < length watched.now → is_untried (state_of rows.new (get_or watched.now k d)) ≡ true
         → Holds sought.new.untried (get_or watched.now k d) }
     ensures lacking { AreAmong lacks_hold_line rows.old sought.old.lacking → AreAmong lacks_hold_line rows.new sought.new.lacking }
+    ensures held { AreHeldFor rows.old held.old → AreHeldFor rows.new held.new }
+    ensures loose { AreLoose rows.old loose.old → AreLoose rows.new loose.new }
 {
     let mut first = None;
     for train in watched {
-        if look_at(rows, *train, plant, orders, holders, sought) {
+        if look_at(rows, *train, plant, orders, holders, sought, held, loose) {
             first = Some(earlier(rows, first, *train));
         }
     }
@@ -109,7 +117,10 @@ fn look_at(
     orders: &ToldOrders,
     holders: &Holders,
     sought: &mut Sought,
+    held: &mut HeldFor,
+    loose: &mut TrainSet,
 ) -> bool
+    requires few { length rows.old ≤ TRAINS }
     requires train { train < length rows.old }
     requires known { length rows.old ≡ trains plant.now }
     requires sections { length holders.now ≡ length plant.now.tables.sections }
@@ -119,6 +130,8 @@ fn look_at(
     ensures untried { IsTrue result → Holds sought.new.untried train }
     ensures others { (t : ℕ) → Holds sought.old.untried t → Holds sought.new.untried t }
     ensures lacking { AreAmong lacks_hold_line rows.old sought.old.lacking → AreAmong lacks_hold_line rows.new sought.new.lacking }
+    ensures held { AreHeldFor rows.old held.old → AreHeldFor rows.new held.new }
+    ensures loose { AreLoose rows.old loose.old → AreLoose rows.new loose.new }
 {
     let train_state = &mut rows[usize::from(train.0)];
     if !train_state.is_untried() {
@@ -132,7 +145,19 @@ fn look_at(
     if train_state.lacks_hold_line() {
         sought.lacking.include(train);
     }
+    has_few_sections(plant);
+    train_state.note_in(held, train);
+    if train_state.is_loose() {
+        loose.insert(train);
+    }
     false
+}
+
+/// The numbers of the plant's sections are small.
+fn has_few_sections(plant: &Plant)
+    ensures { length plant.now.tables.sections ≤ SECTIONS }
+{
+    plant.names();
 }
 
 /// Of the first one before this train and this train, the one that is ready first; the first where both are ready at
@@ -157,22 +182,29 @@ fn ready(rows: &[TrainState], train: TrainNo) -> Time
 }
 
 /// The causes of those of these trains that were held for this section are no longer known, and they come into the
-/// span of the untried trains. Whether there were any.
+/// span of the untried trains. Whether there were any. All that were held for it are among these.
 pub(crate) fn look_again_at_each(
     rows: &mut [TrainState],
-    watched: &[TrainNo],
+    held: TrainSet,
     section: SectionNo,
     untried: &mut Span,
 ) -> bool
-    requires { All (λ t. t < length rows.old) watched.now }
-    ensures looked { (rows.new, result) ≡ fold (look_again section) (rows.old, false) watched.now }
+    requires held { (t : ℕ) → is_blocked_at section (state_of rows.old t).known ≡ true → has_train held t ≡ true }
+    ensures length { length rows.new ≡ length rows.old }
+    ensures rows { (t : ℕ) → state_of rows.new t ≡ without_known section (state_of rows.old t) }
+    ensures any { result ≡ false → (t : ℕ) → is_blocked_at section (state_of rows.old t).known ≡ false }
+    ensures some { result ≡ true → (t : ℕ) × (is_blocked_at section (state_of rows.old t).known ≡ true) }
     ensures untried { AreAmong is_untried rows.old untried.old → AreAmong is_untried rows.new untried.new }
 {
     let mut any = false;
-    for train in watched {
-        if rows[usize::from(train.0)].forget(section) {
-            any = true;
-            untried.include(*train);
+    let mut left = held;
+    while let Some(train) = left.take_first() {
+        let place = usize::from(train.0);
+        if place < rows.len() {
+            if rows[place].forget(section) {
+                any = true;
+                untried.include(train);
+            }
         }
     }
     any
@@ -205,28 +237,41 @@ pub(crate) fn heed_each(rows: &mut [TrainState], watched: &[TrainNo], plant: &Pl
     }
 }
 
-/// A train took sections, which leaves these holders: each of these trains notes it, and those that are untried then
-/// come into the span of the untried trains.
+/// A train took sections, which leaves these holders: each train notes it whose cause that may change, and those that are
+/// untried then come into the span of the untried trains. Of the set those are left whose causes an admission may change.
 pub(crate) fn note_taking_each(
     rows: &mut [TrainState],
-    watched: &[TrainNo],
+    loose: &mut TrainSet,
     plant: &Plant,
     holders: &Holders,
     untried: &mut Span,
 )
-    requires watched { All (λ t. t < length rows.old) watched.now }
+    requires few { length rows.old ≤ TRAINS }
+    requires loose { AreLoose rows.old loose.old }
     requires known { length rows.old ≡ trains plant.now }
     requires sections { length holders.now ≡ length plant.now.tables.sections }
     requires moves { (t : ℕ) → t < trains plant.now → (state_of rows.old t).waits ≡ true
         → (state_of rows.old t).place < moves plant.now t }
-    ensures noted { rows.new ≡ fold (note_taking plant.now holders.now) rows.old watched.now }
+    requires waits { (t : ℕ) → (state_of rows.old t).waits ≡ false → (state_of rows.old t).known ≡ None }
+    requires firm { AreFirm plant.now rows.old }
+    ensures length { length rows.new ≡ length rows.old }
+    ensures noted { (t : ℕ) → t < length rows.old → state_of rows.new t ≡ after_taking plant.now holders.now t (state_of rows.old t) }
+    ensures loose { AreLoose rows.new loose.new }
     ensures untried { AreAmong is_untried rows.old untried.old → AreAmong is_untried rows.new untried.new }
 {
-    for other in watched {
-        let train_state = &mut rows[usize::from(other.0)];
-        train_state.note_taking(plant, holders, *other);
-        if train_state.is_untried() {
-            untried.include(*other);
+    let mut left = *loose;
+    *loose = TrainSet::none();
+    while let Some(other) = left.take_first() {
+        let place = usize::from(other.0);
+        if place < rows.len() {
+            let train_state = &mut rows[place];
+            train_state.note_taking(plant, holders, other);
+            if train_state.is_untried() {
+                untried.include(other);
+            }
+            if train_state.is_loose() {
+                loose.insert(other);
+            }
         }
     }
 }

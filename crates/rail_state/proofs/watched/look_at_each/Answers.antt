@@ -46,8 +46,8 @@ loop-train-preserved c =
     elim c.if-look_at.branch [
       | then-look_at w ↦
           let is = w.first-is ∙ ap Some w.earlier.ensures ∙ sym (cond-true (is_untried (state_of new t)) (Some (earlier new first t)) first (sym c.look_at.ensures.answer ∙ w.if-look_at.true)) in
-          record { so_far = so_far is; moves = moves; first = below is; untried = untried; lacking = λ at_first. c.look_at.ensures.lacking (before.lacking at_first) }
+          record { so_far = so_far is; moves = moves; first = below is; untried = untried; lacking = λ at_first. c.look_at.ensures.lacking (before.lacking at_first); held = λ at_first. c.look_at.ensures.held (before.held at_first); loose = λ at_first. c.look_at.ensures.loose (before.loose at_first); few = omega (arith, before.few, long) }
       | else-look_at w ↦
           let is = w.first-is ∙ sym (cond-false (is_untried (state_of new t)) (Some (earlier new first t)) first (sym c.look_at.ensures.answer ∙ w.if-look_at.false)) in
-          record { so_far = so_far is; moves = moves; first = below is; untried = untried; lacking = λ at_first. c.look_at.ensures.lacking (before.lacking at_first) }
+          record { so_far = so_far is; moves = moves; first = below is; untried = untried; lacking = λ at_first. c.look_at.ensures.lacking (before.lacking at_first); held = λ at_first. c.look_at.ensures.held (before.held at_first); loose = λ at_first. c.look_at.ensures.loose (before.loose at_first); few = omega (arith, before.few, long) }
     ]

@@ -1,4 +1,4 @@
-use Rattle.std.proofs.Common.{◌≡◌, ℕ, suc, ◌+◌, ◌<◌, ◌≤◌, ◌∷◌, true, length, None, refl, sym, ap, ◌∙◌, subst, arith}
+use Rattle.std.proofs.Common.{◌≡◌, ℕ, suc, ◌+◌, ◌<◌, ◌≤◌, ◌∷◌, true, false, length, None, refl, sym, ap, ◌∙◌, subst, arith}
 use Rattle.std.specs.Prelude.{IsTrue}
 use Rattle.rail_base.specs.declared.history.What.{What}
 use Rattle.rail_base.specs.declared.history.What.TheVariants.{Admit}
@@ -12,7 +12,7 @@ use Rattle.rail_laws_run.specs.HolderTables.{held_cause}
 use Rattle.rail_state.specs.declared.pushes.TheConstants.{MOVE_EVENTS}
 use Rattle.rail_state.specs.declared.run_state.RunState.{RunState}
 use Rattle.rail_state.specs.declared.train.TrainState.{TrainState}
-use Rattle.rail_state.specs.TrainStates.{state_of}
+use Rattle.rail_state.specs.TrainStates.{AreFirm, state_of}
 use Rattle.rail_state.specs.Admissions.{IsGivable}
 use Rattle.rail_state.specs.Representation.{IsAdmitLine}
 use Rattle.rail_state.proofs.CallerLemmas.{admissible, may_keep, runs}
@@ -21,7 +21,7 @@ use Rattle.rail_ledger.specs.declared.ledger.Listed.{Listed}
 use Rattle.rail_ledger.specs.Ledgers.{HasList, IsAt, line_in, list_with}
 use Rattle.rail_rules.specs.Orders.{told}
 use Rattle.rail_ledger.proofs.Ordered.{held_free}
-use Rattle.rail_ledger.proofs.Commands.{waiting_left}
+use Rattle.rail_ledger.proofs.Commands.{idle_unknown, waiting_left}
 use Rattle.rail_ledger.proofs.Making.{admitted_at, alike_ledger, givable, listed_with}
 use Rattle.rail_ledger.proofs.Room.{place_fits, room_left}
 use Rattle.rail_ledger.proofs.ledger.Ledger.admit.Goals as goal
@@ -71,6 +71,16 @@ pub admit-requires-clause-moves : goal.admit-requires-clause-moves
 admit-requires-clause-moves c =
     subst (λ (r : Ledger). (t : ℕ) → t < trains r.input.plant → (state_of r.state.trains t).waits ≡ true → (state_of r.state.trains t).place < moves r.input.plant t)
     (sym (alike_ledger c.args.self.now c.find_list.new.self c.in_ok-note.ensures.alike c.in_ok-note.ensures.found.0)) (waiting_left c.requires.running.front c.args.self.now c.requires.running.at)
+
+pub admit-requires-clause-waits : goal.admit-requires-clause-waits
+admit-requires-clause-waits c =
+    subst (λ (r : Ledger). (t : ℕ) → (state_of r.state.trains t).waits ≡ false → (state_of r.state.trains t).known ≡ None)
+    (sym (alike_ledger c.args.self.now c.find_list.new.self c.in_ok-note.ensures.alike c.in_ok-note.ensures.found.0)) (idle_unknown c.requires.running.front c.args.self.now c.requires.running.at)
+
+pub admit-requires-clause-firm : goal.admit-requires-clause-firm
+admit-requires-clause-firm c =
+    subst (λ (r : Ledger). AreFirm r.input.plant r.state.trains)
+    (sym (alike_ledger c.args.self.now c.find_list.new.self c.in_ok-note.ensures.alike c.in_ok-note.ensures.found.0)) c.requires.running.at.rep.known.firm
 
 pub returns-clause-line : goal.returns-clause-line
 returns-clause-line c = λ front at.

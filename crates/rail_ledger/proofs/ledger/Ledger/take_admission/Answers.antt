@@ -1,13 +1,13 @@
-use Rattle.std.proofs.Common.{◌≡◌, ℕ, ◌+◌, ◌<◌, ◌≤◌, ◌∷◌, true, length, sym, ◌∙◌, subst}
+use Rattle.std.proofs.Common.{◌≡◌, ℕ, ◌+◌, ◌<◌, ◌≤◌, ◌∷◌, true, false, length, None, sym, ◌∙◌, subst}
 use Rattle.rail_rules.specs.Plant.{moves, trains}
 use Rattle.rail_rules.specs.Fronts.{Line}
 use Rattle.rail_state.specs.Representation.{IsAdmitLine}
 use Rattle.rail_ledger.specs.declared.ledger.Listed.{Listed}
 use Rattle.rail_state.specs.Admissions.{IsGivable}
-use Rattle.rail_state.specs.TrainStates.{state_of}
+use Rattle.rail_state.specs.TrainStates.{AreFirm, state_of}
 use Rattle.rail_ledger.specs.Ledgers.{HasGiven, IsAt, admission}
 use Rattle.rail_ledger.proofs.Room.{room_left}
-use Rattle.rail_ledger.proofs.Commands.{waiting_left}
+use Rattle.rail_ledger.proofs.Commands.{idle_unknown, waiting_left}
 use Rattle.rail_ledger.specs.declared.ledger.Ledger.{Ledger}
 use Rattle.rail_ledger.proofs.Admissions.{admissible_in_place, can_give, given_at, refused_forbidden, refused_list, refused_occupied, refused_place, waits_in_place}
 use Rattle.rail_ledger.proofs.ledger.Ledger.take_admission.Goals as goal
@@ -88,6 +88,15 @@ pub admit-requires-clause-moves : goal.admit-requires-clause-moves
 admit-requires-clause-moves c =
     subst (λ (r : Ledger). (t : ℕ) → t < trains r.input.plant → (state_of r.state.trains t).waits ≡ true → (state_of r.state.trains t).place < moves r.input.plant t)
     (sym c.keep_given.ensures.lists) (waiting_left c.requires.running.front c.args.self.now c.requires.running.at.0)
+
+pub admit-requires-clause-waits : goal.admit-requires-clause-waits
+admit-requires-clause-waits c =
+    subst (λ (r : Ledger). (t : ℕ) → (state_of r.state.trains t).waits ≡ false → (state_of r.state.trains t).known ≡ None)
+    (sym c.keep_given.ensures.lists) (idle_unknown c.requires.running.front c.args.self.now c.requires.running.at.0)
+
+pub admit-requires-clause-firm : goal.admit-requires-clause-firm
+admit-requires-clause-firm c =
+    subst (λ (r : Ledger). AreFirm r.input.plant r.state.trains) (sym c.keep_given.ensures.lists) c.requires.running.at.0.rep.known.firm
 
 pub returns-clause-taken : goal.returns-clause-taken
 returns-clause-taken c = λ _ front with_held.

@@ -5,6 +5,7 @@ use Rattle.rail_state.specs.TrainStates.{is_untried, lacks_hold_line, state_of, 
 use Rattle.rail_state.proofs.TrainsChanged.{IsChanged}
 use Rattle.rail_state.proofs.WatchedKept.{shown_below, written_back}
 use Rattle.rail_state.proofs.Turns.{heeded_kept, heeded_now, lacks_heeded, touched_by_cancel}
+use Rattle.rail_state.proofs.Tables.{held_still, knows_heeded, loose_still}
 use Rattle.rail_state.proofs.Seeking.{among_all, among_still}
 use Rattle.rail_state.proofs.trains.TrainStates.heed.Goals as goal
 
@@ -27,6 +28,9 @@ invariant_of-self c =
     let old = c.self.inside.rows.items in
     let new = c.heed_each.new.rows in
     rw (new_rows c) (record {
+      few = omega (arith, c.self.invariant.few, (heeded c).long);
+      held = held_still old new c.self.inside.held (knows_heeded plant orders old new (heeded c)) c.self.invariant.held;
+      loose = loose_still old new c.self.inside.loose (knows_heeded plant orders old new (heeded c)) c.self.invariant.loose;
       untried = among_all is_untried new c.below-self-inside.result refl (λ t below. c.below-self-inside.ensures t (omega (arith, below, (heeded c).long)));
       lacking = among_still lacks_hold_line old new c.self.inside.sought.lacking c.self.inside.sought.lacking (lacks_heeded plant orders old new (heeded c)) (λ t holds. holds) c.self.invariant.lacking;
       watched = (heeded_kept c.args.plant.now (c.args.order.now ∷ []) c.self.inside.rows.items c.heed_each.new.rows c.self.inside.watched c.keep_waiting.new.trains c.self.invariant.watched (heeded c)

@@ -8,6 +8,7 @@ use Rattle.rail_state.specs.declared.train.TrainState.{TrainState}
 use Rattle.rail_state.specs.Spans.{AreAmong, is_held}
 use Rattle.rail_state.specs.TrainStates.{after_hold_line, is_untried, lacks_hold_line, state_of}
 use Rattle.rail_state.specs.Watched.{AreWatched}
+use Rattle.rail_state.proofs.Tables.{KnowsNoMore, held_at, knows_same, loose_at}
 use Rattle.rail_state.proofs.Seeking.{among_at, lacks_no_more}
 use Rattle.rail_state.proofs.Turns.{IsFirstUntold, found_first, untold_among}
 use Rattle.rail_state.proofs.WatchedKept.{still_watched_at, train_read, watched_below, watched_in_order}
@@ -43,9 +44,13 @@ invariant_of-self c =
     let first : IsFirstUntold new c.first_lacking-next.result =
     untold_among new c.deref.result.now c.self.inside.watched c.deref-2.result.now c.within.result.now c.without_first-lacking.result c.first_lacking-next.result watched
     c.deref.ensures.value c.deref-2.ensures.value others c.within.ensures c.first_lacking-next.ensures in
+    let knows : KnowsNoMore (state_of old t) c.tell-arrival.new.self = knows_same (state_of old t) c.tell-arrival.new.self (ap (λ (r : TrainState). r.known) now_is) (ap (λ (r : TrainState). r.at_first) now_is) in
     record {
+      few = omega (arith, c.self.invariant.few, length-set old t c.tell-arrival.new.self);
       watched = watched;
       untried = among_at is_untried old c.self.inside.sought.untried c.self.inside.sought.untried t c.tell-arrival.new.self within
           (λ is. c.self.invariant.untried t (ap is_untried (sym now_is) ∙ is)) (λ u _ holds. holds) c.self.invariant.untried;
       lacking = found_first new c.without_first-lacking.result c.starting_at-self-inside.result c.first_lacking-next.result first c.starting_at-self-inside.ensures others;
+      held = held_at old c.self.inside.held t c.tell-arrival.new.self within knows c.self.invariant.held;
+      loose = loose_at old c.self.inside.loose t c.tell-arrival.new.self within knows c.self.invariant.loose;
     }

@@ -1,0 +1,44 @@
+-- Trains that are known to be held for the first section of their next move, where what is known of them stays; and which sections bar a move.
+use Rattle.std.proofs.Common.{◌≡◌, ℕ, ◌<◌, Bool, true, false, cond, List, [], ◌∷◌, length, get_or, find, Option, Some, None, refl, sym, ap, ◌∙◌, subst, ⊎_elim}
+use Rattle.std.specs.Option.{option_map}
+use Rattle.std.proofs.lemmas.Bool.{cases_lt, eqb-true, false≢true}
+use Rattle.std.proofs.lemmas.List.{get_or_past}
+use Rattle.std.proofs.lemmas.Option.{none-some}
+use Rattle.rail_base.specs.declared.history.Cause.{Cause}
+use Rattle.rail_base.specs.declared.history.Cause.TheVariants.{Stopped, Closed, Blocked}
+use Rattle.rail_rules.specs.Numbers.{or_else}
+use Rattle.rail_rules.specs.Plant.{Plant, claimed, trains}
+use Rattle.rail_orders.specs.Told.{Told}
+use Rattle.rail_laws_run.specs.HolderTables.{held_cause}
+use Rattle.rail_state.specs.declared.train.TrainState.{TrainState}
+use Rattle.rail_state.specs.TrainStates.{AreFirm, bar_by, is_at_first, is_blocked, is_blocked_at, state_of}
+
+-- a train whose cause was known before, with the same next move, is held for the first section of it still
+pub firm_kept : (plant : Plant) (states after : List TrainState) (t : ℕ) (why : Cause) → t < trains plant → AreFirm plant states → (state_of states t).known ≡ Some why
+    → (state_of after t).place ≡ (state_of states t).place → (state_of after t).at_first ≡ (state_of states t).at_first
+    → (state_of after t).at_first ≡ true → is_blocked why ≡ true → is_at_first (Some why) (claimed plant t (state_of after t).place) ≡ true
+firm_kept plant states after t why lt firm was place first is blocked = ap (λ p. is_at_first (Some why) (claimed plant t p)) place ∙ firm t why lt was (sym first ∙ is) blocked
+
+-- a held section that bars is one of the table
+held_within : (holders : List (Option ℕ)) (sections : List ℕ) (x : ℕ) → is_blocked_at x (held_cause holders sections) ≡ true → x < length holders
+held_within holders [] x is = absurd (false≢true is)
+held_within holders (y ∷ sections) x is = at (held_within holders sections x) (get_or holders y None) refl is
+  where
+    at : (is_blocked_at x (held_cause holders sections) ≡ true → x < length holders) → (holder : Option ℕ) → get_or holders y None ≡ holder
+        → is_blocked_at x (or_else (option_map (Blocked y) holder) (held_cause holders sections)) ≡ true → x < length holders
+    at deeper None free is' = deeper is'
+    at deeper (Some u) held is' =
+        ⊎_elim
+        (λ lt. lt)
+        (λ past. absurd (none-some u (sym (get_or_past holders x None past) ∙ subst (λ z. get_or holders z None ≡ Some u) (eqb-true y x is') held)))
+        (cases_lt x (length holders))
+
+-- so is a section that bars a move because it is held
+pub bar_within : (told : Told) (holders : List (Option ℕ)) (t : ℕ) (sections : List ℕ) (x : ℕ) → is_blocked_at x (bar_by told holders t sections) ≡ true → x < length holders
+bar_within told holders t sections x is = of (get_or told.stopped t false) (find (λ y. get_or told.closed y false) sections) is
+  where
+    of : (stopped : Bool) (closed : Option ℕ) → is_blocked_at x (or_else (cond stopped (Some Stopped) None) (or_else (option_map Closed closed) (held_cause holders sections))) ≡ true
+        → x < length holders
+    of true closed is' = absurd (false≢true is')
+    of false (Some y) is' = absurd (false≢true is')
+    of false None is' = held_within holders sections x is'
