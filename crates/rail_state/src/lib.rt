@@ -9,7 +9,8 @@
 //! keeps it so are the lemmas in `proofs/CallerLemmas.antt`, each with its sentence; all else in `proofs/` and
 //! all bodies may be changed freely. What may not change is that only `TrainStates::new` takes memory, that a call
 //! costs the trains that wait or have a known cause at most and the sections of one move, that a section that is free
-//! again costs the trains that were held for it and an admission those whose causes it may change, and that an
+//! again costs the trains that were held for it, that an admission looks again at those alone whose causes it may
+//! change, and that an
 //! admission that obeys the policy in force is apart from the representation.
 #![tactic(auto)]
 
