@@ -1,8 +1,8 @@
 -- The offers, train by train.
-use Rattle.std.proofs.Common.{◌≡◌, ℕ, ◌+◌, ◌<◌, ◌≤◌, Bool, true, false, not, ◌&&◌, cond, is_some, List, [], ◌∷◌, ◌++◌, length, get_or, sym, ap, ◌∙◌, subst, ⊎_elim, arith}
+use Rattle.std.proofs.Common.{◌≡◌, ℕ, ◌+◌, ◌<◌, ◌≤◌, Bool, true, false, not, is_some, List, [], ◌∷◌, ◌++◌, length, Some, None, refl, sym, ◌∙◌, subst, ⊎_elim, arith}
 use Rattle.std.specs.List.{All, Contains}
 use Rattle.std.proofs.lemmas.Bool.{and_parts, cases_lt, false≢true, not-true}
-use Rattle.std.proofs.lemmas.List.{get_or_default, length-append}
+use Rattle.std.proofs.lemmas.List.{length-append}
 use Rattle.std.proofs.lemmas.List.Elements.{All-push, Contains-append_left, Contains-push}
 use Rattle.rail_base.specs.declared.limits.TheConstants.{TRAINS}
 use Rattle.rail_policy.specs.declared.offer.Offer.{Offer}
@@ -10,7 +10,7 @@ use Rattle.rail_rules.specs.Fronts.{Front}
 use Rattle.rail_rules.proofs.CallerLemmas.{accepted_parts}
 use Rattle.rail_state.specs.declared.train.TrainState.{TrainState}
 use Rattle.rail_state.specs.Representation.{AreAllKnown}
-use Rattle.rail_state.specs.TrainStates.{is_untried, state_of}
+use Rattle.rail_state.specs.TrainStates.{IsNextOf, is_untried, state_of}
 use Rattle.rail_ledger.specs.declared.ledger.Ledger.{Ledger}
 use Rattle.rail_ledger.specs.Ledgers.{IsAt}
 use Rattle.rail_engine.specs.Rounds.{AreOffers, IsOfferOf, is_offered, offer_in}
@@ -29,62 +29,46 @@ untried_offered false train_state is = is
 pub few_trains : (front : Front) (ledger : Ledger) → IsAt front ledger → length ledger.state.trains ≤ TRAINS
 few_trains front ledger at = omega (arith, at.rep.times.many, (accepted_parts ledger.input.plant at.rep.accepted).few_trains)
 
--- so far each offer is that of a train that waits, and each of the first trains that waits without a known cause has one
-pub record AreOffersOf (ledger : Ledger) (watched : List ℕ) (upto : ℕ) (offers : List Offer) : Type 0 where
+-- each offer is that of a train below the number that waits, and each of those that waits without a known cause has one
+pub record AreOffersBelow (ledger : Ledger) (number : ℕ) (offers : List Offer) : Type 0 where
   pub each : All (IsOfferOf ledger) offers
-  pub untried : (k d : ℕ) → k < upto → is_untried (state_of ledger.state.trains (get_or watched k d)) ≡ true → Contains offers (offer_in ledger (get_or watched k d))
-  pub few : length offers ≤ upto
+  pub untried : (t : ℕ) → t < number → is_untried (state_of ledger.state.trains t) ≡ true → Contains offers (offer_in ledger t)
+  pub few : length offers ≤ number
 
-module _ (ledger : Ledger) (watched : List ℕ) (upto train : ℕ) (lt : upto < length watched) (is : train ≡ get_or watched upto train) where
-  -- with the next one
-  more : (old new : List Offer) → ((offer : Offer) → Contains old offer → Contains new offer)
-      → (is_untried (state_of ledger.state.trains train) ≡ true → Contains new (offer_in ledger train))
-      → ((k d : ℕ) → k < upto → is_untried (state_of ledger.state.trains (get_or watched k d)) ≡ true → Contains old (offer_in ledger (get_or watched k d)))
-      → (k d : ℕ) → k < upto + 1 → is_untried (state_of ledger.state.trains (get_or watched k d)) ≡ true → Contains new (offer_in ledger (get_or watched k d))
-  more old new keep at before k d below untried = ⊎_elim
-      (λ earlier. keep (offer_in ledger (get_or watched k d)) (before k d earlier untried))
-      (λ from.
-      let same : k ≡ upto = omega (arith, from, below) in
-      let here : get_or watched k d ≡ train = ap (λ n. get_or watched n d) same ∙ get_or_default watched upto d train lt ∙ sym is in
-      subst (λ t. Contains new (offer_in ledger t)) (sym here) (at (ap (λ t. is_untried (state_of ledger.state.trains t)) (sym here) ∙ untried)))
-      (cases_lt k upto)
+-- the next train is offered
+pub offered_more : (all : Bool) (ledger : Ledger) (number train : ℕ) (old new : List Offer) (offer : Offer) → IsNextOf (is_offered all) ledger.state.trains number (Some train) → offer ≡ offer_in ledger train
+    → new ≡ old ++ offer ∷ [] → AreOffersBelow ledger number old → AreOffersBelow ledger (train + 1) new
+offered_more all ledger number train old new offer next offer_is new_is are =
+    let states : List TrainState = ledger.state.trains in
+    subst (AreOffersBelow ledger (train + 1)) (sym new_is) (record {
+      each = All-push (IsOfferOf ledger) old offer are.each (subst (IsOfferOf ledger) (sym offer_is) (record {
+        known = next.0;
+        waits = offered_waits all (state_of states train) next.2;
+        fits = refl;
+      }));
+      untried = λ t below untried.
+          ⊎_elim
+          (λ earlier. Contains-append_left old (offer ∷ []) (offer_in ledger t) (are.untried t earlier untried))
+          (λ from.
+          ⊎_elim
+          (λ passed. absurd (false≢true (sym (next.3 t from passed) ∙ untried_offered all (state_of states t) untried)))
+          (λ above.
+          let here : train ≡ t = omega (arith, above, below) in
+          subst (λ k. Contains (old ++ offer ∷ []) (offer_in ledger k)) here (subst (Contains (old ++ offer ∷ [])) offer_is (Contains-push old offer)))
+          (cases_lt t train))
+          (cases_lt t number);
+      few = omega (arith, length-append old (offer ∷ []), are.few, next.1);
+    })
 
-  -- it is offered
-  pub offered_here : (all : Bool) (train_state : TrainState) (old new : List Offer) (offer : Offer) → train_state ≡ state_of ledger.state.trains train → is_offered all train_state ≡ true
-      → train < length ledger.state.trains → offer ≡ offer_in ledger train → new ≡ old ++ offer ∷ [] → AreOffersOf ledger watched upto old → AreOffersOf ledger watched (upto + 1) new
-  offered_here all train_state old new offer read offered known offer_is new_is are =
-      subst (AreOffersOf ledger watched (upto + 1)) (sym new_is) (record {
-        each = All-push (IsOfferOf ledger) old offer are.each (subst (IsOfferOf ledger) (sym offer_is) (record {
-          known = known;
-          waits = ap (λ (r : TrainState). r.waits) (sym read) ∙ offered_waits all train_state offered;
-          fits = Rattle.std.proofs.Common.refl;
-        }));
-        untried = more old (old ++ offer ∷ []) (λ other. Contains-append_left old (offer ∷ []) other)
-            (λ _. subst (Contains (old ++ offer ∷ [])) offer_is (Contains-push old offer)) are.untried;
-        few = omega (arith, length-append old (offer ∷ []), are.few);
-      })
-
-  -- it isn't
-  pub passed_here : (all : Bool) (train_state : TrainState) (old new : List Offer) → train_state ≡ state_of ledger.state.trains train → is_offered all train_state ≡ false
-      → new ≡ old → AreOffersOf ledger watched upto old → AreOffersOf ledger watched (upto + 1) new
-  passed_here all train_state old new read other new_is are =
-      subst (AreOffersOf ledger watched (upto + 1)) (sym new_is) (record {
-        each = are.each;
-        untried = more old old (λ _ there. there)
-            (λ untried. absurd (false≢true (sym other ∙ untried_offered all train_state (ap is_untried read ∙ untried)))) are.untried;
-        few = omega (arith, are.few);
-      })
-
--- with the last one
-pub offered_all : (ledger : Ledger) (watched : List ℕ) (upto : ℕ) (offers : List Offer) → length watched ≤ upto
-    → ((t : ℕ) → t < length ledger.state.trains → is_untried (state_of ledger.state.trains t) ≡ true → Contains watched t)
-    → AreOffersOf ledger watched upto offers → AreOffers ledger offers
-offered_all ledger watched upto offers all there are = record {
+-- nobody else is offered
+pub offered_all : (all : Bool) (ledger : Ledger) (number : ℕ) (offers : List Offer) → IsNextOf (is_offered all) ledger.state.trains number None → AreOffersBelow ledger number offers → AreOffers ledger offers
+offered_all all ledger number offers none are = record {
   each = are.each;
-  untried = λ t lt untried.
-      let found = there t lt untried in
-      subst (λ n. Contains offers (offer_in ledger n)) found.2
-      (are.untried found.0 t (omega (arith, all, found.1)) (ap (λ n. is_untried (state_of ledger.state.trains n)) found.2 ∙ untried));
+  untried = λ t _ untried.
+      ⊎_elim
+      (λ below. are.untried t below untried)
+      (λ from. absurd (false≢true (sym (none t from) ∙ untried_offered all (state_of ledger.state.trains t) untried)))
+      (cases_lt t number);
 }
 
 -- where the cause of each train that waits is known, no offers are enough

@@ -1,19 +1,17 @@
 //! The offers of a round.
 
 ghost use Rattle.std.specs.Prelude.{◌≡◌, ◌<◌, ◌≤◌, ℕ, true, length, vec_capacity};
-ghost use Rattle.std.specs.List.{All, Contains};
 ghost use Rattle.rail_base.specs.declared.limits.TheConstants.{TRAINS};
 ghost use Rattle.rail_engine.specs.Asked.{IsTurn};
 ghost use Rattle.rail_engine.specs.Engines.{StaysDesk};
 ghost use Rattle.rail_engine.specs.Rounds.{AreOffers, IsPicked, is_offered, offer_in};
 ghost use Rattle.rail_ledger.specs.Ledgers.{AreAlike, AreUnbarred, IsSomewhere, StandsAsBefore};
 ghost use Rattle.rail_policy.specs.Desks.{seat_in_force};
-ghost use Rattle.rail_state.specs.TrainStates.{state_of};
+ghost use Rattle.rail_state.specs.TrainStates.{IsNextOf, state_of};
 
 use rail_base::TrainNo;
 use rail_ledger::Ledger;
 use rail_policy::{Desk, Offer, Seen};
-use rail_state::TrainState;
 
 /// Looks at the trains that wait, and offers those without a known cause, or all that wait, by number.
 pub(crate) fn offer(offers: &mut Vec<Offer>, ledger: &mut Ledger, all: bool)
@@ -43,32 +41,22 @@ fn fill(offers: &mut Vec<Offer>, ledger: &Ledger, all: bool)
     ensures room { vec_capacity offers.new ≡ vec_capacity offers.old }
 {
     offers.clear();
-    for train in maybe_offered(ledger, all) {
-        if is_offered(ledger.state.trains.get(*train), all) {
-            offers.push_reserved(offer_of(ledger, *train));
-        }
+    let mut from = 0;
+    while let Some(train) = next_offered(ledger, all, from) {
+        offers.push_reserved(offer_of(ledger, train));
+        from = train.0 + 1;
     }
 }
 
-/// By number, trains among which are those that wait without a known cause, or all that wait.
-fn maybe_offered(ledger: &Ledger, all: bool) -> &[TrainNo]
-    ensures known { All (λ t. t < length ledger.now.state.trains) result.now }
-    ensures few { length result.now ≤ length ledger.now.state.trains }
-    ensures offered { (t : ℕ) → t < length ledger.now.state.trains → is_offered all (state_of ledger.now.state.trains t) ≡ true
-        → Contains result.now t }
+/// The first train from this number on that is offered, where there is one.
+fn next_offered(ledger: &Ledger, all: bool, number: u16) -> Option<TrainNo>
+    ensures { IsNextOf (is_offered all) ledger.now.state.trains number result }
 {
     if all {
-        ledger.state.trains.watched()
+        ledger.state.trains.next_waiting(number)
     } else {
-        ledger.state.trains.maybe_untried()
+        ledger.state.trains.next_untried(number)
     }
-}
-
-/// Whether the train is offered.
-fn is_offered(train_state: &TrainState, all: bool) -> bool
-    ensures { result ≡ is_offered all train_state.now }
-{
-    train_state.waits && (all || train_state.known.is_none())
 }
 
 /// The next move of the train as it is offered to a policy.

@@ -1,173 +1,125 @@
--- The loop over all trains: which of them were looked at, and which of those is the first.
-use Rattle.std.proofs.Common.{◌≡◌, ℕ, ◌+◌, ◌<◌, ◌≤◌, Bool, true, false, ◌&&◌, eqb, nat_le, nat_lt, List, [], ◌∷◌, length, set, Option, Some, None, MatchOption, cond, sym, ◌∙◌, ap, subst, ⊎_elim, arith}
-use Rattle.std.proofs.lemmas.List.{get_or-set_other, get_or_past}
-use Rattle.std.proofs.lemmas.Bool.{cases_lt, cases_Bool, cond-true, cond-false, false≢true, or_parts}
+-- The trains that are looked at one after the other: which of those that are untried then is the first.
+use Rattle.std.proofs.Common.{◌≡◌, ◌≢◌, ℕ, ◌<◌, Bool, true, false, not, cond, is_some, List, [], ◌∷◌, length, Option, Some, None, MatchOption, refl, sym, ◌∙◌, ap, subst, ⊎_elim, arith}
+use Rattle.std.specs.Option.{ForSome}
+use Rattle.std.proofs.lemmas.Bool.{cases_Bool, cond-true, cond-false, false≢true}
 use Rattle.std.proofs.lemmas.Bool.Decides.{nat_tests}
-use Rattle.rail_rules.specs.Plant.{Plant, needed}
-use Rattle.rail_rules.specs.Numbers.{comes_before}
+use Rattle.std.proofs.lemmas.Option.{same_Some}
 use Rattle.rail_base.specs.declared.history.Cause.{Cause}
+use Rattle.rail_rules.specs.Plant.{Plant, claimed}
+use Rattle.rail_rules.specs.Numbers.{comes_before}
 use Rattle.rail_state.specs.declared.train.TrainState.{TrainState}
-use Rattle.rail_state.specs.TrainStates.{IsReadyFirst, is_at_first, no_state, state_of, is_untried, looked_at, turn}
-use Rattle.rail_state.specs.FirstUntried.{ready_of, earlier, first_with}
-use Rattle.rail_state.proofs.TrainsChanged.{IsChanged, changed_none, changed_more, changed_over}
+use Rattle.rail_state.specs.declared.train_set.TrainSet.{TrainSet}
+use Rattle.rail_state.specs.TrainSets.{has_train}
+use Rattle.rail_state.specs.TrainStates.{IsReadyFirst, is_at_first, is_untried, looked_at, state_of, turn}
+use Rattle.rail_state.specs.Kept.{earlier}
+use Rattle.rail_state.proofs.Sets.{passing_known}
+use Rattle.rail_state.proofs.Turned.{IsTaken, out_before, out_still, taken_out}
 
--- of the trains below the bound this one is the first untried one
-pub record IsFirstBelow (states : List TrainState) (bound t : ℕ) : Type 0 where
-  pub within : t < bound
+-- of the trains that were taken out this one is the first untried one
+pub record IsFirstOut (states : List TrainState) (left : TrainSet) (t : ℕ) : Type 0 where
+  pub out : has_train left t ≡ false
   pub untried : is_untried (state_of states t) ≡ true
-  pub first : (u : ℕ) → u < bound → is_untried (state_of states u) ≡ true → comes_before (turn states u) (turn states t) ≡ false
+  pub first : (u : ℕ) → has_train left u ≡ false → is_untried (state_of states u) ≡ true → comes_before (turn states u) (turn states t) ≡ false
 
--- the first untried one of the trains below the bound, where one is untried
-abbrev pub IsFirstOf : List TrainState → ℕ → Option ℕ → Type 0
-IsFirstOf states bound first = MatchOption first ((t : ℕ) → t < bound → is_untried (state_of states t) ≡ false) (IsFirstBelow states bound)
+-- the first untried one of the trains that were taken out, where one is untried
+abbrev pub IsFirstOf : List TrainState → TrainSet → Option ℕ → Type 0
+IsFirstOf states left first = MatchOption first ((t : ℕ) → has_train left t ≡ false → is_untried (state_of states t) ≡ false) (IsFirstOut states left)
 
--- the trains below the bound were looked at
-pub record IsLookedAt (plant : Plant) (bar : ℕ → List ℕ → Option Cause) (old now : List TrainState) (bound : ℕ) (chosen : Option ℕ) : Type 0 where
-  pub trains : IsChanged (looked_at plant bar) old now bound
-  pub first : IsFirstOf now bound chosen
+-- a train isn't before itself
+not_itself : (a x : ℕ) → comes_before (a ∷ x ∷ []) (a ∷ x ∷ []) ≡ false
+not_itself a x = grind (arith, nat_tests)
 
--- one that is ready later, or at once with no lesser number, doesn't come before
-not_before : (a x b y : ℕ) → b ≤ a → (a ≡ b → y ≤ x) → comes_before (a ∷ x ∷ []) (b ∷ y ∷ []) ≡ false
-not_before a x b y le same = grind (arith, nat_tests)
+-- what doesn't come before the one doesn't come before what does
+not_before : (a x b y c z : ℕ) → comes_before (a ∷ x ∷ []) (b ∷ y ∷ []) ≡ true → comes_before (c ∷ z ∷ []) (b ∷ y ∷ []) ≡ false → comes_before (c ∷ z ∷ []) (a ∷ x ∷ []) ≡ false
+not_before a x b y c z before none = grind (arith, nat_tests)
 
--- one that doesn't come before isn't ready earlier
-not_earlier : (a x b y : ℕ) → comes_before (a ∷ x ∷ []) (b ∷ y ∷ []) ≡ false → b ≤ a
-not_earlier a x b y none =
-    let parts = or_parts (nat_lt a b) (eqb a b && comes_before (x ∷ []) (y ∷ [])) none in
-    grind (arith, nat_tests)
+-- one that isn't untried is as it was where it is looked at
+pub looked_not : (plant : Plant) (bar : ℕ → List ℕ → Option Cause) (t : ℕ) (train_state : TrainState) → is_untried train_state ≡ false → looked_at plant bar t train_state ≡ train_state
+looked_not plant bar t train_state off =
+    let sections : List ℕ = claimed plant t train_state.place in
+    ap (λ b. record train_state { known = cond b (bar t sections) train_state.known; at_first = cond b (is_at_first (bar t sections) sections) train_state.at_first }) off
 
--- the first of the trains below the bound, where those are as they were
-first_same : (old now : List TrainState) (bound : ℕ) (first : Option ℕ) → ((t : ℕ) → t < bound → state_of now t ≡ state_of old t) → IsFirstOf old bound first → IsFirstOf now bound first
-first_same old now bound None same h = λ t lt. ap is_untried (same t lt) ∙ h t lt
-first_same old now bound (Some t) same h = record {
-  within = h.within;
-  untried = ap is_untried (same t h.within) ∙ h.untried;
-  first = λ u lt untried.
+-- the first one is one of the trains
+pub first_known : (states : List TrainState) (left : TrainSet) (first : Option ℕ) → IsFirstOf states left first → ForSome first (λ u. u < length states)
+first_known states left None h = λ u is. absurd (false≢true (ap is_some is))
+first_known states left (Some t) h = λ u is. subst (λ k. k < length states) (same_Some t u is) (passing_known is_untried states t refl h.untried)
+
+-- the first one of the trains that were taken out before, where those are as they were
+first_same : (old now : List TrainState) (left : TrainSet) (first : Option ℕ) → ((t : ℕ) → has_train left t ≡ false → state_of now t ≡ state_of old t) → IsFirstOf old left first → IsFirstOf now left first
+first_same old now left None same h = λ t off. ap is_untried (same t off) ∙ h t off
+first_same old now left (Some t) same h = record {
+  out = h.out;
+  untried = ap is_untried (same t h.out) ∙ h.untried;
+  first = λ u off untried.
       let before : TrainState → TrainState → Bool = λ a b. comes_before (a.times.next_ready ∷ u ∷ []) (b.times.next_ready ∷ t ∷ []) in
-      ap (λ a. before a (state_of now t)) (same u lt) ∙ ap (before (state_of old u)) (same t h.within) ∙ h.first u lt (sym (ap is_untried (same u lt)) ∙ untried);
+      ap (λ a. before a (state_of now t)) (same u off) ∙ ap (before (state_of old u)) (same t h.out) ∙ h.first u off (sym (ap is_untried (same u off)) ∙ untried);
 }
 
--- a train that isn't untried leaves the first one
-first_kept : (states : List TrainState) (i : ℕ) (first : Option ℕ) → is_untried (state_of states i) ≡ false → IsFirstOf states i first → IsFirstOf states (i + 1) first
-first_kept states i None not h = λ t lt.
-    ⊎_elim
-    (λ below. h t below)
-    (λ above. let same : i ≡ t = omega arith in let P : ℕ → Type 0 = λ k. is_untried (state_of states k) ≡ false in subst P same not)
-    (cases_lt t i)
-first_kept states i (Some t) not h = record {
-  within = omega (arith, h.within);
-  untried = h.untried;
-  first = λ u lt untried.
+module _ (states : List TrainState) (left fewer : TrainSet) (i : ℕ) (taken : IsTaken left fewer i) where
+  -- a train that isn't untried leaves the first one
+  first_kept : (first : Option ℕ) → is_untried (state_of states i) ≡ false → IsFirstOf states left first → IsFirstOf states fewer first
+  first_kept None not h = λ t off. ⊎_elim (λ same. ap (λ k. is_untried (state_of states k)) same ∙ not) (λ before. h t before) (out_before left fewer i taken t off)
+  first_kept (Some t) not h = record {
+    out = out_still left fewer i taken t h.out;
+    untried = h.untried;
+    first = λ u off untried.
+        ⊎_elim
+        (λ same. absurd (false≢true (sym not ∙ ap (λ k. is_untried (state_of states k)) (sym same) ∙ untried)))
+        (λ before. h.first u before untried)
+        (out_before left fewer i taken u off);
+  }
+
+  -- the train itself, where none of the others comes before it
+  first_itself : is_untried (state_of states i) ≡ true → ((u : ℕ) → has_train left u ≡ false → is_untried (state_of states u) ≡ true → comes_before (turn states u) (turn states i) ≡ false)
+      → IsFirstOut states fewer i
+  first_itself waits none = record {
+    out = taken_out left fewer i taken;
+    untried = waits;
+    first = λ u off untried.
+        ⊎_elim
+        (λ same. ap (λ k. comes_before (turn states k) (turn states i)) same ∙ not_itself (state_of states i).times.next_ready i)
+        (λ before. none u before untried)
+        (out_before left fewer i taken u off);
+  }
+
+  -- of the first one and an untried train
+  first_earlier : (first : Option ℕ) → is_untried (state_of states i) ≡ true → IsFirstOf states left first → IsFirstOut states fewer (earlier states first i)
+  first_earlier None waits h = first_itself waits (λ u off untried. absurd (false≢true (sym (h u off) ∙ untried)))
+  first_earlier (Some t) waits h =
+      let P : ℕ → Type 0 = λ k. IsFirstOut states fewer k in
+      let ready : ℕ → ℕ = λ k. (state_of states k).times.next_ready in
       ⊎_elim
-      (λ below. h.first u below untried)
-      (λ above.
-      let same : i ≡ u = omega arith in
-      let P : ℕ → Type 0 = λ k. is_untried (state_of states k) ≡ false in
-      absurd (false≢true (sym (subst P same not) ∙ untried)))
-      (cases_lt u i);
-}
-
--- the train itself, or one of the earlier ones that doesn't come before it
-first_itself : (states : List TrainState) (i : ℕ) → is_untried (state_of states i) ≡ true → ((u : ℕ) → u < i → is_untried (state_of states u) ≡ true → comes_before (turn states u) (turn states i) ≡ false) → IsFirstBelow states (i + 1) i
-first_itself states i waits none = record {
-  within = omega arith;
-  untried = waits;
-  first = λ u lt untried.
-      ⊎_elim
-      (λ below. none u below untried)
-      (λ above.
-      let same : i ≡ u = omega arith in
-      let P : ℕ → Type 0 = λ k. comes_before (turn states k) (turn states i) ≡ false in
-      subst P same (not_before (ready_of states i) i (ready_of states i) i (omega arith) (λ _. omega arith)))
-      (cases_lt u i);
-}
-
--- an untried train that is ready no earlier than the first one leaves it
-first_stays : (states : List TrainState) (i t : ℕ) → ready_of states t ≤ ready_of states i → IsFirstBelow states i t → IsFirstBelow states (i + 1) t
-first_stays states i t le h = record {
-  within = omega (arith, h.within);
-  untried = h.untried;
-  first = λ u lt untried.
-      ⊎_elim
-      (λ below. h.first u below untried)
-      (λ above.
-      let same : i ≡ u = omega arith in
-      let P : ℕ → Type 0 = λ k. comes_before (turn states k) (turn states t) ≡ false in
-      subst P same (not_before (ready_of states i) i (ready_of states t) t le (λ _. omega (arith, h.within))))
-      (cases_lt u i);
-}
-
--- an untried train that is ready earlier than the first one is the first then
-first_changes : (states : List TrainState) (i t : ℕ) → is_untried (state_of states i) ≡ true → ready_of states i < ready_of states t → IsFirstBelow states i t → IsFirstBelow states (i + 1) i
-first_changes states i t waits lt h =
-    first_itself states i waits (λ u below untried.
-    let later : ready_of states t ≤ ready_of states u = not_earlier (ready_of states u) u (ready_of states t) t (h.first u below untried) in
-    not_before (ready_of states u) u (ready_of states i) i (omega (arith, later, lt)) (λ e. absurd (omega (arith, later, lt, e))))
-
--- of the first one and an untried train
-first_earlier : (states : List TrainState) (i : ℕ) (first : Option ℕ) → is_untried (state_of states i) ≡ true → IsFirstOf states i first → IsFirstBelow states (i + 1) (earlier states first i)
-first_earlier states i None waits h = first_itself states i waits (λ u below untried. absurd (false≢true (sym (h u below) ∙ untried)))
-first_earlier states i (Some t) waits h =
-    let P : ℕ → Type 0 = λ k. IsFirstBelow states (i + 1) k in
-    ⊎_elim
-    (λ le. subst P (sym (cond-true (nat_le (ready_of states t) (ready_of states i)) t i le)) (first_stays states i t (grind (arith, nat_tests)) h))
-    (λ gt. subst P (sym (cond-false (nat_le (ready_of states t) (ready_of states i)) t i gt)) (first_changes states i t waits (grind (arith, nat_tests)) h))
-    (cases_Bool (nat_le (ready_of states t) (ready_of states i)))
-
--- the first one, with the train at the bound
-first_more : (states : List TrainState) (i : ℕ) (first : Option ℕ) → IsFirstOf states i first → IsFirstOf states (i + 1) (first_with states first i)
-first_more states i first h =
-    let P : Option ℕ → Type 0 = λ f. IsFirstOf states (i + 1) f in
-    ⊎_elim
-    (λ waits. subst P (sym (cond-true (is_untried (state_of states i)) (Some (earlier states first i)) first waits)) (first_earlier states i first waits h))
-    (λ no. subst P (sym (cond-false (is_untried (state_of states i)) (Some (earlier states first i)) first no)) (first_kept states i first no h))
-    (cases_Bool (is_untried (state_of states i)))
-
--- before the first train nothing was looked at
-pub looked_none : (plant : Plant) (bar : ℕ → List ℕ → Option Cause) (old : List TrainState) → IsLookedAt plant bar old old 0 None
-looked_none plant bar old = record {
-  trains = changed_none (looked_at plant bar) old;
-  first = λ t lt. absurd (omega arith);
-}
+      (λ (is : comes_before (turn states i) (turn states t) ≡ true).
+      subst P (sym (cond-true (comes_before (turn states i) (turn states t)) i t is))
+      (first_itself waits (λ u off untried. not_before (ready i) i (ready t) t (ready u) u is (h.first u off untried))))
+      (λ (none : comes_before (turn states i) (turn states t) ≡ false).
+      subst P (sym (cond-false (comes_before (turn states i) (turn states t)) i t none))
+      (record {
+        out = out_still left fewer i taken t h.out;
+        untried = h.untried;
+        first = λ u off untried.
+            ⊎_elim
+            (λ same. ap (λ k. comes_before (turn states k) (turn states t)) same ∙ none)
+            (λ before. h.first u before untried)
+            (out_before left fewer i taken u off);
+      }))
+      (cases_Bool (comes_before (turn states i) (turn states t)))
 
 -- one more train is looked at
-pub looked_more : (plant : Plant) (bar : ℕ → List ℕ → Option Cause) (old now : List TrainState) (i : ℕ) (first : Option ℕ) → i < length old → IsLookedAt plant bar old now i first
-    → IsLookedAt plant bar old (set now i (looked_at plant bar i (state_of now i))) (i + 1) (first_with (set now i (looked_at plant bar i (state_of now i))) first i)
-looked_more plant bar old now i first lt h =
-    let train_state : TrainState = looked_at plant bar i (state_of now i) in
-    record {
-      trains = changed_more (looked_at plant bar) old now i lt h.trains;
-      first = first_more (set now i train_state) i first (first_same now (set now i train_state) i first (λ t below. get_or-set_other now i t train_state no_state (omega arith)) h.first);
-    }
+pub first_more : (old states : List TrainState) (left fewer : TrainSet) (i : ℕ) (first chosen : Option ℕ) → IsTaken left fewer i → has_train left i ≡ true
+    → ((t : ℕ) → t ≢ i → state_of states t ≡ state_of old t) → IsFirstOf old left first → chosen ≡ cond (is_untried (state_of states i)) (Some (earlier states first i)) first → IsFirstOf states fewer chosen
+first_more old states left fewer i first chosen taken on others h chosen_is =
+    let P : Option ℕ → Type 0 = λ f. IsFirstOf states fewer f in
+    let before : IsFirstOf states left first =
+    first_same old states left first (λ t off. others t (λ same. false≢true (sym off ∙ ap (has_train left) same ∙ on))) h in
+    subst P (sym chosen_is)
+    (⊎_elim
+    (λ waits. subst P (sym (cond-true (is_untried (state_of states i)) (Some (earlier states first i)) first waits)) (first_earlier states left fewer i taken first waits before))
+    (λ no. subst P (sym (cond-false (is_untried (state_of states i)) (Some (earlier states first i)) first no)) (first_kept states left fewer i taken first no before))
+    (cases_Bool (is_untried (state_of states i))))
 
--- one that isn't untried would be as it was
-pub looked_over : (plant : Plant) (bar : ℕ → List ℕ → Option Cause) (old now : List TrainState) (i : ℕ) (first : Option ℕ) → is_untried (state_of old i) ≡ false → IsLookedAt plant bar old now i first → IsLookedAt plant bar old now (i + 1) first
-looked_over plant bar old now i first tried h =
-    let train_state : TrainState = state_of old i in
-    record {
-      trains = changed_over (looked_at plant bar) old now i (ap (λ b. record train_state { known = cond b (bar i (needed plant i train_state.place)) train_state.known; at_first = cond b (is_at_first (bar i (needed plant i train_state.place)) (needed plant i train_state.place)) train_state.at_first }) tried) h.trains;
-      first = first_kept now i first (ap is_untried (h.trains.from i (omega arith)) ∙ tried) h.first;
-    }
-
--- past the list nobody waits
-none_past : (states : List TrainState) (t : ℕ) → length states ≤ t → is_untried (state_of states t) ≡ false
-none_past states t le = ap is_untried (get_or_past states t no_state le)
-
--- once all trains were looked at, the first one is the first of all
-pub first_of_all : (states : List TrainState) (first : Option ℕ) → IsFirstOf states (length states) first → MatchOption first ((t : ℕ) → is_untried (state_of states t) ≡ false) (λ train. (train < length states) × IsReadyFirst states train)
-first_of_all states None h = λ t.
-    ⊎_elim
-    (λ below. h t below)
-    (λ above. none_past states t above)
-    (cases_lt t (length states))
-first_of_all states (Some t) h = (
-  h.within,
-  record {
-    untried = h.untried;
-    first = λ u untried.
-        ⊎_elim
-        (λ below. h.first u below untried)
-        (λ above. absurd (false≢true (sym (none_past states u above) ∙ untried)))
-        (cases_lt u (length states));
-  },
-)
+-- once all were taken out, the first one is the first of all
+pub first_of_all : (states : List TrainState) (left : TrainSet) (first : Option ℕ) → ((t : ℕ) → has_train left t ≡ false) → IsFirstOf states left first
+    → MatchOption first ((t : ℕ) → is_untried (state_of states t) ≡ false) (λ train. (train < length states) × IsReadyFirst states train)
+first_of_all states left None none h = λ t. h t (none t)
+first_of_all states left (Some t) none h = (passing_known is_untried states t refl h.untried, record { untried = h.untried; first = λ u untried. h.first u (none u) untried })

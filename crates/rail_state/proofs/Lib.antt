@@ -4,14 +4,14 @@ pub mod CallerLemmas
 mod Counting
 mod CommandEvents
 mod Leaving
--- Lemmas on the list of trains and on that of the watched ones.
+-- Lemmas on the list of trains, on the sets that tell who of them is to be looked at, and on what is done to each of a set.
 mod TrainNumbers
-mod Seeking
 mod TrainsChanged
+mod TrainSetLemmas
+mod Sets
+mod Turned
 mod First
-mod WatchedKept
-mod Tables
-mod Turns
+mod Loosening
 -- Lemmas on what a run stands for, which the laws cite.
 mod Below
 mod Fields
@@ -49,6 +49,3 @@ mod Early
 mod GivenMoves
 mod EventClasses
 mod QueueRoom
--- Lemmas on sets of trains, and on the trains that an admission or a section that is free again loosens.
-mod TrainSetLemmas
-mod Loosening

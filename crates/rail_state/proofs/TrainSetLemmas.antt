@@ -1,14 +1,13 @@
 -- Trains of a set are bits of its words.
-use Rattle.std.proofs.Common.{◌≡◌, ◌≢◌, ℕ, zero, suc, ◌+◌, ◌*◌, ◌/◌, ◌%◌, ◌^◌, ◌<◌, ◌≤◌, Bool, List, [], ◌∷◌, length, get_or, replicate, true, false, set, refl, sym, ap, ◌∙◌, subst, ⊎_elim, arith, eq-eqb, eqb-true, w64}
+use Rattle.std.proofs.Common.{◌≡◌, ◌≢◌, ℕ, zero, suc, ◌+◌, ◌-◌, ◌*◌, ◌/◌, ◌%◌, ◌^◌, ◌<◌, ◌≤◌, ◌==◌, not, ◌&&◌, ◌||◌, List, [], ◌∷◌, length, get_or, replicate, true, false, set, refl, sym, ap, ◌∙◌, ⊎_elim, arith, eq-eqb, eqb-true, w64}
 use Rattle.std.proofs.lemmas.Bool.{cases_Bool, cases_eq, cases_lt}
+use Rattle.std.proofs.lemmas.Bool.Decides.{nat_tests}
 use Rattle.std.proofs.lemmas.List.{get_or_past, get_or-replicate, get_or-set_same, get_or-set_other, length-replicate}
-use Rattle.std.proofs.Math.Nat.{mod-eq_of_lt}
-use Rattle.std.proofs.Math.Pow.{pow-lt}
-use Rattle.std.proofs.lemmas.Nat.{pow_pos}
-use Rattle.std.proofs.lemmas.Nat.Bits.{and_pow, bit_at_xor, bit_at-pow_other, bit_at-zero, bit_at_set_same, bit_at_set_other, bit_at-trailing_zeros}
-use Rattle.std.specs.Prelude.{bit_and, bit_or, bit_xor}
-use Rattle.std.specs.Int.{bit_at, trailing_zeros}
-use Rattle.std.specs.Int.Bits.{xor_add_and}
+use Rattle.std.proofs.Math.Nat.{div-div-eq-div-mul}
+use Rattle.std.proofs.lemmas.Nat.{and_le_l, pow-add}
+use Rattle.std.proofs.lemmas.Nat.Bits.{bit_at_above, bit_at_clear_other, bit_at_clear_same, bit_at-zero, bit_at_set_same, bit_at_set_other, bit_at-trailing_zeros}
+use Rattle.std.specs.Prelude.{bit_and, bit_or}
+use Rattle.std.specs.Int.{bit_at, bit_not, trailing_zeros}
 use Rattle.rail_state.specs.declared.train_set.TrainSet.{TrainSet}
 use Rattle.rail_state.specs.TrainSets.{has_train, no_trains, set_at, size_of}
 
@@ -16,94 +15,119 @@ use Rattle.rail_state.specs.TrainSets.{has_train, no_trains, set_at, size_of}
 abbrev pub of_words : List ℕ → TrainSet
 of_words words = record { words = words }
 
-has_bit : (words : List ℕ) (t : ℕ) → has_train (of_words words) t ≡ true → bit_at (get_or words (t / 64) 0) (t % 64) ≡ 1
-has_bit words t is = eqb-true (bit_at (get_or words (t / 64) 0) (t % 64)) 1 is
-
-bit_has : (words : List ℕ) (t : ℕ) → bit_at (get_or words (t / 64) 0) (t % 64) ≡ 1 → has_train (of_words words) t ≡ true
+-- a train is in the set where its bit is 1
+pub bit_has : (words : List ℕ) (t : ℕ) → bit_at (get_or words (t / 64) 0) (t % 64) ≡ 1 → has_train (of_words words) t ≡ true
 bit_has words t is = eq-eqb (bit_at (get_or words (t / 64) 0) (t % 64)) 1 is
 
--- a train whose word is 0 isn't there
-pub no_train : (words : List ℕ) (t : ℕ) → get_or words (t / 64) 0 ≡ 0 → has_train (of_words words) t ≡ false
-no_train words t none =
+pub bit_lacks : (words : List ℕ) (t : ℕ) → bit_at (get_or words (t / 64) 0) (t % 64) ≡ 0 → has_train (of_words words) t ≡ false
+bit_lacks words t none =
     ⊎_elim
-    (λ (is : has_train (of_words words) t ≡ true). absurd (omega (arith, has_bit words t is, ap (λ n. bit_at n (t % 64)) none, bit_at-zero (t % 64))))
+    (λ (is : has_train (of_words words) t ≡ true). absurd (omega (arith, eqb-true (bit_at (get_or words (t / 64) 0) (t % 64)) 1 is, none)))
     (λ out. out)
     (cases_Bool (has_train (of_words words) t))
 
--- one word is another one, that keeps the bit of the train
-kept_in : (words : List ℕ) (k v t : ℕ) → k < length words
-    → ((i : ℕ) → i < 64 → t ≡ k * 64 + i → bit_at (get_or words k 0) i ≡ 1 → bit_at v i ≡ 1)
-    → has_train (of_words words) t ≡ true → has_train (of_words (set words k v)) t ≡ true
-kept_in words k v t within keeps is =
-    let low : t % 64 < 64 = omega arith in
-    bit_has (set words k v) t (⊎_elim
-    (λ (e : t / 64 ≡ k).
-    ap (λ j. bit_at (get_or (set words k v) j 0) (t % 64)) e ∙ ap (λ n. bit_at n (t % 64)) (get_or-set_same words k v 0 within)
-    ∙ keeps (t % 64) low (omega (arith, e)) (ap (λ j. bit_at (get_or words j 0) (t % 64)) (sym e) ∙ has_bit words t is))
-    (λ (ne : t / 64 ≢ k). ap (λ n. bit_at n (t % 64)) (get_or-set_other words k (t / 64) v 0 ne) ∙ has_bit words t is)
-    (cases_eq (t / 64) k))
+-- a train whose word is 0 isn't there
+pub no_train : (words : List ℕ) (t : ℕ) → get_or words (t / 64) 0 ≡ 0 → has_train (of_words words) t ≡ false
+no_train words t none = bit_lacks words t (ap (λ n. bit_at n (t % 64)) none ∙ bit_at-zero (t % 64))
 
--- a train is put in
-put_in : (words : List ℕ) (t : ℕ) → t / 64 < length words
-    → has_train (of_words (set words (t / 64) (bit_or (get_or words (t / 64) 0) (1 * 2 ^ (t % 64) % 2 ^ 64)))) t ≡ true
-put_in words t within =
-    let v : ℕ = bit_or (get_or words (t / 64) 0) (1 * 2 ^ (t % 64) % 2 ^ 64) in
-    bit_has (set words (t / 64) v) t (ap (λ n. bit_at n (t % 64)) (get_or-set_same words (t / 64) v 0 within) ∙ bit_at_set_same w64 (get_or words (t / 64) 0) (t % 64) (omega arith))
+-- one word is another one, with the same bit of the train
+same_in : (words : List ℕ) (k v u : ℕ) → k < length words → (u / 64 ≡ k → bit_at v (u % 64) ≡ bit_at (get_or words k 0) (u % 64))
+    → has_train (of_words (set words k v)) u ≡ has_train (of_words words) u
+same_in words k v u within same =
+    ap (λ b. b == 1)
+    (⊎_elim
+    (λ (e : u / 64 ≡ k).
+    ap (λ j. bit_at (get_or (set words k v) j 0) (u % 64)) e ∙ ap (λ n. bit_at n (u % 64)) (get_or-set_same words k v 0 within)
+    ∙ same e ∙ ap (λ j. bit_at (get_or words j 0) (u % 64)) (sym e))
+    (λ (ne : u / 64 ≢ k). ap (λ n. bit_at n (u % 64)) (get_or-set_other words k (u / 64) v 0 ne))
+    (cases_eq (u / 64) k))
 
-pub put_at : (words : List ℕ) (t k bit : ℕ) → k ≡ t / 64 → bit ≡ t % 64 → k < length words
-    → has_train (of_words (set words k (bit_or (get_or words k 0) (1 * 2 ^ bit % 2 ^ 64)))) t ≡ true
-put_at words t k bit at place within =
-    let F : ℕ → ℕ → Bool = λ j b. has_train (of_words (set words j (bit_or (get_or words j 0) (1 * 2 ^ b % 2 ^ 64)))) t in
-    ap (λ j. F j bit) at ∙ ap (F (t / 64)) place ∙ put_in words t (omega (arith, at, within))
+-- the bit of the train in the word that is another one
+bit_in : (words : List ℕ) (k v t : ℕ) → k < length words → k ≡ t / 64 → bit_at (get_or (set words k v) (t / 64) 0) (t % 64) ≡ bit_at v (t % 64)
+bit_in words k v t within at = ap (λ j. bit_at (get_or (set words k v) j 0) (t % 64)) (sym at) ∙ ap (λ n. bit_at n (t % 64)) (get_or-set_same words k v 0 within)
 
-pub put_other : (words : List ℕ) (u k bit : ℕ) → k < length words → bit < 64 → has_train (of_words words) u ≡ true
-    → has_train (of_words (set words k (bit_or (get_or words k 0) (1 * 2 ^ bit % 2 ^ 64)))) u ≡ true
-put_other words u k bit within low is =
-    let v : ℕ = bit_or (get_or words k 0) (1 * 2 ^ bit % 2 ^ 64) in
-    kept_in words k v u within
-    (λ i _ _ one. ⊎_elim
-    (λ (e : i ≡ bit). ap (bit_at v) e ∙ bit_at_set_same w64 (get_or words k 0) bit low)
-    (λ (ne : i ≢ bit). bit_at_set_other w64 (get_or words k 0) bit low i ne ∙ one)
-    (cases_eq i bit))
-    is
+-- the place of another train in the same word is another one
+apart : (t u k bit : ℕ) → k ≡ t / 64 → bit ≡ t % 64 → u ≢ t → u / 64 ≡ k → u % 64 ≢ bit
+apart t u k bit at place ne same = λ (e : u % 64 ≡ bit). ne (omega (arith, at, place, same, e))
 
--- 1 << bit
-shifted_one : (bit : ℕ) → bit < 64 → 1 * 2 ^ bit % 2 ^ 64 ≡ 2 ^ bit
-shifted_one bit low =
-    let p : ℕ = 2 ^ bit in
-    let once : 1 * p ≡ p = omega arith in
-    ap (λ n. n % 2 ^ 64) once ∙ mod-eq_of_lt (pow-lt low)
+module _ (words : List ℕ) (t k bit : ℕ) (at : k ≡ t / 64) (place : bit ≡ t % 64) (within : k < length words) where
+  low : bit < 64
+  low = omega (arith, place)
 
--- the lowest bit of a word is taken out
-pub taken_other : (words : List ℕ) (t k : ℕ) → k < length words → get_or words k 0 ≢ 0 → get_or words k 0 < 2 ^ 64
-    → t ≢ k * 64 + trailing_zeros w64 (get_or words k 0) → has_train (of_words words) t ≡ true
-    → has_train (of_words (set words k (bit_xor (get_or words k 0) (1 * 2 ^ trailing_zeros w64 (get_or words k 0) % 2 ^ 64)))) t ≡ true
-taken_other words t k within some fits ne is =
-    let w : ℕ = get_or words k 0 in
-    let found = bit_at-trailing_zeros w64 w (omega (arith, some)) fits in
-    let bit : ℕ = trailing_zeros w64 w in
-    let m : ℕ = 1 * 2 ^ bit % 2 ^ 64 in
-    kept_in words k (bit_xor w m) t within
-    (λ i _ at one.
-    let apart : i ≢ bit = λ (e : i ≡ bit). ne (omega (arith, e, at)) in
-    let other : bit_at m i ≡ 0 = ap (λ n. bit_at n i) (shifted_one bit found.0) ∙ bit_at-pow_other bit i apart in
-    omega (arith, bit_at_xor w m i, other, one))
-    is
+  -- a train is put in
+  pub put_in : (u : ℕ) → has_train (of_words (set words k (bit_or (get_or words k 0) (1 * 2 ^ bit % 2 ^ 64)))) u ≡ (u == t || has_train (of_words words) u)
+  put_in u =
+      let v : ℕ = bit_or (get_or words k 0) (1 * 2 ^ bit % 2 ^ 64) in
+      ⊎_elim
+      (λ (same : u ≡ t).
+      ap (has_train (of_words (set words k v))) same
+      ∙ bit_has (set words k v) t (bit_in words k v t within at ∙ ap (bit_at v) (sym place) ∙ bit_at_set_same w64 (get_or words k 0) bit low)
+      ∙ sym (ap (λ b. b || has_train (of_words words) u) (eq-eqb u t same)))
+      (λ (ne : u ≢ t).
+      same_in words k v u within (λ same. bit_at_set_other w64 (get_or words k 0) bit low (u % 64) (apart t u k bit at place ne same))
+      ∙ sym (ap (λ b. b || has_train (of_words words) u) (let off : (u == t) ≡ false = grind (arith, nat_tests) in off)))
+      (cases_eq u t)
 
-pub taken_less : (w : ℕ) → w ≢ 0 → w < 2 ^ 64 → bit_xor w (1 * 2 ^ trailing_zeros w64 w % 2 ^ 64) < w
-taken_less w some fits =
-    let found = bit_at-trailing_zeros w64 w (omega (arith, some)) fits in
-    let bit : ℕ = trailing_zeros w64 w in
-    let p : ℕ = 2 ^ bit in
-    let both : bit_and w p ≡ p = and_pow w bit ∙ ap (λ n. n * p) found.1 ∙ omega arith in
-    let less : bit_xor w p < w = omega (arith, xor_add_and w p, both, pow_pos bit) in
-    subst (λ n. bit_xor w n < w) (sym (shifted_one bit found.0)) less
+  -- a train is taken out
+  pub taken_out : (u : ℕ) → has_train (of_words (set words k (bit_and (get_or words k 0) (bit_not w64 (1 * 2 ^ bit % 2 ^ 64))))) u ≡ (not (u == t) && has_train (of_words words) u)
+  taken_out u =
+      let v : ℕ = bit_and (get_or words k 0) (bit_not w64 (1 * 2 ^ bit % 2 ^ 64)) in
+      ⊎_elim
+      (λ (same : u ≡ t).
+      ap (has_train (of_words (set words k v))) same
+      ∙ bit_lacks (set words k v) t (bit_in words k v t within at ∙ ap (bit_at v) (sym place) ∙ bit_at_clear_same w64 (get_or words k 0) bit low)
+      ∙ sym (ap (λ b. not b && has_train (of_words words) u) (eq-eqb u t same)))
+      (λ (ne : u ≢ t).
+      same_in words k v u within (λ same. bit_at_clear_other w64 (get_or words k 0) bit low (u % 64) (omega arith) (apart t u k bit at place ne same))
+      ∙ sym (ap (λ b. not b && has_train (of_words words) u) (let off : (u == t) ≡ false = grind (arith, nat_tests) in off)))
+      (cases_eq u t)
 
--- where a word is less the set is less
-pub size_less : (words : List ℕ) (k v : ℕ) → k < length words → v < get_or words k 0 → size_of (of_words (set words k v)) < size_of (of_words words)
-size_less [] k v within less = absurd (omega (arith, within))
-size_less (w ∷ words) zero v within less = omega (arith, less)
-size_less (w ∷ words) (suc k) v within less = omega (arith, size_less words k v (omega (arith, within)) less)
+  -- the set is less where the train was there
+  pub taken_less : has_train (of_words words) t ≡ true → size_of (of_words (set words k (bit_and (get_or words k 0) (bit_not w64 (1 * 2 ^ bit % 2 ^ 64))))) < size_of (of_words words)
+  taken_less was =
+      let w : ℕ = get_or words k 0 in
+      let v : ℕ = bit_and w (bit_not w64 (1 * 2 ^ bit % 2 ^ 64)) in
+      let on : bit_at w bit ≡ 1 =
+      ap (λ j. bit_at (get_or words j 0) bit) at ∙ ap (bit_at (get_or words (t / 64) 0)) place ∙ eqb-true (bit_at (get_or words (t / 64) 0) (t % 64)) 1 was in
+      let off : bit_at v bit ≡ 0 = bit_at_clear_same w64 w bit low in
+      let other : v ≢ w = λ (e : v ≡ w). absurd (omega (arith, on, off, ap (λ n. bit_at n bit) e)) in
+      size_less words k v within (omega (arith, other, and_le_l w (bit_not w64 (1 * 2 ^ bit % 2 ^ 64))))
+    where
+      -- where a word is less the set is less
+      size_less : (words : List ℕ) (k v : ℕ) → k < length words → v < get_or words k 0 → size_of (of_words (set words k v)) < size_of (of_words words)
+      size_less [] k v within less = absurd (omega (arith, within))
+      size_less (w ∷ words) zero v within less = omega (arith, less)
+      size_less (w ∷ words) (suc k) v within less = omega (arith, size_less words k v (omega (arith, within)) less)
+
+-- ---- the first bit of a word from one on
+
+-- the bits from one on are those of the word that is shifted
+bit_shifted : (w b i : ℕ) → bit_at (w / 2 ^ b) i ≡ bit_at w (b + i)
+bit_shifted w b i = ap (λ n. n % 2) (div-div-eq-div-mul w (2 ^ b) (2 ^ i) ∙ ap (λ n. w / n) (sym (pow-add 2 b i)))
+
+-- no bit is 1
+pub none_above : (w b : ℕ) → w / 2 ^ b ≡ 0 → (i : ℕ) → b ≤ i → bit_at w i ≡ 0
+none_above w b none i le =
+    let there : b + (i - b) ≡ i = omega (arith, le) in
+    ap (bit_at w) (sym there) ∙ sym (bit_shifted w b (i - b)) ∙ ap (λ n. bit_at n (i - b)) none ∙ bit_at-zero (i - b)
+
+-- the lowest bit of the shifted word is the first one
+pub first_above : (w b : ℕ) → w < 2 ^ 64 → w / 2 ^ b ≢ 0 → w / 2 ^ b < 2 ^ 64
+    → (b ≤ b + trailing_zeros w64 (w / 2 ^ b)) × (b + trailing_zeros w64 (w / 2 ^ b) < 64) × (bit_at w (b + trailing_zeros w64 (w / 2 ^ b)) ≡ 1)
+    × ((i : ℕ) → b ≤ i → i < b + trailing_zeros w64 (w / 2 ^ b) → bit_at w i ≡ 0)
+first_above w b fits some small =
+    let high : ℕ = w / 2 ^ b in
+    let found = bit_at-trailing_zeros w64 high (omega (arith, some)) small in
+    let z : ℕ = trailing_zeros w64 high in
+    let on : bit_at w (b + z) ≡ 1 = sym (bit_shifted w b z) ∙ found.1 in
+    let inside : b + z < 64 = ⊎_elim (λ below. below) (λ past. absurd (omega (arith, on, bit_at_above w 64 (b + z) fits past))) (cases_lt (b + z) 64) in (
+      omega arith,
+      inside,
+      on,
+      λ i le lt.
+          let there : b + (i - b) ≡ i = omega (arith, le) in
+          ap (bit_at w) (sym there) ∙ sym (bit_shifted w b (i - b)) ∙ found.2 (i - b) (omega (arith, le, lt)),
+    )
 
 -- no section has a train
 pub none_held : (sets : List TrainSet) (n : ℕ) (none : TrainSet) → ((t : ℕ) → has_train none t ≡ false) → sets ≡ replicate n none

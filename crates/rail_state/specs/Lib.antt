@@ -2,10 +2,9 @@
 pub mod Events
 -- What a run keeps of each train.
 pub mod TrainStates
+-- By which sets it finds them.
 pub mod TrainSets
-pub mod FirstUntried
-pub mod Spans
-pub mod Watched
+pub mod Kept
 -- What a run keeps, and the front that it stands for.
 pub mod Representation
 -- What a command's line changes.

@@ -1,5 +1,5 @@
 -- What a run keeps of each train, and how lines change it.
-use Rattle.std.specs.Prelude.{◌≡◌, ℕ, suc, ◌+◌, ◌-◌, ◌<◌, ◌==◌, Bool, true, false, not, ◌&&◌, ◌||◌, cond, nat_lt, is_some, List, [], ◌∷◌, get_or, length, Option, Some, None}
+use Rattle.std.specs.Prelude.{◌≡◌, ℕ, suc, ◌+◌, ◌-◌, ◌<◌, ◌≤◌, MatchOption, ◌==◌, Bool, true, false, not, ◌&&◌, ◌||◌, cond, nat_lt, is_some, List, [], ◌∷◌, get_or, length, Option, Some, None}
 use Rattle.std.specs.List.{list_any}
 use Rattle.rail_base.specs.declared.history.What.{What}
 use Rattle.rail_base.specs.declared.history.What.TheVariants.{Free, Enter, Out, Ready}
@@ -93,6 +93,11 @@ pub record IsAnyWaiting (states : List TrainState) : Type 0 where
   pub train : ℕ
   pub there : train < length states
   pub waits : (state_of states train).waits ≡ true
+
+-- this is the first train from the number on that passes the test, where there is one
+abbrev pub IsNextOf : (TrainState → Bool) → List TrainState → ℕ → Option ℕ → Type 0
+IsNextOf test states number found = MatchOption found ((t : ℕ) → number ≤ t → test (state_of states t) ≡ false)
+    (λ train. (train < length states) × (number ≤ train) × (test (state_of states train) ≡ true) × ((t : ℕ) → number ≤ t → t < train → test (state_of states t) ≡ false))
 
 -- the cause is that a section is blocked
 abbrev pub is_blocked : Cause → Bool

@@ -7,22 +7,21 @@
 //! `pushes` say for every test which events an admission adds. `specs/Representation.antt` says when a state
 //! represents a front, which may be any lawful one of any plant, commands and deck. That each kind of line
 //! keeps it so are the lemmas in `proofs/CallerLemmas.antt`, each with its sentence; all else in `proofs/` and
-//! all bodies may be changed freely. What may not change is that only `TrainStates::new` takes memory, that a call
-//! costs the trains that wait or have a known cause at most and the sections of one move, that a section that is free
-//! again costs the trains that were held for it, that an admission looks again at those alone whose causes it may
-//! change, and that an
-//! admission that obeys the policy in force is apart from the representation.
+//! all bodies may be changed freely. What may not change is that only `TrainStates::new` takes memory, that nobody is
+//! sought among all trains (`TrainSets` has exactly those that wait, that are untried, that lack a hold line, and whose
+//! causes an admission may change), that a section that is free again costs the trains that were held for it, and
+//! that an admission that obeys the policy in force is apart from the representation.
 #![tactic(auto)]
 
 mod admission;
+mod each;
 mod events;
 mod pushes;
 mod run_state;
-mod span;
 mod train;
 mod train_set;
+mod train_sets;
 mod trains;
-mod watched;
 
 pub use events::{event_of_section, event_of_train};
 pub use pushes::{MOVE_EVENTS, push_end, push_entry, push_passing, push_steps, push_stood};

@@ -8,7 +8,7 @@ ghost use Rattle.rail_rules.specs.Plant.{claimed, moves, needed, step_section, s
 ghost use Rattle.rail_laws_run.specs.HolderTables.{held_cause};
 ghost use Rattle.rail_state.specs.TrainStates.{is_touched, state_told};
 ghost use Rattle.rail_state.specs.TrainStates.{admitted, after_taking, bar_by, head_behind, is_at_first, is_blocked_at, is_held_before, lacks_hold_line, is_untried, looked_at, outside, outlasts_taking, after_hold_line, without_known};
-ghost use Rattle.rail_state.specs.Watched.{is_loose, is_watched};
+ghost use Rattle.rail_state.specs.Kept.{is_loose};
 
 use crate::train_set::HeldFor;
 use rail_base::{Cause, Order, SectionNo, Time, TrainNo};
@@ -60,13 +60,6 @@ impl TrainState {
         ensures { result ≡ lacks_hold_line self.now }
     {
         self.waits && self.known.is_some() && self.last_hold != self.known
-    }
-
-    /// Whether the train waits, or the cause of its next move is known.
-    pub(crate) fn is_watched(&self) -> bool
-        ensures { result ≡ is_watched self.now }
-    {
-        self.waits || self.known.is_some()
     }
 
     /// Whether the train is neither out nor cancelled.

@@ -1,6 +1,7 @@
 //! Sets of trains, and for each section the trains that are held for it.
 
-ghost use Rattle.std.specs.Prelude.{◌≡◌, ◌≢◌, ◌<◌, ◌==◌, ◌||◌, ℕ, true, false, IfOk, IfSome, IsNone};
+ghost use Rattle.std.specs.Prelude.{◌≡◌, ◌≢◌, ◌<◌, ◌≤◌, ◌==◌, ◌&&◌, ◌||◌, ℕ, not, true, false, cond, IfOk, IfSome, IsNone, MatchOption};
+ghost use Rattle.std.specs.Int.{bit_at};
 ghost use Rattle.rail_base.specs.declared.limits.TheConstants.{SECTIONS, TRAINS};
 ghost use Rattle.rail_state.specs.TrainSets.{has_train, set_at, size_of};
 
@@ -29,28 +30,73 @@ impl TrainSet {
     /// Puts the train in.
     pub(crate) fn insert(&mut self, train: TrainNo)
         requires { train < TRAINS }
-        ensures here { has_train self.new train ≡ true }
-        ensures others { (t : ℕ) → has_train self.old t ≡ true → has_train self.new t ≡ true }
+        ensures { (t : ℕ) → has_train self.new t ≡ (t == train || has_train self.old t) }
     {
         self.words[usize::from(train.0 / 64)] |= 1u64 << (train.0 % 64);
+    }
+
+    /// Takes the train out.
+    pub(crate) fn remove(&mut self, train: TrainNo)
+        requires { train < TRAINS }
+        ensures left { (t : ℕ) → has_train self.new t ≡ (not (t == train) && has_train self.old t) }
+        ensures fewer { has_train self.old train ≡ true → size_of self.new < size_of self.old }
+    {
+        self.words[usize::from(train.0 / 64)] &= !(1u64 << (train.0 % 64));
+    }
+
+    /// Puts the train in or takes it out.
+    pub(crate) fn put(&mut self, train: TrainNo, is_in: bool)
+        requires { train < TRAINS }
+        ensures { (t : ℕ) → has_train self.new t ≡ cond (t == train) is_in (has_train self.old t) }
+    {
+        if is_in {
+            self.insert(train);
+        } else {
+            self.remove(train);
+        }
+    }
+
+    /// The first train from this number on, where there is one.
+    pub(crate) fn first_from(&self, number: u16) -> Option<TrainNo>
+        ensures { MatchOption result ((t : ℕ) → number ≤ t → has_train self.now t ≡ false)
+            (λ train. (number ≤ train) × (train < TRAINS) × (has_train self.now train ≡ true)
+            × ((t : ℕ) → number ≤ t → t < train → has_train self.now t ≡ false)) }
+    {
+        let begin = usize::from(number / 64);
+        for index in begin..WORDS {
+            let bit = if index == begin { number % 64 } else { 0 };
+            if let Some(found) = first_bit(self.words[index], bit) {
+                return Some(TrainNo(index as u16 * 64 + found));
+            }
+        }
+        None
     }
 
     /// Takes the first train out, where there is one.
     pub(crate) fn take_first(&mut self) -> Option<TrainNo>
         ensures none { IsNone result → (t : ℕ) → has_train self.old t ≡ false }
         ensures known { IfSome result (λ train. train < TRAINS) }
-        ensures others { IfSome result (λ train. (t : ℕ) → t ≢ train → has_train self.old t ≡ true → has_train self.new t ≡ true) }
+        ensures was { IfSome result (λ train. has_train self.old train ≡ true) }
+        ensures left { IfSome result (λ train. (t : ℕ) → has_train self.new t ≡ (not (t == train) && has_train self.old t)) }
         ensures fewer { IfSome result (λ train. size_of self.new < size_of self.old) }
     {
-        for (index, word) in self.words.iter_mut().enumerate() {
-            if *word != 0 {
-                let bit = word.trailing_zeros();
-                *word ^= 1u64 << bit;
-                return Some(TrainNo(index as u16 * 64 + bit as u16));
-            }
-        }
-        None
+        let train = self.first_from(0)?;
+        self.remove(train);
+        Some(train)
     }
+}
+
+/// The first bit of the word that is 1, from this one on.
+fn first_bit(word: u64, bit: u16) -> Option<u16>
+    requires { bit < 64 }
+    ensures { MatchOption result ((i : ℕ) → bit ≤ i → bit_at word i ≡ 0)
+        (λ found. (bit ≤ found) × (found < 64) × (bit_at word found ≡ 1) × ((i : ℕ) → bit ≤ i → i < found → bit_at word i ≡ 0)) }
+{
+    let high = word >> bit;
+    if high == 0 {
+        return None;
+    }
+    Some(bit + high.trailing_zeros() as u16)
 }
 
 /// For each section the trains that may be held for it.

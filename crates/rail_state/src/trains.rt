@@ -1,21 +1,19 @@
 //! All trains of a run.
 
 ghost use Rattle.std.specs.Prelude.{◌≡◌, ℕ, ◌-◌, ◌<◌, ◌≤◌, ◌||◌, not, nat_lt, [], ◌∷◌, None, get_or, length, set, true, false, IfOk, IsTrue, MatchOption, vec_capacity};
-ghost use Rattle.std.specs.List.{All, Contains, filter};
+ghost use Rattle.std.specs.List.{filter};
 ghost use Rattle.rail_base.specs.declared.history.Cause.TheVariants.{NoList};
 ghost use Rattle.rail_base.specs.declared.history.What.TheVariants.{Free, Enter, Out, Ready};
 ghost use Rattle.rail_rules.specs.Plant.{Plant, moves, step_section, steps, trains};
 ghost use Rattle.rail_rules.specs.Numbers.{listed};
 ghost use Rattle.rail_state.specs.TrainStates.{state_told};
-ghost use Rattle.rail_state.specs.TrainStates.{AreFirm, IsAnyWaiting, IsReadyFirst, bar_by, is_blocked_at, lacks_hold_line, is_untried, looked_at, outside, state_admitted, state_after, state_of, after_hold_line};
+ghost use Rattle.rail_state.specs.TrainStates.{AreFirm, IsAnyWaiting, IsNextOf, IsReadyFirst, bar_by, is_blocked_at, lacks_hold_line, is_untried, looked_at, outside, state_admitted, state_after, state_of, after_hold_line};
+ghost use Rattle.rail_state.specs.Kept.{is_waiting};
 
-use crate::span::{Sought, Span, around, within};
+use crate::each::{heed_each, look_again_at_each, look_at_each, note_taking_each};
 use crate::train::{TrainState, head_behind, push_outside, section_at};
-use crate::train_set::{HeldFor, TrainSet};
-use crate::watched::{
-    first_lacking, heed_each, is_any_waiting, keep_waiting, look_again_at_each, look_at_each,
-    note_taking_each, watch,
-};
+use crate::train_set::HeldFor;
+use crate::train_sets::TrainSets;
 use rail_base::{Cause, Order, OutOfMemory, SectionNo, Time, TrainNo};
 use rail_block::MoveTimes;
 use rail_orders::ToldOrders;
@@ -28,25 +26,18 @@ use std::marker::Model;
 #[derive(Debug)]
 pub struct TrainStates {
     rows: Vec<TrainState>,
-    /// By number, the trains that wait, and those with a known cause: `note_no_list` gives one to any train.
-    /// The others need no look.
-    watched: Vec<TrainNo>,
-    /// Among which of the watched trains a look and a hold line seek theirs.
-    sought: Sought,
+    /// The trains by what is kept of them: nobody is sought among all.
+    sets: TrainSets,
     /// For each section the trains that are held for it.
     held: HeldFor,
-    /// The trains whose causes an admission may change.
-    loose: TrainSet,
 }
 
 impl Drop for TrainStates {
     fn drop(self) {
         let TrainStates {
             rows: _rows,
-            watched: _watched,
-            sought: _,
+            sets: _,
             held: _held,
-            loose: _,
         } = self;
     }
 }
@@ -54,13 +45,13 @@ impl Drop for TrainStates {
 impl Model for TrainStates {
     ghost use Rattle.std.specs.Prelude.{List};
     ghost use Rattle.rail_state.specs.declared.train.TrainState.{TrainState};
-    ghost use Rattle.rail_state.specs.Watched.{AreKept};
+    ghost use Rattle.rail_state.specs.Kept.{AreKept};
 
     ghost Value = { List TrainState };
 
     ghost view = { λ states. states.rows.items };
 
-    ghost invariant = { λ states. AreKept states.rows.items states.watched states.sought.untried states.sought.lacking states.held states.loose };
+    ghost invariant = { λ states. AreKept states.rows.items states.sets states.held };
 }
 
 impl TrainStates {
@@ -70,45 +61,35 @@ impl TrainStates {
     {
         let trains = plant.moves().trains();
         let mut rows = Vec::with_capacity(alloc, usize::from(trains))?;
-        let watched = Vec::with_capacity(alloc, usize::from(trains))?;
         for number in 0..trains {
             push_outside(&mut rows, plant, TrainNo(number));
         }
         Ok(TrainStates {
             rows,
-            watched,
-            sought: Sought {
-                untried: Span::none(),
-                lacking: Span::none(),
-            },
+            sets: TrainSets::none(),
             held: HeldFor::new(alloc)?,
-            loose: TrainSet::none(),
         })
     }
 
-    /// By number, the trains that wait, and those with a known cause.
-    pub fn watched(&self) -> &[TrainNo]
-        ensures known { All (λ t. t < length self.now) result.now }
-        ensures few { length result.now ≤ length self.now }
-        ensures waiting { (t : ℕ) → t < length self.now → (state_of self.now t).waits ≡ true → Contains result.now t }
+    /// The first train from this number on that waits, where there is one.
+    pub fn next_waiting(&self, number: u16) -> Option<TrainNo>
+        ensures { IsNextOf is_waiting self.now number result }
     {
-        &self.watched
+        self.sets.waiting.first_from(number)
     }
 
-    /// By number, trains that wait or have a known cause, and among them all that wait without a known cause.
-    pub fn maybe_untried(&self) -> &[TrainNo]
-        ensures known { All (λ t. t < length self.now) result.now }
-        ensures few { length result.now ≤ length self.now }
-        ensures untried { (t : ℕ) → t < length self.now → is_untried (state_of self.now t) ≡ true → Contains result.now t }
+    /// The first train from this number on that waits without a known cause, where there is one.
+    pub fn next_untried(&self, number: u16) -> Option<TrainNo>
+        ensures { IsNextOf is_untried self.now number result }
     {
-        around(&self.watched, self.sought.untried)
+        self.sets.untried.first_from(number)
     }
 
     /// Whether some train waits.
     pub fn is_any_waiting(&self) -> bool
         ensures { IsTrue result → IsAnyWaiting self.now }
     {
-        is_any_waiting(&self.rows, &self.watched)
+        self.next_waiting(0).is_some()
     }
 
     /// What is kept of the train.
@@ -179,11 +160,9 @@ impl TrainStates {
         ensures length { length self.new ≡ length self.old }
         ensures trains { (plant : Plant) (m t : ℕ) → state_of self.new t ≡ state_after plant (Ready train m) t (state_of self.old t) }
     {
-        self.sought.untried.include(train);
-        self.sought.lacking.include(train);
-        watch(&mut self.watched, &self.rows, train);
         let train_state = &mut self.rows[usize::from(train.0)];
         train_state.waits = true;
+        self.sets.note(train, train_state);
     }
 
     /// A section is free: the causes of the trains that were held for it are no longer known. Whether there were any.
@@ -194,12 +173,8 @@ impl TrainStates {
         ensures any { result ≡ false → (t : ℕ) → is_blocked_at section (state_of self.old t).known ≡ false }
         ensures some { result ≡ true → (t : ℕ) × (is_blocked_at section (state_of self.old t).known ≡ true) }
     {
-        look_again_at_each(
-            &mut self.rows,
-            self.held.take(section),
-            section,
-            &mut self.sought.untried,
-        )
+        let held = self.held.take(section);
+        look_again_at_each(&mut self.rows, held, section, &mut self.sets)
     }
 
     /// Looks at the trains that wait without a known cause: what bars the next move is the cause. Of the
@@ -215,17 +190,13 @@ impl TrainStates {
         ensures first { MatchOption result ((t : ℕ) → is_untried (state_of self.new t) ≡ false)
             (λ train. (train < length self.new) × IsReadyFirst self.new train) }
     {
-        let untried = around(&self.watched, self.sought.untried);
-        self.sought.untried = Span::none();
         look_at_each(
             &mut self.rows,
-            untried,
             plant,
             orders,
             holders,
-            &mut self.sought,
+            &mut self.sets,
             &mut self.held,
-            &mut self.loose,
         )
     }
 
@@ -240,9 +211,7 @@ impl TrainStates {
         ensures trains { (t : ℕ) → t < length self.old → state_of self.new t
             ≡ state_told plant.now (order.now ∷ []) t (state_of self.old t) }
     {
-        self.sought.untried = Span::below(self.rows.len());
-        heed_each(&mut self.rows, &self.watched, plant, order);
-        keep_waiting(&mut self.watched, &self.rows);
+        heed_each(&mut self.rows, plant, order, &mut self.sets);
     }
 
     /// No list is known for the train.
@@ -250,11 +219,9 @@ impl TrainStates {
         requires { train < length self.old }
         ensures { self.new ≡ set self.old train (record (state_of self.old train) { known = Some NoList }) }
     {
-        self.sought.lacking.include(train);
-        watch(&mut self.watched, &self.rows, train);
         let train_state = &mut self.rows[usize::from(train.0)];
         train_state.known = Some(Cause::NoList);
-        self.loose.insert(train);
+        self.sets.note(train, train_state);
     }
 
     /// The first train that has a known cause which its last hold line doesn't name.
@@ -263,7 +230,7 @@ impl TrainStates {
             (λ train. (train < length self.now) × (lacks_hold_line (state_of self.now train) ≡ true)
             × ((u : ℕ) → u < train → lacks_hold_line (state_of self.now u) ≡ false)) }
     {
-        first_lacking(&self.rows, within(&self.watched, self.sought.lacking))
+        self.sets.lacking.first_from(0)
     }
 
     /// The hold line of the train's next move was given, with its known cause. No arrival is deferred then: the one that was is the answer.
@@ -274,9 +241,7 @@ impl TrainStates {
     {
         let train_state = &mut self.rows[usize::from(train.0)];
         let arrival = train_state.tell();
-        let lacking = self.sought.lacking.without_first(train);
-        let next = first_lacking(&self.rows, within(&self.watched, lacking));
-        self.sought.lacking = lacking.starting_at(next);
+        self.sets.note(train, train_state);
         arrival
     }
 
@@ -302,16 +267,10 @@ impl TrainStates {
         ensures trains { (t : ℕ) → t < length self.old → state_of self.new t
             ≡ state_admitted plant.now holders.now train times arrival t (state_of self.old t) }
     {
-        note_taking_each(
-            &mut self.rows,
-            &mut self.loose,
-            plant,
-            holders,
-            &mut self.sought.untried,
-        );
+        note_taking_each(&mut self.rows, plant, holders, &mut self.sets);
         let train_state = &mut self.rows[usize::from(train.0)];
         train_state.admit(times, arrival);
-        keep_waiting(&mut self.watched, &self.rows);
+        self.sets.note(train, train_state);
     }
 
     /// Puts the trains that are neither out nor cancelled into the list, by number.

@@ -17,7 +17,7 @@ pub fn kind_names(alloc: Global, kinds: &[TrainKind]) -> Result<IndexSet<Name>, 
     requires { IsTrue (are_distinct is_one_kind kinds.now) }
     ensures { IfOk result (λ names. names.keys ≡ map (λ (kind : TrainKind). kind.name) kinds.now) }
 {
-    let mut names = IndexSet::new(alloc);
+    let mut names = IndexSet::with_capacity(alloc, kinds.len())?;
     for kind in kinds {
         names.insert(kind.name)?;
     }

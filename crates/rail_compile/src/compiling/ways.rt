@@ -44,7 +44,7 @@ pub fn ways_of(alloc: Global, network: &Network) -> Result<Ways, AllocError>
 fn route_names(alloc: Global, network: &Network) -> Result<IndexSet<Name>, AllocError>
     ensures { IfOk result (λ names. names.keys ≡ map (λ (route : Route). route.name) network.now.routes) }
 {
-    let mut names = IndexSet::new(alloc);
+    let mut names = IndexSet::with_capacity(alloc, network.routes().len())?;
     for route in network.routes() {
         names.insert(route.name)?;
     }

@@ -1,20 +1,17 @@
 use Rattle.std.proofs.Common.{◌≡◌, ℕ, true, length, List, ◌++◌, take, drop, ap, sym, subst, ◌∙◌, arith}
 use Rattle.rail_state.specs.declared.train.TrainState.{TrainState}
-use Rattle.rail_state.specs.Spans.{AreAmong}
-use Rattle.rail_state.specs.TrainStates.{is_blocked_at, is_untried, lacks_hold_line, state_of, without_known}
-use Rattle.rail_state.proofs.WatchedKept.{written_back}
-use Rattle.rail_state.proofs.Turns.{lacks_still, looked_again_kept}
-use Rattle.rail_state.proofs.Tables.{held_again, knows_again, loose_still}
-use Rattle.rail_state.proofs.Seeking.{among_still}
+use Rattle.rail_state.specs.TrainStates.{is_blocked_at, state_of, without_known}
+use Rattle.rail_state.specs.Kept.{AreSetsOf}
+use Rattle.rail_state.proofs.Sets.{held_again, written_back}
 use Rattle.rail_state.proofs.trains.TrainStates.look_again_at.Goals as goal
 
-pub look_again_at_each-requires : goal.look_again_at_each-requires
-look_again_at_each-requires c =
+pub look_again_at_each-requires-clause-held : goal.look_again_at_each-requires-clause-held
+look_again_at_each-requires-clause-held c = λ t is.
     let x : ℕ = c.args.section in
-    record {
-      held = λ t is.
-          c.take.ensures.set t ∙ c.self.invariant.held t x (ap (λ (rows : List TrainState). is_blocked_at x (state_of rows t).known) (sym c.deref_mut.ensures.value) ∙ is);
-    }
+    c.take-held.ensures.set t ∙ c.self.invariant.held t x (ap (λ (rows : List TrainState). is_blocked_at x (state_of rows t).known) (sym c.deref_mut.ensures.value) ∙ is)
+
+pub look_again_at_each-requires-clause-sets : goal.look_again_at_each-requires-clause-sets
+look_again_at_each-requires-clause-sets c = subst (λ (rows : List TrainState). AreSetsOf rows c.self.inside.sets) (sym c.deref_mut.ensures.value) c.self.invariant.sets
 
 -- each train was looked at again
 each : (c : goal.After-self-1) (t : ℕ) → state_of c.look_again_at_each.new.rows t ≡ without_known c.args.section (state_of c.self.inside.rows.items t)
@@ -26,19 +23,10 @@ new_rows c = written_back c.look_again_at_each.new.rows c.self.inside.rows.items
 
 pub invariant_of-self : goal.invariant_of-self
 invariant_of-self c =
-    let x : ℕ = c.args.section in
-    let old = c.self.inside.rows.items in
-    let new = c.look_again_at_each.new.rows in
-    let long : length new ≡ length old = omega (arith, c.look_again_at_each.ensures.length, ap length c.deref_mut.ensures.value) in
     rw (new_rows c) (record {
-      few = omega (arith, c.self.invariant.few, long);
-      watched = looked_again_kept x old new c.self.inside.watched c.self.invariant.watched long (each c);
-      untried = c.look_again_at_each.ensures.untried (subst (λ (rows : List TrainState). AreAmong is_untried rows c.self.inside.sought.untried) (sym c.deref_mut.ensures.value) c.self.invariant.untried);
-      lacking = among_still lacks_hold_line old new c.self.inside.sought.lacking c.self.inside.sought.lacking
-          (λ t is. lacks_still x (state_of old t) (ap lacks_hold_line (sym (each c t)) ∙ is))
-          (λ t holds. holds) c.self.invariant.lacking;
-      held = held_again x old new c.self.inside.held c.take.new.self (each c) c.take.ensures.others c.self.invariant.held;
-      loose = loose_still old new c.self.inside.loose (knows_again x old new (each c)) c.self.invariant.loose;
+      few = omega (arith, c.self.invariant.few, c.look_again_at_each.ensures.length, ap length c.deref_mut.ensures.value);
+      sets = c.look_again_at_each.ensures.sets;
+      held = held_again c.args.section c.self.inside.rows.items c.look_again_at_each.new.rows c.self.inside.held c.take-held.new.self (each c) c.take-held.ensures.others c.self.invariant.held;
     })
 
 pub returns-clause-trains : goal.returns-clause-trains

@@ -3,30 +3,27 @@ use Rattle.std.proofs.lemmas.Bool.{cases_lt, false≢true}
 use Rattle.std.proofs.lemmas.List.{get_or_past}
 use Rattle.rail_rules.specs.Numbers.{listed}
 use Rattle.rail_state.specs.TrainStates.{is_blocked_at, is_untried, lacks_hold_line, no_state, outside, state_of}
-use Rattle.rail_state.specs.Watched.{is_loose}
+use Rattle.rail_state.specs.Kept.{is_loose, is_waiting}
 use Rattle.rail_laws_front.proofs.CallerLemmas.{get_or-listed, length-listed}
 use Rattle.rail_state.specs.declared.train.TrainState.{TrainState}
-use Rattle.rail_state.proofs.WatchedKept.{watched_none}
-use Rattle.rail_state.proofs.Seeking.{among_none}
+use Rattle.rail_state.proofs.Sets.{no_sets}
 use Rattle.rail_state.proofs.trains.TrainStates.new.Goals as goal
 
 pub invariant_of-result : goal.invariant_of-result
 invariant_of-result c =
-    let watched = c.in_ok-watched.watched in
     let n : ℕ = c.loop-number.number in
-    let outside_all : (test : TrainState → Bool) → test no_state ≡ false → ((t : ℕ) → test (outside c.args.plant.now t) ≡ false) → (t : ℕ) → test (state_of (listed (outside c.args.plant.now) n) t) ≡ false =
+    let states : List TrainState = listed (outside c.args.plant.now) n in
+    let outside_all : (test : TrainState → Bool) → test no_state ≡ false → ((t : ℕ) → test (outside c.args.plant.now t) ≡ false) → (t : ℕ) → test (state_of states t) ≡ false =
     λ test none out t.
     ⊎_elim
     (λ below. ap test (get_or-listed (outside c.args.plant.now) n t no_state below) ∙ out t)
-    (λ past. ap test (get_or_past (listed (outside c.args.plant.now) n) t no_state (omega (arith, past, length-listed (outside c.args.plant.now) n))) ∙ none)
+    (λ past. ap test (get_or_past states t no_state (omega (arith, past, length-listed (outside c.args.plant.now) n))) ∙ none)
     (cases_lt t n) in
     rw c.loop-number.invariant.rows (record {
       few = omega (arith, length-listed (outside c.args.plant.now) n, c.trains-trains.ensures.table.few);
-      watched = watched_none c.args.plant.now n watched (omega arith) c.in_ok-watched.ensures.items (omega (arith, c.in_ok-watched.ensures.exact));
-      untried = among_none is_untried (listed (outside c.args.plant.now) n) c.none.result (outside_all is_untried refl (λ t. refl));
-      lacking = among_none lacks_hold_line (listed (outside c.args.plant.now) n) c.none-2.result (outside_all lacks_hold_line refl (λ t. refl));
+      sets = no_sets states c.none.result c.none.ensures (outside_all is_waiting refl (λ t. refl)) (outside_all is_untried refl (λ t. refl)) (outside_all lacks_hold_line refl (λ t. refl))
+          (outside_all is_loose refl (λ t. refl));
       held = λ t x is. absurd (false≢true (sym (outside_all (λ train_state. is_blocked_at x train_state.known) refl (λ t. refl) t) ∙ is));
-      loose = λ t is. absurd (false≢true (sym (outside_all is_loose refl (λ t. refl) t) ∙ is));
     })
 
 pub loop-number-preserved : goal.loop-number-preserved
