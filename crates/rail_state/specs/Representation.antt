@@ -1,4 +1,4 @@
--- The state of what a run keeps, and the front that they rep for.
+-- What a run keeps, and the front that it stands for.
 use Rattle.std.specs.Prelude.{◌≡◌, ◌⊎◌, ℕ, suc, ◌+◌, ◌-◌, ◌<◌, ◌≤◌, Bool, true, false, not, List, [], ◌∷◌, ◌++◌, length, get_or, slice_get, replicate, set, count_by, Option, Some, None, is_some, nat_lt, cond, ◌==◌, ◌&&◌, ◌||◌}
 use Rattle.std.specs.List.{filter}
 use Rattle.std.specs.Option.{option_map_or}
