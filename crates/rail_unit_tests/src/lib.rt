@@ -1,5 +1,6 @@
 //! Tests of the public calls of single crates: each call on its happy path, and the refusals that no
-//! worked row shows. Tracks, networks and scenes have theirs in `rail_scene_tests`.
+//! worked row shows. Tracks, networks and scenes have theirs in `rail_scene_tests`, what reads the other files and what
+//! tells of a run in `rail_report_tests`.
 //!
 //! They stand here and not beside the calls because a crate with tests is proved twice, and every test
 //! function is proved too. The expected values come from the rules of operation in `docs/OPERATION.md` and
@@ -9,19 +10,11 @@
 #[cfg(test)]
 mod analysis;
 #[cfg(test)]
-mod capacity;
-#[cfg(test)]
 mod chains;
-#[cfg(test)]
-mod commands;
 #[cfg(test)]
 mod events;
 #[cfg(test)]
-mod explanations;
-#[cfg(test)]
 mod ground;
-#[cfg(test)]
-mod histories;
 #[cfg(test)]
 mod holders;
 #[cfg(test)]
@@ -33,14 +26,8 @@ mod plants;
 #[cfg(test)]
 mod policies;
 #[cfg(test)]
-mod reports;
-#[cfg(test)]
 mod sets;
 #[cfg(test)]
 mod shelves;
 #[cfg(test)]
 mod times;
-#[cfg(test)]
-mod timetables;
-#[cfg(test)]
-mod words;

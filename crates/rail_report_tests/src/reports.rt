@@ -3,7 +3,6 @@
 ghost use Rattle.std.specs.Prelude.{◌≡◌, IfOk, length};
 ghost use Rattle.rail_rules.specs.Plant.{trains};
 
-use crate::shelves::alone;
 use rail_base::Fault;
 use rail_command::read_commands;
 use rail_compile::compile;
@@ -13,7 +12,7 @@ use rail_io::MemorySink;
 use rail_plan::Plant;
 use rail_scene::read_scene;
 use rail_timetable::read_timetable;
-use std::alloc::Global;
+use std::alloc::{AllocError, Global};
 
 // A single track between two loops; of its routes those that the trains here take. The trains follow.
 const LINE: &str = "
@@ -213,6 +212,11 @@ fn is_reported(
     let mut sink = MemorySink::with_room(alloc, 4_096, alone(alloc, fail)?)?;
     let failed = write_report(&plant, &delays, &mut sink).is_err();
     Ok(failed == (fail > 0) && sink.bytes() == Some(wanted.as_bytes()))
+}
+
+/// The number of the call that fails, alone.
+fn alone(alloc: Global, number: u64) -> Result<Vec<u64>, AllocError> {
+    Ok(vec![in alloc; number]?)
 }
 
 /// The plant with these trains and their timetable, where there is one.
