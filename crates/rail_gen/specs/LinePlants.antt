@@ -152,11 +152,17 @@ west_out k letters =
     (over (at_station (codes "P") k) (at_station letters.west k) (at_station (codes "a") k))
     (at_station (codes "X") (k - 1)) (joint_before k)
 
+-- the routes of a station to the east
+abbrev pub eastbound_routes : ℕ → ℕ → List Route
+eastbound_routes count k = east_in k track_a ∷ east_in k track_b ∷ east_out count k track_a ∷ east_out count k track_b ∷ []
+
+-- the routes of a station to the west
+abbrev pub westbound_routes : ℕ → List Route
+westbound_routes k = west_in k track_a ∷ west_in k track_b ∷ west_out k track_a ∷ west_out k track_b ∷ []
+
 -- the routes of a station
 abbrev pub station_routes : ℕ → ℕ → List Route
-station_routes count k =
-    east_in k track_a ∷ east_in k track_b ∷ east_out count k track_a ∷ east_out count k track_b
-    ∷ west_in k track_a ∷ west_in k track_b ∷ west_out k track_a ∷ west_out k track_b ∷ []
+station_routes count k = eastbound_routes count k ++ westbound_routes k
 
 -- the routes of the line: from each end to the first station there, and those of the stations
 abbrev pub line_routes : ℕ → List Route

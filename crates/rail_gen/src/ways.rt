@@ -1,6 +1,6 @@
 //! The posts and the routes of the line.
 ghost use Rattle.std.specs.Prelude.{◌≡◌, ◌<◌, ◌≤◌, ◌-◌, ◌+◌, ◌∷◌, [], ◌++◌, IfOk, OnOk, IsTrue};
-ghost use Rattle.rail_gen.specs.LinePlants.{portal, signal, line_portals, station_signals, line_signals, over, route_over, route_through, joint_behind, joint_before, post_behind, post_before, at_station, east_in, east_out, west_in, west_out, station_routes, line_routes};
+ghost use Rattle.rail_gen.specs.LinePlants.{portal, signal, line_portals, station_signals, line_signals, over, route_over, route_through, joint_behind, joint_before, post_behind, post_before, at_station, east_in, east_out, west_in, west_out, eastbound_routes, westbound_routes, station_routes, line_routes};
 ghost use Rattle.rail_base.specs.NameForms.{is_name_byte};
 ghost use Rattle.rail_gen.specs.MadeScenes.{track_of};
 
@@ -317,10 +317,35 @@ fn add_station_routes(
     requires high { k < 9 }
     ensures { OnOk result (network.new ≡ record network.old { routes = network.old.routes ++ station_routes count k }) }
 {
+    add_eastbound_routes(alloc, network, count, k)?;
+    add_westbound_routes(alloc, network, k)?;
+    Ok(())
+}
+
+/// Adds the routes of a station to the east last.
+fn add_eastbound_routes(
+    alloc: Global,
+    network: &mut Network,
+    count: u8,
+    k: u8,
+) -> Result<(), NetFault>
+    requires low { 1 ≤ k }
+    requires high { k < 9 }
+    ensures { OnOk result (network.new ≡ record network.old { routes = network.old.routes ++ eastbound_routes count k }) }
+{
     network.add_route(alloc, east_in(alloc, k, false)?)?;
     network.add_route(alloc, east_in(alloc, k, true)?)?;
     network.add_route(alloc, east_out(alloc, count, k, false)?)?;
     network.add_route(alloc, east_out(alloc, count, k, true)?)?;
+    Ok(())
+}
+
+/// Adds the routes of a station to the west last.
+fn add_westbound_routes(alloc: Global, network: &mut Network, k: u8) -> Result<(), NetFault>
+    requires low { 1 ≤ k }
+    requires high { k < 9 }
+    ensures { OnOk result (network.new ≡ record network.old { routes = network.old.routes ++ westbound_routes k }) }
+{
     network.add_route(alloc, west_in(alloc, k, false)?)?;
     network.add_route(alloc, west_in(alloc, k, true)?)?;
     network.add_route(alloc, west_out(alloc, k, false)?)?;

@@ -88,22 +88,22 @@ module _ (scene : Scene) (one : OneTime) (kept : IsScene scene) (typed : IsTyped
   root = table (scene_members scene)
 
   sections : Each section.Good net.sections
-  sections = each_both is_typed_section is_fit net.sections typed.sections sound.distinct.track.fit
+  sections = each_both is_typed_section is_fit net.sections typed.network.sections sound.distinct.track.fit
 
   portals : Each (post.Good role.Portal net.sections) net.portals
-  portals = each_both is_typed_post (is_sound_post role.Portal net.sections) net.portals typed.portals sound.portals
+  portals = each_both is_typed_post (is_sound_post role.Portal net.sections) net.portals typed.network.portals sound.portals
 
   signals : Each (post.Good role.Signal net.sections) net.signals
-  signals = each_both is_typed_post (is_sound_post role.Signal net.sections) net.signals typed.signals sound.signals
+  signals = each_both is_typed_post (is_sound_post role.Signal net.sections) net.signals typed.network.signals sound.signals
 
   boards : Each (post.Good role.Board net.sections) net.boards
-  boards = each_both is_typed_post (is_sound_post role.Board net.sections) net.boards typed.boards sound.boards
+  boards = each_both is_typed_post (is_sound_post role.Board net.sections) net.boards typed.network.boards sound.boards
 
   turns : Each (way.GoodTurn net) net.turns
-  turns = each_both is_typed_turn (is_sound_turn net) net.turns typed.turns sound.turns
+  turns = each_both is_typed_turn (is_sound_turn net) net.turns typed.network.turns sound.turns
 
   routes : Each (way.GoodRoute net) net.routes
-  routes = each_both is_typed_route (is_sound_route net) net.routes typed.routes sound.routes
+  routes = each_both is_typed_route (is_sound_route net) net.routes typed.network.routes sound.routes
 
   kinds : Each train.GoodKind scene.kinds
   kinds = each_both is_typed_kind is_fit_kind scene.kinds typed.kinds kept.kinds

@@ -17,6 +17,7 @@ use Rattle.rail_routes.specs.declared.items.Role.TheVariants.{Portal, Signal, Bo
 use Rattle.rail_routes.specs.declared.items.Route.{Route}
 use Rattle.rail_routes.specs.declared.items.Step.{Step}
 use Rattle.rail_routes.specs.declared.items.Turn.{Turn}
+use Rattle.rail_routes.specs.Net.{Net}
 use Rattle.rail_scene.specs.declared.scene.Scene.{Scene}
 use Rattle.rail_scene.specs.declared.scene.SceneTrain.{SceneTrain}
 
@@ -122,6 +123,16 @@ train_data train = table (
     member (codes "name") (string train.name) (
     member (codes "priority") (number train.priority) (
     member (codes "routes") (array_of string train.routes) no_members)))))
+
+-- the members of the root that are of the network
+abbrev pub network_members : Net → Members
+network_members network =
+    member (codes "board") (array_of post_data network.boards) (
+    member (codes "portal") (array_of post_data network.portals) (
+    member (codes "route") (array_of route_data network.routes) (
+    member (codes "section") (array_of section_data network.sections) (
+    member (codes "signal") (array_of post_data network.signals) (
+    member (codes "turn") (array_of turn_data network.turns) no_members)))))
 
 -- the members of the root
 abbrev pub scene_members : Scene → Members

@@ -8,6 +8,7 @@ use Rattle.rail_track.specs.declared.section.Section.{Section}
 use Rattle.rail_routes.specs.declared.items.Post.{Post}
 use Rattle.rail_routes.specs.declared.items.Route.{Route}
 use Rattle.rail_routes.specs.declared.items.Turn.{Turn}
+use Rattle.rail_routes.specs.Net.{Net}
 use Rattle.rail_scene.specs.declared.scene.Scene.{Scene}
 use Rattle.rail_scene.specs.declared.scene.SceneTrain.{SceneTrain}
 use Rattle.rail_scene_text.specs.Tables.{path_of}
@@ -36,14 +37,18 @@ is_typed_kind kind = is_name kind.name
 abbrev pub is_typed_train : SceneTrain → Bool
 is_typed_train train = is_name train.name && is_name train.kind && nat_le train.priority 255 && list_all is_name train.routes
 
+-- what the types of a network say of it
+pub record IsTypedNetwork (network : Net) : Type 0 where
+  pub sections : IsTrue (list_all is_typed_section network.sections)
+  pub portals : IsTrue (list_all is_typed_post network.portals)
+  pub signals : IsTrue (list_all is_typed_post network.signals)
+  pub boards : IsTrue (list_all is_typed_post network.boards)
+  pub turns : IsTrue (list_all is_typed_turn network.turns)
+  pub routes : IsTrue (list_all is_typed_route network.routes)
+
 -- what the types of a scene say of it
 pub record IsTyped (scene : Scene) : Type 0 where
   pub policy : IsTrue (is_name scene.policy)
-  pub sections : IsTrue (list_all is_typed_section scene.network.sections)
-  pub portals : IsTrue (list_all is_typed_post scene.network.portals)
-  pub signals : IsTrue (list_all is_typed_post scene.network.signals)
-  pub boards : IsTrue (list_all is_typed_post scene.network.boards)
-  pub turns : IsTrue (list_all is_typed_turn scene.network.turns)
-  pub routes : IsTrue (list_all is_typed_route scene.network.routes)
+  pub network : IsTypedNetwork scene.network
   pub kinds : IsTrue (list_all is_typed_kind scene.kinds)
   pub trains : IsTrue (list_all is_typed_train scene.trains)

@@ -4,11 +4,12 @@ ghost use Rattle.toml.specs.View.{table_view};
 ghost use Rattle.rail_scene.specs.Order.{scene_refusal};
 ghost use Rattle.rail_scene.specs.Scenes.{IsScene};
 ghost use Rattle.rail_scene.specs.SpelledScenes.{spelled_scene};
-ghost use Rattle.rail_scene_text.specs.Tables.{IsSceneText, scene_members};
-ghost use Rattle.rail_scene_text.specs.Typed.{IsTyped};
+ghost use Rattle.rail_scene_text.specs.Tables.{IsSceneText, network_members, scene_members};
+ghost use Rattle.rail_scene_text.specs.Typed.{IsTyped, IsTypedNetwork};
 
 use crate::values::{Written, array, put};
 use rail_base::{OutOfMemory, a_text_stands_for_one_time};
+use rail_routes::Network;
 use rail_scene::Scene;
 use std::alloc::{AllocError, Global};
 use toml::{Table, Value};
@@ -44,12 +45,24 @@ fn scene_table(alloc: Global, scene: &Scene) -> Result<Table, AllocError>
     ensures table { IfOk result (λ root. table_view root ≡ scene_members scene.now) }
     ensures typed { OnOk result (IsTyped scene.now) }
 {
-    let network = &scene.network;
-    let mut root = Table::new(alloc);
+    let mut root = network_table(alloc, &scene.network)?;
     put(alloc, &mut root, "version", Value::from(VERSION))?;
     put(alloc, &mut root, "release", Value::from(scene.release))?;
     put(alloc, &mut root, "depth", Value::from(scene.depth))?;
     put(alloc, &mut root, "policy", scene.policy.value(alloc)?)?;
+    let kinds = array(alloc, scene.kinds.as_slice())?;
+    put(alloc, &mut root, "kind", kinds)?;
+    let trains = array(alloc, scene.trains.as_slice())?;
+    put(alloc, &mut root, "train", trains)?;
+    Ok(root)
+}
+
+/// The table of a scene, as far as it is of the network.
+fn network_table(alloc: Global, network: &Network) -> Result<Table, AllocError>
+    ensures table { IfOk result (λ root. table_view root ≡ network_members network.now) }
+    ensures typed { OnOk result (IsTypedNetwork network.now) }
+{
+    let mut root = Table::new(alloc);
     put(
         alloc,
         &mut root,
@@ -61,17 +74,5 @@ fn scene_table(alloc: Global, scene: &Scene) -> Result<Table, AllocError>
     put(alloc, &mut root, "board", array(alloc, network.boards())?)?;
     put(alloc, &mut root, "turn", array(alloc, network.turns())?)?;
     put(alloc, &mut root, "route", array(alloc, network.routes())?)?;
-    put(
-        alloc,
-        &mut root,
-        "kind",
-        array(alloc, scene.kinds.as_slice())?,
-    )?;
-    put(
-        alloc,
-        &mut root,
-        "train",
-        array(alloc, scene.trains.as_slice())?,
-    )?;
     Ok(root)
 }

@@ -1,26 +1,8 @@
-use Rattle.std.proofs.Common.{[], ◌∷◌, ◌++◌, ◌∙◌}
+use Rattle.rail_gen.specs.LinePlants.{eastbound_routes, westbound_routes}
 use Rattle.rail_gen.proofs.Ranges.{routes_then}
 use Rattle.rail_gen.proofs.ways.add_station_routes.Goals as goal
 
 pub returns : goal.returns
 returns c =
-    let net = c.args.network.now in
-    let r1 = c.in_ok-east_in.field-0 in
-    let r2 = c.in_ok-east_in-2.field-0 in
-    let r3 = c.in_ok-east_out.field-0 in
-    let r4 = c.in_ok-east_out-2.field-0 in
-    let r5 = c.in_ok-west_in.field-0 in
-    let r6 = c.in_ok-west_in-2.field-0 in
-    let r7 = c.in_ok-west_out.field-0 in
-    let r8 = c.in_ok-west_out-2.field-0 in
-    let two = routes_then net c.add_route.new.self c.add_route-2.new.self (r1 ∷ []) (r2 ∷ []) c.in_ok-add_route.ensures.added c.in_ok-add_route-2.ensures.added in
-    let three = routes_then net c.add_route-2.new.self c.add_route-3.new.self (r1 ∷ r2 ∷ []) (r3 ∷ []) two c.in_ok-add_route-3.ensures.added in
-    let four = routes_then net c.add_route-3.new.self c.add_route-4.new.self (r1 ∷ r2 ∷ r3 ∷ []) (r4 ∷ []) three c.in_ok-add_route-4.ensures.added in
-    let five = routes_then net c.add_route-4.new.self c.add_route-5.new.self (r1 ∷ r2 ∷ r3 ∷ r4 ∷ []) (r5 ∷ []) four c.in_ok-add_route-5.ensures.added in
-    let six = routes_then net c.add_route-5.new.self c.add_route-6.new.self (r1 ∷ r2 ∷ r3 ∷ r4 ∷ r5 ∷ []) (r6 ∷ []) five c.in_ok-add_route-6.ensures.added in
-    let seven = routes_then net c.add_route-6.new.self c.add_route-7.new.self (r1 ∷ r2 ∷ r3 ∷ r4 ∷ r5 ∷ r6 ∷ []) (r7 ∷ []) six c.in_ok-add_route-7.ensures.added in
-    let eight = routes_then net c.add_route-7.new.self c.add_route-8.new.self (r1 ∷ r2 ∷ r3 ∷ r4 ∷ r5 ∷ r6 ∷ r7 ∷ []) (r8 ∷ []) seven c.in_ok-add_route-8.ensures.added in
-    eight ∙ (λ i. record net {
-      routes = net.routes ++ (c.in_ok-east_in.ensures i ∷ c.in_ok-east_in-2.ensures i ∷ c.in_ok-east_out.ensures i ∷ c.in_ok-east_out-2.ensures i
-          ∷ c.in_ok-west_in.ensures i ∷ c.in_ok-west_in-2.ensures i ∷ c.in_ok-west_out.ensures i ∷ c.in_ok-west_out-2.ensures i ∷ []);
-    })
+    routes_then c.args.network.now c.add_eastbound_routes.new.network c.add_westbound_routes.new.network (eastbound_routes c.args.count c.args.k) (westbound_routes c.args.k)
+    c.in_ok-add_eastbound_routes.ensures c.in_ok-add_westbound_routes.ensures
