@@ -15,6 +15,7 @@ use Rattle.rail_edit.specs.declared.edit.Edit.{Edit}
 use Rattle.rail_edit.specs.declared.edit.Edit.TheVariants.{AddSection, AddPost, AddTurn, AddRoute, RemoveSection, RemovePost, RemoveTurn, RemoveRoute}
 use Rattle.rail_edit.specs.Edits.{is_formed_edit}
 use Rattle.rail_edit_file.specs.declared.spelling.EditLine.{EditLine}
+use Rattle.rail_edit_file.specs.declared.spelling.PostTimes.{PostTimes}
 use Rattle.rail_edit_file.specs.declared.spelling.EditLine.TheVariants.{Change, Undo, Redo}
 
 -- a number from 0 to 4,294,967,295, in decimal digits without leading zeros
@@ -32,18 +33,25 @@ section_in (name ∷ kind ∷ long ∷ fast ∷ joints) =
     (option_map (λ k. record { name = name; kind = k; length = value_of long; speed = value_of fast; joints = joints }) (kind_named kind)) None
 section_in _ = None
 
+-- the times of a post: SETTING WATCHING APPROACH
+abbrev pub times_in : List (List ℕ) → Option PostTimes
+times_in (setting ∷ watching ∷ approach ∷ []) =
+    cond (is_number setting && is_number watching && is_number approach)
+    (Some record { setting = value_of setting; watching = value_of watching; approach = value_of approach }) None
+times_in _ = None
+
 -- a portal: NAME JOINT SETTING WATCHING APPROACH
 abbrev pub portal_in : List (List ℕ) → Option Post
-portal_in (name ∷ joint ∷ setting ∷ watching ∷ approach ∷ []) =
-    cond (is_name name && is_name joint && is_number setting && is_number watching && is_number approach)
-    (Some record { name = name; role = Portal; joint = joint; ahead = None; setting = value_of setting; watching = value_of watching; approach = value_of approach }) None
+portal_in (name ∷ joint ∷ times) =
+    cond (is_name name && is_name joint)
+    (option_map (λ t. record { name = name; role = Portal; joint = joint; ahead = None; setting = t.setting; watching = t.watching; approach = t.approach }) (times_in times)) None
 portal_in _ = None
 
 -- a signal: NAME JOINT AHEAD SETTING WATCHING APPROACH
 abbrev pub signal_in : List (List ℕ) → Option Post
-signal_in (name ∷ joint ∷ ahead ∷ setting ∷ watching ∷ approach ∷ []) =
-    cond (is_name name && is_name joint && is_name ahead && is_number setting && is_number watching && is_number approach)
-    (Some record { name = name; role = Signal; joint = joint; ahead = Some ahead; setting = value_of setting; watching = value_of watching; approach = value_of approach }) None
+signal_in (name ∷ joint ∷ ahead ∷ times) =
+    cond (is_name name && is_name joint && is_name ahead)
+    (option_map (λ t. record { name = name; role = Signal; joint = joint; ahead = Some ahead; setting = t.setting; watching = t.watching; approach = t.approach }) (times_in times)) None
 signal_in _ = None
 
 -- a board: NAME JOINT

@@ -4,7 +4,7 @@ ghost use Rattle.std.specs.Prelude.{◌≡◌, IsTrue, MatchOption, Some, None, 
 ghost use Rattle.rail_command.specs.Lines.{words};
 ghost use Rattle.rail_routes.specs.PostRules.{is_formed};
 ghost use Rattle.rail_edit.specs.Edits.{is_formed_edit};
-ghost use Rattle.rail_edit_file.specs.EditLines.{added, are_joints, asked_alone, board_in, changed, edit_line, is_formed_line, portal_in, removed, removed_between, removed_named, route_in, route_over, section_in, signal_in, steps_from, turn_in};
+ghost use Rattle.rail_edit_file.specs.EditLines.{added, are_joints, asked_alone, board_in, changed, edit_line, is_formed_line, portal_in, removed, removed_between, removed_named, route_in, route_over, section_in, signal_in, steps_from, times_in, turn_in};
 
 use crate::lists::{names, steps};
 use crate::words::{kind, number};
@@ -193,6 +193,31 @@ fn section_head(args: &[u8]) -> Option<(SectionHead, &[u8])>
     Some((head, rest))
 }
 
+/// The times of a post.
+#[derive(Clone, Copy)]
+struct PostTimes {
+    setting: u32,
+    watching: u32,
+    approach: u32,
+}
+
+/// The times of a post that the words spell.
+fn times_in(args: &[u8]) -> Option<PostTimes>
+    ensures { result ≡ times_in (words args.now) }
+{
+    let (setting, rest) = next_word(args)?;
+    let (watching, rest) = next_word(rest)?;
+    let (approach, rest) = next_word(rest)?;
+    if next_word(rest).is_some() {
+        return None;
+    }
+    Some(PostTimes {
+        setting: number(setting)?,
+        watching: number(watching)?,
+        approach: number(approach)?,
+    })
+}
+
 /// The portal that the words spell.
 fn portal_in(args: &[u8]) -> Option<Post>
     ensures read { result ≡ portal_in (words args.now) }
@@ -200,20 +225,15 @@ fn portal_in(args: &[u8]) -> Option<Post>
 {
     let (name, rest) = next_word(args)?;
     let (joint, rest) = next_word(rest)?;
-    let (setting, rest) = next_word(rest)?;
-    let (watching, rest) = next_word(rest)?;
-    let (approach, rest) = next_word(rest)?;
-    if next_word(rest).is_some() {
-        return None;
-    }
+    let times = times_in(rest)?;
     Some(Post {
         name: Name::read(name)?,
         role: Role::Portal,
         joint: Name::read(joint)?,
         ahead: None,
-        setting: number(setting)?,
-        watching: number(watching)?,
-        approach: number(approach)?,
+        setting: times.setting,
+        watching: times.watching,
+        approach: times.approach,
     })
 }
 
@@ -225,20 +245,15 @@ fn signal_in(args: &[u8]) -> Option<Post>
     let (name, rest) = next_word(args)?;
     let (joint, rest) = next_word(rest)?;
     let (ahead, rest) = next_word(rest)?;
-    let (setting, rest) = next_word(rest)?;
-    let (watching, rest) = next_word(rest)?;
-    let (approach, rest) = next_word(rest)?;
-    if next_word(rest).is_some() {
-        return None;
-    }
+    let times = times_in(rest)?;
     Some(Post {
         name: Name::read(name)?,
         role: Role::Signal,
         joint: Name::read(joint)?,
         ahead: Some(Name::read(ahead)?),
-        setting: number(setting)?,
-        watching: number(watching)?,
-        approach: number(approach)?,
+        setting: times.setting,
+        watching: times.watching,
+        approach: times.approach,
     })
 }
 
