@@ -5,7 +5,8 @@ usage: write_rows.py REPOSITORY
 
 Each row is a scene NAME.toml with its history NAME.history and perhaps commands NAME.cmd. For each the script
 writes a module of definitions into crates/rail_worked/specs, a function whose contract says of them what holds,
-into crates/rail_worked/src, and the answers to its clauses. It writes no claim that it has computed: the check
+into crates/rail_worked/src, and the answers to its clauses. Of histories of these scenes that break a rule it writes
+the same, into one module of the program. It writes no claim that it has computed: the check
 evaluates them all. Run `rt tidy` in that crate afterwards: it drops the imports that a row does not need.
 """
 
@@ -27,12 +28,29 @@ ROWS = [
     ("go-and-stop", "go_then_stop_at_one_instant", "A go and then a stop at one instant hold the train.", True, False, (12, 10, 4)),
     ("cancelled", "a_cancelled_train", "A train that is cancelled before its first admission has no other line.", True, False, (1, 1, 1)),
     ("cancelled-too-late", "a_train_cancelled_too_late", "A cancel after an admission changes nothing.", True, True, (6, 5, 6)),
+    ("following", "a_train_follows_another", "A train follows another one into each section as soon as that is free.", True, True, (17, 11, 22)),
     ("policies", "policies_exchanged_and_retired", "A policy is exchanged, and one that is in force is not retired.", False, False, None),
+]
+
+# name, row of which it has the input, function, which rule it breaks, and its first wrong line (from 1)
+REFUTED = [
+    ("freed-by-the-head", "one-train", "a_section_is_not_free_as_the_head_leaves_it",
+     "A section is given free once the tail has cleared it and the release time has passed, and not as the head leaves it.", 4),
+    ("no-new-round", "following", "a_release_begins_a_new_round",
+     "Once a section is given free for which a train waits, the trains that wait are looked at again before any other event.", 11),
+    ("cause-told-late", "deadlock-avoided", "a_new_cause_is_told_at_once",
+     "Where a section is taken before the one for which a train is held, the train is told its new cause at once.", 16),
+    ("ready-though-cancelled", "cancelled", "a_cancelled_train_is_never_ready",
+     "A train that is cancelled before its first admission is never ready.", 2),
 ]
 
 
 def camel(name):
     return "".join(part.capitalize() for part in name.split("-"))
+
+
+def snake(module):
+    return "".join("_" + letter.lower() if letter.isupper() else letter for letter in module).lstrip("_")
 
 
 def later(line):
@@ -104,6 +122,39 @@ def write_row(repository, name, function, says, whole, leaves, places):
     return module, rust, function
 
 
+def write_refuted(repository, rows):
+    crate = repository / "crates" / "rail_worked"
+    source = ["//! Histories that break a rule. Each is what a plain mistake of a program would print: up to its first wrong line it is",
+              "//! lawful, that line may not follow, and so the whole is no history.", "",
+              "ghost use Rattle.std.specs.Prelude.{◌≡◌, IsTrue, false};",
+              "ghost use Rattle.rail_rules.specs.Lawful.{is_complete, is_lawful, may_follow};"]
+    modules = sorted({camel(row) for _, row, _, _, _ in rows} | {camel(name) for name, _, _, _, _ in rows})
+    source += ["ghost use Rattle.rail_worked.specs.%s as %s;" % (module, snake(module)) for module in modules]
+    for name, row, function, says, wrong in rows:
+        path = repository / "examples" / row
+        commands = path.with_suffix(".cmd")
+        case = Case(path.with_suffix(".toml").read_text(), "", commands.read_text() if commands.exists() else "")
+        lines = (repository / "examples" / name).with_suffix(".history").read_text().splitlines()
+        before, line, behind = lines[:wrong - 1], lines[wrong - 1], lines[wrong:]
+        whole = "".join("    %s ∷\n" % case.line_term(it) for it in reversed(behind)) + "    wrong ∷ before"
+        parts = ["-- %s" % says, USES,
+                 "-- the lines before the first wrong one, the newest first", case.front_definition("before", before), "",
+                 "-- the first wrong line", "abbrev pub wrong : Line\nwrong = %s" % case.line_term(line), "",
+                 "-- the whole history", "abbrev pub front : Front\nfront =\n%s" % whole]
+        write(crate / "specs" / (camel(name) + ".antt"), "\n".join(parts) + "\n")
+        of, here = snake(camel(row)), snake(camel(name))
+        clauses = [("lawful", "IsTrue (is_lawful %s.input %s.before)" % (of, here)),
+                   ("wrong", "may_follow %s.input %s.before %s.wrong ≡ false" % (of, here, here)),
+                   ("whole", "is_complete %s.input %s.front ≡ false" % (of, here))]
+        source += ["", "/// %s" % says, "pub fn %s()" % function]
+        source += ["    ensures %s { %s }" % clause for clause in clauses] + ["{", "}"]
+        answers = ["use Rattle.std.proofs.Common.{refl}", "use Rattle.rail_worked.proofs.refuted_rows.%s.Goals as goal" % function, ""]
+        for clause, _ in clauses:
+            answers += ["pub returns-clause-%s : goal.returns-clause-%s" % (clause, clause), "returns-clause-%s c = refl" % clause, ""]
+        write(crate / "proofs" / "refuted_rows" / function / "Answers.antt", "\n".join(answers))
+    write(crate / "src" / "refuted_rows.rt", "\n".join(source) + "\n")
+
+
 def main():
     if len(sys.argv) != 2:
         sys.exit(__doc__)
@@ -111,6 +162,9 @@ def main():
     for row in ROWS:
         module, rust, function = write_row(repository, *row)
         print(module, rust, function)
+    write_refuted(repository, REFUTED)
+    for name, _, function, _, _ in REFUTED:
+        print(camel(name), "refuted_rows", function)
 
 
 if __name__ == "__main__":

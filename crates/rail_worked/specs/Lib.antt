@@ -8,6 +8,11 @@ pub mod StopAndGo
 pub mod GoAndStop
 pub mod Cancelled
 pub mod CancelledTooLate
+pub mod Following
 pub mod Policies
+pub mod FreedByTheHead
+pub mod NoNewRound
+pub mod CauseToldLate
+pub mod ReadyThoughCancelled
 pub mod FreeLeg
 pub mod Stairs

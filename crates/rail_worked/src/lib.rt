@@ -1,7 +1,7 @@
 //! Worked rows: small inputs with the histories that were computed for them by hand, on which the
-//! definitions of a lawful run are evaluated. It stands on the definitions alone, and only the instances of the
-//! laws in `rail_tests` stand on it. The expected lines are written by `tools/write_rows.py` from `examples/`; a
-//! history is changed there and never here.
+//! definitions of a lawful run are evaluated, and histories that break a rule. It stands on the definitions alone; the
+//! instances of the laws in `rail_tests`, the worked stairways and the worked reports stand on it. The lines are written
+//! by `tools/write_rows.py` from `examples/`; a history is changed there and never here.
 #![tactic(auto)]
 
 mod analysis_row;
@@ -9,11 +9,13 @@ mod cancelled_row;
 mod cancelled_too_late_row;
 mod closed_section_row;
 mod deadlock_avoided_row;
+mod following_row;
 mod go_and_stop_row;
 mod interval_rows;
 mod loop_row;
 mod one_train_row;
 mod policies_row;
+mod refuted_rows;
 mod stop_and_go_row;
 mod turn_row;
 
@@ -22,10 +24,15 @@ pub use cancelled_row::a_cancelled_train;
 pub use cancelled_too_late_row::a_train_cancelled_too_late;
 pub use closed_section_row::a_closed_section_ends_the_run;
 pub use deadlock_avoided_row::a_deadlock_avoided;
+pub use following_row::a_train_follows_another;
 pub use go_and_stop_row::go_then_stop_at_one_instant;
 pub use interval_rows::{a_stairway, the_parts_of_a_standing_interval};
 pub use loop_row::two_trains_pass_at_a_loop;
 pub use one_train_row::one_train_over_three_sections;
 pub use policies_row::policies_exchanged_and_retired;
+pub use refuted_rows::{
+    a_cancelled_train_is_never_ready, a_new_cause_is_told_at_once, a_release_begins_a_new_round,
+    a_section_is_not_free_as_the_head_leaves_it,
+};
 pub use stop_and_go_row::stop_then_go_at_one_instant;
 pub use turn_row::a_turn_that_waits_for_its_own_tail;
