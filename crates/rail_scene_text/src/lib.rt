@@ -7,9 +7,11 @@
 #![tactic(auto)]
 
 mod laws;
+mod rows;
 mod tables;
 mod values;
 mod writing;
 
 pub use laws::a_text_with_the_table_of_a_scene_is_read_as_the_scene;
+pub use rows::a_table_without_a_key_spells_something_else;
 pub use writing::write_scene;
