@@ -3,11 +3,11 @@
 
 usage: try_edits.py REPOSITORY [CRATE ..]
 
-Each edit stands there under a heading `## NAME` in a block of lines `file:`, `old:` and `new:`, as in a file *.edit. In a copy of the
-repository that is removed again the script writes each as such a file, in place of those of the gate, and runs
-`rt must-fail` on its crate, which begins with what `rt check` kept on this machine. It prints a line an edit: whether the
-prover refused it, did not refuse it, or could not try it (bad), and below what `rt` said. Without a CRATE it goes through
-all that have the file. The status is 0 where all were refused, else 1.
+Each of these edits stands under a heading `## NAME`, in lines `file:`, `old:` and `new:` as a file *.edit has them. The
+script copies the repository, writes them there in place of the edits of the gate, runs `rt must-fail` crate by crate,
+which begins with what `rt check` kept on this machine, and removes the copy. For each edit it prints whether the prover
+refused it, did not refuse it, or could not try it (bad), and below that what `rt` said. Without a CRATE it goes through
+all crates that have the file. The status is 0 where all were refused, else 1.
 """
 
 import argparse
