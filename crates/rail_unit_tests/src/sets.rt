@@ -1,79 +1,155 @@
-use rail_base::SectionNo;
+//! Sets of sections, and how often each section is counted.
+
+use rail_base::{OutOfMemory, SectionNo};
 use rail_sets::{
     Counts, WORDS, add_all, clear, fill_replaced, first_common, is_empty, join, meet, meet_beyond,
     replace, width_of,
 };
+use std::alloc::Global;
+
+const NONE: [u64; WORDS] = [0; WORDS];
+
+/// Sections 3, 70 and 511.
+const LINE: [u64; WORDS] = [1 << 3, 1 << 6, 0, 0, 0, 0, 0, 1 << 63];
+
+/// Sections 70 and 71.
+const STATION: [u64; WORDS] = [0, 1 << 6 | 1 << 7, 0, 0, 0, 0, 0, 0];
+
+/// Section 70.
+const JUNCTION: [u64; WORDS] = [0, 1 << 6, 0, 0, 0, 0, 0, 0];
+
+/// Section 5.
+const SIDING: [u64; WORDS] = [1 << 5, 0, 0, 0, 0, 0, 0, 0];
 
 #[test]
-fn sets_of_sections_meet_and_change(rt: HostRuntime) {
-    let mut line = [0u64; WORDS];
+fn sections_are_added(rt: HostRuntime) {
+    assert!(rt; sets() == [LINE, STATION, JUNCTION, SIDING]);
+}
+
+/// The line, the station, the junction and the siding by their sections.
+fn sets() -> [[u64; WORDS]; 4] {
+    let mut line = NONE;
     add_all(&mut line, &[SectionNo(3), SectionNo(70), SectionNo(511)]);
-    let mut station = [0u64; WORDS];
+    let mut station = NONE;
     add_all(&mut station, &[SectionNo(70), SectionNo(71)]);
-    assert!(rt; meet(&line, &station));
-    assert!(rt; !meet(&line[..1], &station));
-    assert!(rt; !meet_beyond(&line, &station, &station));
-    assert_eq!(rt;
-        first_common(&line, &station, &[0u64; WORDS]),
-        Some(SectionNo(70))
-    );
-    assert_eq!(rt; first_common(&line, &station, &station), None);
-    assert_eq!(rt; width_of(&line), 8);
-    assert_eq!(rt; width_of(&station), 2);
-    let mut both = line;
-    join(&mut both, &station);
-    assert!(rt; meet_beyond(&both, &station, &line));
-    replace(&mut both, &station, &[0u64; WORDS]);
-    assert!(rt; !meet(&both, &station));
-    assert!(rt; meet(&both, &line));
-    let mut siding = [0u64; WORDS];
+    let mut junction = NONE;
+    add_all(&mut junction, &[SectionNo(70)]);
+    let mut siding = NONE;
     add_all(&mut siding, &[SectionNo(5)]);
-    let mut wanted = [0u64; WORDS];
-    add_all(&mut wanted, &[SectionNo(3), SectionNo(5), SectionNo(511)]);
-    let mut found = [0u64; WORDS];
-    fill_replaced(&mut found, &line, &station, &siding);
-    assert_eq!(rt; found, wanted);
+    [line, station, junction, siding]
+}
+
+#[test]
+fn sets_meet(rt: HostRuntime) {
+    let first = (Some(SectionNo(70)), None);
+    assert!(rt; meetings() == ([true, false, false], first, [8, 2]));
+}
+
+type Meetings = (
+    [bool; 3],
+    (Option<SectionNo>, Option<SectionNo>),
+    [usize; 2],
+);
+
+/// Whether the line and the station meet, the first section of the line with it, and beyond the station; the
+/// first common section, and beyond the station; and how many words each takes.
+fn meetings() -> Meetings {
+    (
+        [
+            meet(&LINE, &STATION),
+            meet(&LINE[..1], &STATION),
+            meet_beyond(&LINE, &STATION, &STATION),
+        ],
+        (
+            first_common(&LINE, &STATION, &NONE),
+            first_common(&LINE, &STATION, &STATION),
+        ),
+        [width_of(&LINE), width_of(&STATION)],
+    )
+}
+
+#[test]
+fn sets_change(rt: HostRuntime) {
+    let replaced = [1 << 3 | 1 << 5, 0, 0, 0, 0, 0, 0, 1 << 63];
+    assert!(rt; changes() == ([true, false, true], replaced));
+}
+
+/// Whether both sets together meet the station beyond the line, and without the station still meet it, and the
+/// line; and the line with the siding in place of the station.
+fn changes() -> ([bool; 3], [u64; WORDS]) {
+    let mut both = LINE;
+    join(&mut both, &STATION);
+    let meets_beyond = meet_beyond(&both, &STATION, &LINE);
+    replace(&mut both, &STATION, &NONE);
+    let mut replaced = NONE;
+    fill_replaced(&mut replaced, &LINE, &STATION, &SIDING);
+    (
+        [meets_beyond, meet(&both, &STATION), meet(&both, &LINE)],
+        replaced,
+    )
 }
 
 #[test]
 fn sections_are_counted(rt: HostRuntime) {
-    let mut line = [0u64; WORDS];
-    add_all(&mut line, &[SectionNo(3), SectionNo(70), SectionNo(511)]);
-    let mut station = [0u64; WORDS];
-    add_all(&mut station, &[SectionNo(70), SectionNo(71)]);
-    let mut junction = [0u64; WORDS];
-    add_all(&mut junction, &[SectionNo(70)]);
-    let none = [0u64; WORDS];
-    let Ok(mut counts) = Counts::new(rt.alloc()) else {
-        panic!(rt; "no memory");
-    };
-    counts.count_up(&line, &none);
-    assert!(rt; counts.are_once(&line));
-    counts.count_up(&station, &none);
-    assert!(rt; counts.are_once(&line[..1]));
-    assert!(rt; !counts.are_once(&line));
-    assert!(rt; counts.has_pairs(&line));
-    assert!(rt; !counts.has_pairs(&line[..1]));
-    let mut found = none;
-    let mut shared = none;
-    assert!(rt; counts.fill_falls(&mut found, &mut shared, &line, &none));
-    assert_eq!(rt; found, junction);
-    assert!(rt; is_empty(&shared));
-    assert!(rt; !counts.fill_falls(&mut found, &mut shared, &line, &station));
-    assert!(rt; is_empty(&found));
-    assert_eq!(rt; shared, junction);
-    counts.add_falls(&mut found, &line, &none);
-    assert_eq!(rt; found, junction);
-    clear(&mut found);
-    counts.add_falls(&mut found, &line, &station);
-    assert!(rt; is_empty(&found));
-    let Ok(mut later) = Counts::new(rt.alloc()) else {
-        panic!(rt; "no memory");
-    };
+    let once = [true, false, true, false];
+    let pairs = [true, false, true, false];
+    let falls = (
+        [true, false],
+        [JUNCTION, NONE, NONE, JUNCTION, JUNCTION, NONE],
+    );
+    assert!(rt; counted(rt.alloc()) == Ok((once, pairs, falls)));
+}
+
+type Falls = ([bool; 2], [[u64; WORDS]; 6]);
+
+/// What is told of the line and the station counted once each, and whether the line was counted once before; and
+/// of other counts, whether the line is counted once with the station of the line again, without the line then,
+/// and the station.
+fn counted(alloc: Global) -> Result<([bool; 4], [bool; 4], Falls), OutOfMemory> {
+    let mut counts = Counts::new(alloc)?;
+    let mut later = Counts::new(alloc)?;
+    counts.count_up(&LINE, &NONE);
+    let is_once = counts.are_once(&LINE);
+    counts.count_up(&STATION, &NONE);
     later.copy_from(&counts);
-    later.count_up(&station, &line);
-    assert!(rt; !later.are_once(&line));
-    later.count_down(&line, &none);
-    assert!(rt; later.are_once(&line));
-    assert!(rt; !later.are_once(&station));
+    later.count_up(&STATION, &LINE);
+    let is_line_once = later.are_once(&LINE);
+    later.count_down(&LINE, &NONE);
+    let is_left_once = later.are_once(&LINE);
+    let is_station_once = later.are_once(&STATION);
+    Ok((
+        [is_once, is_line_once, is_left_once, is_station_once],
+        pairs(&counts),
+        falls(&counts),
+    ))
+}
+
+/// Whether the first sections of the line are counted once, and all of it; whether it has some that are counted
+/// twice, and its first sections.
+fn pairs(counts: &Counts) -> [bool; 4] {
+    [
+        counts.are_once(&LINE[..1]),
+        counts.are_once(&LINE),
+        counts.has_pairs(&LINE),
+        counts.has_pairs(&LINE[..1]),
+    ]
+}
+
+/// Whether some section falls back to one when the line goes, and when the station comes for it, with the sets of
+/// those that fall and of those that stay shared; and the sets of those that fall alone.
+fn falls(counts: &Counts) -> Falls {
+    let mut fell = NONE;
+    let mut shared = NONE;
+    let falls = counts.fill_falls(&mut fell, &mut shared, &LINE, &NONE);
+    let (all_fell, none_shared) = (fell, shared);
+    let falls_then = counts.fill_falls(&mut fell, &mut shared, &LINE, &STATION);
+    let mut added = NONE;
+    counts.add_falls(&mut added, &LINE, &NONE);
+    let all_added = added;
+    clear(&mut added);
+    counts.add_falls(&mut added, &LINE, &STATION);
+    (
+        [falls, falls_then],
+        [all_fell, none_shared, fell, shared, all_added, added],
+    )
 }

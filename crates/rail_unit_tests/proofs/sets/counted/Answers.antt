@@ -1,7 +1,6 @@
-use Rattle.std.proofs.Common.{◌≡◌, ℕ, ◌+◌, ◌<◌, ◌≤◌, Bool, true, false, ◌&&◌, not, replicate, ap, arith}
+use Rattle.std.proofs.Common.{◌≡◌, ℕ, ◌+◌, ◌<◌, ◌≤◌, Bool, true, false, ap, arith}
 use Rattle.rail_sets.specs.Counts.{count_of, one_if}
-use Rattle.rail_sets.specs.Sets.{has}
-use Rattle.rail_unit_tests.proofs.sets.sections_are_counted.Goals as goal
+use Rattle.rail_unit_tests.proofs.sets.counted.Goals as goal
 
 one_at_most : (is : Bool) → one_if is ≤ 1
 one_at_most true = omega arith
@@ -14,11 +13,11 @@ some_of : (a b c d e k m n : ℕ) → e ≡ d + k → d ≡ c → c ≡ b + m �
 some_of a b c d e k m n third copied second first one = omega (arith, third, copied, second, first, one)
 
 pub count_up-requires-3-clause-few : goal.count_up-requires-3-clause-few
-count_up-requires-3-clause-few g c = λ x _.
-    few_of _ _ _ _ _ _ (ap (λ counts. count_of counts x) c.copy_from.ensures) (c.count_up-2.ensures x) (c.count_up.ensures x) (c.in-Ok.ensures x)
-    (one_at_most (has c.add_all-2.new.set x && not (has (replicate 8 0) x)))
-    (one_at_most (has c.add_all.new.set x && not (has (replicate 8 0) x)))
+count_up-requires-3-clause-few c = λ x _.
+    few_of _ _ _ _ _ _ (ap (λ counts. count_of counts x) c.copy_from.ensures) (c.count_up-2.ensures x) (c.count_up.ensures x) (c.in_ok-counts.ensures x)
+    (one_at_most _)
+    (one_at_most _)
 
 pub count_down-requires-clause-some : goal.count_down-requires-clause-some
-count_down-requires-clause-some g c = λ x is.
+count_down-requires-clause-some c = λ x is.
     some_of _ _ _ _ _ _ _ _ (c.count_up-3.ensures x) (ap (λ counts. count_of counts x) c.copy_from.ensures) (c.count_up-2.ensures x) (c.count_up.ensures x) (ap one_if is)
