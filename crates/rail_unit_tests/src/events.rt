@@ -1,5 +1,8 @@
-use rail_base::{Time, TrainNo};
+//! In which order events come, which are forgotten, and in which chains they lie.
+
+use rail_base::{OutOfMemory, Time, TrainNo};
 use rail_queue::{Class, Event, EventQueue};
+use std::alloc::Global;
 
 fn event(at: u64, class: Class, number: u16, place: u16) -> Event {
     Event {
@@ -11,89 +14,135 @@ fn event(at: u64, class: Class, number: u16, place: u16) -> Event {
     }
 }
 
-/// The place of the event that comes next.
-fn next_place(queue: &mut EventQueue) -> Option<u16> {
-    match queue.pop() {
+/// A queue with room for these events alone, which were pushed in this order.
+fn queue_of(alloc: Global, events: &[Event]) -> Result<EventQueue, OutOfMemory> {
+    let mut queue = EventQueue::with_room(alloc, events.len())?;
+    for event in events {
+        if queue.spare() > 0 {
+            queue.push(*event);
+        }
+    }
+    Ok(queue)
+}
+
+/// The place of the event, if there is one.
+fn place_of(event: Option<Event>) -> Option<u16> {
+    match event {
         Some(event) => Some(event.place),
         None => None,
     }
 }
 
+/// For how many events there is room, when the first one comes, the places of the first five in their order,
+/// and for how many there is room then.
+type Told = (usize, Option<Time>, [Option<u16>; 5], usize);
+
+/// What is told of the queue.
+fn told(queue: &mut EventQueue) -> Told {
+    let spare = queue.spare();
+    let time = queue.first_time();
+    let first = place_of(queue.pop());
+    let second = place_of(queue.pop());
+    let third = place_of(queue.pop());
+    let fourth = place_of(queue.pop());
+    let fifth = place_of(queue.pop());
+    (
+        spare,
+        time,
+        [first, second, third, fourth, fifth],
+        queue.spare(),
+    )
+}
+
 #[test]
 fn events_come_by_time_class_and_number(rt: HostRuntime) {
-    let Ok(mut queue) = EventQueue::with_room(rt.alloc(), 4) else {
-        panic!(rt; "no memory");
-    };
-    queue.push(event(20, Class::Free, 1, 1));
-    queue.push(event(10, Class::Out, 1, 2));
-    queue.push(event(10, Class::Enter, 2, 3));
-    queue.push(event(10, Class::Enter, 2, 4));
-    assert_eq!(rt; queue.spare(), 0);
-    assert_eq!(rt; queue.first_time(), Some(Time(10)));
-    assert_eq!(rt; next_place(&mut queue), Some(3));
-    assert_eq!(rt; next_place(&mut queue), Some(4));
-    assert_eq!(rt; next_place(&mut queue), Some(2));
-    assert_eq!(rt; next_place(&mut queue), Some(1));
-    assert_eq!(rt; queue.pop(), None);
-    assert_eq!(rt; queue.spare(), 4);
+    let places = [Some(3), Some(4), Some(2), Some(1), None];
+    assert!(rt; pushed(rt.alloc()) == Ok((0, Some(Time(10)), places, 4)));
+}
+
+fn pushed(alloc: Global) -> Result<Told, OutOfMemory> {
+    let events = [
+        event(20, Class::Free, 1, 1),
+        event(10, Class::Out, 1, 2),
+        event(10, Class::Enter, 2, 3),
+        event(10, Class::Enter, 2, 4),
+    ];
+    let mut queue = queue_of(alloc, &events)?;
+    Ok(told(&mut queue))
 }
 
 #[test]
 fn events_of_a_class_and_a_number_are_forgotten(rt: HostRuntime) {
-    let Ok(mut queue) = EventQueue::with_room(rt.alloc(), 5) else {
-        panic!(rt; "no memory");
-    };
-    queue.push(event(20, Class::Free, 1, 1));
-    queue.push(event(10, Class::Free, 1, 2));
-    queue.push(event(10, Class::Free, 2, 3));
-    queue.push(event(10, Class::Ready, 1, 4));
-    queue.push(event(30, Class::Free, 3, 5));
+    let places = [Some(3), Some(4), Some(5), None, None];
+    assert!(rt; left_of_five(rt.alloc()) == Ok((2, Some(Time(10)), places, 5)));
+}
+
+/// Of five events, without those that give section 1 free.
+fn left_of_five(alloc: Global) -> Result<Told, OutOfMemory> {
+    let events = [
+        event(20, Class::Free, 1, 1),
+        event(10, Class::Free, 1, 2),
+        event(10, Class::Free, 2, 3),
+        event(10, Class::Ready, 1, 4),
+        event(30, Class::Free, 3, 5),
+    ];
+    let mut queue = queue_of(alloc, &events)?;
     queue.forget(Class::Free, 1);
-    assert_eq!(rt; queue.spare(), 2);
-    assert_eq!(rt; next_place(&mut queue), Some(3));
-    assert_eq!(rt; next_place(&mut queue), Some(4));
-    assert_eq!(rt; next_place(&mut queue), Some(5));
-    assert_eq!(rt; queue.pop(), None);
+    Ok(told(&mut queue))
 }
 
 #[test]
 fn nothing_is_forgotten_where_the_number_is_of_another_class(rt: HostRuntime) {
-    let Ok(mut queue) = EventQueue::with_room(rt.alloc(), 2) else {
-        panic!(rt; "no memory");
-    };
-    queue.push(event(10, Class::Enter, 4, 1));
-    queue.push(event(10, Class::Command, 3, 2));
+    let places = [Some(1), Some(2), None, None, None];
+    assert!(rt; left_of_two(rt.alloc()) == Ok((0, Some(Time(10)), places, 2)));
+}
+
+/// Of two events, without those of the class of the one and the number of the other.
+fn left_of_two(alloc: Global) -> Result<Told, OutOfMemory> {
+    let events = [
+        event(10, Class::Enter, 4, 1),
+        event(10, Class::Command, 3, 2),
+    ];
+    let mut queue = queue_of(alloc, &events)?;
     queue.forget(Class::Enter, 3);
     queue.forget(Class::Command, 4);
-    assert_eq!(rt; next_place(&mut queue), Some(1));
-    assert_eq!(rt; next_place(&mut queue), Some(2));
-    assert_eq!(rt; queue.spare(), 2);
+    Ok(told(&mut queue))
 }
+
+const FAR: u64 = 64 * 1024;
+
+/// The bases, how many steps were made, whether these chains are empty, and the places.
+type ToldOfChains = ([u64; 3], u64, [bool; 4], [Option<u16>; 5]);
 
 #[test]
 fn near_events_lie_in_the_chains_of_their_buckets(rt: HostRuntime) {
-    let Ok(mut queue) = EventQueue::with_room(rt.alloc(), 4) else {
-        panic!(rt; "no memory");
-    };
-    let far = 64 * 1024;
-    queue.push(event(far, Class::Free, 1, 1));
+    let are_empty = [true, false, false, false];
+    let places = [Some(2), Some(3), Some(1), Some(4), None];
+    assert!(rt; told_of_chains(rt.alloc()) == Ok(([0, 2, 1024], 1, are_empty, places)));
+}
+
+/// What is told where two events are near and one far, and then of one more that is near after the first came.
+fn told_of_chains(alloc: Global) -> Result<ToldOfChains, OutOfMemory> {
+    let mut queue = EventQueue::with_room(alloc, 4)?;
+    queue.push(event(FAR, Class::Free, 1, 1));
     queue.push(event(130, Class::Free, 1, 2));
     queue.push(event(130, Class::Free, 1, 3));
-    assert_eq!(rt; queue.base(), 0);
-    assert_eq!(rt; queue.slots().first(0), None);
-    assert_eq!(rt; queue.slots().first(2).is_some(), true);
-    assert_eq!(rt; queue.slots().first(1024).is_some(), true);
-    assert_eq!(rt; queue.slots().walked(), 1);
-    let Some(next) = queue.pop() else {
-        panic!(rt; "no event");
-    };
-    assert_eq!(rt; next.place, 2);
-    assert_eq!(rt; queue.base(), 2);
-    queue.push(event(far, Class::Free, 1, 4));
-    assert_eq!(rt; queue.slots().first(0).is_some(), true);
-    assert_eq!(rt; next_place(&mut queue), Some(3));
-    assert_eq!(rt; next_place(&mut queue), Some(1));
-    assert_eq!(rt; next_place(&mut queue), Some(4));
-    assert_eq!(rt; queue.base(), 1024);
-    assert_eq!(rt; queue.first(), None);
+    let base = queue.base();
+    let is_none_in_first = queue.slots().first(0) == None;
+    let is_none_near = queue.slots().first(2) == None;
+    let is_none_far = queue.slots().first(1024) == None;
+    let walked = queue.slots().walked();
+    let first = place_of(queue.pop());
+    let base_behind = queue.base();
+    queue.push(event(FAR, Class::Free, 1, 4));
+    let is_none_then = queue.slots().first(0) == None;
+    let second = place_of(queue.pop());
+    let third = place_of(queue.pop());
+    let fourth = place_of(queue.pop());
+    Ok((
+        [base, base_behind, queue.base()],
+        walked,
+        [is_none_in_first, is_none_near, is_none_far, is_none_then],
+        [first, second, third, fourth, place_of(queue.first())],
+    ))
 }
