@@ -115,23 +115,19 @@ fn long_shelf(alloc: Global) -> Result<SureShelf, AllocError> {
 
 #[test]
 fn reads_without_fault(rt: HostRuntime) {
-    let Ok(long) = vec![in rt.alloc(); 7; 100_000] else {
-        panic!(rt; "no memory");
-    };
-    let Ok(mut shelf) = long_shelf(rt.alloc()) else {
-        panic!(rt; "no memory");
-    };
-    assert!(rt; reads(rt.alloc(), &mut shelf, "long", 100_000, Ok(&long)));
-    assert!(rt; reads(rt.alloc(), &mut shelf, "absent", 0, Ok(b"")));
-    assert!(rt;
-        reads(
-            rt.alloc(),
-            &mut shelf,
-            "long",
-            99_999,
-            Err(ReadWhole::TooLarge)
-        )
-    );
+    assert!(rt; is_read_without_fault(rt.alloc()) == Ok([true; 3]));
+}
+
+/// Whether a shelf with one long file is read as it is, as empty where the file is absent, and not where the file
+/// is too large.
+fn is_read_without_fault(alloc: Global) -> Result<[bool; 3], AllocError> {
+    let long = vec![in alloc; 7; 100_000]?;
+    let mut shelf = long_shelf(alloc)?;
+    let too_large = Err(ReadWhole::TooLarge);
+    let is_read = reads(alloc, &mut shelf, "long", 100_000, Ok(&long));
+    let is_absent = reads(alloc, &mut shelf, "absent", 0, Ok(b""));
+    let is_too_large = reads(alloc, &mut shelf, "long", 99_999, too_large);
+    Ok([is_read, is_absent, is_too_large])
 }
 
 /// Writes the lines in turn, through the bound, to the first that fails.
@@ -160,9 +156,13 @@ fn sink_of(alloc: Global, fail: u64) -> Result<MemorySink, OutOfMemory> {
 
 #[test]
 fn writes_to_memory(rt: HostRuntime) {
-    assert!(rt; writes(rt.alloc(), 0, Ok(()), b"one\ntwo\nthree\n"));
-    assert!(rt; writes(rt.alloc(), 1, Err(Failed), b""));
-    assert!(rt; writes(rt.alloc(), 3, Err(Failed), b"one\ntwo\n"));
+    let alloc = rt.alloc();
+    let are_written = [
+        writes(alloc, 0, Ok(()), b"one\ntwo\nthree\n"),
+        writes(alloc, 1, Err(Failed), b""),
+        writes(alloc, 3, Err(Failed), b"one\ntwo\n"),
+    ];
+    assert_eq!(rt; are_written, [true; 3]);
 }
 
 /// Whether all lines are written, and what the sink tells then.
@@ -172,12 +172,16 @@ fn adds(sink: &mut SureSink, lines: &[&str], bytes: Option<&[u8]>) -> bool {
 
 #[test]
 fn writes_without_fault(rt: HostRuntime) {
-    let Ok(mut sink) = SureSink::with_room(rt.alloc(), 16) else {
-        panic!(rt; "no memory");
-    };
-    assert!(rt; adds(&mut sink, &LINES, Some(b"one\ntwo\nthree\n")));
-    assert!(rt; adds(&mut sink, &["+2"], Some(b"one\ntwo\nthree\n+2")));
-    assert!(rt; adds(&mut sink, &["!"], None));
+    assert!(rt; is_written_without_fault(rt.alloc()) == Ok([true; 3]));
+}
+
+/// Whether a sink has what is written, also where it is full then, and tells nothing of it once it was too much.
+fn is_written_without_fault(alloc: Global) -> Result<[bool; 3], OutOfMemory> {
+    let mut sink = SureSink::with_room(alloc, 16)?;
+    let is_written = adds(&mut sink, &LINES, Some(b"one\ntwo\nthree\n"));
+    let is_filled = adds(&mut sink, &["+2"], Some(b"one\ntwo\nthree\n+2"));
+    let is_lost = adds(&mut sink, &["!"], None);
+    Ok([is_written, is_filled, is_lost])
 }
 
 /// Whether the lines are written, and finished, so by a sink that gathers six bytes, before one in memory
@@ -198,10 +202,13 @@ fn gathers(
 #[test]
 fn gathers_what_is_written(rt: HostRuntime) {
     let alloc = rt.alloc();
-    assert!(rt; gathers(alloc, 0, Ok(()), Ok(()), b"one\ntwo\nthree\n") == Ok(true));
-    assert!(rt; gathers(alloc, 1, Err(Failed), Ok(()), b"one\ntw") == Ok(true));
-    assert!(rt; gathers(alloc, 2, Err(Failed), Ok(()), b"one\ntwo\nthre") == Ok(true));
-    assert!(rt; gathers(alloc, 3, Ok(()), Err(Failed), b"one\ntwo\nthre") == Ok(true));
+    let are_gathered = [
+        gathers(alloc, 0, Ok(()), Ok(()), b"one\ntwo\nthree\n"),
+        gathers(alloc, 1, Err(Failed), Ok(()), b"one\ntw"),
+        gathers(alloc, 2, Err(Failed), Ok(()), b"one\ntwo\nthre"),
+        gathers(alloc, 3, Ok(()), Err(Failed), b"one\ntwo\nthre"),
+    ];
+    assert_eq!(rt; are_gathered, [Ok(true); 4]);
 }
 
 /// Whether the file is read with this text, is too large for a lesser limit, and is a fault when it is
@@ -238,8 +245,11 @@ fn reads_files(rt: HostRuntime) {
     let Some(name) = path.as_path().to_str() else {
         panic!(rt; "a path that is no text");
     };
-    assert!(rt; is_read_back(&rt, name, "three lines\n\n."));
-    assert!(rt; is_read_back(&rt, name, "version = 1\n"));
+    let are_read_back = [
+        is_read_back(&rt, name, "three lines\n\n."),
+        is_read_back(&rt, name, "version = 1\n"),
+    ];
+    assert_eq!(rt; are_read_back, [true; 2]);
 }
 
 /// An output that takes so many bytes of each piece, or fails.
@@ -277,9 +287,11 @@ fn is_taken(most: Option<usize>, want: Result<(), Failed>, faults: u64) -> bool 
 #[test]
 fn writes_out(rt: HostRuntime) {
     let mut out = OutSink::new(&rt);
-    assert!(rt; write_lines(&mut out, &["one line\n"]) == Ok(()));
-    assert!(rt; out.faults() == 0);
-    assert!(rt; is_taken(Some(4), Ok(()), 0));
-    assert!(rt; is_taken(Some(0), Err(Failed), 1));
-    assert!(rt; is_taken(None, Err(Failed), 1));
+    let written = write_lines(&mut out, &["one line\n"]);
+    let are_taken = [
+        is_taken(Some(4), Ok(()), 0),
+        is_taken(Some(0), Err(Failed), 1),
+        is_taken(None, Err(Failed), 1),
+    ];
+    assert!(rt; (written, out.faults(), are_taken) == (Ok(()), 0, [true; 3]));
 }
