@@ -27,43 +27,55 @@ fn play(places: &mut Places, moves: &Moves, list: &[TrainNo]) -> Played
     places.play(moves, list)
 }
 
-/// The loop line with the sections W, PW, L1, L2, PE, E: A goes over L1 to the east.
 #[test]
 fn plays_lists_at_a_loop(rt: HostRuntime) {
-    let Some(moves) = moves_of(rt.alloc(), "012 45/2, 543 10/3") else {
-        panic!(rt; "no moves");
-    };
-    let Ok(mut both_inside) = places_at(rt.alloc(), &moves, "11") else {
-        panic!(rt; "no places");
-    };
-    assert!(rt; play(&mut both_inside, &moves, &[A, B]) == Played::Completes);
-    assert_eq!(rt; both_inside.played(), 2);
     let inside = Played::Inside { train: A };
-    assert!(rt; play(&mut both_inside, &moves, &[B]) == inside);
     let out = Played::Illegal {
         index: 2,
         why: Barred::Out,
-    };
-    assert!(rt; play(&mut both_inside, &moves, &[A, A]) == out);
-    assert_eq!(rt; both_inside.played(), 4);
-    let Ok(mut both_outside) = places_at(rt.alloc(), &moves, "00") else {
-        panic!(rt; "no places");
     };
     let outside = Played::Illegal {
         index: 1,
         why: Barred::Outside,
     };
-    assert!(rt; play(&mut both_outside, &moves, &[A]) == outside);
+    let played = [Played::Completes, inside, out, outside];
+    assert!(rt; played_at_a_loop(rt.alloc()) == Some((played, [2, 4])));
+}
+
+/// What comes of lists at the loop line with the sections W, PW, L1, L2, PE, E, where A goes over L1 to the east:
+/// of three where both trains are inside, and of one where both are outside; and how many moves were played after
+/// the first and after the third.
+fn played_at_a_loop(alloc: Global) -> Option<([Played; 4], [u64; 2])> {
+    let moves = moves_of(alloc, "012 45/2, 543 10/3")?;
+    let (inside, counts) = played_inside(alloc, &moves)?;
+    let [first, second, third] = inside;
+    let fourth = played_from(alloc, &moves, "00", &[A])?;
+    Some(([first, second, third, fourth], counts))
+}
+
+fn played_inside(alloc: Global, moves: &Moves) -> Option<([Played; 3], [u64; 2])> {
+    match places_at(alloc, moves, "11") {
+        Ok(mut places) => {
+            let first = play(&mut places, moves, &[A, B]);
+            let count = places.played();
+            let second = play(&mut places, moves, &[B]);
+            let third = play(&mut places, moves, &[A, A]);
+            Some(([first, second, third], [count, places.played()]))
+        }
+        Err(_) => None,
+    }
+}
+
+/// What comes of the list where the trains are at these places.
+fn played_from(alloc: Global, moves: &Moves, digits: &str, list: &[TrainNo]) -> Option<Played> {
+    match places_at(alloc, moves, digits) {
+        Ok(mut places) => Some(play(&mut places, moves, list)),
+        Err(_) => None,
+    }
 }
 
 #[test]
 fn names_the_first_holder(rt: HostRuntime) {
-    let Some(moves) = moves_of(rt.alloc(), "0 12 45/0 2, 542 10/2") else {
-        panic!(rt; "no moves");
-    };
-    let Ok(mut places) = places_at(rt.alloc(), &moves, "11") else {
-        panic!(rt; "no places");
-    };
     let held = Played::Illegal {
         index: 1,
         why: Barred::Held {
@@ -71,15 +83,21 @@ fn names_the_first_holder(rt: HostRuntime) {
             holder: B,
         },
     };
-    assert!(rt; play(&mut places, &moves, &[A]) == held);
     let overlap = PlacesFault::Overlap {
         section: SectionNo(2),
         first: A,
         second: B,
     };
-    match places_at(rt.alloc(), &moves, "21") {
-        Ok(_) => panic!(rt; "two trains on one section"),
-        Err(fault) => assert!(rt; fault == overlap),
+    assert!(rt; told_of_holders(rt.alloc()) == Some((held, overlap)));
+}
+
+/// What comes of a list with a move onto a section on which B stands, and of two trains on one section.
+fn told_of_holders(alloc: Global) -> Option<(Played, PlacesFault)> {
+    let moves = moves_of(alloc, "0 12 45/0 2, 542 10/2")?;
+    let held = played_from(alloc, &moves, "11", &[A])?;
+    match places_at(alloc, &moves, "21") {
+        Ok(_) => None,
+        Err(fault) => Some((held, fault)),
     }
 }
 

@@ -40,13 +40,15 @@ fn appends_the_moves_left_or_none(rt: HostRuntime) {
 
 #[test]
 fn begins_empty(rt: HostRuntime) {
-    let Some(moves) = moves_of(rt.alloc(), TRAINS) else {
-        panic!(rt; "no moves");
-    };
-    let Ok(kept) = KeptList::new(rt.alloc(), &moves) else {
-        panic!(rt; "no memory");
-    };
-    assert!(rt; kept.as_slice().is_empty());
+    assert!(rt; is_empty_at_first(rt.alloc()) == Some(true));
+}
+
+fn is_empty_at_first(alloc: Global) -> Option<bool> {
+    let moves = moves_of(alloc, TRAINS)?;
+    match KeptList::new(alloc, &moves) {
+        Ok(kept) => Some(kept.as_slice().is_empty()),
+        Err(_) => None,
+    }
 }
 
 /// The first of the cases that is answered otherwise than it says.
