@@ -51,14 +51,17 @@ now
 00:00:00.
 00:00:00.10
 00:00:00,1
-00:00:00\x20
-\x2000:00:00
 +1:00:00
 0x:00:00";
 
 #[test]
 fn refuses_what_is_no_time(rt: HostRuntime) {
-    assert!(rt; (first_read(NO_TIMES), read_time(b"\xff0:00:00")) == (None, None));
+    let others = [
+        read_time(b"00:00:00 "),
+        read_time(b" 00:00:00"),
+        read_time(b"\xff0:00:00"),
+    ];
+    assert!(rt; (first_read(NO_TIMES), others) == (None, [None; 3]));
 }
 
 /// The first of the texts that is read as a time.

@@ -42,23 +42,27 @@ fn sets() -> [[u64; WORDS]; 4] {
 #[test]
 fn sets_meet(rt: HostRuntime) {
     let first = (Some(SectionNo(70)), None);
-    assert!(rt; meetings() == ([true, false, false], first, [8, 2]));
+    let are_met = [true, false, false, true, false];
+    assert!(rt; meetings() == (are_met, first, [8, 2]));
 }
 
 type Meetings = (
-    [bool; 3],
+    [bool; 5],
     (Option<SectionNo>, Option<SectionNo>),
     [usize; 2],
 );
 
-/// Whether the line and the station meet, the first section of the line with it, and beyond the station; the
-/// first common section, and beyond the station; and how many words each takes.
+/// Whether the line and the station meet, the first word of the line with it, and beyond the station, and whether no
+/// sections are an empty set, and the line; the first common section, and beyond the station; and how many words each
+/// takes.
 fn meetings() -> Meetings {
     (
         [
             meet(&LINE, &STATION),
             meet(&LINE[..1], &STATION),
             meet_beyond(&LINE, &STATION, &STATION),
+            is_empty(&NONE),
+            is_empty(&LINE),
         ],
         (
             first_common(&LINE, &STATION, &NONE),
@@ -102,9 +106,9 @@ fn sections_are_counted(rt: HostRuntime) {
 
 type Falls = ([bool; 2], [[u64; WORDS]; 6]);
 
-/// What is told of the line and the station counted once each, and whether the line was counted once before; and
-/// of other counts, whether the line is counted once with the station of the line again, without the line then,
-/// and the station.
+/// First whether the sections of the line are counted once; and, in a copy of the counts of the line and the station,
+/// where what the station has beside the line is counted again, and when the line is counted down then, and whether
+/// those of the station are; and then what is told of the counts of both.
 fn counted(alloc: Global) -> Result<([bool; 4], [bool; 4], Falls), OutOfMemory> {
     let mut counts = Counts::new(alloc)?;
     let mut later = Counts::new(alloc)?;
@@ -124,8 +128,8 @@ fn counted(alloc: Global) -> Result<([bool; 4], [bool; 4], Falls), OutOfMemory> 
     ))
 }
 
-/// Whether the first sections of the line are counted once, and all of it; whether it has some that are counted
-/// twice, and its first sections.
+/// Whether the sections of the first word of the line are counted once, and all of it; whether the line has some that
+/// are counted twice, and its first word.
 fn pairs(counts: &Counts) -> [bool; 4] {
     [
         counts.are_once(&LINE[..1]),
