@@ -25,9 +25,10 @@ from rail_specs import Specs, Target, Terms, constructor_test, tree  # noqa: E40
 
 MARK = "<!-- the list -->"
 TOP = ("rail_cli", "top", "rail")
+FORMS = "rail_forms"
 EXAMPLES = "rail_worked"
 
-# Definitions of the top call's crate of which it is told how much they reach.
+# Definitions of the forms of which it is told how much they reach.
 PARTS = (
     ("IsRun", "what holds of the history that `run` writes, and of which `stairs`, `report` and `capacity` tell"),
     ("AnswersRun", "what `run` answers"),
@@ -41,7 +42,7 @@ PARTS = (
     ("AnswersScene", "what `scene` answers"),
 )
 
-# The headline in words, and the fields of records of the top call's crate that say each part of it.
+# The headline in words, and the fields of records of the forms that say each part of it.
 HEADLINE = (
     ("For every accepted input and every policy behaviour", (("AnswersScenario", "all"), ("IsRunWithin", "accepted"))),
     ("a `run` that ends `Done` writes one history", (("IsRun", "history"), ("RunsInput", "adds"), ("IsRunWithin", "only"))),
@@ -173,10 +174,10 @@ class Page:
         return head + self.shares() + self.headline() + parts + data + constants + kit
 
     def clause(self, record, field):
-        """The field of a record of the top call's crate, as its file has it."""
+        """The field of a record of the forms, as its file has it."""
         module = next(it for it in self.reader.specs.modules.values()
-                      if it.crate == TOP[0] and record in it.definitions)
-        lines = module.path.read_text().splitlines()
+                      if it.crate == FORMS and record in it.definitions)
+        lines = module.path.read_text().splitlines() + [""]
         start = next(at for at, line in enumerate(lines) if line.startswith("pub record %s " % record))
         end = lines.index("", start)
         first = next(at for at in range(start, end) if lines[at].startswith("  pub %s :" % field))
@@ -199,7 +200,7 @@ class Page:
         """How much single parts of the contract reach."""
         rows = []
         for name, words in PARTS:
-            for target in [it for it in self.reached if (it.kind, it.crate, it.name) == ("spec", TOP[0], name)]:
+            for target in [it for it in self.reached if (it.kind, it.crate, it.name) == ("spec", FORMS, name)]:
                 reached = self.reader.reached({target})
                 definitions, lines = (sum(it.values()) for it in self.reader.counts(reached))
                 rows.append("| `%s` | %s | %d | %s |" % (name, said(words), definitions, format(lines, ",")))

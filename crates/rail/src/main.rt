@@ -3,7 +3,7 @@
 #![tactic(auto)]
 
 ghost use Rattle.std.specs.Prelude.{◌≡◌, ◌≢◌, []};
-ghost use Rattle.rail_cli.specs.declared.status.Status.TheVariants.{WriteFault};
+ghost use Rattle.rail_forms.specs.declared.status.Status.TheVariants.{WriteFault};
 ghost use Rattle.rail_io.specs.GatheredSink.{gathered_by};
 
 mod explanations;

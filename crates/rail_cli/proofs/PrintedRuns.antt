@@ -17,14 +17,14 @@ use Rattle.rail_rules.specs.Fronts.{Front, Line}
 use Rattle.rail_rules.specs.Numbers.{or_else}
 use Rattle.rail_rules.specs.Orders.{Input}
 use Rattle.rail_rules.specs.Texts.{text}
-use Rattle.rail_cli.specs.declared.status.Status.{Status}
-use Rattle.rail_cli.specs.declared.status.Status.TheVariants.{Done, Usage, Refused, ReadFault, WriteFault, OutOfMemory, CheckedNo}
-use Rattle.rail_cli.specs.Answers.{IsAnswer, Told}
-use Rattle.rail_cli.specs.Checks.{AnswersCheck, IsJudged, check_refusal, done_with, status_judged, verdict_text}
-use Rattle.rail_cli.specs.Files.{named_file, told_of, too_large, too_large_if_any}
-use Rattle.rail_cli.specs.Runs.{AnswersRun}
-use Rattle.rail_cli.specs.Scenarios.{Scenario}
-use Rattle.rail_cli.proofs.Answers.{short_enough}
+use Rattle.rail_forms.specs.declared.status.Status.{Status}
+use Rattle.rail_forms.specs.declared.status.Status.TheVariants.{Done, Usage, Refused, ReadFault, WriteFault, OutOfMemory, CheckedNo}
+use Rattle.rail_forms.specs.Answers.{IsAnswer, Told}
+use Rattle.rail_forms.specs.Checks.{AnswersCheck, IsJudged, check_refusal, done_with, status_judged, verdict_text}
+use Rattle.rail_forms.specs.Files.{named_file, told_of, too_large, too_large_if_any}
+use Rattle.rail_forms.specs.Runs.{AnswersRun}
+use Rattle.rail_forms.specs.Scenarios.{Scenario}
+use Rattle.rail_forms.proofs.CallerLemmas.{short_enough}
 
 -- one more refusal that does not come
 none_between : (a b c d last : Option Refusal) → or_else a (or_else b (or_else c last)) ≡ None → d ≡ None → or_else a (or_else b (or_else c (or_else d last))) ≡ None

@@ -1,28 +1,24 @@
 -- The forms: which files the words of each name, and what is answered to them.
-use Rattle.std.specs.Prelude.{◌≡◌, ℕ, List, [], ◌∷◌, IsSomeAnd, Option, Some, None}
+use Rattle.std.specs.Prelude.{ℕ, List, [], ◌∷◌, Option, Some}
 use Rattle.std.specs.Option.{option_map_or}
-use Rattle.rail_words.specs.Forms.{IsNumberWord, form_named}
+use Rattle.rail_policy.specs.Seats.{DeskSeat}
+use Rattle.rail_words.specs.Forms.{form_named}
 use Rattle.rail_words.specs.declared.forms.Form.{Form}
 use Rattle.rail_words.specs.declared.forms.Form.TheVariants as form
-use Rattle.rail_policy.specs.Seats.{DeskSeat}
-use Rattle.rail_input.specs.Inputs.{plant_refusal}
-use Rattle.rail_cli.specs.declared.status.Status.{Status}
-use Rattle.rail_cli.specs.declared.status.Status.TheVariants.{Done}
-use Rattle.rail_rules.specs.Numbers.{or_else}
-use Rattle.rail_cli.specs.Files.{named_file, too_large}
-use Rattle.rail_cli.specs.Answers.{Told}
-use Rattle.rail_cli.specs.Scenarios.{IsAcceptedScenario, OnScenario, nothing_else, scenario_files, scenario_of}
-use Rattle.rail_cli.specs.Runs.{AnswersRun}
-use Rattle.rail_cli.specs.Stairs.{AnswersStairs}
-use Rattle.rail_cli.specs.Reports.{AnswersReport}
-use Rattle.rail_cli.specs.Capacity.{AnswersCapacity, IsAcceptedCapacity, IsEmptyStudy}
-use Rattle.rail_cli.specs.Checks.{AnswersCheck, IsAcceptedCheck, done_with}
-use Rattle.rail_cli.specs.Infra.{AnswersInfra}
-use Rattle.rail_cli.specs.Plays.{AnswersPlay, play_refusal}
-use Rattle.rail_cli.specs.SceneTexts.{AnswersScene}
-use Rattle.rail_cli.specs.Summaries.{AnswersGen}
-use Rattle.rail_cli.specs.Edits.{AnswersEdit}
-use Rattle.rail_edit_file.specs.EditedScenes.{edited_scene_refusal}
+use Rattle.rail_forms.specs.declared.status.Status.{Status}
+use Rattle.rail_forms.specs.Answers.{Told}
+use Rattle.rail_forms.specs.Capacity.{AnswersCapacity, IsEmptyStudy}
+use Rattle.rail_forms.specs.Checks.{AnswersCheck}
+use Rattle.rail_forms.specs.Edits.{AnswersEdit}
+use Rattle.rail_forms.specs.Files.{named_file}
+use Rattle.rail_forms.specs.Infra.{AnswersInfra}
+use Rattle.rail_forms.specs.Plays.{AnswersPlay}
+use Rattle.rail_forms.specs.Reports.{AnswersReport}
+use Rattle.rail_forms.specs.Runs.{AnswersRun}
+use Rattle.rail_forms.specs.Scenarios.{OnScenario, scenario_files}
+use Rattle.rail_forms.specs.SceneTexts.{AnswersScene}
+use Rattle.rail_forms.specs.Stairs.{AnswersStairs}
+use Rattle.rail_forms.specs.Summaries.{AnswersGen}
 
 -- what is answered to words of the form, with this deck; other words are of no form
 abbrev pub AnswersForm : Form → List (List ℕ) → List DeskSeat → Told → Option (List ℕ) → Option (List ℕ) → Status → Type 0
@@ -37,31 +33,6 @@ AnswersForm form.Edit (verb ∷ scene ∷ edits ∷ []) deck told before now sta
 AnswersForm form.Scene (verb ∷ number ∷ []) deck told before now status = AnswersScene number before now status
 AnswersForm form.Gen (verb ∷ number ∷ []) deck told before now status = AnswersGen number deck before now status
 AnswersForm form words deck told before now status = ⊥
-
--- nothing is refused in what words of the form name: the bytes of the files are told, and accepted
-abbrev pub IsAcceptedInput : Form → List (List ℕ) → List DeskSeat → Told → Type 0
-IsAcceptedInput form.Run (verb ∷ words) deck told = IsSomeAnd (scenario_of words) (IsAcceptedScenario nothing_else deck told)
-IsAcceptedInput form.Stairs (verb ∷ words) deck told = IsSomeAnd (scenario_of words) (IsAcceptedScenario nothing_else deck told)
-IsAcceptedInput form.Report (verb ∷ words) deck told = IsSomeAnd (scenario_of words) (IsAcceptedScenario nothing_else deck told)
-IsAcceptedInput form.Capacity (verb ∷ line ∷ from ∷ to ∷ words) deck told =
-    IsSomeAnd (scenario_of words) (λ scenario. IsAcceptedCapacity line from to scenario deck told)
-IsAcceptedInput form.Infra (verb ∷ scene ∷ []) deck told = (bytes : List ℕ) × (told scene ≡ Some bytes)
-    × (or_else (too_large 1 bytes) (plant_refusal bytes) ≡ None)
-IsAcceptedInput form.Play (verb ∷ scene ∷ list ∷ []) deck told = (bytes : List ℕ) × (listed : List ℕ)
-    × (told scene ≡ Some bytes) × (told list ≡ Some listed)
-    × (or_else (too_large 1 bytes) (or_else (too_large 2 listed) (play_refusal bytes listed)) ≡ None)
-IsAcceptedInput form.Check (verb ∷ scene ∷ timetable ∷ commands ∷ history ∷ []) deck told = IsAcceptedCheck scene timetable commands history deck told
-IsAcceptedInput form.Edit (verb ∷ scene ∷ edits ∷ []) deck told = (bytes : List ℕ) × (lines : List ℕ)
-    × (told scene ≡ Some bytes) × (told edits ≡ Some lines)
-    × (or_else (too_large 1 bytes) (or_else (too_large 2 lines) (edited_scene_refusal bytes lines)) ≡ None)
-IsAcceptedInput form.Scene (verb ∷ number ∷ []) deck told = IsNumberWord number
-IsAcceptedInput form.Gen (verb ∷ number ∷ []) deck told = IsNumberWord number
-IsAcceptedInput form words deck told = ⊥
-
--- a command of the form is done: a check also where it ends with a verdict that is no
-abbrev pub IsDone : Form → Status → Type 0
-IsDone form.Check status = done_with status ≡ Done
-IsDone form status = status ≡ Done
 
 -- the files that words of the form name, in the order in which they are read; a made-up scene stands in no file
 abbrev pub files_of : Form → List (List ℕ) → List (Option (List ℕ))

@@ -1,21 +1,3 @@
--- What the contracts of this crate speak of: statuses, what every form promises, what each form answers, and the table of the forms.
-pub mod Statuses
-pub mod Files
-pub mod Promises
-pub mod Answers
-pub mod Names
-pub mod Scenarios
-pub mod Runs
-pub mod Noted
-pub mod Stairs
-pub mod Reports
-pub mod Capacity
-pub mod Purposes
-pub mod Infra
-pub mod TwoFiles
-pub mod Plays
-pub mod Checks
-pub mod SceneTexts
-pub mod Summaries
-pub mod Edits
+-- What the contract of the top call speaks of: the table of the forms, and when a command is done.
 pub mod Forms
+pub mod Completeness

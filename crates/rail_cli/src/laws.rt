@@ -4,13 +4,13 @@ ghost use Rattle.std.specs.Prelude.{◌≡◌, ◌≤◌, ◌++◌, ℕ, List, O
 ghost use Rattle.rail_base.specs.Limits.{most, HistoryBytes};
 ghost use Rattle.rail_io.specs.Writes.{Adds, AddsPrefix};
 ghost use Rattle.rail_policy.specs.Seats.{DeskSeat};
-ghost use Rattle.rail_cli.specs.Answers.{IsAnswer, Told};
-ghost use Rattle.rail_cli.specs.Checks.{AnswersCheck};
-ghost use Rattle.rail_cli.specs.Files.{named_file, told_of};
-ghost use Rattle.rail_cli.specs.Runs.{AnswersRun};
-ghost use Rattle.rail_cli.specs.Scenarios.{Scenario};
-ghost use Rattle.rail_cli.specs.declared.status.Status.{Status};
-ghost use Rattle.rail_cli.specs.declared.status.Status.TheVariants as status;
+ghost use Rattle.rail_forms.specs.Answers.{IsAnswer, Told};
+ghost use Rattle.rail_forms.specs.Checks.{AnswersCheck};
+ghost use Rattle.rail_forms.specs.Files.{named_file, told_of};
+ghost use Rattle.rail_forms.specs.Runs.{AnswersRun};
+ghost use Rattle.rail_forms.specs.Scenarios.{Scenario};
+ghost use Rattle.rail_forms.specs.declared.status.Status.{Status};
+ghost use Rattle.rail_forms.specs.declared.status.Status.TheVariants as status;
 
 /// What `run` printed is answered `yes` by `check` of the same files: where a `run` of a scenario ended `Done`, and what
 /// it added is what the history file holds, within the size that such a file may have, a `check` of the same scenario with

@@ -4,14 +4,14 @@ ghost use Rattle.std.specs.Prelude.{◌≡◌, ◌↔◌, IsTrue, map};
 ghost use Rattle.rail_policy.specs.Seats.{is_fine_deck};
 ghost use Rattle.rail_words.specs.Forms.{IsForm};
 ghost use Rattle.rail_words.specs.declared.forms.Form.{Form};
-ghost use Rattle.rail_cli.specs.declared.status.Status.TheVariants as status;
-ghost use Rattle.rail_cli.specs.Forms.{AnswersForm, AreRefusedAlone, IsAcceptedInput, IsDone, files_named, files_of};
-ghost use Rattle.rail_cli.specs.Promises.{IsComplete, KeepsPromise, ReadsFiles, WritesAnswer, ended};
+ghost use Rattle.rail_forms.specs.declared.status.Status.TheVariants as status;
+ghost use Rattle.rail_forms.specs.Promises.{KeepsPromise, ReadsFiles, WritesAnswer, ended};
+ghost use Rattle.rail_cli.specs.Completeness.{IsAcceptedInput, IsComplete, IsDone};
+ghost use Rattle.rail_cli.specs.Forms.{AnswersForm, AreRefusedAlone, files_named, files_of};
 
-use crate::commands::scenario::Purpose;
-use crate::commands::{capacity, check, edit, infra, play, scenario, scene, summary};
-use crate::status::Status;
 use rail_base::Word;
+use rail_forms::scenario::Purpose;
+use rail_forms::{Status, capacity, check, edit, infra, play, scenario, scene, summary};
 use rail_io::{Shelf, Sink};
 use rail_policy::Policy;
 use rail_words::{Form, form_of};
@@ -20,8 +20,8 @@ use std::alloc::Global;
 /// Does what the words ask for. The files that they name are read from the shelf, all of them before
 /// anything is refused but their size, and what is answered is added to the output.
 ///
-/// What a run promises is `IsRun` in `specs/Runs.antt`, which the clause `answer` comes to: `run` that ends
-/// `Done` has added the text of one history in which every event line is the due one, blocking intervals of
+/// What a run promises is `IsRun` in `specs/Runs.antt` of `rail_forms`, which the clause `answer` comes to: `run` that
+/// ends `Done` has added the text of one history in which every event line is the due one, blocking intervals of
 /// one section never overlap, the kept list brings every train inside to its exit after every line, each hold
 /// line names the true cause, the policy is obeyed, each ready train waits for a stated true cause whenever
 /// time goes on, and a repaired list goes before a fresh one; at the end, where no section stays closed and no
@@ -30,9 +30,9 @@ use std::alloc::Global;
 ///
 /// The policies of the deck are those that the scene and the commands may name, 1 to 16 with distinct names.
 ///
-/// What a check promises is `IsJudged` in `specs/Checks.antt`: where nothing is refused and the history file is the
-/// text of lines, `check` adds `yes` and ends `Done` exactly where these are a history that is lawful to its end; else
-/// it adds the first line that may not follow and the law that it breaks, and ends `CheckedNo` with both.
+/// What a check promises is `IsJudged` in `specs/Checks.antt` there: where nothing is refused and the history file is
+/// the text of lines, `check` adds `yes` and ends `Done` exactly where these are a history that is lawful to its end;
+/// else it adds the first line that may not follow and the law that it breaks, and ends `CheckedNo` with both.
 ///
 /// A command whose input is accepted is done where no count of faults rose, unless memory is wanting.
 ///
@@ -65,7 +65,7 @@ pub fn rail<S: Shelf, O: Sink>(
 }
 
 /// Does what words of the form ask for.
-#[tactic(auto, using(crate::proofs::Reading::keeps_unread))]
+#[tactic(auto, using(crate::proofs::Unread::keeps_unread))]
 fn answer<S: Shelf, O: Sink>(
     alloc: Global,
     form: Form,

@@ -1,6 +1,7 @@
 use Rattle.std.proofs.Common.{ℕ, List, sym, ◌∙◌, subst, Option}
-use Rattle.rail_cli.specs.Promises.{ReadsFiles, ended}
-use Rattle.rail_cli.proofs.Forms.{complete_form, files_of_form, form_answered, refused_alone}
+use Rattle.rail_forms.specs.Promises.{ReadsFiles, ended}
+use Rattle.rail_cli.proofs.Completeness.{complete_form}
+use Rattle.rail_cli.proofs.Forms.{files_of_form, form_answered, refused_alone}
 use Rattle.rail_cli.proofs.top.rail.Goals as goal
 
 pub returns-in-Some-clause-usage : goal.returns-in-Some-clause-usage

@@ -1,0 +1,22 @@
+-- The lemmas of this crate; those for the crates above stand in CallerLemmas.
+pub mod CallerLemmas
+mod LineBounds
+mod Histories
+mod Barring
+mod Endings
+mod Progress
+mod InfraTexts
+mod Writes
+mod Lists
+mod Answers
+mod TwoFiles
+mod CheckAnswers
+mod Numbers
+mod Parts
+mod Reading
+mod ScenarioAnswers
+mod NotedRuns
+mod Summaries
+mod Pieces
+mod CapacityTexts
+mod Studies

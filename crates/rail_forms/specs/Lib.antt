@@ -1,0 +1,20 @@
+-- What the contracts of this crate speak of: statuses, what every form promises, and what each form answers.
+pub mod Statuses
+pub mod Files
+pub mod Promises
+pub mod Answers
+pub mod Names
+pub mod Scenarios
+pub mod Runs
+pub mod Noted
+pub mod Stairs
+pub mod Reports
+pub mod Capacity
+pub mod Purposes
+pub mod Infra
+pub mod TwoFiles
+pub mod Plays
+pub mod Checks
+pub mod SceneTexts
+pub mod Summaries
+pub mod Edits

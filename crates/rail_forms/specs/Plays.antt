@@ -1,0 +1,70 @@
+-- The form `play`: what the player of a list answers, as a line.
+use Rattle.std.specs.Prelude.{ℕ, ◌-◌, List, [], ◌∷◌, ◌++◌, get_or, map, codes, decimal, Option}
+use Rattle.rail_base.specs.declared.names.Names.{Names}
+use Rattle.rail_base.specs.declared.plant.SectionRow.{SectionRow}
+use Rattle.rail_base.specs.declared.plant.TrainRow.{TrainRow}
+use Rattle.rail_base.specs.declared.refusals.Refusal.{Refusal}
+use Rattle.rail_base.specs.declared.refusals.Reason.TheVariants.{ListPlaces}
+use Rattle.rail_base.specs.declared.refusals.Part.TheVariants.{Line}
+use Rattle.rail_rules.specs.Numbers.{or_else}
+use Rattle.rail_rules.specs.Plant.{Plant, moves_of, trains}
+use Rattle.rail_base.specs.FirstRefusals.{first_failing}
+use Rattle.rail_place.specs.Bars.{outcome}
+use Rattle.rail_place.specs.declared.barring.Barred.{Barred}
+use Rattle.rail_place.specs.declared.barring.Barred.TheVariants.{Outside, Out, Held}
+use Rattle.rail_place.specs.declared.barring.Played.{Played}
+use Rattle.rail_place.specs.declared.barring.Played.TheVariants.{Completes, Illegal, Inside}
+use Rattle.rail_rules.specs.Texts.{behind}
+use Rattle.rail_words.specs.Lists.{Listed, list_line_refusal, listed_in, places_test}
+use Rattle.rail_forms.specs.declared.status.Status.{Status}
+use Rattle.rail_io.specs.Writes.{Adds, AddsPrefix}
+use Rattle.rail_input.specs.Inputs.{plant_in, plant_refusal}
+use Rattle.rail_forms.specs.Answers.{Told}
+use Rattle.rail_forms.specs.TwoFiles.{AnswersTwoFiles}
+use Rattle.rail_forms.specs.Names.{NameLists, names_in, names_of, section_name, train_name}
+
+-- why a train of the list may not move
+abbrev pub bar_words : NameLists → ℕ → Barred → List (List ℕ)
+bar_words names t Outside = codes "outside" ∷ train_name names t ∷ []
+bar_words names t Out = codes "out" ∷ train_name names t ∷ []
+bar_words names t (Held x u) = codes "held" ∷ train_name names t ∷ section_name names x ∷ train_name names u ∷ []
+
+-- the answer, without its line feed
+abbrev pub played_words : NameLists → List ℕ → Played → List ℕ
+played_words names list Completes = codes "completes"
+played_words names list (Inside t) = codes "inside" ++ behind (train_name names t ∷ [])
+played_words names list (Illegal index why) =
+    codes "illegal" ++ 32 ∷ decimal index ++ behind (bar_words names (get_or list (index - 1) 0) why)
+
+-- the line of the answer; the trains of the list count from 1
+abbrev pub played_line : NameLists → List ℕ → Played → List ℕ
+played_line names list played = played_words names list played ++ 10 ∷ []
+
+-- what a list file spells for the plant
+abbrev pub listed_for : Plant → List ℕ → Listed
+listed_for plant list = listed_in (names_of plant).trains (trains plant) list
+
+-- the refusal of a list where two trains hold one section, at this line
+abbrev pub shared_at : ℕ → Refusal
+shared_at line = record { reason = ListPlaces; part = Line; item = line; step = 0 }
+
+-- why a list file is refused: a line, or two trains that hold one section
+abbrev pub list_refusal : Plant → List ℕ → Option Refusal
+list_refusal plant list =
+    or_else (list_line_refusal (names_of plant).trains (moves_of plant) list)
+    (first_failing (places_test (names_of plant).trains (moves_of plant) (trains plant) list ∷ []))
+
+-- why the player refuses a scene and a list
+abbrev pub play_refusal : List ℕ → List ℕ → Option Refusal
+play_refusal bytes list = or_else (plant_refusal bytes) (list_refusal (plant_in bytes) list)
+
+-- the line that is written for a list
+abbrev pub play_text : Plant → List ℕ → List ℕ
+play_text plant list = let listed : Listed = listed_for plant list in
+    played_line (names_of plant) listed.list (outcome (moves_of plant) listed.positions 1 listed.list)
+
+-- what the player of the scene answers to the list
+abbrev pub AnswersPlay : List ℕ → List ℕ → Told → Option (List ℕ) → Option (List ℕ) → Status → Type 0
+AnswersPlay scene list told before now status = AnswersTwoFiles (λ bytes listed. list_refusal (plant_in bytes) listed)
+    (λ bytes listed. Adds before now (play_text (plant_in bytes) listed))
+    (λ bytes listed. AddsPrefix before now (play_text (plant_in bytes) listed)) scene list told status

@@ -1,0 +1,21 @@
+-- The form `stairs`: the blocking intervals of a run, and the occupation of its sections.
+use Rattle.std.specs.Prelude.{◌≡◌, ℕ, List, Option}
+use Rattle.rail_io.specs.Writes.{Adds, AddsPrefix}
+use Rattle.rail_policy.specs.Seats.{DeskSeat}
+use Rattle.rail_rules.specs.Fronts.{Front}
+use Rattle.rail_rules.specs.Orders.{Input}
+use Rattle.rail_stairs.specs.StairsTexts.{stairs_text}
+use Rattle.rail_forms.specs.declared.status.Status.{Status}
+use Rattle.rail_forms.specs.Answers.{Told}
+use Rattle.rail_forms.specs.Noted.{ReportsRun}
+use Rattle.rail_forms.specs.Scenarios.{AnswersScenario, Scenario, nothing_else}
+
+-- the text is that of the stairway of the history
+abbrev pub IsStairsText : Input → Front → List ℕ → Type 0
+IsStairsText input front text = text ≡ stairs_text input.plant front
+
+-- the stairway of the scenario, with this deck
+abbrev pub AnswersStairs : Scenario → List DeskSeat → Told → Option (List ℕ) → Option (List ℕ) → Status → Type 0
+AnswersStairs scenario deck told before now status = AnswersScenario nothing_else
+    (λ input seats. ReportsRun IsStairsText input seats (Adds before now))
+    (λ input seats. ReportsRun IsStairsText input seats (AddsPrefix before now)) scenario deck told status

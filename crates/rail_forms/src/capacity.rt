@@ -1,0 +1,269 @@
+//! `capacity LINE FROM TO SCENE [TIMETABLE [COMMANDS]]`: how far the trains of a run can be pushed together on a line,
+//! and how full the line is then.
+
+ghost use Rattle.std.specs.Prelude.{◌≡◌, ◌≢◌, ◌+◌, ◌-◌, ◌<◌, ◌≤◌, ◌^◌, ◌++◌, ◌∷◌, [], IfErr, IfOk, IsTrue, MatchOption, None, OnOk, OnErr, Some, decimal, flat_map, length, map, true, false};
+ghost use Rattle.std.specs.List.{IsDistinct};
+ghost use Rattle.rail_base.specs.Clock.{IsLenientTime};
+ghost use Rattle.rail_base.specs.Refusals.{AnswersFirst};
+ghost use Rattle.rail_base.specs.declared.limits.TheConstants.{SECTIONS};
+ghost use Rattle.rail_base.specs.declared.refusals.Fault.TheVariants.{Refused};
+ghost use Rattle.rail_base.specs.declared.refusals.Refusal.{Refusal};
+ghost use Rattle.rail_engine.specs.Engines.{StandsFor};
+ghost use Rattle.rail_history.specs.declared.line.TheConstants.{ROOM};
+ghost use Rattle.rail_input.specs.Inputs.{refuses_file};
+ghost use Rattle.rail_io.specs.Writes.{Adds, AddsPrefix};
+ghost use Rattle.rail_laws_end.specs.Forks.{are_marks};
+ghost use Rattle.rail_ledger.specs.Inputs.{input_in};
+ghost use Rattle.rail_policy.specs.Desks.{run_seats};
+ghost use Rattle.rail_policy.specs.Seats.{is_fine_deck};
+ghost use Rattle.rail_rules.specs.Texts.{behind, spaced};
+ghost use Rattle.rail_words.specs.Forms.{IsScenario, IsTimeWord};
+ghost use Rattle.rail_forms.specs.Answers.{IsAnswer};
+ghost use Rattle.rail_forms.specs.Capacity.{AnswersCapacity, IsCapacityText, IsEmptyStudy, IsSpelled, capacity_text, line_refusal, piece_refusal, piece_refused, pieces, pieces_refusal, rate_lines, rate_word, section_named, sections_on, shift_line, study_refusal, tight_words};
+ghost use Rattle.rail_forms.specs.Names.{names_in};
+ghost use Rattle.rail_forms.specs.Noted.{ReportsRun};
+ghost use Rattle.rail_forms.specs.Promises.{KeepsPromise, WritesAnswer, WritesText, ended, is_of_bytes};
+ghost use Rattle.rail_forms.specs.Scenarios.{scenario_files};
+
+use crate::names::{put_section, put_train};
+use crate::notes::note_lines;
+use crate::scenario;
+use crate::scenario::Purpose;
+use crate::status::Status;
+use crate::study::Study;
+use rail_base::{
+    Fault, Name, Names, Part, Reason, Refusal, SectionNo, Time, Word, a_text_stands_for_one_time,
+    read_time,
+};
+use rail_capacity::{CapacityFault, Compressed, Shift, Tight, Window, compress};
+use rail_engine::Engine;
+use rail_history::Line;
+use rail_io::{Failed, Shelf, Sink, write_whole};
+use rail_policy::{Desk, Policy, Seen};
+use rail_stairs::{Stairs, ended_intervals_are_without_conflict};
+use std::alloc::{AllocError, Global};
+
+/// The refusal of the empty word for a line.
+const LINE_EMPTY: Refusal = Refusal {
+    reason: Reason::LineEmpty,
+    part: Part::Word,
+    item: 2,
+    step: 0,
+};
+
+/// The refusal of a window that does not begin before it ends.
+const WINDOW_EMPTY: Refusal = Refusal {
+    reason: Reason::WindowEmpty,
+    part: Part::Word,
+    item: 3,
+    step: 0,
+};
+
+/// Writes the compression over the line, from one time to another, of the scenario that the words name. Where the word
+/// for the line is empty, or the first time is not before the other, it is refused before any file is read.
+pub fn answer<S: Shelf, O: Sink>(
+    alloc: Global,
+    line: &str,
+    from: &str,
+    to: &str,
+    words: &[Word],
+    shelf: &mut S,
+    out: &mut O,
+    deck: Vec<Box<dyn Policy>>,
+) -> Result<(), Status>
+    requires fine { IsTrue (is_fine_deck (map ⟦<Box<dyn Policy> as Policy>⟧.seat deck.items)) }
+    requires from { IsTimeWord from.now }
+    requires to { IsTimeWord to.now }
+    requires words { IsScenario words.now }
+    ensures kept { KeepsPromise S.Shelf O.Sink (scenario_files words.now) shelf.old shelf.new out.old out.new (ended result) }
+    ensures answer { AnswersCapacity line.now from.now to.now words.now (map ⟦<Box<dyn Policy> as Policy>⟧.seat deck.items)
+        (S.told shelf.old) (O.written out.old) (O.written out.new) (ended result) }
+    ensures unread { IsEmptyStudy line.now from.now to.now → shelf.new ≡ shelf.old }
+{
+    a_text_stands_for_one_time();
+    let window = Window {
+        from: time_of(from),
+        to: time_of(to),
+    };
+    if line.is_empty() {
+        return Err(Status::Refused(LINE_EMPTY));
+    }
+    if window.to.0 <= window.from.0 {
+        return Err(Status::Refused(WINDOW_EMPTY));
+    }
+    let study = Study { line, window };
+    let purpose = Purpose::Capacity(study);
+    scenario::answer(alloc, &purpose, words, shelf, out, deck)
+}
+
+/// The time that a word spells.
+fn time_of(word: &str) -> Time
+    requires { IsTimeWord word.now }
+    ensures { IsLenientTime word.now result }
+{
+    read_time(word.as_bytes()).unwrap()
+}
+
+/// Runs the engine to its end, and writes the compression of that run. All memory is taken before the first byte.
+pub(crate) fn report<O: Sink>(
+    alloc: Global,
+    study: &Study,
+    engine: &mut Engine,
+    out: &mut O,
+) -> Result<(), Status>
+    requires begun { let desk = ⟦<Desk as Seen>⟧.table engine.old.desk in StandsFor (run_seats desk) [] engine.old.core desk }
+    requires marks { IsTrue (are_marks (run_seats (⟦<Desk as Seen>⟧.table engine.old.desk))) }
+    ensures answer { let desk = ⟦<Desk as Seen>⟧.table engine.old.desk in let input = input_in engine.old.core.input in
+        let tells = IsCapacityText study.now.line.now study.now.window in
+        IsAnswer (line_refusal input.plant study.now.line.now)
+        (ReportsRun tells input (run_seats desk) (Adds (O.written out.old) (O.written out.new)))
+        (ReportsRun tells input (run_seats desk) (AddsPrefix (O.written out.old) (O.written out.new))) (ended result) }
+    ensures writes { WritesAnswer O.Sink out.old out.new (ended result) }
+    ensures of_bytes { is_of_bytes (ended result) ≡ true }
+{
+    let line = read_line(alloc, engine.plant().names(), study.line)?;
+    let mut stairs = Stairs::new(alloc, engine.plant())?;
+    note_lines(engine, &mut stairs);
+    ended_intervals_are_without_conflict();
+    let intervals = stairs.intervals(alloc, engine.plant())?;
+    let compressed = match compress(alloc, &intervals, &line, study.window) {
+        Ok(compressed) => compressed,
+        Err(CapacityFault::OutOfMemory) => return Err(Status::OutOfMemory),
+        Err(CapacityFault::LineEmpty | CapacityFault::WindowEmpty) => unreachable!(),
+    };
+    write_compressed(engine.plant().names(), &compressed, out)?;
+    Ok(())
+}
+
+/// The sections of a line, in the order of the pieces between its commas. It is refused by its first piece that is no
+/// section's name, or names a section that stood before.
+fn read_line(alloc: Global, names: &Names, line: &str) -> Result<Vec<SectionNo>, Fault>
+    requires { length names.now.sections.keys ≤ SECTIONS }
+    ensures sections { IfOk result (λ sections. sections.items ≡ sections_on names.now.sections.keys (pieces line.now)) }
+    ensures filled { IfOk result (λ sections. sections.items ≢ []) }
+    ensures accepted { OnOk result (pieces_refusal names.now.sections.keys [] 1 (pieces line.now) ≡ None) }
+    ensures refused { IfErr result (AnswersFirst (pieces_refusal names.now.sections.keys [] 1 (pieces line.now))) }
+    ensures of_bytes { IfErr result (λ fault. refuses_file fault ≡ false) }
+{
+    let mut sections = Vec::new(alloc);
+    for piece in line.split(',') {
+        let section = section_of(names, piece.as_bytes(), &sections)?;
+        sections.push(section).map_err(AllocError::from)?;
+    }
+    Ok(sections)
+}
+
+/// The section of a piece behind those before it. A line has few pieces, so these are looked at one after another.
+fn section_of(names: &Names, piece: &[u8], before: &[SectionNo]) -> Result<SectionNo, Fault>
+    requires names { length names.now.sections.keys ≤ SECTIONS }
+    requires few { length before.now ≤ SECTIONS }
+    ensures section { IfOk result (λ section. section_named names.now.sections.keys piece.now ≡ Some section) }
+    ensures accepted { OnOk result (piece_refusal names.now.sections.keys before.now (length before.now + 1) piece.now ≡ None) }
+    ensures refused { IfErr result (λ fault. (refusal : Refusal) × (fault ≡ Refused refusal)
+        × (piece_refusal names.now.sections.keys before.now (length before.now + 1) piece.now ≡ Some refusal)) }
+{
+    let number = before.len() as u32 + 1;
+    let Some(section) = section_named(names, piece) else {
+        return Err(piece_refused(Reason::Unknown, number));
+    };
+    if before.contains(&section) {
+        return Err(piece_refused(Reason::Repeated, number));
+    }
+    Ok(section)
+}
+
+/// The number of the section of this name.
+fn section_named(names: &Names, piece: &[u8]) -> Option<SectionNo>
+    requires { length names.now.sections.keys ≤ SECTIONS }
+    ensures { result ≡ section_named names.now.sections.keys piece.now }
+{
+    names.section(Name::read(piece)?)
+}
+
+/// The refusal of a piece of the line, which counts from 1.
+fn piece_refused(reason: Reason, number: u32) -> Fault
+    ensures { result ≡ Refused (piece_refused reason number) }
+{
+    Fault::Refused(Refusal {
+        reason,
+        part: Part::Word,
+        item: 2,
+        step: number,
+    })
+}
+
+/// Writes the lines of the trains, of the occupancy and of the rate.
+fn write_compressed<O: Sink>(
+    names: &Names,
+    compressed: &Compressed,
+    out: &mut O,
+) -> Result<(), Failed>
+    ensures { WritesText O.Sink out.old out.new
+        (capacity_text (names_in names.now) compressed.now.trains.items compressed.now.occupancy compressed.now.rate) result }
+{
+    write_shifts(names, &compressed.trains, out)?;
+    write_rate(compressed.occupancy, compressed.rate, out)
+}
+
+/// Writes a line for each train.
+fn write_shifts<O: Sink>(names: &Names, shifts: &[Shift], out: &mut O) -> Result<(), Failed>
+    ensures { WritesText O.Sink out.old out.new (flat_map (shift_line (names_in names.now)) shifts.now) result }
+{
+    for shift in shifts {
+        write_shift(names, shift, out)?;
+    }
+    Ok(())
+}
+
+/// Writes the line of a train.
+fn write_shift<O: Sink>(names: &Names, shift: &Shift, out: &mut O) -> Result<(), Failed>
+    ensures { WritesText O.Sink out.old out.new (shift_line (names_in names.now) shift.now) result }
+{
+    let mut line = Line::new();
+    line.put(b"train");
+    put_train(&mut line, names, shift.train);
+    line.put_number(shift.earlier);
+    put_tight(&mut line, names, shift.tight);
+    line.put(b"\n");
+    write_whole(out, line.as_slice())
+}
+
+/// Puts what a train touches.
+fn put_tight(line: &mut Line, names: &Names, tight: Tight)
+    requires { length line.old + 40 ≤ ROOM }
+    ensures text { line.new ≡ line.old ++ behind (tight_words (names_in names.now) tight) }
+    ensures short { length line.new ≤ length line.old + 40 }
+{
+    match tight {
+        Tight::Start => line.put_word(b"start"),
+        Tight::After { train, section } => {
+            line.put_word(b"after");
+            put_train(line, names, train);
+            put_section(line, names, section);
+        }
+    }
+}
+
+/// Writes the lines of the occupancy, in tenths of a second, and of the rate, in hundredths of a percent.
+fn write_rate<O: Sink>(occupancy: u64, rate: u64, out: &mut O) -> Result<(), Failed>
+    ensures { WritesText O.Sink out.old out.new (rate_lines occupancy rate) result }
+{
+    let mut line = Line::new();
+    line.put(b"occupancy");
+    line.put_number(occupancy);
+    line.put(b"\nrate");
+    put_rate(&mut line, rate);
+    line.put(b"\n");
+    write_whole(out, line.as_slice())
+}
+
+/// Puts a rate as percent, with two digits behind the point.
+fn put_rate(line: &mut Line, rate: u64)
+    requires { length line.old + 44 ≤ ROOM }
+    ensures text { line.new ≡ line.old ++ 32 ∷ rate_word rate }
+    ensures short { length line.new ≤ length line.old + 44 }
+{
+    let cents = (rate % 100) as u8;
+    line.put_number(rate / 100);
+    line.put(&[b'.', b'0' + cents / 10, b'0' + cents % 10]);
+}

@@ -1,0 +1,129 @@
+//! `check SCENE TIMETABLE COMMANDS HISTORY`: the verdict on a history of the scene, as a line.
+
+ghost use Rattle.std.specs.Prelude.{◌≡◌, ◌-◌, ◌<◌, ◌≤◌, ◌^◌, ◌∷◌, [], IsTrue, IfSome, OnErr, OnOk, Some, length, map, option_copied, true};
+ghost use Rattle.rail_check.specs.Answers.{judged_in};
+ghost use Rattle.rail_input.specs.Inputs.{input_in as input_spelled, input_refusal};
+ghost use Rattle.rail_policy.specs.Seats.{is_fine_deck, names_of};
+ghost use Rattle.rail_forms.specs.Checks.{AnswersCheck, AnswersHistory, status_judged, verdict_text, verdict_words};
+ghost use Rattle.rail_forms.specs.Files.{named_file};
+ghost use Rattle.rail_forms.specs.Promises.{KeepsPromise, WritesAnswer, WritesText, ended, is_of_bytes};
+
+use crate::files::{read_file, read_named};
+use crate::status::Status;
+use rail_check::{Verdict, check};
+use rail_history::{Line, read_history};
+use rail_input::{ReadInput, read_input};
+use rail_io::{Failed, Shelf, Sink, write_whole};
+use rail_ledger::RunInput;
+use rail_policy::{Policy, names_of};
+use std::alloc::Global;
+
+/// Writes the verdict on the history for the scene, in the files of these names, with the timetable and the commands
+/// in the files that the other two words name: `-` stands for none. Of the policies the names are used, and which
+/// one the scene names; none is asked.
+pub fn answer<S: Shelf, O: Sink>(
+    alloc: Global,
+    scene: &str,
+    timetable: &str,
+    commands: &str,
+    history: &str,
+    shelf: &mut S,
+    out: &mut O,
+    deck: &[Box<dyn Policy>],
+) -> Result<(), Status>
+    requires fine { IsTrue (is_fine_deck (map ⟦<Box<dyn Policy> as Policy>⟧.seat deck.now)) }
+    ensures kept { KeepsPromise S.Shelf O.Sink
+        (Some scene.now ∷ named_file timetable.now ∷ named_file commands.now ∷ Some history.now ∷ [])
+        shelf.old shelf.new out.old out.new (ended result) }
+    ensures answer { AnswersCheck scene.now timetable.now commands.now history.now (map ⟦<Box<dyn Policy> as Policy>⟧.seat deck.now)
+        (S.told shelf.old) (O.written out.old) (O.written out.new) (ended result) }
+{
+    let scene = read_file(alloc, shelf, scene, 1)?;
+    let timetable = read_named(alloc, shelf, timetable, 2)?;
+    let commands = read_named(alloc, shelf, commands, 3)?;
+    let history = read_file(alloc, shelf, history, 4)?;
+    check_files(
+        alloc,
+        &scene,
+        timetable.as_deref(),
+        commands.as_deref(),
+        &history,
+        out,
+        deck,
+    )
+}
+
+/// Writes the verdict on the history for what the other files spell.
+fn check_files<O: Sink>(
+    alloc: Global,
+    scene: &[u8],
+    timetable: Option<&[u8]>,
+    commands: Option<&[u8]>,
+    history: &[u8],
+    out: &mut O,
+    deck: &[Box<dyn Policy>],
+) -> Result<(), Status>
+    requires fine { IsTrue (is_fine_deck (map ⟦<Box<dyn Policy> as Policy>⟧.seat deck.now)) }
+    requires short_timetable { IfSome timetable (λ bytes. length bytes.now < 2 ^ 32 - 1) }
+    requires short_commands { IfSome commands (λ bytes. length bytes.now < 2 ^ 32 - 1) }
+    requires short_history { length history.now < 2 ^ 32 - 1 }
+    ensures answer { let names = names_of (map ⟦<Box<dyn Policy> as Policy>⟧.seat deck.now) in
+        AnswersHistory (input_refusal scene.now (option_copied timetable.entry) (option_copied commands.entry) names)
+        (input_spelled scene.now (option_copied timetable.entry) (option_copied commands.entry) names)
+        history.now (O.written out.old) (O.written out.new) (ended result) }
+    ensures writes { WritesAnswer O.Sink out.old out.new (ended result) }
+    ensures of_bytes { is_of_bytes (ended result) ≡ true }
+{
+    let names = names_of(alloc, deck)?;
+    let ReadInput {
+        plant,
+        commands,
+        force,
+    } = read_input(alloc, scene, timetable, commands, &names)?;
+    let history = read_history(alloc, plant.names(), history)?;
+    let input = RunInput {
+        plant,
+        commands,
+        deck: names,
+        force,
+    };
+    let verdict = check(alloc, input, &history)?;
+    write_verdict(verdict, out)?;
+    end_with(verdict)
+}
+
+/// How a command ends that has written the verdict.
+fn end_with(verdict: Verdict) -> Result<(), Status>
+    ensures { ended result ≡ status_judged (judged_in verdict) }
+{
+    match verdict {
+        Verdict::Yes => Ok(()),
+        Verdict::No { line, law } => Err(Status::CheckedNo { line, law }),
+    }
+}
+
+/// Writes the verdict as a line.
+fn write_verdict<O: Sink>(verdict: Verdict, out: &mut O) -> Result<(), Failed>
+    ensures { WritesText O.Sink out.old out.new (verdict_text (judged_in verdict)) result }
+{
+    let mut line = Line::new();
+    put_verdict(&mut line, verdict);
+    line.put(b"\n");
+    write_whole(out, line.as_slice())
+}
+
+/// Puts the words for the verdict.
+fn put_verdict(line: &mut Line, verdict: Verdict)
+    requires { line.old ≡ [] }
+    ensures text { line.new ≡ verdict_words (judged_in verdict) }
+    ensures short { length line.new ≤ 100 }
+{
+    match verdict {
+        Verdict::Yes => line.put(b"yes"),
+        Verdict::No { line: number, law } => {
+            line.put(b"no");
+            line.put_number(u64::from(number));
+            line.put_number(u64::from(law));
+        }
+    }
+}

@@ -1,0 +1,156 @@
+//! `play SCENE LIST`: what the player answers to the list, as a line.
+
+ghost use Rattle.std.specs.Prelude.{◌≡◌, ◌+◌, ◌-◌, ◌<◌, ◌≤◌, ◌^◌, ◌++◌, ◌∷◌, [], Some, get_or, length, true};
+ghost use Rattle.rail_rules.specs.Texts.{behind};
+ghost use Rattle.rail_history.specs.declared.line.TheConstants.{ROOM};
+ghost use Rattle.rail_input.specs.Inputs.{plant_in};
+ghost use Rattle.rail_forms.specs.Answers.{IsTextAnswer};
+ghost use Rattle.rail_forms.specs.Names.{names_in};
+ghost use Rattle.rail_forms.specs.Plays.{AnswersPlay, bar_words, list_refusal, play_refusal, play_text, played_line, played_words, shared_at};
+ghost use Rattle.rail_forms.specs.Promises.{KeepsPromise, WritesAnswer, WritesText, ended, is_of_bytes};
+
+use crate::files::read_file;
+use crate::names::{put_section, put_train};
+use crate::status::Status;
+use rail_base::{Names, Part, Reason, Refusal, TrainNo};
+use rail_history::Line;
+use rail_input::read_plant;
+use rail_io::{Failed, Shelf, Sink, write_whole};
+use rail_place::{Barred, Places, PlacesFault, Played};
+use rail_plan::Plant;
+use rail_words::read_list;
+use std::alloc::Global;
+
+/// Writes what the player of the scene answers to the list, in the files of these names.
+pub fn answer<S: Shelf, O: Sink>(
+    alloc: Global,
+    scene: &str,
+    list: &str,
+    shelf: &mut S,
+    out: &mut O,
+) -> Result<(), Status>
+    ensures kept { KeepsPromise S.Shelf O.Sink (Some scene.now ∷ Some list.now ∷ []) shelf.old shelf.new out.old out.new (ended result) }
+    ensures answer { AnswersPlay scene.now list.now (S.told shelf.old) (O.written out.old) (O.written out.new) (ended result) }
+{
+    let scene = read_file(alloc, shelf, scene, 1)?;
+    let list = read_file(alloc, shelf, list, 2)?;
+    play_list(alloc, &scene, &list, out)
+}
+
+/// Writes what the player of the scene that the bytes spell answers to the list.
+fn play_list<O: Sink>(alloc: Global, bytes: &[u8], list: &[u8], out: &mut O) -> Result<(), Status>
+    requires { length list.now < 2 ^ 32 - 1 }
+    ensures answer { IsTextAnswer (play_refusal bytes.now list.now) (play_text (plant_in bytes.now) list.now)
+        (O.written out.old) (O.written out.new) (ended result) }
+    ensures writes { WritesAnswer O.Sink out.old out.new (ended result) }
+    ensures of_bytes { is_of_bytes (ended result) ≡ true }
+{
+    let planned = read_plant(alloc, bytes)?;
+    play_on_plant(alloc, &planned.plant, list, out)
+}
+
+/// Reads the list, plays it on the plant, and writes the answer.
+fn play_on_plant<O: Sink>(
+    alloc: Global,
+    plant: &Plant,
+    list: &[u8],
+    out: &mut O,
+) -> Result<(), Status>
+    requires { length list.now < 2 ^ 32 - 1 }
+    ensures answer { IsTextAnswer (list_refusal plant.now list.now) (play_text plant.now list.now)
+        (O.written out.old) (O.written out.new) (ended result) }
+    ensures writes { WritesAnswer O.Sink out.old out.new (ended result) }
+    ensures of_bytes { is_of_bytes (ended result) ≡ true }
+{
+    let moves = plant.moves();
+    let file = read_list(alloc, plant.names(), moves, list)?;
+    let mut places = match Places::new(alloc, moves, file.positions()) {
+        Ok(places) => places,
+        Err(PlacesFault::OutOfMemory) => return Err(Status::OutOfMemory),
+        Err(PlacesFault::Overlap { .. }) => return Err(Status::Refused(shared(file.last_at()))),
+    };
+    let played = places.play(moves, file.list());
+    write_played(plant.names(), file.list(), played, out)?;
+    Ok(())
+}
+
+/// The refusal of a list where two trains hold one section.
+fn shared(line: u32) -> Refusal
+    ensures { result ≡ shared_at line }
+{
+    Refusal {
+        reason: Reason::ListPlaces,
+        part: Part::Line,
+        item: line,
+        step: 0,
+    }
+}
+
+/// Writes the answer to a list as one line.
+fn write_played<O: Sink>(
+    names: &Names,
+    list: &[TrainNo],
+    played: Played,
+    out: &mut O,
+) -> Result<(), Failed>
+    ensures { WritesText O.Sink out.old out.new (played_line (names_in names.now) list.now played) result }
+{
+    let mut line = Line::new();
+    put_played(&mut line, names, list, played);
+    line.put(b"\n");
+    write_whole(out, line.as_slice())
+}
+
+/// Puts the answer.
+fn put_played(line: &mut Line, names: &Names, list: &[TrainNo], played: Played)
+    requires { line.old ≡ [] }
+    ensures text { line.new ≡ played_words (names_in names.now) list.now played }
+    ensures short { length line.new ≤ 200 }
+{
+    match played {
+        Played::Completes => line.put(b"completes"),
+        Played::Inside { train } => {
+            line.put(b"inside");
+            put_train(line, names, train);
+        }
+        Played::Illegal { index, why } => {
+            line.put(b"illegal");
+            line.put_number(u64::from(index));
+            put_bar(line, names, train_at(list, index), why);
+        }
+    }
+}
+
+/// Puts why a train may not move.
+fn put_bar(line: &mut Line, names: &Names, train: TrainNo, why: Barred)
+    requires { length line.old + 60 ≤ ROOM }
+    ensures text { line.new ≡ line.old ++ behind (bar_words (names_in names.now) train why) }
+    ensures short { length line.new ≤ length line.old + 60 }
+{
+    match why {
+        Barred::Outside => {
+            line.put_word(b"outside");
+            put_train(line, names, train);
+        }
+        Barred::Out => {
+            line.put_word(b"out");
+            put_train(line, names, train);
+        }
+        Barred::Held { section, holder } => {
+            line.put_word(b"held");
+            put_train(line, names, train);
+            put_section(line, names, section);
+            put_train(line, names, holder);
+        }
+    }
+}
+
+/// The train of the list at this number, which counts from 1.
+fn train_at(list: &[TrainNo], index: u32) -> TrainNo
+    ensures { result ≡ get_or list.now (index - 1) 0 }
+{
+    match list.get((index as usize).saturating_sub(1)) {
+        Some(train) => *train,
+        None => TrainNo(0),
+    }
+}
