@@ -1,5 +1,5 @@
 use rail_base::{Interval, Parts, SectionNo, Time, TrainNo};
-use rail_capacity::{CapacityFault, Shift, Tight, Window, compress};
+use rail_capacity::{CapacityFault, Compressed, Shift, Tight, Window, compress};
 
 const NO_PARTS: Parts = Parts {
     setting: None,
@@ -27,6 +27,27 @@ macro_rules! interval {
     };
 }
 
+/// Whether there is a compression with these shifts, this occupancy and this rate.
+fn is_compressed(
+    found: Result<Compressed, CapacityFault>,
+    trains: &[Shift],
+    occupancy: u64,
+    rate: u64,
+) -> bool {
+    match found {
+        Ok(found) => {
+            let is_shifted = found.trains.as_slice() == trains;
+            is_shifted && found.occupancy == occupancy && found.rate == rate
+        }
+        Err(_) => false,
+    }
+}
+
+/// Why there is no compression.
+fn fault_of(found: Result<Compressed, CapacityFault>) -> Option<CapacityFault> {
+    found.err()
+}
+
 #[test]
 fn two_trains_of_a_loop_are_pushed_together_on_one_section(rt: HostRuntime) {
     // Section 0 is W, train 0 is A and train 1 is B. The others begin out of the window or are not on the line.
@@ -41,9 +62,7 @@ fn two_trains_of_a_loop_are_pushed_together_on_one_section(rt: HostRuntime) {
         from: Time(600),
         to: Time(6600),
     };
-    let Ok(found) = compress(rt.alloc(), &intervals, &[SectionNo(0)], window) else {
-        panic!(rt; "no compression");
-    };
+    let found = compress(rt.alloc(), &intervals, &[SectionNo(0)], window);
     let a = Shift {
         train: TrainNo(0),
         earlier: 480,
@@ -57,9 +76,7 @@ fn two_trains_of_a_loop_are_pushed_together_on_one_section(rt: HostRuntime) {
             section: SectionNo(0),
         },
     };
-    assert_eq!(rt; found.trains.as_slice(), [a, b].as_slice());
-    assert_eq!(rt; found.occupancy, 1172);
-    assert_eq!(rt; found.rate, 1953);
+    assert!(rt; is_compressed(found, &[a, b], 1172, 1953));
 }
 
 // Train 3 runs over section 0 and then 1, train 7 the other way: each goes first on one of them. Train 3 begins with
@@ -79,9 +96,7 @@ fn trains_that_pass_each_other_keep_their_order_on_each_section(rt: HostRuntime)
         to: Time(605),
     };
     let line = [SectionNo(1), SectionNo(0)];
-    let Ok(found) = compress(rt.alloc(), &intervals, &line, window) else {
-        panic!(rt; "no compression");
-    };
+    let found = compress(rt.alloc(), &intervals, &line, window);
     let first = Shift {
         train: TrainNo(3),
         earlier: 5,
@@ -95,9 +110,7 @@ fn trains_that_pass_each_other_keep_their_order_on_each_section(rt: HostRuntime)
             section: SectionNo(0),
         },
     };
-    assert_eq!(rt; found.trains.as_slice(), [first, second].as_slice());
-    assert_eq!(rt; found.occupancy, 100);
-    assert_eq!(rt; found.rate, 1960);
+    assert!(rt; is_compressed(found, &[first, second], 100, 1960));
 }
 
 // On section 0 the second train could pass 400 earlier, but on section 1 it follows the first without a gap.
@@ -114,9 +127,7 @@ fn a_train_moves_as_one(rt: HostRuntime) {
         to: Time(1200),
     };
     let line = [SectionNo(0), SectionNo(1)];
-    let Ok(found) = compress(rt.alloc(), &intervals, &line, window) else {
-        panic!(rt; "no compression");
-    };
+    let found = compress(rt.alloc(), &intervals, &line, window);
     let first = Shift {
         train: TrainNo(0),
         earlier: 300,
@@ -130,38 +141,26 @@ fn a_train_moves_as_one(rt: HostRuntime) {
             section: SectionNo(1),
         },
     };
-    assert_eq!(rt; found.trains.as_slice(), [first, second].as_slice());
-    assert_eq!(rt; found.occupancy, 300);
-    assert_eq!(rt; found.rate, 3000);
+    assert!(rt; is_compressed(found, &[first, second], 300, 3000));
+}
+
+fn window(from: u64, to: u64) -> Window {
+    Window {
+        from: Time(from),
+        to: Time(to),
+    }
 }
 
 #[test]
 fn a_line_or_a_window_with_nothing_in_it(rt: HostRuntime) {
     let intervals = [interval!(0, 0, 100, 200)];
-    let empty = Window {
-        from: Time(5),
-        to: Time(5),
-    };
-    let early = Window {
-        from: Time(5),
-        to: Time(100),
-    };
-    assert!(rt;
-        matches!(
-            compress(rt.alloc(), &intervals, &[], empty),
-            Err(CapacityFault::LineEmpty)
-        )
+    let line = [SectionNo(0)];
+    let no_line = fault_of(compress(rt.alloc(), &intervals, &[], window(5, 5)));
+    let no_window = fault_of(compress(rt.alloc(), &intervals, &line, window(5, 5)));
+    let no_trains = compress(rt.alloc(), &intervals, &line, window(5, 100));
+    let faults = (
+        Some(CapacityFault::LineEmpty),
+        Some(CapacityFault::WindowEmpty),
     );
-    assert!(rt;
-        matches!(
-            compress(rt.alloc(), &intervals, &[SectionNo(0)], empty),
-            Err(CapacityFault::WindowEmpty)
-        )
-    );
-    let Ok(found) = compress(rt.alloc(), &intervals, &[SectionNo(0)], early) else {
-        panic!(rt; "no compression");
-    };
-    assert!(rt; found.trains.is_empty());
-    assert_eq!(rt; found.occupancy, 0);
-    assert_eq!(rt; found.rate, 0);
+    assert!(rt; ((no_line, no_window), is_compressed(no_trains, &[], 0, 0)) == (faults, true));
 }

@@ -1,4 +1,4 @@
-//! History files: what is read, and the first line that is none.
+//! History files: what is read. What they are refused for is in the rows of `rail_rows`.
 
 use crate::reports::HELD;
 use indexmap::IndexSet;
@@ -7,51 +7,19 @@ use rail_history::read_history;
 use std::alloc::{AllocError, Global};
 
 // A file for the sections X, Y and the trains A, B, and what is read of it: the numbers of entries and of lists
-// and of the trains in all lists; or the item of the refusal. In a file `|` is a line feed and `;` a carriage
-// return.
+// and of the trains in all lists. In a file `|` is a line feed.
 const FILES: &str = "
  = 0 0 0
 00:01:48.0 end| = 1 1 0
-00:01:48.0 end = refused 1
-00:01:48.0 end;| = refused 1
-00:01:48.0 out A|00:01:48.0 out B;|00:01:48.0 end| = refused 2
-| = refused 1
-00:01:48 end| = refused 1
- 00:01:48.0 end| = refused 1
-00:01:48.0  end| = refused 1
-00:01:48.0 end | = refused 1
 00:01:48.0 end B A A| = 1 1 3
-00:01:48.0 end C| = refused 1
-00:01:48.0 end A*2| = refused 1
-00:01:48.0 out A|00:01:47.0 out C|00:01:47.0 out D| = refused 2
-00:01:48.0 out A|00:01:47.0 out B = refused 2
-00:01:48.0 halt A| = refused 1
 00:01:48.0 ready A 0| = 1 0 0
 00:01:48.0 ready A 65535| = 1 0 0
-00:01:48.0 ready A 65536| = refused 1
-00:01:48.0 ready A 01| = refused 1
 00:01:48.0 told 0|00:00:00.0 untold 65535| = 2 0 0
-00:01:48.0 told 65536| = refused 1
-512409557603043:06:01.5 out A|512409557603043:06:01.6 out A| = refused 2
-00:01:60.0 out A| = refused 1
-000:01:48.0 out A| = refused 1
 100:01:48.0 out A|00:01:48.0 free Y A|00:01:48.0 arrive B 1|00:01:48.0 enter A 1 X| = 4 0 0
-00:01:48.0 free Z A| = refused 1
 00:01:48.0 hold A 1 stopped|00:01:48.0 hold A 1 closed X|00:01:48.0 hold A 1 blocked X B|00:01:48.0 hold A 1 nolist| = 4 0 0
-00:01:48.0 hold A 1 blocked X| = refused 1
 00:01:48.0 admit A 1 pulled|00:01:48.0 admit A 1 appended|00:01:48.0 admit A 1 fresh B A*3 B|00:01:48.0 end A| = 4 2 6
-00:01:48.0 admit A 1 fresh| = refused 1
-00:01:48.0 admit A 1 fresh A*1| = refused 1
-00:01:48.0 admit A 1 fresh A*0| = refused 1
-00:01:48.0 admit A 1 fresh A*02| = refused 1
-00:01:48.0 admit A 1 fresh A A| = refused 1
-00:01:48.0 admit A 1 fresh A*2 A| = refused 1
 00:01:48.0 admit A 1 fresh A*2 B| = 1 1 3
 00:01:48.0 admit A 1 fresh A*8191 B| = 1 1 8192
-00:01:48.0 admit A 1 fresh A*8192 B| = refused 1
-00:01:48.0 admit A 1 fresh A*8193| = refused 1
-00:01:48.0 admit A 1 fresh C| = refused 1
-00:01:48.0 admit A 1 pulled A| = refused 1
 ";
 
 // Two trains that pass each other at a station with two tracks.
@@ -95,25 +63,42 @@ const PASSING: &str = "\
 
 #[test]
 fn reads_whole_histories(rt: HostRuntime) {
-    let sections = "W PW L1 L2 PE E";
-    let held = told_of(rt.alloc(), sections, "A B", HELD.as_bytes());
-    assert!(rt; held.is_ok_and(|told| told.as_str() == "41 1 0"));
-    let passing = told_of(rt.alloc(), sections, "A B", PASSING.as_bytes());
-    assert!(rt; passing.is_ok_and(|told| told.as_str() == "35 1 0"));
-    let one_train = told_of(rt.alloc(), sections, "A", PASSING.as_bytes());
-    assert!(rt; one_train.is_ok_and(|told| told.as_str() == "refused 2"));
+    let alloc = rt.alloc();
+    let are_told = [
+        is_told(alloc, "A B", HELD, "41 1 0"),
+        is_told(alloc, "A B", PASSING, "35 1 0"),
+        is_told(alloc, "A", PASSING, "refused 2"),
+    ];
+    assert_eq!(rt; are_told, [Ok(true); 3]);
+}
+
+/// Whether this is read of the history of the station, for these trains.
+fn is_told(alloc: Global, trains: &str, file: &str, want: &str) -> Result<bool, AllocError> {
+    let told = told_of(alloc, "W PW L1 L2 PE E", trains, file.as_bytes())?;
+    Ok(told.as_str() == want)
 }
 
 #[test]
-fn reads_a_history_or_refuses_the_first_line_that_is_none(rt: HostRuntime) {
-    for case in FILES.split("\n") {
-        if let Some((file, wanted)) = case.split_once(" = ") {
-            let Ok(told) = told(rt.alloc(), file) else {
-                panic!(rt; "no memory");
-            };
-            assert_eq!(rt; told.as_str(), wanted, "{file}");
+fn reads_lines_and_their_lists(rt: HostRuntime) {
+    let other = first_other(rt.alloc());
+    assert!(rt; other.is_none(), "{other:?}");
+}
+
+/// The first of the files of which is read otherwise than it says.
+fn first_other(alloc: Global) -> Option<&'static str> {
+    for case in FILES.lines().skip(1) {
+        if !holds(alloc, case).unwrap_or(false) {
+            return Some(case);
         }
     }
+    None
+}
+
+/// Whether of the file is read what it says.
+fn holds(alloc: Global, case: &str) -> Option<bool> {
+    let (file, wanted) = case.split_once(" = ")?;
+    let told = told(alloc, file).ok()?;
+    Some(told.as_str() == wanted)
 }
 
 /// What is read of the file, as it stands in the table.
@@ -157,11 +142,7 @@ fn told_of(
 fn bytes_of(alloc: Global, file: &str) -> Result<Vec<u8>, AllocError> {
     let mut bytes = Vec::new(alloc);
     for byte in file.as_bytes() {
-        bytes.push(match *byte {
-            b'|' => b'\n',
-            b';' => b'\r',
-            other => other,
-        })?;
+        bytes.push(if *byte == b'|' { b'\n' } else { *byte })?;
     }
     Ok(bytes)
 }

@@ -1,17 +1,16 @@
-//! Edits of a scene and of a network: edit files with the answer that the rules give them by hand, the limit on
-//! kept edits, and items of each kind that stand where they stood once their removal is undone.
+//! Edits of a scene and of a network: the sections that edit files lead to, and items of each kind that stand where they
+//! stood once their removal is undone. What edit files are refused for is in the rows of `rail_rows`.
 mod files;
 
 use crate::scenes::TRACK;
 use files::FILES;
-use rail_base::{Fault, Name};
+use rail_base::Name;
 use rail_edit::{Edit, EditFault, Editor};
 use rail_edit_file::{edit_network, edit_scene};
 use rail_routes::{Network, Post, Route, Turn};
-use rail_track::Section;
+use rail_track::{NetFault, Section};
 use std::alloc::Global;
 use std::str;
-use std::test::Fail;
 
 #[test]
 fn answers_edit_files_by_the_rules(rt: HostRuntime) {
@@ -29,81 +28,16 @@ fn first_other(alloc: Global) -> Option<&'static str> {
     None
 }
 
-/// Whether the file is answered as its first line says: by the names of the sections after it, or by the
-/// reason, part, line and step of its refusal.
+/// Whether the file is answered as its first line says, by the names of the sections after it.
 fn holds(alloc: Global, case: &str) -> Option<bool> {
     let (want, text) = case.split_once("\n")?;
     if text.len() > 10_000 {
         return None;
     }
-    let told = match edit_scene(alloc, TRACK.as_bytes(), text.as_bytes()) {
-        Ok(scene) => {
-            let mut told = String::new(alloc);
-            push_sections(&mut told, scene.network.sections())?;
-            told
-        }
-        Err(fault) => told_fault(alloc, fault)?,
-    };
+    let scene = edit_scene(alloc, TRACK.as_bytes(), text.as_bytes()).ok()?;
+    let mut told = String::new(alloc);
+    push_sections(&mut told, scene.network.sections())?;
     Some(told.as_str() == want)
-}
-
-/// The reason, part, item and step of a refusal.
-fn told_fault(alloc: Global, fault: Fault) -> Option<String> {
-    match fault {
-        Fault::Refused(refusal) => {
-            let reason = refusal.reason;
-            let part = refusal.part;
-            let item = refusal.item;
-            let step = refusal.step;
-            format!(in alloc; "{reason:?} {part:?} {item} {step}").ok()
-        }
-        Fault::OutOfMemory => None,
-    }
-}
-
-/// Of 4,096 kept edits the next is refused, whatever the network says of it, but not before its form; an undo
-/// makes room.
-#[test]
-fn keeps_so_many_edits(rt: HostRuntime) {
-    let alloc = rt.alloc();
-    let full = told_behind(alloc, "remove section Q\n");
-    assert_eq!(rt;
-        full.as_ref().map(|told| told.as_str()),
-        Some("TooMany Line 4097 0")
-    );
-    let no_form = told_behind(alloc, "remove\n");
-    assert_eq!(rt;
-        no_form.as_ref().map(|told| told.as_str()),
-        Some("EditForm Line 4097 0")
-    );
-    let unknown = told_behind(alloc, "undo\nremove section Q\n");
-    assert_eq!(rt;
-        unknown.as_ref().map(|told| told.as_str()),
-        Some("Unknown Line 4098 0")
-    );
-}
-
-/// What is answered to the lines behind 4,096 edits.
-fn told_behind(alloc: Global, lines: &str) -> Option<String> {
-    let mut text = String::new(alloc);
-    push_edits(&mut text, 2_048)?;
-    text.push_str(lines).ok()?;
-    if text.len() > 1_000_000 {
-        return None;
-    }
-    match edit_network(alloc, Network::new(alloc), text.as_bytes()) {
-        Ok(_) => None,
-        Err(fault) => told_fault(alloc, fault),
-    }
-}
-
-/// Adds and removes a section so often.
-fn push_edits(text: &mut String, count: u32) -> Option<()> {
-    for _ in 0..count {
-        text.push_str("add section Z plain 500 80 y z\nremove section Z\n")
-            .ok()?;
-    }
-    Some(())
 }
 
 /// A network with at least two items in each list.
@@ -143,16 +77,19 @@ const REDOS: &str = "redo\nredo\nredo\nredo\nredo\nredo\nredo\nredo\n";
 
 #[test]
 fn puts_items_back_where_they_stood(rt: HostRuntime) {
-    let undone = listing_after(rt.alloc(), UNDOS, "");
-    assert_eq!(rt;
-        undone.as_ref().map(|names| names.as_str()),
-        Some("M W X Y / 0 1 / 3 2 / 5 6 / 3 2 / 7 8 / ")
-    );
-    let redone = listing_after(rt.alloc(), UNDOS, REDOS);
-    assert_eq!(rt;
-        redone.as_ref().map(|names| names.as_str()),
-        Some("W X Y / 1 / 2 / 6 / / / ")
-    );
+    let alloc = rt.alloc();
+    let all = "M W X Y / 0 1 / 3 2 / 5 6 / 3 2 / 7 8 / ";
+    let are_listed = [
+        is_listed_after(alloc, UNDOS, "", all),
+        is_listed_after(alloc, UNDOS, REDOS, "W X Y / 1 / 2 / 6 / / / "),
+    ];
+    assert_eq!(rt; are_listed, [Some(true); 2]);
+}
+
+/// Whether a network has these names after the removals and these edits.
+fn is_listed_after(alloc: Global, first: &str, second: &str, want: &str) -> Option<bool> {
+    let names = listing_after(alloc, first, second)?;
+    Some(names.as_str() == want)
 }
 
 /// The names of what a network has after the removals and these edits: sections, portals, signals, boards, the
@@ -209,22 +146,43 @@ fn push_name(names: &mut String, name: Name) -> Option<()> {
     names.push_str(" ").ok()
 }
 
+/// What comes of a removal, what is answered to redoing before it, undoing twice and redoing, and how many boards there
+/// are after each change.
+type Edited = (Result<(), NetFault>, [Result<(), EditFault>; 4], [usize; 3]);
+
 /// The calls of an editor one by one: what was removed comes back, and is removed again.
 #[test]
-fn edits_call_by_call(rt: HostRuntime) -> Result<(), Fail> {
-    let alloc = rt.alloc();
-    let network = edit_network(alloc, Network::new(alloc), b"add board X y\n");
-    assert!(rt; network.is_err());
-    let lists = edit_network(alloc, Network::new(alloc), LISTS.as_bytes());
-    let mut editor = Editor::new(alloc, lists.expect(&rt, "the lists are accepted"));
-    let board = Name::read(b"6").expect(&rt, "a name");
-    assert_eq!(rt; editor.redo(alloc), Err(EditFault::NothingToRedo));
-    assert_eq!(rt; editor.apply(alloc, Edit::RemovePost(board)), Ok(()));
-    assert_eq!(rt; editor.network().boards().len(), 1);
-    assert_eq!(rt; editor.undo(alloc), Ok(()));
-    assert_eq!(rt; editor.network().boards().len(), 2);
-    assert_eq!(rt; editor.undo(alloc), Err(EditFault::NothingToUndo));
-    assert_eq!(rt; editor.redo(alloc), Ok(()));
-    assert_eq!(rt; editor.into_network().boards().len(), 1);
-    Ok(())
+fn edits_call_by_call(rt: HostRuntime) {
+    let answers = [
+        Err(EditFault::NothingToRedo),
+        Ok(()),
+        Err(EditFault::NothingToUndo),
+        Ok(()),
+    ];
+    assert!(rt; edited(rt.alloc()) == Some((Ok(()), answers, [1, 2, 1])));
+}
+
+/// What comes of edits where one of two boards is removed.
+fn edited(alloc: Global) -> Option<Edited> {
+    let board = Name::read(b"6")?;
+    let network = edit_network(alloc, Network::new(alloc), LISTS.as_bytes()).ok()?;
+    let mut editor = Editor::new(alloc, network);
+    let nothing_undone = editor.redo(alloc);
+    let removed = editor.apply(alloc, Edit::RemovePost(board));
+    let left = editor.network().boards().len();
+    let undone = editor.undo(alloc);
+    let all = editor.network().boards().len();
+    let nothing_done = editor.undo(alloc);
+    let redone = editor.redo(alloc);
+    Some((
+        removed,
+        [nothing_undone, undone, nothing_done, redone],
+        [left, all, editor.into_network().boards().len()],
+    ))
+}
+
+#[test]
+fn refuses_a_board_without_a_section(rt: HostRuntime) {
+    let network = Network::new(rt.alloc());
+    assert!(rt; edit_network(rt.alloc(), network, b"add board X y\n").is_err());
 }

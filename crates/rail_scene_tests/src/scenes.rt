@@ -1,129 +1,29 @@
-//! Small scene files, each with the answer that the rules give it by hand.
+//! Small scene files that are read, written and made up. What scene files are refused for is in the rows of `rail_rows`.
 ghost use Rattle.std.specs.Prelude.{◌≡◌, IfOk};
 ghost use Rattle.rail_scene.specs.SpelledScenes.{spelled_scene};
 
-mod cases;
-mod limits;
-mod pieces;
+mod track;
 
-use cases::CASES;
-use limits::LIMITS;
-pub(crate) use pieces::TRACK;
-use pieces::{OTHERS, ROOT, STATION};
 use rail_base::{Fault, Name, Part, Time, TrainKind};
 use rail_gen::scene_of;
 use rail_routes::{Network, Route, Step};
 use rail_scene::{Scene, SceneTrain, item_name, read_scene};
 use rail_scene_text::write_scene;
 use rail_track::{Section, SectionKind};
-use std::alloc::{AllocError, Global};
-
-#[test]
-fn tells_the_first_refusal(rt: HostRuntime) {
-    for cases in [CASES, LIMITS] {
-        let other = first_other(rt.alloc(), cases);
-        assert!(rt; other.is_none(), "{other:?}");
-    }
-}
-
-/// The first of the cases that is told otherwise than its first line says.
-fn first_other(alloc: Global, cases: &str) -> Option<&str> {
-    for case in cases.split("== ").skip(1) {
-        if !holds(alloc, case).unwrap_or(false) {
-            return Some(case);
-        }
-    }
-    None
-}
-
-/// Whether the case is told as its first line says.
-fn holds(alloc: Global, case: &str) -> Option<bool> {
-    let (head, text) = case.split_once("\n")?;
-    let (start, want) = head.split_once(": ")?;
-    let (before, after) = match start {
-        "root" => (ROOT, ""),
-        "track" => (TRACK, ""),
-        "station" => (STATION, OTHERS),
-        _ => ("", ""),
-    };
-    let mut file = String::new(alloc);
-    push_file(&mut file, before, text, after)?;
-    Some(is_told(alloc, file.as_bytes(), want))
-}
-
-/// Adds what stands before the text, the text with its rows written out, and what stands behind it. `None`
-/// where what stands before a star is no number, and where memory is not found.
-fn push_file(file: &mut String, before: &str, text: &str, after: &str) -> Option<()> {
-    file.push_str(before).ok()?;
-    for line in text.lines() {
-        match line.split_once(" * ") {
-            Some((count, row)) => push_rows(file, count.parse().ok()?, row).ok()?,
-            None => push_row(file, line, 0).ok()?,
-        }
-    }
-    file.push_str(after).ok()
-}
-
-/// Adds so many rows.
-fn push_rows(file: &mut String, count: u32, row: &str) -> Result<(), AllocError> {
-    for number in 0..count {
-        push_row(file, row, number)?;
-    }
-    Ok(())
-}
-
-/// Adds the row with the number in place of each `#`.
-fn push_row(file: &mut String, row: &str, number: u32) -> Result<(), AllocError> {
-    for (index, piece) in row.split("#").enumerate() {
-        if index > 0 {
-            write!(file, "{number}")?;
-        }
-        file.push_str(piece)?;
-    }
-    file.push_str("\n")
-}
-
-/// Whether the file with these bytes is told so: as read, or by the reason, part, item and step of its
-/// refusal.
-fn is_told(alloc: Global, bytes: &[u8], want: &str) -> bool {
-    match told(alloc, bytes) {
-        Ok(answer) => answer.as_str() == want,
-        Err(_) => false,
-    }
-}
-
-/// The answer to the file with these bytes.
-fn told(alloc: Global, bytes: &[u8]) -> Result<String, AllocError> {
-    match read_scene(alloc, bytes) {
-        Ok(scene) => {
-            drop(scene);
-            String::from_str(alloc, "read")
-        }
-        Err(Fault::Refused(refusal)) => {
-            let (reason, part) = (refusal.reason, refusal.part);
-            let (item, step) = (refusal.item, refusal.step);
-            format!(in alloc; "{reason:?} {part:?} {item} {step}")
-        }
-        Err(Fault::OutOfMemory) => String::from_str(alloc, "out of memory"),
-    }
-}
-
-#[test]
-fn refuses_bytes_that_are_no_toml(rt: HostRuntime) {
-    let cut: &[u8] = b"version = 1\n[[section";
-    assert!(rt; is_told(rt.alloc(), cut, "NotToml Bytes 0 0"));
-    let no_text: &[u8] = b"version = 1\nrelease = 20 # \xff\n";
-    assert!(rt; is_told(rt.alloc(), no_text, "NotToml Bytes 0 0"));
-}
+use std::alloc::Global;
+pub(crate) use track::TRACK;
 
 #[test]
 fn tells_the_name_of_an_item(rt: HostRuntime) {
     let alloc = rt.alloc();
-    assert!(rt; is_named(alloc, Part::Train, 2, Some(b"B".as_slice())));
-    assert!(rt; is_named(alloc, Part::Train, 1, None));
-    assert!(rt; is_named(alloc, Part::Train, 3, None));
-    assert!(rt; is_named(alloc, Part::Kind, 2, None));
-    assert!(rt; is_named(alloc, Part::Row, 1, None));
+    let are_named = [
+        is_named(alloc, Part::Train, 2, Some(b"B".as_slice())),
+        is_named(alloc, Part::Train, 1, None),
+        is_named(alloc, Part::Train, 3, None),
+        is_named(alloc, Part::Kind, 2, None),
+        is_named(alloc, Part::Row, 1, None),
+    ];
+    assert_eq!(rt; are_named, [true; 5]);
 }
 
 /// Whether the item of a file with two trains, of which the first one has no name, has this name.

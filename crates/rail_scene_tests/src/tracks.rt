@@ -101,12 +101,16 @@ plain Y x-b 1 1: JointCrowded 2
 
 #[test]
 fn answers_by_the_rules(rt: HostRuntime) {
-    let mut track = Track::new(rt.alloc());
-    let other = first_other(rt.alloc(), &mut track, SCRIPT);
-    assert!(rt; other.is_none(), "{other:?}");
-    assert!(rt; track.sections().len() == 5);
-    assert!(rt; index(&track, "X") == Some(3));
-    assert!(rt; index(&track, "Y") == None);
+    assert_eq!(rt; told(rt.alloc()), (None, 5, [Some(3), None]));
+}
+
+/// The first line of the script that is answered otherwise than it says; and how many sections there are then, and
+/// where X and Y stand.
+fn told(alloc: Global) -> (Option<&'static str>, usize, [Option<usize>; 2]) {
+    let mut track = Track::new(alloc);
+    let other = first_other(alloc, &mut track, SCRIPT);
+    let indices = [index(&track, "X"), index(&track, "Y")];
+    (other, track.sections().len(), indices)
 }
 
 #[test]

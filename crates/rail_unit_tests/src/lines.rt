@@ -168,22 +168,41 @@ fn push_long(kept: &mut Vec<TrainNo>, line: &mut String) -> Result<(), AllocErro
 
 #[test]
 fn hands_a_long_line_on_piece_by_piece(rt: HostRuntime) {
-    let Ok(names) = names_with(rt.alloc(), "A1 B") else {
-        panic!(rt; "no memory");
-    };
-    let mut kept = Vec::new(rt.alloc());
-    let mut line = String::new(rt.alloc());
-    assert!(rt; push_long(&mut kept, &mut line).is_ok());
-    let Ok(mut sure) = SureSink::with_room(rt.alloc(), 2000) else {
-        panic!(rt; "no memory");
-    };
-    assert_eq!(rt; write(&names, "fresh", &kept, &mut sure), Ok(()));
-    assert_eq!(rt; sure.bytes(), Some(line.as_bytes()));
-    let Ok(mut sink) = sink_of(rt.alloc(), 2000, "2") else {
-        panic!(rt; "no memory");
-    };
-    assert_eq!(rt; write(&names, "fresh", &kept, &mut sink), Err(Failed));
-    let part = sink.bytes().unwrap_or(b"");
-    assert!(rt; !part.is_empty() && part.len() < line.len());
-    assert!(rt; line.as_bytes().starts_with(part));
+    let written = ((Ok(()), true), (Err(Failed), [true; 2]));
+    assert!(rt; long_line(rt.alloc()) == Ok(written));
+}
+
+/// What comes of a write, and whether the sink has all then.
+type Whole = (Result<(), Failed>, bool);
+
+/// What comes of a write, and whether the sink has a part then, and the line begins with what it has.
+type Part = (Result<(), Failed>, [bool; 2]);
+
+/// What comes of a long line, and where the second write fails.
+fn long_line(alloc: Global) -> Result<(Whole, Part), OutOfMemory> {
+    let names = names_with(alloc, "A1 B")?;
+    long_line_of(alloc, &names)
+}
+
+fn long_line_of(alloc: Global, names: &Names) -> Result<(Whole, Part), OutOfMemory> {
+    let mut kept = Vec::new(alloc);
+    let mut line = String::new(alloc);
+    push_long(&mut kept, &mut line)?;
+    let whole = whole(alloc, names, &kept, &line)?;
+    let part = part(alloc, names, &kept, &line)?;
+    Ok((whole, part))
+}
+
+fn whole(alloc: Global, names: &Names, kept: &[TrainNo], line: &str) -> Result<Whole, OutOfMemory> {
+    let mut sink = SureSink::with_room(alloc, 2000)?;
+    let written = write(names, "fresh", kept, &mut sink);
+    Ok((written, sink.bytes() == Some(line.as_bytes())))
+}
+
+fn part(alloc: Global, names: &Names, kept: &[TrainNo], line: &str) -> Result<Part, OutOfMemory> {
+    let mut sink = sink_of(alloc, 2000, "2")?;
+    let written = write(names, "fresh", kept, &mut sink);
+    let bytes = sink.bytes().unwrap_or(b"");
+    let is_part = 0 < bytes.len() && bytes.len() < line.len();
+    Ok((written, [is_part, line.as_bytes().starts_with(bytes)]))
 }

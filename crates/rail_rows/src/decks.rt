@@ -1,0 +1,78 @@
+//! The policies that are handed in with a row.
+ghost use Rattle.std.specs.Prelude.{codes};
+ghost use Rattle.rail_base.specs.declared.orders.PolicyKind.TheVariants.{Custom};
+
+use rail_base::{Name, PolicyKind, TrainNo};
+use rail_policy::{FcfsPolicy, Offer, Policy, PriorityPolicy, RotatingPolicy, TimetablePolicy};
+use std::alloc::{AllocError, Global};
+
+/// Which policies are handed in.
+#[derive(Clone, Copy)]
+pub enum Deck {
+    /// Those of the program, in its order.
+    BuiltIn,
+    /// The policy `odd` alone, which answers the last offer, or always the same number.
+    Odd { always: Option<usize> },
+}
+
+/// The policies of the deck.
+pub fn boxes_of(alloc: Global, deck: Deck) -> Result<Vec<Box<dyn Policy>>, AllocError> {
+    let mut policies: Vec<Box<dyn Policy>> = Vec::with_capacity(alloc, 4)?;
+    match deck {
+        Deck::BuiltIn => {
+            policies.push_reserved(Box::new(alloc, PriorityPolicy::new())?);
+            policies.push_reserved(Box::new(alloc, TimetablePolicy::new())?);
+            policies.push_reserved(Box::new(alloc, FcfsPolicy::new())?);
+            policies.push_reserved(Box::new(alloc, RotatingPolicy::new())?);
+        }
+        Deck::Odd { always } => policies.push_reserved(Box::new(alloc, Odd::new(always))?),
+    }
+    Ok(policies)
+}
+
+/// A policy of a kind of its own, named `odd`. It answers the last offer, or always the same number.
+#[derive(Debug, Drop)]
+struct Odd {
+    always: Option<usize>,
+    mark: u16,
+    answered: usize,
+}
+
+impl Odd {
+    /// The policy, which was not asked yet.
+    fn new(always: Option<usize>) -> Odd {
+        Odd {
+            always,
+            mark: 0,
+            answered: 0,
+        }
+    }
+}
+
+impl Policy for Odd {
+    ghost seat = { λ policy. record { name = codes "odd"; kind = Custom; mark = policy.mark; answered = policy.answered } };
+
+    fn name(&self) -> Name {
+        Name::read(b"odd").unwrap()
+    }
+
+    fn kind(&self) -> PolicyKind {
+        PolicyKind::Custom
+    }
+
+    fn mark(&self) -> u16 {
+        self.mark
+    }
+
+    fn answered(&self) -> usize {
+        self.answered
+    }
+
+    fn choose(&mut self, offers: &[Offer]) -> usize {
+        self.mark = self.mark.wrapping_add(1);
+        self.answered = self.always.unwrap_or(offers.len() - 1);
+        self.answered
+    }
+
+    fn note(&mut self, _admitted: TrainNo) {}
+}

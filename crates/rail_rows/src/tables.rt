@@ -1,0 +1,71 @@
+//! A file of rows: its pieces are kept, and its rows asked.
+
+use crate::files::{file, push_written};
+use crate::rows::Row;
+use rail_io::File;
+use std::alloc::{AllocError, Global};
+
+/// A file of rows.
+#[derive(Clone, Copy)]
+pub struct Table<'a> {
+    pub name: &'a str,
+    pub text: &'a str,
+}
+
+/// Asks each row of the table, and keeps its pieces for it and for the tables behind it. The text tells each row that is
+/// answered otherwise than it says, and how many rows are answered as they say.
+pub fn tell_table(
+    alloc: Global,
+    pieces: &mut Vec<File>,
+    table: Table,
+) -> Result<String, AllocError> {
+    let mut told = String::new(alloc);
+    let (mut rows, mut wrong) = (0u32, 0u32);
+    for block in table.text.split("\n== ").skip(1) {
+        let (head, lines) = block.split_once("\n").unwrap_or((block, ""));
+        match head.strip_prefix("piece ") {
+            Some(name) => {
+                let piece = piece_of(alloc, pieces, name, lines)?;
+                pieces.push(piece)?;
+            }
+            None => {
+                rows = rows.saturating_add(1);
+                if !tell_row(alloc, pieces, head, lines, &mut told)? {
+                    wrong = wrong.saturating_add(1);
+                }
+            }
+        }
+    }
+    let right = rows.saturating_sub(wrong);
+    let name = table.name;
+    write!(
+        told,
+        "{name}: {right} of {rows} rows are answered as they say\n"
+    )?;
+    Ok(told)
+}
+
+/// The piece of these lines.
+fn piece_of(alloc: Global, pieces: &[File], name: &str, lines: &str) -> Result<File, AllocError> {
+    let mut bytes = Vec::new(alloc);
+    for line in lines.lines() {
+        push_written(pieces, &mut bytes, line)?;
+    }
+    file(alloc, name, bytes)
+}
+
+/// Asks a row of these words. False where it is answered otherwise than its lines say, which is told then.
+fn tell_row(
+    alloc: Global,
+    pieces: &[File],
+    words: &str,
+    lines: &str,
+    told: &mut String,
+) -> Result<bool, AllocError> {
+    let mut row = Row::new(alloc, words);
+    for line in lines.lines() {
+        row.take(pieces, line, told)?;
+    }
+    drop(row.ask(told)?);
+    Ok(row.is_right())
+}
