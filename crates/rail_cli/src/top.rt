@@ -81,45 +81,62 @@ fn answer<S: Shelf, O: Sink>(
         (S.told shelf.old) (O.written out.old) (O.written out.new) (ended result) }
     ensures unread { AreRefusedAlone form words.now → shelf.new ≡ shelf.old }
 {
-    match (form, words) {
-        (Form::Run, [_, scenario @ ..]) => {
-            scenario::answer(alloc, &Purpose::History, scenario, shelf, out, deck)
-        }
-        (Form::Stairs, [_, scenario @ ..]) => {
-            scenario::answer(alloc, &Purpose::Stairs, scenario, shelf, out, deck)
-        }
-        (Form::Report, [_, scenario @ ..]) => {
-            scenario::answer(alloc, &Purpose::Report, scenario, shelf, out, deck)
-        }
-        (Form::Capacity, [_, line, from, to, scenario @ ..]) => {
-            let (line, from, to) = (line.as_str(), from.as_str(), to.as_str());
-            capacity::answer(alloc, line, from, to, scenario, shelf, out, deck)
-        }
-        (Form::Infra, [_, scene]) => infra::answer(alloc, scene.as_str(), shelf, out),
-        (Form::Play, [_, scene, list]) => {
-            play::answer(alloc, scene.as_str(), list.as_str(), shelf, out)
-        }
-        (Form::Check, [_, scene, timetable, commands, history]) => {
-            let (timetable, commands) = (timetable.as_str(), commands.as_str());
-            let history = history.as_str();
-            check::answer(
-                alloc,
-                scene.as_str(),
-                timetable,
-                commands,
-                history,
-                shelf,
-                out,
-                &deck,
-            )
-        }
-        (Form::Edit, [_, scene, edits]) => {
-            edit::answer(alloc, scene.as_str(), edits.as_str(), shelf, out)
-        }
-        (Form::Scene, [_, number]) => scene::answer(alloc, number.as_str(), out),
-        (Form::Gen, [_, number]) => summary::answer(alloc, number.as_str(), out, deck),
-        // No other words are of a form.
-        _ => unreachable!(),
+    match form {
+        Form::Run => match words {
+            [_, scenario @ ..] => {
+                scenario::answer(alloc, &Purpose::History, scenario, shelf, out, deck)
+            }
+            [] => unreachable!(),
+        },
+        Form::Stairs => match words {
+            [_, scenario @ ..] => {
+                scenario::answer(alloc, &Purpose::Stairs, scenario, shelf, out, deck)
+            }
+            [] => unreachable!(),
+        },
+        Form::Report => match words {
+            [_, scenario @ ..] => {
+                scenario::answer(alloc, &Purpose::Report, scenario, shelf, out, deck)
+            }
+            [] => unreachable!(),
+        },
+        Form::Capacity => match words {
+            [_, line, from, to, scenario @ ..] => {
+                let (line, from, to) = (line.as_str(), from.as_str(), to.as_str());
+                capacity::answer(alloc, line, from, to, scenario, shelf, out, deck)
+            }
+            _ => unreachable!(),
+        },
+        Form::Infra => match words {
+            [_, scene] => infra::answer(alloc, scene.as_str(), shelf, out),
+            _ => unreachable!(),
+        },
+        Form::Play => match words {
+            [_, scene, list] => play::answer(alloc, scene.as_str(), list.as_str(), shelf, out),
+            _ => unreachable!(),
+        },
+        Form::Check => match words {
+            [_, scene, timetable, commands, history] => {
+                let (scene, timetable) = (scene.as_str(), timetable.as_str());
+                let (commands, history) = (commands.as_str(), history.as_str());
+                check::answer(
+                    alloc, scene, timetable, commands, history, shelf, out, &deck,
+                )
+            }
+            _ => unreachable!(),
+        },
+        Form::Edit => match words {
+            [_, scene, edits] => edit::answer(alloc, scene.as_str(), edits.as_str(), shelf, out),
+            _ => unreachable!(),
+        },
+        Form::Scene => match words {
+            [_, number] => scene::answer(alloc, number.as_str(), out),
+            _ => unreachable!(),
+        },
+        Form::Gen => match words {
+            [_, number] => summary::answer(alloc, number.as_str(), out, deck),
+            _ => unreachable!(),
+        },
     }
 }
 

@@ -136,7 +136,8 @@ impl<'a> Row<'a> {
     fn take_files(&mut self) -> Result<Vec<File>, AllocError> {
         let mut files = Vec::new(self.alloc);
         for text in mem::replace(&mut self.files, Vec::new(self.alloc)) {
-            files.push(file(self.alloc, text.name.as_str(), text.bytes)?)?;
+            let Text { name, bytes } = text;
+            files.push(file(self.alloc, name.as_str(), bytes)?)?;
         }
         Ok(files)
     }
