@@ -5,7 +5,7 @@ usage: check_pages.py REPOSITORY
 
 Looked at are all files *.md of the repository but those of folders `must-fail` and `out`:
 
-- docs/DEFINITIONS.md is what `write_definitions.py` would write;
+- docs/DEFINITIONS.md and docs/WORKING_WORDS.md are what `write_definitions.py` would write;
 - each relative link leads to a file, and to a heading where it names one;
 - each `crates/..`, `docs/..`, `examples/..` and `tools/..` between backquotes is there;
 - counts that a page names are those of the tree: `N crates`, `N wrong bodies`, `N edits have to fail`, `N rows`; a command of
@@ -108,7 +108,7 @@ def main():
     definitions = [sys.executable, pathlib.Path(__file__).with_name("write_definitions.py"), "--check", repository]
     ran = subprocess.run(definitions, stdout=subprocess.PIPE, stderr=subprocess.STDOUT, text=True)
     if ran.returncode:
-        wrong.append(f"docs/DEFINITIONS.md: {ran.stdout.strip()}")
+        wrong.append(f"docs: {ran.stdout.strip()}")
     print("\n".join(wrong), end="\n" if wrong else "")
     sys.exit(1 if wrong else 0)
 

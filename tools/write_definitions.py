@@ -1,15 +1,15 @@
 #!/usr/bin/env python3
-"""Writes docs/DEFINITIONS.md from the definitions and their comments, or checks it.
+"""Writes docs/DEFINITIONS.md and docs/WORKING_WORDS.md from the definitions and their comments, or checks them.
 
 usage: write_definitions.py [--check] REPOSITORY
 
-The part of the page above its line `<!-- the list -->` is kept. Below it stand two parts. The first has what the
-contract of the top call reaches, by names that are followed exactly through the imports: the definitions, the types
-and the constants of the programs, and the names of the kit, each counted. The second has all other public definitions,
-crate by crate as in crates.txt, and the laws, which are the public functions without code.
+The part of a page above its line `<!-- the list -->` is kept. The first page has what the contract of the top call
+reaches, by names that are followed exactly through the imports: the definitions, the types and the constants of the
+programs, and the names of the kit, each counted. The second has all other public definitions, crate by crate as in
+crates.txt, and the laws, which are the public functions without code.
 
-The status is 1 where a public definition or a law has no sentence, and with --check where the page is not what would
-be written; then nothing is written.
+The status is 1 where a public definition or a law has no sentence, and with --check where a page is not what would be
+written; then nothing is written.
 """
 
 import argparse
@@ -253,10 +253,7 @@ class Page:
             if names and not self.is_example(module):
                 parts += self.module(module, names)
                 count += len(names)
-        return ["", "## Working words", ""] + paragraph(
-            "All other public definitions, %d of them, and the laws." % count,
-            "The contract of the top call reaches none of them:",
-            "who relies on another call or on a law reads the words that it names.") + parts
+        return [""] + paragraph("They are %d definitions." % count) + parts
 
     def is_example(self, module):
         """The module has the data of a worked example: its definitions take no argument."""
@@ -286,8 +283,10 @@ class Page:
                       "| Law | It says | File |", "|---|---|---|"] + lines
         return parts
 
-    def text(self):
-        return "\n".join(self.must() + self.words() + self.examples() + self.laws()) + "\n"
+    def pages(self):
+        """The lists of the pages, by their names."""
+        lists = {"DEFINITIONS.md": self.must(), "WORKING_WORDS.md": self.words() + self.examples() + self.laws()}
+        return {name: "\n".join(lines) + "\n" for name, lines in lists.items()}
 
 
 def main():
@@ -295,21 +294,22 @@ def main():
     parser.add_argument("--check", action="store_true", help="compare with the page, and write nothing")
     parser.add_argument("repository", type=pathlib.Path)
     arguments = parser.parse_args()
-    path = arguments.repository / "docs" / "DEFINITIONS.md"
     page = Page(Reader(arguments.repository))
-    old = path.read_text()
-    new = old.split(MARK)[0] + MARK + "\n" + page.text()
+    paths = {arguments.repository / "docs" / name: text for name, text in page.pages().items()}
     print("definitions %d, lines %d, files %d, types %d, constants %d, names of the kit %d" % page.summary)
     for it in page.missing:
         print("no sentence: " + it)
     is_wrong = bool(page.missing)
-    if arguments.check and new != old:
-        known = set(old.splitlines())
-        absent = [row for row in new.splitlines() if row.startswith("| `") and row not in known]
-        print("\n".join("not on the page: " + row for row in absent) or "the page differs")
-        is_wrong = True
-    if not arguments.check and not is_wrong:
-        path.write_text(new)
+    for path, text in paths.items():
+        old = path.read_text()
+        new = old.split(MARK)[0] + MARK + "\n" + text
+        if arguments.check and new != old:
+            known = set(old.splitlines())
+            absent = [row for row in new.splitlines() if row.startswith("| `") and row not in known]
+            print("\n".join("not on the page: " + row for row in absent) or f"{path.name} differs")
+            is_wrong = True
+        if not arguments.check and not is_wrong:
+            path.write_text(new)
     return 1 if is_wrong else 0
 
 
