@@ -1,11 +1,10 @@
 //! What the top call answers, and whether it is what is wanted.
 
-use crate::decks::{Deck, boxes_of};
+use crate::decks::{self, Deck};
 use crate::files::word;
 use rail_base::Word;
-use rail_cli::{Status, rail};
+use rail_cli::Status;
 use rail_io::{File, MemoryShelf, MemorySink};
-use rail_policy::deck_is_fine;
 use std::alloc::{AllocError, Global};
 
 /// The most bytes that an output may have.
@@ -84,11 +83,7 @@ fn ask(alloc: Global, asked: Asked, shelf: &mut MemoryShelf) -> Result<Answer, A
         return Err(AllocError);
     };
     let words = words_of(alloc, asked.words)?;
-    let deck = boxes_of(alloc, asked.deck)?;
-    if !deck_is_fine(&deck) {
-        return Err(AllocError);
-    }
-    let status = rail(alloc, &words, shelf, &mut sink, deck);
+    let status = decks::ask(alloc, &words, shelf, &mut sink, asked.deck)?;
     Ok(Answer {
         status: status_text(alloc, status)?,
         output: text_of(alloc, sink.bytes())?,

@@ -2,8 +2,12 @@
 ghost use Rattle.std.specs.Prelude.{codes};
 ghost use Rattle.rail_base.specs.declared.orders.PolicyKind.TheVariants.{Custom};
 
-use rail_base::{Name, PolicyKind, TrainNo};
-use rail_policy::{FcfsPolicy, Offer, Policy, PriorityPolicy, RotatingPolicy, TimetablePolicy};
+use rail_base::{Name, PolicyKind, TrainNo, Word};
+use rail_cli::{Status, rail};
+use rail_io::{MemoryShelf, MemorySink};
+use rail_policy::{
+    FcfsPolicy, Offer, Policy, PriorityPolicy, RotatingPolicy, TimetablePolicy, deck_is_fine,
+};
 use std::alloc::{AllocError, Global};
 
 /// Which policies are handed in.
@@ -15,8 +19,14 @@ pub enum Deck {
     Odd { always: Option<usize> },
 }
 
-/// The policies of the deck.
-pub fn boxes_of(alloc: Global, deck: Deck) -> Result<Vec<Box<dyn Policy>>, AllocError> {
+/// What the top call answers with these policies.
+pub fn ask(
+    alloc: Global,
+    words: &[Word],
+    shelf: &mut MemoryShelf,
+    out: &mut MemorySink,
+    deck: Deck,
+) -> Result<Status, AllocError> {
     let mut policies: Vec<Box<dyn Policy>> = Vec::with_capacity(alloc, 4)?;
     match deck {
         Deck::BuiltIn => {
@@ -27,7 +37,11 @@ pub fn boxes_of(alloc: Global, deck: Deck) -> Result<Vec<Box<dyn Policy>>, Alloc
         }
         Deck::Odd { always } => policies.push_reserved(Box::new(alloc, Odd::new(always))?),
     }
-    Ok(policies)
+    // The names differ; the prover does not look into the boxes, so the deck is looked at here.
+    if !deck_is_fine(&policies) {
+        return Err(AllocError);
+    }
+    Ok(rail(alloc, words, shelf, out, policies))
 }
 
 /// A policy of a kind of its own, named `odd`. It answers the last offer, or always the same number.
