@@ -65,7 +65,8 @@ def sample(top, times, places):
     found = processes()
     for number, (_, began, spent) in found.items():
         key = number, began
-        if key not in places and is_below(number, top, found):
+        # A process may become another program, so one that is not known to belong to a crate is looked at again.
+        if places.get(key, ("", None))[1] is None and (key in places or is_below(number, top, found)):
             try:
                 places[key] = place_of(number)
             except OSError:  # it ended
