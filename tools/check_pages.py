@@ -8,8 +8,11 @@ Looked at are all files *.md of the repository but those of folders `must-fail` 
 - docs/DEFINITIONS.md and docs/WORKING_WORDS.md are what `write_definitions.py` would write;
 - each relative link leads to a file, and to a heading where it names one;
 - each `crates/..`, `docs/..`, `examples/..` and `tools/..` between backquotes is there;
-- counts that a page names are those of the tree: `N crates`, `N wrong bodies`, `N edits have to fail`, `N rows`; a command of
-  the program's help has a row in the table of commands of README.md, and the other way round.
+- counts that a page names are those of the tree: `N crates`, `N wrong bodies`, `N edits have to fail`, `N rows`; a form of
+  the program's table has a row in the table of commands of README.md, and the other way round;
+- each row of the table of keys of docs/FORMATS.md names the keys of its table in `crates/rail_scene/src/keys.rt` in their
+  order, and tells the range and the default of each number;
+- each change of docs/CHANGING.md could be made in the tree, where git is there to tell.
 
 The status is 1 where something is wrong.
 """
@@ -87,12 +90,74 @@ def wrong_counts(path, counted):
 
 
 def wrong_commands(repository):
-    """Commands that the help of the program has and README.md does not, and the other way round."""
-    found = [it for it in repository.glob("crates/*/src/help.rt")]
-    helped = {it for path in found for it in re.findall(r"\brail ([a-z]+) [A-Z]", path.read_text())}
-    shown = set(re.findall(r"^\| `rail ([a-z]+) ", (repository / "README.md").read_text(), re.M))
-    for name in sorted(helped ^ shown):
-        yield f"the command {name} stands only in {'the help' if name in helped else 'the table of commands'}"
+    """Forms of the program's table that README.md does not show as they are typed, and the other way round."""
+    table = (repository / "crates/rail_words/src/forms.rt").read_text()
+    verbs, words = {}, {}
+    for name, known in (("verb", verbs), ("words", words)):
+        body = table.split(f"pub fn {name}(self)")[1].split("pub fn ")[0]
+        for forms, text in re.findall(r'((?:Form::\w+(?: \| )?)+) => "([^"]*)"', body):
+            known |= {form: text for form in re.findall(r"Form::(\w+)", forms)}
+    typed = {f"rail {verb} {words[form]}" for form, verb in verbs.items()}
+    shown = set(re.findall(r"^\| `(rail [a-z]+ [^`]*)` ", (repository / "README.md").read_text(), re.M))
+    for command in sorted(typed ^ shown):
+        yield f"`{command}` stands only in {'the table of forms' if command in typed else 'the table of commands'}"
+
+
+def scene_keys(repository):
+    """The tables of a scene file: the keys of each in order, each with its text and, for a number, with what a page says of it."""
+    source = (repository / "crates/rail_scene/src/keys.rt").read_text()
+    limits = (repository / "crates/rail_base/src/limits.rt").read_text()
+    numbers = {name: int(value) for name, value in re.findall(r"const (\w+): \w+ = ([\d_]+);", limits + source)}
+
+    def number(term):
+        named = re.fullmatch(r"(?:limits::)?([A-Z_]+)(?: as \w+)?", term)
+        return numbers[named[1]] if named else int(term)
+
+    texts = dict(re.findall(r'KeyName::(\w+) => "(\w+)"', source))
+    keys = {}
+    for name, key, form, required in re.findall(
+        r"const (\w+): Key = Key \{\s*name: KeyName::(\w+),\s*form: Form::(.*?),\s*required: (\w+),\s*\};", source, re.S
+    ):
+        told = []
+        if bounds := re.search(r"low: (.*?),\s*high: (.*?),\s*default: (.*?),", form):
+            low, high, default = map(number, bounds.groups())
+            told.append(f"which is {low}" if low == high else f"{low:,} to {high:,}")
+            if required == "false":
+                told.append(f"default {default}")
+        keys[name] = texts[key], told
+    tables = re.findall(r"const (\w+)_KEYS: \[Key; \w+\] =\s*\[(.*?)\];", source, re.S)
+    return {name.lower(): [keys[it] for it in re.findall(r"\w+", names)] for name, names in tables}
+
+
+def wrong_keys(repository):
+    """Rows of the table of keys that do not name the keys of their table, or tell another range or default of one."""
+    text = (repository / "docs/FORMATS.md").read_text()
+    section = text.partition("\n## Scene file\n")[2].partition("\n## ")[0]
+    rows = dict(re.findall(r"^\| (\w+) \| (`\w+`.*) \|$", section, re.M))
+    for table, keys in scene_keys(repository).items():
+        said = {}
+        for clause in rows.get(table, "").split(";"):
+            # What stands behind a colon or as a default is a value.
+            for name in re.findall(r"`(\w+)`", re.sub(r":.*|default `\w+`", "", clause)):
+                said[name] = clause
+        if list(said) != [name for name, _ in keys]:
+            yield f"the keys of {table} are {' '.join(name for name, _ in keys)}, not {' '.join(said)}"
+            continue
+        for name, told in keys:
+            for words in told:
+                if not said[name].endswith(" as above") and not re.search(rf"\b{words}(?![\d,]*\d)", said[name]):
+                    yield f"the key {name} of {table} is {words}"
+
+
+def wrong_diffs(repository):
+    """Worked changes of docs/CHANGING.md that cannot be made in the tree any more."""
+    for number, diff in enumerate(re.findall(r"^```diff\n(.*?)^```$", (repository / "docs/CHANGING.md").read_text(), re.M | re.S), 1):
+        try:
+            ran = subprocess.run(["git", "apply", "--check", "-"], cwd=repository, input=diff, capture_output=True, text=True)
+        except FileNotFoundError:  # no git
+            return
+        if ran.returncode:
+            yield f"change {number} cannot be made: {ran.stderr.strip()}"
 
 
 def main():
@@ -105,6 +170,8 @@ def main():
         for found in (wrong_links(path), wrong_paths(path, repository), wrong_counts(path, counted)):
             wrong += [f"{name}: {it}" for it in found]
     wrong += [f"README.md: {it}" for it in wrong_commands(repository)]
+    wrong += [f"docs/CHANGING.md: {it}" for it in wrong_diffs(repository)]
+    wrong += [f"docs/FORMATS.md: {it}" for it in wrong_keys(repository)]
     definitions = [sys.executable, pathlib.Path(__file__).with_name("write_definitions.py"), "--check", repository]
     ran = subprocess.run(definitions, stdout=subprocess.PIPE, stderr=subprocess.STDOUT, text=True)
     if ran.returncode:

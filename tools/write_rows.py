@@ -7,10 +7,11 @@ Each row is a scene NAME.toml with its history NAME.history and perhaps commands
 writes a module of definitions into crates/rail_worked/specs, a function whose contract says of them what holds,
 into crates/rail_worked/src, and the answers to its clauses. Of histories of these scenes that break a rule it writes
 the same, into one module of the program. It writes no claim that it has computed: the check
-evaluates them all. Run `rt tidy` in that crate afterwards: it drops the imports that a row does not need.
+evaluates them all. What it writes is laid out as `rt tidy` would: a row imports what it needs.
 """
 
 import pathlib
+import re
 import sys
 
 sys.path.insert(0, str(pathlib.Path(__file__).resolve().parent))
@@ -61,9 +62,34 @@ def later(line):
     return "%02d:%02d:%02d.%d %s" % (seconds // 3600, seconds // 60 % 60, seconds % 60, time % 10, rest)
 
 
+def needs(body, name):
+    """Whether the text has the name, as that of a thing and not of a field or a clause."""
+    if not name[0].isascii() or not name[0].isalpha():
+        return name.strip("◌") in body
+    return re.search(r"(?<![\w.])(?<!ensures )%s(?![\w-])(?! =)" % re.escape(name), body) is not None
+
+
+def tidied(text):
+    """The text of definitions or of a proof without the imports that it does not need."""
+    lines = text.split("\n")
+    is_import = [re.match(r"(ghost )?use ", line) is not None for line in lines]
+    body = "\n".join(line for line, it in zip(lines, is_import) if not it)
+    kept = []
+    for number, (line, it) in enumerate(zip(lines, is_import)):
+        names = re.match(r"(.*\.\{)(.*)(\};?)$", line) if it else None
+        if names:
+            needed = [name for name in names[2].split(", ") if needs(body, name)]
+            kept += [names[1] + ", ".join(needed) + names[3]] if needed else []
+        elif it and " as " in line:
+            kept += [line] if re.search(r"(?<![\w.])%s\." % line.rstrip(";").split(" as ")[1], body) else []
+        elif line or not (kept and re.match(r"(ghost )?use ", kept[-1]) and number + 1 < len(lines) and is_import[number + 1]):
+            kept.append(line)
+    return "\n".join(kept)
+
+
 def write(path, text):
     path.parent.mkdir(parents=True, exist_ok=True)
-    path.write_text(text)
+    path.write_text(tidied(text) if path.suffix == ".antt" else text)
 
 
 def write_row(repository, name, function, says, whole, leaves, places):
@@ -111,7 +137,7 @@ def write_row(repository, name, function, says, whole, leaves, places):
               "ghost use Rattle.rail_rules.specs.Texts.{text};",
               "ghost use Rattle.rail_worked.specs.%s.{%s};" % (module, ", ".join(names)), "",
               "/// %s" % says, "pub fn %s()" % function]
-    source += ["    ensures %s { %s }" % clause for clause in clauses] + ["{", "}", ""]
+    source += ["    ensures %s { %s }" % clause for clause in clauses] + ["{}", ""]
     rust = name.replace("-", "_") + "_row"
     write(crate / "src" / (rust + ".rt"), "\n".join(source))
     answers = ["use Rattle.std.proofs.Common.{refl, lit≤}", "use Rattle.std.specs.Fmt.{digits}", "use Rattle.rail_worked.proofs.%s.%s.Goals as goal" % (rust, function), ""]
@@ -147,7 +173,7 @@ def write_refuted(repository, rows):
                    ("wrong", "may_follow %s.input %s.before %s.wrong ≡ false" % (of, here, here)),
                    ("whole", "is_complete %s.input %s.front ≡ false" % (of, here))]
         source += ["", "/// %s" % says, "pub fn %s()" % function]
-        source += ["    ensures %s { %s }" % clause for clause in clauses] + ["{", "}"]
+        source += ["    ensures %s { %s }" % clause for clause in clauses] + ["{}"]
         answers = ["use Rattle.std.proofs.Common.{refl}", "use Rattle.rail_worked.proofs.refuted_rows.%s.Goals as goal" % function, ""]
         for clause, _ in clauses:
             answers += ["pub returns-clause-%s : goal.returns-clause-%s" % (clause, clause), "returns-clause-%s c = refl" % clause, ""]

@@ -4,11 +4,12 @@
 use rail_base::limits::FILE_BYTES;
 use rail_base::{Name, Refusal, Word};
 use rail_cli::Status;
-use rail_explain::{explained, file_of, law_text, usage_of};
+use rail_explain::{OTHER_FORMS, explained, file_of, law_text, usage, usage_with_hint};
 use rail_io::{FileShelf, read_whole};
-use rail_scene::item_name;
 use rail_scene::keys::keys_in;
-use rail_words::form_of;
+use rail_scene::{Version, item_name};
+use rail_text::Line;
+use rail_words::{FORMS, form_named, request_of};
 use std::io;
 use std::rt::HostRuntime;
 
@@ -16,13 +17,34 @@ use std::rt::HostRuntime;
 /// `failed` is the name of the file that could not be read.
 pub fn explain(rt: &HostRuntime, words: &[Word], status: Status, failed: Option<&Word>) {
     let _ = match status {
-        Status::Usage => rt.eprintln(usage_of(words)),
+        Status::Usage => explain_usage(rt, words),
         Status::Refused(refusal) => explain_refusal(rt, words, &refusal),
         Status::ReadFault => explain_read_fault(rt, failed),
         Status::WriteFault => rt.eprintln("standard output did not take all that was written"),
         Status::CheckedNo { law, .. } => rt.eprintln(law_text(law)),
         Status::Done | Status::OutOfMemory => Ok(()),
     };
+}
+
+/// Shows the form that begins with the same word as the command line; where there is none, all forms, a line each.
+fn explain_usage(rt: &HostRuntime, words: &[Word]) -> io::Result<()> {
+    if let Some(verb) = words.first()
+        && let Some(form) = form_named(verb.as_str())
+    {
+        return print_line(rt, &usage_with_hint(form));
+    }
+    for form in FORMS {
+        print_line(rt, &usage(form))?;
+    }
+    rt.eprintln(OTHER_FORMS)
+}
+
+/// Prints a line.
+fn print_line(rt: &HostRuntime, line: &Line) -> io::Result<()> {
+    match str::from_utf8(line.as_slice()) {
+        Ok(text) => rt.eprintln(text),
+        Err(_) => Ok(()),
+    }
 }
 
 /// Says which file could not be read.
@@ -38,24 +60,23 @@ fn explain_read_fault(rt: &HostRuntime, failed: Option<&Word>) -> io::Result<()>
 
 /// Says in which file a refusal lies, where in it, and what was expected there.
 fn explain_refusal(rt: &HostRuntime, words: &[Word], refusal: &Refusal) -> io::Result<()> {
-    let Some(form) = form_of(words) else {
+    let Some(request) = request_of(words) else {
         return Ok(());
     };
-    let file = file_of(form, words, refusal);
+    let file = file_of(&request, refusal);
     if let Some(file) = file {
         rt.eprint(file)?;
         rt.eprint(": ")?;
     }
-    let line = explained(refusal, file.and_then(|file| name_in(rt, file, refusal)));
-    match str::from_utf8(line.as_slice()) {
-        Ok(text) => rt.eprintln(text),
-        Err(_) => Ok(()),
-    }
+    print_line(
+        rt,
+        &explained(refusal, file.and_then(|file| name_in(rt, file, refusal))),
+    )
 }
 
 /// The name of the item in which a refusal of a scene lies. The file is read again for it.
 fn name_in(rt: &HostRuntime, file: &str, refusal: &Refusal) -> Option<Name> {
-    if keys_in(refusal.part).is_empty() || refusal.item == 0 {
+    if keys_in(refusal.part, Version::NEWEST).is_empty() || refusal.item == 0 {
         return None;
     }
     let mut shelf = FileShelf::new(rt);

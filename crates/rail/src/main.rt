@@ -10,11 +10,13 @@ mod explanations;
 
 use explanations::explain;
 use rail_base::Word;
-use rail_cli::{HELP, Status, VERSION, rail};
+use rail_cli::{Status, rail};
+use rail_explain::{HELP_BEFORE, HELP_BEHIND, VERSION, help_line};
 use rail_io::{FileShelf, GatheredSink, OutSink, Sink};
 use rail_policy::{
     FcfsPolicy, Policy, PriorityPolicy, RotatingPolicy, TimetablePolicy, deck_is_fine,
 };
+use rail_words::FORMS;
 use std::alloc::AllocError;
 use std::env;
 use std::io::{self, ErrorKind};
@@ -50,8 +52,8 @@ fn words_of(rt: &HostRuntime) -> io::Result<Vec<Word>> {
 /// Answers `--help` and `--version`, and hands all other words on.
 fn answer(rt: &HostRuntime, words: &[Word]) -> ExitCode {
     match words {
-        [word] if word.as_str() == "--help" => show(rt, HELP),
-        [word] if word.as_str() == "--version" => show(rt, VERSION),
+        [word] if word.as_str() == "--help" => end_of(rt, print_help(rt)),
+        [word] if word.as_str() == "--version" => end_of(rt, rt.print(VERSION)),
         _ => {
             match run(rt, words) {
                 Ok(status) => end(rt, status),
@@ -95,9 +97,20 @@ fn finish<S: Sink + Drop>(status: Status, out: &mut GatheredSink<S>) -> Status
     }
 }
 
-/// Prints a text on standard output.
-fn show(rt: &HostRuntime, text: &str) -> ExitCode {
-    match rt.print(text) {
+/// Prints the forms and what each of them prints.
+fn print_help(rt: &HostRuntime) -> io::Result<()> {
+    rt.print(HELP_BEFORE)?;
+    for form in FORMS {
+        if let Ok(text) = str::from_utf8(help_line(form).as_slice()) {
+            rt.print(text)?;
+        }
+    }
+    rt.print(HELP_BEHIND)
+}
+
+/// The end of a command that printed a text of the program's own.
+fn end_of(rt: &HostRuntime, printed: io::Result<()>) -> ExitCode {
+    match printed {
         Ok(()) => ExitCode::SUCCESS,
         Err(_) => end(rt, Status::WriteFault),
     }

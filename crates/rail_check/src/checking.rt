@@ -1,16 +1,15 @@
 //! A history is checked line by line.
 
-ghost use Rattle.std.specs.Prelude.{◌≡◌, ◌-◌, ◌<◌, ◌^◌, [], IfOk, cond, drop, get_or, length, true};
+ghost use Rattle.std.specs.Prelude.{◌≡◌, ◌-◌, ◌<◌, ◌^◌, IfOk, length, true};
 ghost use Rattle.rail_check.specs.Answers.{judged_in};
-ghost use Rattle.rail_history.specs.HistoryLines.{does_list};
 ghost use Rattle.rail_history.specs.LineReads.{IsPaired, lines_of};
 ghost use Rattle.rail_judging.specs.Verdicts.{verdict};
 ghost use Rattle.rail_ledger.specs.Inputs.{input_in};
 ghost use Rattle.rail_rules.specs.Accepted.{is_accepted_input};
 ghost use Rattle.rail_rules.specs.Fronts.{is_hold};
 
-use rail_base::{Note, OutOfMemory, Seq, TrainNo, What};
-use rail_history::History;
+use rail_base::{OutOfMemory, What};
+use rail_history::{History, cut_list};
 use rail_ledger::{Ledger, RunInput};
 use std::alloc::Global;
 
@@ -68,34 +67,6 @@ pub fn check(alloc: Global, input: RunInput, history: &History) -> Result<Verdic
         }),
         None => Ok(Verdict::Yes),
     }
-}
-
-/// The trains beside an entry that says this, which are the first of these lists where it has some, and the lists
-/// behind them.
-fn cut_list<'a>(what: &What, lists: &'a [Seq<TrainNo>]) -> (&'a [TrainNo], &'a [Seq<TrainNo>])
-    ensures list { result.0.now ≡ cond (does_list what.now) (get_or lists.now 0 []) [] }
-    ensures others { result.1.now ≡ cond (does_list what.now) (drop 1 lists.now) lists.now }
-{
-    if !does_list(what) {
-        return (&[], lists);
-    }
-    match lists.split_first() {
-        Some((first, others)) => (first.as_slice(), others),
-        None => (&[], &[]),
-    }
-}
-
-/// Whether an entry that says this has trains beside it: a fresh list, or those that an end line names.
-fn does_list(what: &What) -> bool
-    ensures { result ≡ does_list what.now }
-{
-    matches!(
-        what,
-        What::Admit {
-            note: Note::Fresh,
-            ..
-        } | What::End
-    )
 }
 
 /// Whether this is a hold line.

@@ -1,4 +1,3 @@
 mod Forms
-mod Completeness
 mod Unread
 mod PrintedRuns

@@ -21,9 +21,10 @@ use Rattle.rail_forms.specs.declared.status.Status.{Status}
 use Rattle.rail_forms.specs.declared.status.Status.TheVariants.{Done, Usage, Refused, ReadFault, WriteFault, OutOfMemory, CheckedNo}
 use Rattle.rail_forms.specs.Answers.{IsAnswer, Told}
 use Rattle.rail_forms.specs.Checks.{AnswersCheck, IsJudged, check_refusal, done_with, status_judged, verdict_text}
-use Rattle.rail_forms.specs.Files.{named_file, told_of, too_large, too_large_if_any}
+use Rattle.rail_words.specs.Forms.{Scenario}
+use Rattle.rail_words.specs.declared.files.Role.TheVariants as role
+use Rattle.rail_forms.specs.Files.{told_of, too_large, too_large_if_any}
 use Rattle.rail_forms.specs.Runs.{AnswersRun}
-use Rattle.rail_forms.specs.Scenarios.{Scenario}
 use Rattle.rail_forms.proofs.CallerLemmas.{short_enough}
 
 -- one more refusal that does not come
@@ -52,12 +53,12 @@ answered_yes input lines out now is (CheckedNo line law) answer =
     absurd (false≢true (sym (ap is_no (answer.1.ends ∙ ap status_judged is))))
 
 pub checked_with_yes : (scenario : Scenario) (deck : List DeskSeat) (told : Told) (bytes : List ℕ) (calls orders : Option (List ℕ))
-    → told scenario.scene ≡ Some bytes → told_of told (named_file scenario.timetable) ≡ Some calls
-    → told_of told (named_file scenario.commands) ≡ Some orders
+    → told scenario.scene ≡ Some bytes → told_of told scenario.timetable ≡ Some calls
+    → told_of told scenario.commands ≡ Some orders
     → (before added : List ℕ) → AnswersRun scenario deck told (Some before) (Some (before ++ added)) Done
     → (history : List ℕ) → told history ≡ Some added → length added ≤ most HistoryBytes
     → (out now : Option (List ℕ)) (end : Status)
-    → AnswersCheck scenario.scene scenario.timetable scenario.commands history deck told out now end
+    → AnswersCheck scenario history deck told out now end
     → IsAnswer None (Adds out now (codes "yes\n")) (AddsPrefix out now (codes "yes\n")) end
 checked_with_yes scenario deck told bytes calls orders scene_told calls_told orders_told before added ran history history_told short out now end checked =
     let input : Input = input_in bytes calls orders (names_of deck) in
@@ -70,6 +71,6 @@ checked_with_yes scenario deck told bytes calls orders scene_told calls_told ord
     let spelled : IsHistory input.plant added lines = subst (λ (bytes : List ℕ). IsHistory input.plant bytes lines) text_is both.0 in
     let answer = (checked.all bytes calls orders added scene_told calls_told orders_told history_told).read lines spelled in
     let none : check_refusal bytes calls orders added deck ≡ None =
-    none_between (too_large 1 bytes) (too_large_if_any 2 calls) (too_large_if_any 3 orders) (too_large 4 added) (input_refusal bytes calls orders (names_of deck)) run.0 (short_enough 4 added short) in
+    none_between (too_large role.Scene bytes) (too_large_if_any role.Timetable calls) (too_large_if_any role.Commands orders) (too_large role.History added) (input_refusal bytes calls orders (names_of deck)) run.0 (short_enough role.History added short) in
     answered_yes input lines out now both.1 end
     (subst (λ (first : Option Refusal). IsAnswer first (IsJudged input lines out now end) (AddsPrefix out now (verdict_text (verdict input lines))) (done_with end)) none answer)

@@ -1,57 +1,154 @@
--- The forms: which files the words of each name, and what is answered to them.
-use Rattle.std.specs.Prelude.{ℕ, List, [], ◌∷◌, Option, Some}
-use Rattle.std.specs.Option.{option_map_or}
-use Rattle.rail_policy.specs.Seats.{DeskSeat}
-use Rattle.rail_words.specs.Forms.{form_named}
+-- What is answered to what the words of each form spell, and when a command is done.
+use Rattle.std.specs.Prelude.{List, None, Option, Some, ℕ, ◌≡◌, ◌⊎◌}
+use Rattle.rail_capacity.specs.declared.compression.Window.{Window}
+use Rattle.rail_policy.specs.Seats.{DeskSeat, names_of}
+use Rattle.rail_words.specs.Forms.{Scenario, SceneAnd, Study, Values, scenario_in}
+use Rattle.rail_words.specs.declared.forms.Request.{Request}
+use Rattle.rail_words.specs.declared.forms.Request.TheVariants as request
 use Rattle.rail_words.specs.declared.forms.Form.{Form}
 use Rattle.rail_words.specs.declared.forms.Form.TheVariants as form
 use Rattle.rail_forms.specs.declared.status.Status.{Status}
 use Rattle.rail_forms.specs.Answers.{Told}
-use Rattle.rail_forms.specs.Capacity.{AnswersCapacity, IsEmptyStudy}
-use Rattle.rail_forms.specs.Checks.{AnswersCheck}
+use Rattle.rail_forms.specs.Capacity.{AnswersCapacity, IsEmptyStudy, study_refusal, with_line}
+use Rattle.rail_forms.specs.Checks.{AnswersCheck, check_refusal, done_with}
 use Rattle.rail_forms.specs.Edits.{AnswersEdit}
-use Rattle.rail_forms.specs.Files.{named_file}
 use Rattle.rail_forms.specs.Infra.{AnswersInfra}
-use Rattle.rail_forms.specs.Plays.{AnswersPlay}
+use Rattle.rail_forms.specs.Plays.{AnswersPlay, play_refusal}
 use Rattle.rail_forms.specs.Reports.{AnswersReport}
 use Rattle.rail_forms.specs.Runs.{AnswersRun}
-use Rattle.rail_forms.specs.Scenarios.{OnScenario, scenario_files}
 use Rattle.rail_forms.specs.SceneTexts.{AnswersScene}
 use Rattle.rail_forms.specs.Stairs.{AnswersStairs}
 use Rattle.rail_forms.specs.Summaries.{AnswersGen}
+use Rattle.rail_base.specs.declared.refusals.Refusal.{Refusal}
+use Rattle.rail_edit_file.specs.EditedScenes.{edited_scene_refusal}
+use Rattle.rail_history.specs.HistoryLines.{IsHistory}
+use Rattle.rail_input.specs.Inputs.{input_in, plant_refusal}
+use Rattle.rail_io.specs.FaultCounts.{Rose}
+use Rattle.rail_io.specs.declared.shelf.Shelf.{Ghosts as ShelfGhosts}
+use Rattle.rail_io.specs.declared.sink.Sink.{Ghosts as SinkGhosts}
+use Rattle.rail_rules.specs.Fronts.{Line}
+use Rattle.rail_rules.specs.Numbers.{or_else}
+use Rattle.rail_rules.specs.Orders.{Input}
+use Rattle.rail_words.specs.declared.files.Role.{Role}
+use Rattle.rail_words.specs.declared.files.Role.TheVariants as role
+use Rattle.rail_forms.specs.declared.status.Status.TheVariants.{Done, OutOfMemory}
+use Rattle.rail_forms.specs.Files.{told_of, too_large}
+use Rattle.rail_forms.specs.Scenarios.{nothing_else, scenario_refusal}
 
--- what is answered to words of the form, with this deck; other words are of no form
-abbrev pub AnswersForm : Form → List (List ℕ) → List DeskSeat → Told → Option (List ℕ) → Option (List ℕ) → Status → Type 0
-AnswersForm form.Run (verb ∷ words) deck told before now status = OnScenario words (λ scenario. AnswersRun scenario deck told before now status)
-AnswersForm form.Stairs (verb ∷ words) deck told before now status = OnScenario words (λ scenario. AnswersStairs scenario deck told before now status)
-AnswersForm form.Report (verb ∷ words) deck told before now status = OnScenario words (λ scenario. AnswersReport scenario deck told before now status)
-AnswersForm form.Capacity (verb ∷ line ∷ from ∷ to ∷ words) deck told before now status = AnswersCapacity line from to words deck told before now status
-AnswersForm form.Infra (verb ∷ scene ∷ []) deck told before now status = AnswersInfra scene told before now status
-AnswersForm form.Play (verb ∷ scene ∷ list ∷ []) deck told before now status = AnswersPlay scene list told before now status
-AnswersForm form.Check (verb ∷ scene ∷ timetable ∷ commands ∷ history ∷ []) deck told before now status = AnswersCheck scene timetable commands history deck told before now status
-AnswersForm form.Edit (verb ∷ scene ∷ edits ∷ []) deck told before now status = AnswersEdit scene edits told before now status
-AnswersForm form.Scene (verb ∷ number ∷ []) deck told before now status = AnswersScene number before now status
-AnswersForm form.Gen (verb ∷ number ∷ []) deck told before now status = AnswersGen number deck before now status
-AnswersForm form words deck told before now status = ⊥
+-- the window of a study
+abbrev pub window_of : Study → Window
+window_of study = record { from = study.from; to = study.to }
 
--- the files that words of the form name, in the order in which they are read; a made-up scene stands in no file
-abbrev pub files_of : Form → List (List ℕ) → List (Option (List ℕ))
-files_of form.Run (verb ∷ words) = scenario_files words
-files_of form.Stairs (verb ∷ words) = scenario_files words
-files_of form.Report (verb ∷ words) = scenario_files words
-files_of form.Capacity (verb ∷ line ∷ from ∷ to ∷ words) = scenario_files words
-files_of form.Infra (verb ∷ scene ∷ []) = Some scene ∷ []
-files_of form.Play (verb ∷ scene ∷ list ∷ []) = Some scene ∷ Some list ∷ []
-files_of form.Check (verb ∷ scene ∷ timetable ∷ commands ∷ history ∷ []) = Some scene ∷ named_file timetable ∷ named_file commands ∷ Some history ∷ []
-files_of form.Edit (verb ∷ scene ∷ edits ∷ []) = Some scene ∷ Some edits ∷ []
-files_of form words = []
+-- what is answered to the values of the form, with this deck
+abbrev pub AnswersForm : (form : Form) → Values form → List DeskSeat → Told → Option (List ℕ) → Option (List ℕ) → Status → Type 0
+AnswersForm form.Run scenario deck told before now status = AnswersRun scenario deck told before now status
+AnswersForm form.Infra scene deck told before now status = AnswersInfra scene told before now status
+AnswersForm form.Play files deck told before now status = AnswersPlay files.scene files.other told before now status
+AnswersForm form.Check checked deck told before now status = AnswersCheck checked.scenario checked.history deck told before now status
+AnswersForm form.Stairs scenario deck told before now status = AnswersStairs scenario deck told before now status
+AnswersForm form.Report scenario deck told before now status = AnswersReport scenario deck told before now status
+AnswersForm form.Capacity study deck told before now status =
+    AnswersCapacity study.line (window_of study) study.scenario deck told before now status
+AnswersForm form.Edit files deck told before now status = AnswersEdit files.scene files.other told before now status
+AnswersForm form.Scene number deck told before now status = AnswersScene number before now status
+AnswersForm form.Gen number deck told before now status = AnswersGen number deck before now status
 
--- the files that the words name, by the form of their verb
-abbrev pub files_named : List (List ℕ) → List (Option (List ℕ))
-files_named [] = []
-files_named (verb ∷ others) = option_map_or (λ (form : Form). files_of form (verb ∷ others)) (form_named verb) []
+-- what is answered to a request, with this deck: the same, by what its words spelled
+abbrev pub AnswersRequest : Request → List DeskSeat → Told → Option (List ℕ) → Option (List ℕ) → Status → Type 0
+AnswersRequest (request.Run scenario) deck told before now status = AnswersRun (scenario_in scenario) deck told before now status
+AnswersRequest (request.Infra scene) deck told before now status = AnswersInfra scene.now told before now status
+AnswersRequest (request.Play scene list) deck told before now status = AnswersPlay scene.now list.now told before now status
+AnswersRequest (request.Check scenario history) deck told before now status =
+    AnswersCheck (scenario_in scenario) history.now deck told before now status
+AnswersRequest (request.Stairs scenario) deck told before now status = AnswersStairs (scenario_in scenario) deck told before now status
+AnswersRequest (request.Report scenario) deck told before now status = AnswersReport (scenario_in scenario) deck told before now status
+AnswersRequest (request.Capacity line from to scenario) deck told before now status =
+    AnswersCapacity line.now (record { from = from; to = to }) (scenario_in scenario) deck told before now status
+AnswersRequest (request.Edit scene edits) deck told before now status = AnswersEdit scene.now edits.now told before now status
+AnswersRequest (request.Scene number) deck told before now status = AnswersScene number before now status
+AnswersRequest (request.Gen number) deck told before now status = AnswersGen number deck before now status
 
--- words of the form that are refused before any file: a capacity study of no line, or of a window that is empty
-abbrev pub AreRefusedAlone : Form → List (List ℕ) → Type 0
-AreRefusedAlone form.Capacity (verb ∷ line ∷ from ∷ to ∷ words) = IsEmptyStudy line from to
-AreRefusedAlone form words = ⊥
+-- the request is refused before any file
+abbrev pub IsRefusedAlone : Request → Type 0
+IsRefusedAlone (request.Capacity line from to scenario) = IsEmptyStudy line.now (record { from = from; to = to })
+IsRefusedAlone (request.Run scenario) = ⊥
+IsRefusedAlone (request.Infra scene) = ⊥
+IsRefusedAlone (request.Play scene list) = ⊥
+IsRefusedAlone (request.Check scenario history) = ⊥
+IsRefusedAlone (request.Stairs scenario) = ⊥
+IsRefusedAlone (request.Report scenario) = ⊥
+IsRefusedAlone (request.Edit scene edits) = ⊥
+IsRefusedAlone (request.Scene number) = ⊥
+IsRefusedAlone (request.Gen number) = ⊥
+
+-- what is refused before any file: a capacity study of no line, or of a window that is empty
+abbrev pub AreRefusedAlone : (form : Form) → Values form → Type 0
+AreRefusedAlone form.Capacity study = IsEmptyStudy study.line (window_of study)
+AreRefusedAlone form.Run values = ⊥
+AreRefusedAlone form.Infra values = ⊥
+AreRefusedAlone form.Play values = ⊥
+AreRefusedAlone form.Check values = ⊥
+AreRefusedAlone form.Stairs values = ⊥
+AreRefusedAlone form.Report values = ⊥
+AreRefusedAlone form.Edit values = ⊥
+AreRefusedAlone form.Scene values = ⊥
+AreRefusedAlone form.Gen values = ⊥
+
+-- the bytes of a scenario's files are told, and nothing is refused
+pub record IsAcceptedScenario (refusal : Option Refusal → Input → Option Refusal) (deck : List DeskSeat) (told : Told)
+    (scenario : Scenario) : Type 0 where
+  pub bytes : List ℕ
+  pub calls : Option (List ℕ)
+  pub orders : Option (List ℕ)
+  pub scene_told : told scenario.scene ≡ Some bytes
+  pub calls_told : told_of told scenario.timetable ≡ Some calls
+  pub orders_told : told_of told scenario.commands ≡ Some orders
+  pub fine : scenario_refusal refusal bytes calls orders deck ≡ None
+
+-- the bytes of the files of a check are told, the history's are those of lines, and nothing is refused
+pub record IsAcceptedCheck (scenario : Scenario) (history : List ℕ) (deck : List DeskSeat) (told : Told) : Type 0 where
+  pub bytes : List ℕ
+  pub calls : Option (List ℕ)
+  pub orders : Option (List ℕ)
+  pub text : List ℕ
+  pub lines : List Line
+  pub scene_told : told scenario.scene ≡ Some bytes
+  pub calls_told : told_of told scenario.timetable ≡ Some calls
+  pub orders_told : told_of told scenario.commands ≡ Some orders
+  pub history_told : told history ≡ Some text
+  pub fine : check_refusal bytes calls orders text deck ≡ None
+  pub spelled : IsHistory (input_in bytes calls orders (names_of deck)).plant text lines
+
+-- the bytes of a scene and of a second file, which has this role, are told, and nothing is refused
+pub record AreAccepted (second : Role) (later : List ℕ → List ℕ → Option Refusal) (files : SceneAnd) (told : Told) : Type 0 where
+  pub bytes : List ℕ
+  pub others : List ℕ
+  pub scene_told : told files.scene ≡ Some bytes
+  pub others_told : told files.other ≡ Some others
+  pub fine : or_else (too_large role.Scene bytes) (or_else (too_large second others) (later bytes others)) ≡ None
+
+-- nothing is refused in the values of the form: the bytes of the files are told, and accepted
+abbrev pub IsAcceptedInput : (form : Form) → Values form → List DeskSeat → Told → Type 0
+IsAcceptedInput form.Run scenario deck told = IsAcceptedScenario nothing_else deck told scenario
+IsAcceptedInput form.Infra scene deck told = (bytes : List ℕ) × (told scene ≡ Some bytes)
+    × (or_else (too_large role.Scene bytes) (plant_refusal bytes) ≡ None)
+IsAcceptedInput form.Play files deck told = AreAccepted role.List play_refusal files told
+IsAcceptedInput form.Check checked deck told = IsAcceptedCheck checked.scenario checked.history deck told
+IsAcceptedInput form.Stairs scenario deck told = IsAcceptedScenario nothing_else deck told scenario
+IsAcceptedInput form.Report scenario deck told = IsAcceptedScenario nothing_else deck told scenario
+IsAcceptedInput form.Capacity study deck told = (study_refusal study.line (window_of study) ≡ None)
+    × IsAcceptedScenario (with_line study.line) deck told study.scenario
+IsAcceptedInput form.Edit files deck told = AreAccepted role.Edits edited_scene_refusal files told
+IsAcceptedInput form.Scene number deck told = Unit {0}
+IsAcceptedInput form.Gen number deck told = Unit {0}
+
+-- a command of the form is done: a check also where it ends with a verdict that is no
+abbrev pub IsDone : Form → Status → Type 0
+IsDone form.Check status = done_with status ≡ Done
+IsDone _ status = status ≡ Done
+
+-- where the input is accepted and no count of faults rose, the command was done, or memory was wanting
+abbrev pub IsComplete : {S O : Type 0} → ShelfGhosts S → SinkGhosts O → Type 0 → Type 0 → S → S → O → O → Status → Type 0
+IsComplete shelf sink accepted done before now out_before out_now status = accepted
+    → (Rose (shelf.faults before) (shelf.faults now) → ⊥) → (Rose (sink.faults out_before) (sink.faults out_now) → ⊥)
+    → done ⊎ (status ≡ OutOfMemory)

@@ -1,3 +1,2 @@
--- What the contract of the top call speaks of: the table of the forms, and when a command is done.
+-- What the contract of the top call speaks of: the table of the forms.
 pub mod Forms
-pub mod Completeness

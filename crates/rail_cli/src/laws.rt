@@ -6,9 +6,9 @@ ghost use Rattle.rail_io.specs.Writes.{Adds, AddsPrefix};
 ghost use Rattle.rail_policy.specs.Seats.{DeskSeat};
 ghost use Rattle.rail_forms.specs.Answers.{IsAnswer, Told};
 ghost use Rattle.rail_forms.specs.Checks.{AnswersCheck};
-ghost use Rattle.rail_forms.specs.Files.{named_file, told_of};
+ghost use Rattle.rail_forms.specs.Files.{told_of};
 ghost use Rattle.rail_forms.specs.Runs.{AnswersRun};
-ghost use Rattle.rail_forms.specs.Scenarios.{Scenario};
+ghost use Rattle.rail_words.specs.Forms.{Scenario};
 ghost use Rattle.rail_forms.specs.declared.status.Status.{Status};
 ghost use Rattle.rail_forms.specs.declared.status.Status.TheVariants as status;
 
@@ -18,11 +18,11 @@ ghost use Rattle.rail_forms.specs.declared.status.Status.TheVariants as status;
 /// writing, or want of memory, may stand in place of that.
 pub fn a_printed_run_is_checked_with_yes()
     ensures { (scenario : Scenario) (deck : List DeskSeat) (told : Told) (bytes : List ℕ) (calls orders : Option (List ℕ))
-        → told scenario.scene ≡ Some bytes → told_of told (named_file scenario.timetable) ≡ Some calls
-        → told_of told (named_file scenario.commands) ≡ Some orders
+        → told scenario.scene ≡ Some bytes → told_of told scenario.timetable ≡ Some calls
+        → told_of told scenario.commands ≡ Some orders
         → (before printed : List ℕ) → AnswersRun scenario deck told (Some before) (Some (before ++ printed)) status.Done
         → (history : List ℕ) → told history ≡ Some printed → length printed ≤ most HistoryBytes
         → (out now : Option (List ℕ)) (end : Status)
-        → AnswersCheck scenario.scene scenario.timetable scenario.commands history deck told out now end
+        → AnswersCheck scenario history deck told out now end
         → IsAnswer None (Adds out now (codes "yes\n")) (AddsPrefix out now (codes "yes\n")) end }
 {}

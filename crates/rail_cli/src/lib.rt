@@ -3,15 +3,13 @@
 //! This layer stands on the forms (`rail_forms`) and on the table of words (`rail_words`): `rail` in `src/top.rt` hands
 //! the words to their form, and its contract is the promise of the program. What each form answers, and what it
 //! promises of the files and of the output, is defined beside the forms; `specs/Forms.antt` has the table of the forms,
-//! and `specs/Completeness.antt` says when a command is done. The contract of `rail` and the texts are relied upon; how
-//! the words are handed on may be changed freely.
+//! and says when a command is done. The contract of `rail` is relied upon; how a request is handed on may be changed
+//! freely.
 #![tactic(auto)]
 
-mod help;
 mod laws;
 mod top;
 
-pub use help::{HELP, VERSION};
 pub use laws::a_printed_run_is_checked_with_yes;
 pub use rail_forms::Status;
 pub use top::rail;

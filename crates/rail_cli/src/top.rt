@@ -2,19 +2,19 @@
 
 ghost use Rattle.std.specs.Prelude.{◌≡◌, ◌↔◌, IsTrue, map};
 ghost use Rattle.rail_policy.specs.Seats.{is_fine_deck};
-ghost use Rattle.rail_words.specs.Forms.{IsForm};
+ghost use Rattle.rail_words.specs.Forms.{IsAsked, Values, files_in, files_of};
 ghost use Rattle.rail_words.specs.declared.forms.Form.{Form};
 ghost use Rattle.rail_forms.specs.declared.status.Status.TheVariants as status;
 ghost use Rattle.rail_forms.specs.Promises.{KeepsPromise, ReadsFiles, WritesAnswer, ended};
-ghost use Rattle.rail_cli.specs.Completeness.{IsAcceptedInput, IsComplete, IsDone};
-ghost use Rattle.rail_cli.specs.Forms.{AnswersForm, AreRefusedAlone, files_named, files_of};
+ghost use Rattle.rail_cli.specs.Forms.{AnswersForm, AnswersRequest, AreRefusedAlone, IsAcceptedInput, IsComplete, IsDone, IsRefusedAlone};
 
-use rail_base::Word;
+use rail_base::{Word, a_text_stands_for_one_time};
+use rail_capacity::Window;
 use rail_forms::scenario::Purpose;
 use rail_forms::{Status, capacity, check, edit, infra, play, scenario, scene, summary};
 use rail_io::{Shelf, Sink};
 use rail_policy::Policy;
-use rail_words::{Form, form_of};
+use rail_words::{Request, request_of};
 use std::alloc::Global;
 
 /// Does what the words ask for. The files that they name are read from the shelf, all of them before
@@ -47,96 +47,72 @@ pub fn rail<S: Shelf, O: Sink>(
     deck: Vec<Box<dyn Policy>>,
 ) -> Status
     requires fine { IsTrue (is_fine_deck (map ⟦<Box<dyn Policy> as Policy>⟧.seat deck.items)) }
-    ensures usage { (result ≡ status.Usage) ↔ ((form : Form) → IsForm form words.now → ⊥) }
-    ensures answer { (form : Form) → IsForm form words.now
-        → AnswersForm form words.now (map ⟦<Box<dyn Policy> as Policy>⟧.seat deck.items)
+    ensures usage { (result ≡ status.Usage) ↔ ((form : Form) (values : Values form) → IsAsked form values words.now → ⊥) }
+    ensures answer { (form : Form) (values : Values form) → IsAsked form values words.now
+        → AnswersForm form values (map ⟦<Box<dyn Policy> as Policy>⟧.seat deck.items)
         (S.told shelf.old) (O.written out.old) (O.written out.new) result }
-    ensures complete { (form : Form) → IsForm form words.now
-        → IsComplete S.Shelf O.Sink (IsAcceptedInput form words.now (map ⟦<Box<dyn Policy> as Policy>⟧.seat deck.items) (S.told shelf.old))
+    ensures complete { (form : Form) (values : Values form) → IsAsked form values words.now
+        → IsComplete S.Shelf O.Sink (IsAcceptedInput form values (map ⟦<Box<dyn Policy> as Policy>⟧.seat deck.items) (S.told shelf.old))
         (IsDone form result) shelf.old shelf.new out.old out.new result }
-    ensures reads { ReadsFiles S.Shelf (files_named words.now) shelf.old shelf.new result }
-    ensures unread { (form : Form) → IsForm form words.now → AreRefusedAlone form words.now → shelf.new ≡ shelf.old }
+    ensures reads { (form : Form) (values : Values form) → IsAsked form values words.now
+        → ReadsFiles S.Shelf (files_of form values) shelf.old shelf.new result }
+    ensures unread { (form : Form) (values : Values form) → IsAsked form values words.now
+        → AreRefusedAlone form values → shelf.new ≡ shelf.old }
+    ensures usage_unread { result ≡ status.Usage → shelf.new ≡ shelf.old }
     ensures writes { WritesAnswer O.Sink out.old out.new result }
 {
-    match form_of(words) {
-        Some(form) => status_of(answer(alloc, form, words, shelf, out, deck)),
+    a_text_stands_for_one_time();
+    match request_of(words) {
+        Some(request) => status_of(answer(alloc, &request, shelf, out, deck)),
         None => Status::Usage,
     }
 }
 
-/// Does what words of the form ask for.
+/// Does what is asked for.
 #[tactic(auto, using(crate::proofs::Unread::keeps_unread))]
 fn answer<S: Shelf, O: Sink>(
     alloc: Global,
-    form: Form,
-    words: &[Word],
+    request: &Request,
     shelf: &mut S,
     out: &mut O,
     deck: Vec<Box<dyn Policy>>,
 ) -> Result<(), Status>
     requires fine { IsTrue (is_fine_deck (map ⟦<Box<dyn Policy> as Policy>⟧.seat deck.items)) }
-    requires asked { IsForm form words.now }
-    ensures kept { KeepsPromise S.Shelf O.Sink (files_of form words.now) shelf.old shelf.new out.old out.new (ended result) }
-    ensures answer { AnswersForm form words.now (map ⟦<Box<dyn Policy> as Policy>⟧.seat deck.items)
+    ensures kept { KeepsPromise S.Shelf O.Sink (files_in request.now) shelf.old shelf.new out.old out.new (ended result) }
+    ensures answer { AnswersRequest request.now (map ⟦<Box<dyn Policy> as Policy>⟧.seat deck.items)
         (S.told shelf.old) (O.written out.old) (O.written out.new) (ended result) }
-    ensures unread { AreRefusedAlone form words.now → shelf.new ≡ shelf.old }
+    ensures unread { IsRefusedAlone request.now → shelf.new ≡ shelf.old }
 {
-    match form {
-        Form::Run => match words {
-            [_, scenario @ ..] => {
-                scenario::answer(alloc, &Purpose::History, scenario, shelf, out, deck)
-            }
-            [] => unreachable!(),
-        },
-        Form::Stairs => match words {
-            [_, scenario @ ..] => {
-                scenario::answer(alloc, &Purpose::Stairs, scenario, shelf, out, deck)
-            }
-            [] => unreachable!(),
-        },
-        Form::Report => match words {
-            [_, scenario @ ..] => {
-                scenario::answer(alloc, &Purpose::Report, scenario, shelf, out, deck)
-            }
-            [] => unreachable!(),
-        },
-        Form::Capacity => match words {
-            [_, line, from, to, scenario @ ..] => {
-                let (line, from, to) = (line.as_str(), from.as_str(), to.as_str());
-                capacity::answer(alloc, line, from, to, scenario, shelf, out, deck)
-            }
-            _ => unreachable!(),
-        },
-        Form::Infra => match words {
-            [_, scene] => infra::answer(alloc, scene.as_str(), shelf, out),
-            _ => unreachable!(),
-        },
-        Form::Play => match words {
-            [_, scene, list] => play::answer(alloc, scene.as_str(), list.as_str(), shelf, out),
-            _ => unreachable!(),
-        },
-        Form::Check => match words {
-            [_, scene, timetable, commands, history] => {
-                let (scene, timetable) = (scene.as_str(), timetable.as_str());
-                let (commands, history) = (commands.as_str(), history.as_str());
-                check::answer(
-                    alloc, scene, timetable, commands, history, shelf, out, &deck,
-                )
-            }
-            _ => unreachable!(),
-        },
-        Form::Edit => match words {
-            [_, scene, edits] => edit::answer(alloc, scene.as_str(), edits.as_str(), shelf, out),
-            _ => unreachable!(),
-        },
-        Form::Scene => match words {
-            [_, number] => scene::answer(alloc, number.as_str(), out),
-            _ => unreachable!(),
-        },
-        Form::Gen => match words {
-            [_, number] => summary::answer(alloc, number.as_str(), out, deck),
-            _ => unreachable!(),
-        },
+    match request {
+        Request::Run(scenario) => {
+            scenario::answer(alloc, &Purpose::History, scenario, shelf, out, deck)
+        }
+        Request::Stairs(scenario) => {
+            scenario::answer(alloc, &Purpose::Stairs, scenario, shelf, out, deck)
+        }
+        Request::Report(scenario) => {
+            scenario::answer(alloc, &Purpose::Report, scenario, shelf, out, deck)
+        }
+        Request::Capacity {
+            line,
+            from,
+            to,
+            scenario,
+        } => {
+            let window = Window {
+                from: *from,
+                to: *to,
+            };
+            capacity::answer(alloc, line, window, scenario, shelf, out, deck)
+        }
+        Request::Infra { scene } => infra::answer(alloc, scene, shelf, out),
+        Request::Play { scene, list } => play::answer(alloc, scene, list, shelf, out),
+        Request::Check { scenario, history } => {
+            check::answer(alloc, scenario, history, shelf, out, &deck)
+        }
+        Request::Edit { scene, edits } => edit::answer(alloc, scene, edits, shelf, out),
+        Request::Scene { number } => scene::answer(alloc, *number, out),
+        Request::Gen { number } => summary::answer(alloc, *number, out, deck),
     }
 }
 

@@ -1,6 +1,3 @@
--- The lemmas of this crate; those for the crates above stand in CallerLemmas.
-pub mod CallerLemmas
-mod Parts
-mod TimeWords
+-- The lemmas of this crate.
 mod PassedLines
 mod JoinedLines

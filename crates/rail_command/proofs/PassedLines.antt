@@ -16,13 +16,12 @@ use Rattle.rail_rules.specs.Plant.{Plant, trains}
 use Rattle.rail_command.specs.declared.orders.NamedOrder.{NamedOrder}
 use Rattle.rail_command.specs.declared.orders.NamedOrder.TheVariants.{Policy, Retire, Close, Open, Stop, Go, Cancel, Priority}
 use Rattle.rail_command.specs.declared.orders.NamedCommand.{NamedCommand}
-use Rattle.rail_command.specs.Decimals.{is_decimal, value_of}
-use Rattle.rail_command.specs.Lines.{Line, number_of_name, words}
-use Rattle.rail_command.specs.Times.{IsInputTime, input_time}
+use Rattle.rail_text.specs.Decimals.{is_decimal, value_of}
+use Rattle.rail_text.specs.Lines.{Line, number_of_name, words}
+use Rattle.rail_text.specs.Times.{IsInputTime, input_time}
 use Rattle.rail_command.specs.Orders.{commanded, named_command, named_order, order_of}
 use Rattle.rail_command.specs.Commands.{command_on, commands_on, known_command, line_tests, lines_tests, time_on}
-use Rattle.rail_command.proofs.Parts.{found_at}
-use Rattle.rail_command.proofs.TimeWords.{input_time_spelled}
+use Rattle.rail_text.proofs.CallerLemmas.{found_at, input_time_spelled}
 
 -- what is the case where a test fails not
 passes : (b : Bool) → not b ≡ false → b ≡ true

@@ -9,7 +9,7 @@ use Rattle.rail_base.specs.declared.orders.Order.{Order}
 use Rattle.rail_base.specs.declared.refusals.Refusal.{Refusal}
 use Rattle.rail_base.specs.declared.refusals.Reason.TheVariants.{TooMany, CommandForm, CommandName, CommandOrder}
 use Rattle.rail_command.specs.declared.orders.NamedCommand.{NamedCommand}
-use Rattle.rail_command.specs.Lines.{Line, lines_of, refused_line}
+use Rattle.rail_text.specs.Lines.{Line, lines_of, refused_line}
 use Rattle.rail_command.specs.Orders.{named_command, order_of}
 
 -- the command, where what it names is known

@@ -1,7 +1,4 @@
 -- What the contracts of this crate, and of the crates above it, speak of.
-pub mod Lines
-pub mod Decimals
-pub mod Times
 pub mod Orders
 pub mod Commands
 pub mod LineAnswers

@@ -1,12 +1,12 @@
 -- What the reading of a line answers.
-use Rattle.std.specs.Prelude.{◌≡◌, ℕ, List, [], ◌∷◌, ◌++◌, length, None}
+use Rattle.std.specs.Prelude.{◌≡◌, List, [], ◌∷◌, ◌++◌, length, None}
 use Rattle.rail_base.specs.FirstRefusals.{Test, first_failing}
 use Rattle.rail_base.specs.Refusals.{AnswersFirst}
 use Rattle.rail_base.specs.declared.names.Names.{Names}
 use Rattle.rail_base.specs.declared.orders.Command.{Command}
 use Rattle.rail_base.specs.declared.refusals.Fault.{Fault}
 use Rattle.rail_base.specs.declared.refusals.Refusal.{Refusal}
-use Rattle.rail_command.specs.Lines.{Line, lines_from}
+use Rattle.rail_text.specs.Lines.{Line}
 use Rattle.rail_command.specs.Commands.{commands_on, last_time, line_tests, lines_tests}
 
 -- the tests of a line behind these commands
@@ -17,14 +17,14 @@ tests_behind names before line = line_tests names.sections.keys names.trains.key
 abbrev pub lines_behind : Names → List Command → List Line → List (Test Refusal)
 lines_behind names before lines = lines_tests names.sections.keys names.trains.keys (length before) (last_time before) lines
 
--- a line behind these commands is skipped, or passes its tests
-abbrev pub LinePasses : Names → List Command → ℕ → List ℕ → Type 0
-LinePasses names before n line = first_failing (lines_behind names before (lines_from n (line ∷ []))) ≡ None
+-- a line behind these commands passes its tests
+abbrev pub LinePasses : Names → List Command → Line → Type 0
+LinePasses names before line = first_failing (tests_behind names before line) ≡ None
 
 -- a line behind these commands is refused so
-abbrev pub IsRefusedLine : Names → List Command → ℕ → List ℕ → Fault → Type 0
-IsRefusedLine names before n line fault = AnswersFirst (first_failing (lines_behind names before (lines_from n (line ∷ [])))) fault
+abbrev pub IsRefusedLine : Names → List Command → Line → Fault → Type 0
+IsRefusedLine names before line fault = AnswersFirst (first_failing (tests_behind names before line)) fault
 
--- these commands, and behind them that of the line, if it is not skipped
-abbrev pub with_line : Names → List Command → ℕ → List ℕ → List Command
-with_line names before n line = before ++ commands_on names.sections.keys names.trains.keys (lines_from n (line ∷ []))
+-- these commands, and behind them that of the line
+abbrev pub with_line : Names → List Command → Line → List Command
+with_line names before line = before ++ commands_on names.sections.keys names.trains.keys (line ∷ [])

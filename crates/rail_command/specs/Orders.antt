@@ -8,9 +8,9 @@ use Rattle.rail_rules.specs.Numbers.{same_numbers}
 use Rattle.rail_command.specs.declared.orders.NamedOrder.{NamedOrder}
 use Rattle.rail_command.specs.declared.orders.NamedOrder.TheVariants.{Policy, Retire, Close, Open, Stop, Go, Cancel, Priority}
 use Rattle.rail_command.specs.declared.orders.NamedCommand.{NamedCommand}
-use Rattle.rail_command.specs.Decimals.{is_decimal, value_of}
-use Rattle.rail_command.specs.Lines.{number_of_name}
-use Rattle.rail_command.specs.Times.{input_time}
+use Rattle.rail_text.specs.Decimals.{is_decimal, value_of}
+use Rattle.rail_text.specs.Lines.{number_of_name}
+use Rattle.rail_text.specs.Times.{input_time}
 
 -- the orders of a verb and a name
 abbrev pub order_named : List ℕ → List ℕ → Option NamedOrder

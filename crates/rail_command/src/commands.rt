@@ -5,15 +5,14 @@ ghost use Rattle.rail_base.specs.Limits.{most, Commands};
 ghost use Rattle.rail_base.specs.Refusals.{AnswersFirst};
 ghost use Rattle.rail_rules.specs.Accepted.{are_commands_in_range};
 ghost use Rattle.rail_rules.specs.Plant.{Plant, trains};
-ghost use Rattle.rail_base.specs.FirstRefusals.{first_failing};
-ghost use Rattle.rail_command.specs.Lines.{is_skipped, line_at, words};
+ghost use Rattle.rail_text.specs.Lines.{line_at};
 ghost use Rattle.rail_command.specs.Commands.{command_on, commands_in, commands_refusal, last_time};
-ghost use Rattle.rail_command.specs.LineAnswers.{IsRefusedLine, LinePasses, tests_behind, with_line};
+ghost use Rattle.rail_command.specs.LineAnswers.{IsRefusedLine, LinePasses, with_line};
 
-use crate::lines::{next_line, next_word, refused_at};
 use crate::orders::{named_command, order_of};
 use rail_base::limits::COMMANDS;
 use rail_base::{Command, Fault, Names, Order, Reason, Time};
+use rail_text::{NumberedLine, numbered_lines, refused_at};
 use std::alloc::{AllocError, Global};
 
 /// Reads a command file, for the sections and trains of these names.
@@ -37,12 +36,8 @@ pub fn read_commands(alloc: Global, names: &Names, bytes: &[u8]) -> Result<Vec<C
         → IfOk result (λ commands. are_commands_in_range plant 0 commands.items ≡ true) }
 {
     let mut commands = Vec::new(alloc);
-    let mut text = bytes;
-    let mut number = 0;
-    while let Some((line, rest)) = next_line(text) {
-        number += 1;
+    for NumberedLine { number, line } in numbered_lines(bytes) {
         read_line(&mut commands, names, number, line)?;
-        text = rest;
     }
     Ok(commands)
 }
@@ -56,13 +51,10 @@ fn read_line(
 ) -> Result<(), Fault>
     requires sections { length names.now.sections.keys ≤ 2 ^ 16 }
     requires trains { length names.now.trains.keys ≤ 2 ^ 16 }
-    ensures accepted { OnOk result (LinePasses names.now commands.old.items number line.now) }
-    ensures pushed { OnOk result (commands.new.items ≡ with_line names.now commands.old.items number line.now) }
-    ensures refused { IfErr result (IsRefusedLine names.now commands.old.items number line.now) }
+    ensures accepted { OnOk result (LinePasses names.now commands.old.items (line_at number line.now)) }
+    ensures pushed { OnOk result (commands.new.items ≡ with_line names.now commands.old.items (line_at number line.now)) }
+    ensures refused { IfErr result (IsRefusedLine names.now commands.old.items (line_at number line.now)) }
 {
-    if is_skipped(line) {
-        return Ok(());
-    }
     let Command { at, what } = read_command(commands.as_slice(), names, number, line)?;
     push(commands, at, what)?;
     Ok(())
@@ -77,16 +69,6 @@ fn push(commands: &mut Vec<Command>, at: Time, what: Order) -> Result<(), AllocE
     Ok(())
 }
 
-/// Whether the line is skipped: it has no word, or its first word begins with `#`.
-pub fn is_skipped(line: &[u8]) -> bool
-    ensures { result ≡ is_skipped (words line.now) }
-{
-    match next_word(line) {
-        Some((word, _)) => word.first() == Some(&b'#'),
-        None => true,
-    }
-}
-
 /// The command of a line, behind these commands.
 fn read_command(
     before: &[Command],
@@ -96,10 +78,10 @@ fn read_command(
 ) -> Result<Command, Fault>
     requires sections { length names.now.sections.keys ≤ 2 ^ 16 }
     requires trains { length names.now.trains.keys ≤ 2 ^ 16 }
-    ensures accepted { OnOk result (first_failing (tests_behind names.now before.now (line_at number line.now)) ≡ None) }
+    ensures accepted { OnOk result (LinePasses names.now before.now (line_at number line.now)) }
     ensures command { let line = line_at number line.now in
         IfOk result (λ command. command_on names.now.sections.keys names.now.trains.keys line ≡ Some command) }
-    ensures refused { IfErr result (AnswersFirst (first_failing (tests_behind names.now before.now (line_at number line.now)))) }
+    ensures refused { IfErr result (IsRefusedLine names.now before.now (line_at number line.now)) }
 {
     if before.len() >= COMMANDS {
         return Err(refused_at(Reason::TooMany, number));

@@ -1,14 +1,12 @@
 //! Commands by names, as lines spell them.
 
 ghost use Rattle.std.specs.Prelude.{◌≡◌, ◌≤◌, ◌^◌, cond, length, Some, None};
-ghost use Rattle.rail_command.specs.Lines.{words};
-ghost use Rattle.rail_command.specs.Decimals.{value_of};
+ghost use Rattle.rail_text.specs.Lines.{words};
+ghost use Rattle.rail_text.specs.Decimals.{value_of};
 ghost use Rattle.rail_command.specs.Orders.{is_priority, named_command, named_order, order_named, order_of, priority_named};
 
-use crate::decimals::{is_decimal, value_of};
-use crate::lines::next_word;
-use crate::times::input_time;
 use rail_base::{Name, Names, Order, Time};
+use rail_text::{input_time, is_decimal, next_word, value_of};
 
 /// An order as a line spells it: by names.
 #[derive(Clone, Copy, Debug)]

@@ -1,13 +1,13 @@
 -- The text of a report.
 use Rattle.std.specs.Prelude.{ℕ, suc, ◌+◌, ◌-◌, is_some, List, [], ◌∷◌, ◌++◌, codes, decimal, get_or, Option, Some, None, false}
 use Rattle.std.specs.List.{count_by, sum_by}
-use Rattle.rail_base.specs.Clock.{time_text}
 use Rattle.rail_base.specs.declared.orders.Command.{Command}
 use Rattle.rail_base.specs.declared.plant.Call.{Call}
 use Rattle.rail_rules.specs.Numbers.{gather, sum_below}
 use Rattle.rail_rules.specs.Plant.{Plant, call_after, moves, train, trains}
 use Rattle.rail_rules.specs.Fronts.{Front}
 use Rattle.rail_rules.specs.Texts.{spaced, train_word}
+use Rattle.rail_text.specs.Words.{number_word, time_word}
 use Rattle.rail_delay.specs.declared.account.Account.{Account}
 use Rattle.rail_delay.specs.declared.visits.Visit.{Visit}
 use Rattle.rail_delay.specs.Accounts.{accounts, visits}
@@ -37,16 +37,6 @@ visits_of rows t = get_or rows t []
 -- the visit of a move, counted from 0; there is none behind the last move
 abbrev pub visit_of : List Visit → ℕ → Visit
 visit_of row m = get_or row m no_visit
-
--- a number that may be missing
-abbrev pub number_word : Option ℕ → List ℕ
-number_word None = codes "-"
-number_word (Some n) = decimal n
-
--- a time that may be missing
-abbrev pub time_word : Option ℕ → List ℕ
-time_word None = codes "-"
-time_word (Some at) = time_text at
 
 -- how late something was, in tenths of a second, where both times are there; what was early is not late
 abbrev pub lateness : Option ℕ → Option ℕ → Option ℕ

@@ -1,37 +1,12 @@
 //! The words of a line of the report, put at its end one after another.
 
 ghost use Rattle.std.specs.Prelude.{◌≡◌, ◌+◌, ◌-◌, ◌≤◌, ◌<◌, ◌^◌, [], ◌∷◌, ◌++◌, length, decimal};
-ghost use Rattle.rail_history.specs.declared.line.TheConstants.{ROOM};
+ghost use Rattle.rail_text.specs.declared.line.TheConstants.{ROOM};
 ghost use Rattle.rail_rules.specs.Texts.{behind};
-ghost use Rattle.rail_delay.specs.Reports.{lateness, number_word, time_word, times_words};
+ghost use Rattle.rail_delay.specs.Reports.{lateness, times_words};
 
-use itoa::Buffer;
 use rail_base::Time;
-use rail_history::Line;
-
-/// Puts a time, or a dash where there is none.
-pub fn put_time(line: &mut Line, time: Option<Time>)
-    requires { length line.old + 33 ≤ ROOM }
-    ensures text { line.new ≡ line.old ++ 32 ∷ time_word time }
-    ensures short { length line.new ≤ length line.old + 33 }
-{
-    match time {
-        Some(at) => line.put_time(at),
-        None => line.put_word(b"-"),
-    }
-}
-
-/// Puts a number, or a dash where there is none.
-pub fn put_number(line: &mut Line, number: Option<u64>)
-    requires { length line.old + 41 ≤ ROOM }
-    ensures text { line.new ≡ line.old ++ 32 ∷ number_word number }
-    ensures short { length line.new ≤ length line.old + 41 }
-{
-    match number {
-        Some(number) => line.put_number(number),
-        None => line.put_word(b"-"),
-    }
-}
+use rail_text::Line;
 
 /// A planned and an actual time, as far as they are there.
 #[derive(Clone, Copy)]
@@ -46,9 +21,9 @@ pub fn put_times(line: &mut Line, times: &Times)
     ensures text { line.new ≡ line.old ++ behind (times_words times.now.planned times.now.actual) }
     ensures short { length line.new ≤ length line.old + 107 }
 {
-    put_time(line, times.planned);
-    put_time(line, times.actual);
-    put_number(line, lateness(times));
+    line.put_time_or_dash(times.planned);
+    line.put_time_or_dash(times.actual);
+    line.put_number_or_dash(lateness(times));
 }
 
 /// How late something was, in tenths of a second, where both times are there.
@@ -77,6 +52,5 @@ pub fn put_sum(line: &mut Line, word: &[u8], sum: u128)
     ensures short { length line.new ≤ length line.old + 51 }
 {
     line.put_word(word);
-    let mut digits = Buffer::new();
-    line.put_word(digits.format(sum).as_bytes());
+    line.put_sum(sum);
 }

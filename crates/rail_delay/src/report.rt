@@ -3,24 +3,24 @@
 ghost use Rattle.std.specs.Prelude.{◌≡◌, ◌+◌, ◌<◌, ◌≤◌, ◌++◌, List, length};
 ghost use Rattle.rail_base.specs.declared.limits.TheConstants.{ITINERARY_ROUTES};
 ghost use Rattle.rail_base.specs.declared.orders.Command.{Command};
-ghost use Rattle.rail_history.specs.declared.line.TheConstants.{ROOM};
+ghost use Rattle.rail_text.specs.declared.line.TheConstants.{ROOM};
 ghost use Rattle.rail_rules.specs.Fronts.{Front};
 ghost use Rattle.rail_rules.specs.Numbers.{gather};
 ghost use Rattle.rail_rules.specs.Plant.{call_after, moves, trains};
 ghost use Rattle.rail_rules.specs.Texts.{behind, spaced};
 ghost use Rattle.rail_delay.specs.Accounts.{AreNoted};
 ghost use Rattle.rail_delay.specs.Reports.{call_line, call_lines, call_words, entry_words, held_words, report_of, report_text, total_words, train_line, train_words};
-ghost use Rattle.rail_delay.specs.Written.{IsWritten};
+ghost use Rattle.rail_text.specs.Writes.{WritesText};
 
 use crate::account::Account;
 use crate::delays::Delays;
-use crate::lines::{Times, put_count, put_sum, put_time, put_times};
+use crate::lines::{Times, put_count, put_sum, put_times};
 use crate::totals::{how_many_cancelled, how_many_out, total_held, total_late};
 use crate::visits::{Visit, visit_of};
 use rail_base::{Call, TrainNo};
-use rail_history::Line;
 use rail_io::{Failed, Sink, write_whole};
 use rail_plan::Plant;
+use rail_text::Line;
 
 /// Writes the report of the history whose lines were noted: a line for each call of a train, by train and place, a
 /// line for each train, and the totals. Times that are not there are a dash; how late and how long are tenths of a
@@ -31,7 +31,7 @@ use rail_plan::Plant;
 pub fn write_report<O: Sink>(plant: &Plant, delays: &Delays, out: &mut O) -> Result<(), Failed>
     requires { length delays.now.accounts ≡ trains plant.now }
     ensures { (commands : List Command) (front : Front) → AreNoted plant.now commands front delays.now
-        → IsWritten O.Sink out.old out.new (report_text plant.now commands front) result }
+        → WritesText O.Sink out.old out.new (report_text plant.now commands front) result }
 {
     write_kept(plant, delays, out)
 }
@@ -39,7 +39,7 @@ pub fn write_report<O: Sink>(plant: &Plant, delays: &Delays, out: &mut O) -> Res
 /// Writes the report of what is kept.
 fn write_kept<O: Sink>(plant: &Plant, delays: &Delays, out: &mut O) -> Result<(), Failed>
     requires { length delays.now.accounts ≡ trains plant.now }
-    ensures { IsWritten O.Sink out.old out.new (report_of plant.now delays.now.accounts delays.now.visits) result }
+    ensures { WritesText O.Sink out.old out.new (report_of plant.now delays.now.accounts delays.now.visits) result }
 {
     write_calls(plant, delays, out)?;
     write_trains(plant, delays, out)?;
@@ -48,7 +48,7 @@ fn write_kept<O: Sink>(plant: &Plant, delays: &Delays, out: &mut O) -> Result<()
 
 /// Writes the line of the totals.
 fn write_total<O: Sink>(plant: &Plant, delays: &Delays, out: &mut O) -> Result<(), Failed>
-    ensures { IsWritten O.Sink out.old out.new (spaced (total_words plant.now delays.now.accounts delays.now.visits)) result }
+    ensures { WritesText O.Sink out.old out.new (spaced (total_words plant.now delays.now.accounts delays.now.visits)) result }
 {
     let line = total_text(plant, delays);
     write_whole(out, line.as_slice())
@@ -56,7 +56,7 @@ fn write_total<O: Sink>(plant: &Plant, delays: &Delays, out: &mut O) -> Result<(
 
 /// Writes the calls of each train.
 fn write_calls<O: Sink>(plant: &Plant, delays: &Delays, out: &mut O) -> Result<(), Failed>
-    ensures { IsWritten O.Sink out.old out.new (gather (call_lines plant.now delays.now.visits) (trains plant.now)) result }
+    ensures { WritesText O.Sink out.old out.new (gather (call_lines plant.now delays.now.visits) (trains plant.now)) result }
 {
     let trains = plant.moves().trains();
     for number in 0..trains {
@@ -74,7 +74,7 @@ fn write_train_calls<O: Sink>(
     out: &mut O,
 ) -> Result<(), Failed>
     requires { train < trains plant.now }
-    ensures { IsWritten O.Sink out.old out.new
+    ensures { WritesText O.Sink out.old out.new
         (gather (λ m. call_line plant.now train row.now m (call_after plant.now train m)) (moves plant.now train)) result }
 {
     let places = plant.train(train).moves.as_slice().len() as u16;
@@ -95,7 +95,7 @@ fn write_call<O: Sink>(
     requires train { train < trains plant.now }
     requires within { index < moves plant.now train }
     requires few { index < ITINERARY_ROUTES }
-    ensures { IsWritten O.Sink out.old out.new (call_line plant.now train row.now index (call_after plant.now train index)) result }
+    ensures { WritesText O.Sink out.old out.new (call_line plant.now train row.now index (call_after plant.now train index)) result }
 {
     match plant.call(train, index + 1) {
         Some(call) => {
@@ -135,7 +135,7 @@ fn call_text(plant: &Plant, row: &[Visit], train: TrainNo, index: u16, call: Cal
 /// Writes the line of each train.
 fn write_trains<O: Sink>(plant: &Plant, delays: &Delays, out: &mut O) -> Result<(), Failed>
     requires { length delays.now.accounts ≡ trains plant.now }
-    ensures { IsWritten O.Sink out.old out.new
+    ensures { WritesText O.Sink out.old out.new
         (gather (train_line plant.now delays.now.accounts delays.now.visits) (trains plant.now)) result }
 {
     let trains = plant.moves().trains();
@@ -161,7 +161,7 @@ fn write_train<O: Sink>(
     out: &mut O,
 ) -> Result<(), Failed>
     requires { train < trains plant.now }
-    ensures { IsWritten O.Sink out.old out.new (spaced (train_words plant.now train row.now account.now)) result }
+    ensures { WritesText O.Sink out.old out.new (spaced (train_words plant.now train row.now account.now)) result }
 {
     let line = train_text(plant, train, row, account);
     write_whole(out, line.as_slice())
@@ -182,7 +182,7 @@ fn train_text(plant: &Plant, train: TrainNo, row: &[Visit], account: &Account) -
     line.put_word(b"entry");
     put_times(&mut line, &entry);
     line.put_word(b"out");
-    put_time(&mut line, account.out);
+    line.put_time_or_dash(account.out);
     put_held(&mut line, account);
     line.put(b"\n");
     line

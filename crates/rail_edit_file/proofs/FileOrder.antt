@@ -10,7 +10,7 @@ use Rattle.rail_rules.specs.Numbers.{or_else}
 use Rattle.rail_track.specs.declared.section.NetFault.{NetFault}
 use Rattle.rail_track.specs.declared.section.NetFault.TheVariants.{Refused, OutOfMemory}
 use Rattle.rail_routes.specs.Net.{Net}
-use Rattle.rail_command.specs.Lines.{Line as FileLine, lines_of, refusal_at}
+use Rattle.rail_text.specs.Lines.{Line as FileLine, lines_of, refusal_at}
 use Rattle.rail_edit.specs.Editing.{Editing, editing}
 use Rattle.rail_input.specs.Inputs.{refuses_file}
 use Rattle.rail_edit_file.specs.declared.spelling.EditLine.{EditLine}

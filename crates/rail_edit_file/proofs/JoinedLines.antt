@@ -1,49 +1,41 @@
 -- A line of an edit file, and the lines behind it.
-use Rattle.std.proofs.Common.{◌≡◌, ℕ, ◌+◌, Bool, true, false, cond, List, [], ◌∷◌, Option, Some, None, refl}
+use Rattle.std.proofs.Common.{◌≡◌, List, [], ◌∷◌, Option, None, sym, ap, ◌∙◌}
 use Rattle.rail_base.specs.Refusals.{AnswersFirst}
 use Rattle.rail_base.specs.declared.refusals.Fault.{Fault}
-use Rattle.rail_base.specs.declared.refusals.Fault.TheVariants.{Refused, OutOfMemory}
 use Rattle.rail_base.specs.declared.refusals.Refusal.{Refusal}
 use Rattle.rail_rules.specs.Numbers.{or_else}
-use Rattle.rail_command.specs.Lines.{Line, is_skipped, line_at, lines_from, words}
+use Rattle.rail_text.specs.Lines.{Line}
 use Rattle.rail_edit.specs.Editing.{Editing}
-use Rattle.rail_edit_file.specs.EditFiles.{after_lines, asked_at, lines_refusal}
+use Rattle.rail_edit_file.specs.EditFiles.{after_line, after_lines, asked_at, lines_refusal}
 use Rattle.rail_edit_file.specs.EditLines.{edit_line}
+use Rattle.rail_edit_file.proofs.FileOrder.{first_answers}
 
-passed : (o other : Option Refusal) → or_else o None ≡ None → or_else o other ≡ other
-passed None other none = refl
-passed (Some r) other none = cc
+-- how far the lines were read: the editor before the first of them, the editor now, and the lines that are left
+pub record AreReadTo (lines : List Line) (before now : Editing) (left : List Line) : Type 0 where
+  pub edited : after_lines lines before ≡ after_lines left now
+  pub refusals : lines_refusal lines before ≡ lines_refusal left now
 
-refused : (o other : Option Refusal) (r : Refusal) → or_else o None ≡ Some r → or_else o other ≡ Some r
-refused None other r is = cc
-refused (Some s) other r is = is
+module _ (lines : List Line) (before now : Editing) (left : List Line) (h : AreReadTo lines before now left) where
+  module _ (line : Line) (rest : List Line) (is : left ≡ line ∷ rest) where
+    -- a line that is not refused
+    pub one_more : (after : Editing) → asked_at line.number (edit_line line.words) now ≡ None → after ≡ after_line line now → AreReadTo lines before after rest
+    one_more after ok made = record {
+      edited = h.edited ∙ ap (λ (ls : List Line). after_lines ls now) is ∙ ap (after_lines rest) (sym made);
+      refusals = h.refusals
+          ∙ ap (λ (ls : List Line). lines_refusal ls now) is
+          ∙ ap (λ (o : Option Refusal). or_else o (lines_refusal rest (after_line line now))) ok
+          ∙ ap (lines_refusal rest) (sym made);
+    }
 
-module _ (n : ℕ) (line : List ℕ) (rest : List Line) (e : Editing) where
-  joined_by : (skipped : Bool) → after_lines (cond skipped rest (line_at n line ∷ rest)) e ≡ after_lines rest (after_lines (cond skipped [] (line_at n line ∷ [])) e)
-  joined_by true = refl
-  joined_by false = refl
+    -- what answers a line answers the lines
+    pub answers_lines : (fault : Fault) → AnswersFirst (asked_at line.number (edit_line line.words) now) fault → AnswersFirst (lines_refusal lines before) fault
+    answers_lines fault answer =
+        rw (h.refusals ∙ ap (λ (ls : List Line). lines_refusal ls now) is)
+        (first_answers (asked_at line.number (edit_line line.words) now) (lines_refusal rest (after_line line now)) fault answer)
 
-  passed_by : (skipped : Bool) → lines_refusal (cond skipped [] (line_at n line ∷ [])) e ≡ None → lines_refusal (cond skipped rest (line_at n line ∷ rest)) e ≡ lines_refusal rest (after_lines (cond skipped [] (line_at n line ∷ [])) e)
-  passed_by true none = refl
-  passed_by false none = passed (asked_at n (edit_line (words line)) e) _ none
-
-  refused_by : (skipped : Bool) (r : Refusal) → lines_refusal (cond skipped [] (line_at n line ∷ [])) e ≡ Some r → lines_refusal (cond skipped rest (line_at n line ∷ rest)) e ≡ Some r
-  refused_by true r is = cc
-  refused_by false r is = refused (asked_at n (edit_line (words line)) e) _ r is
-
-module _ (n : ℕ) (line : List ℕ) (others : List (List ℕ)) (e : Editing) where
-  abbrev rest : List Line
-  rest = lines_from (n + 1) others
-
-  -- the editor after a line and those behind it
-  pub joined : after_lines (lines_from n (line ∷ others)) e ≡ after_lines rest (after_lines (lines_from n (line ∷ [])) e)
-  joined = joined_by n line rest e (is_skipped (words line))
-
-  -- behind a line that is not refused, the refusal is that of the lines behind it
-  pub behind : lines_refusal (lines_from n (line ∷ [])) e ≡ None → lines_refusal (lines_from n (line ∷ others)) e ≡ lines_refusal rest (after_lines (lines_from n (line ∷ [])) e)
-  behind none = passed_by n line rest e (is_skipped (words line)) none
-
-  -- what answers a line answers it and those behind it
-  pub answers : (fault : Fault) → AnswersFirst (lines_refusal (lines_from n (line ∷ [])) e) fault → AnswersFirst (lines_refusal (lines_from n (line ∷ others)) e) fault
-  answers (Refused r) is = refused_by n line rest e (is_skipped (words line)) r is
-  answers OutOfMemory is = tt
+  -- behind the last line
+  pub at_end : left ≡ [] → AreReadTo lines before now []
+  at_end none = record {
+    edited = h.edited ∙ ap (λ (ls : List Line). after_lines ls now) none;
+    refusals = h.refusals ∙ ap (λ (ls : List Line). lines_refusal ls now) none;
+  }

@@ -10,7 +10,7 @@ use Rattle.rail_track.specs.NetFaults.{refused_where}
 use Rattle.rail_track.specs.declared.section.NetFault.{NetFault}
 use Rattle.rail_track.specs.declared.section.NetFault.TheVariants.{Refused, OutOfMemory}
 use Rattle.rail_routes.specs.Net.{Net}
-use Rattle.rail_command.specs.Lines.{Line, lines_of, refusal_at}
+use Rattle.rail_text.specs.Lines.{Line, lines_of, refusal_at}
 use Rattle.rail_edit.specs.Editing.{Editing, after_edit, after_redo, after_undo, editing, refusal}
 use Rattle.rail_edit.specs.declared.editor.EditFault.{EditFault}
 use Rattle.rail_edit.specs.declared.editor.EditFault.TheVariants as fault

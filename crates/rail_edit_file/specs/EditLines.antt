@@ -10,7 +10,7 @@ use Rattle.rail_routes.specs.declared.items.Route.{Route}
 use Rattle.rail_routes.specs.declared.items.Step.{Step}
 use Rattle.rail_routes.specs.declared.items.Turn.{Turn}
 use Rattle.rail_scene.specs.Fields.{kind_named}
-use Rattle.rail_command.specs.Decimals.{is_decimal, value_of}
+use Rattle.rail_text.specs.Decimals.{is_decimal, value_of}
 use Rattle.rail_edit.specs.declared.edit.Edit.{Edit}
 use Rattle.rail_edit.specs.declared.edit.Edit.TheVariants.{AddSection, AddPost, AddTurn, AddRoute, RemoveSection, RemovePost, RemoveTurn, RemoveRoute}
 use Rattle.rail_edit.specs.Edits.{is_formed_edit}

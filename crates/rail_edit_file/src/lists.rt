@@ -3,12 +3,12 @@
 ghost use Rattle.std.specs.Prelude.{◌≡◌, ◌≤◌, ◌∷◌, MatchOption, cond, length, option_map, Some, None, IfOk, IfSome};
 ghost use Rattle.std.specs.List.{list_all};
 ghost use Rattle.rail_base.specs.NameForms.{is_name};
-ghost use Rattle.rail_command.specs.Lines.{words};
+ghost use Rattle.rail_text.specs.Lines.{words};
 ghost use Rattle.rail_edit_file.specs.EditLines.{steps_from};
 
 use rail_base::Name;
-use rail_command::next_word;
 use rail_routes::Step;
+use rail_text::next_word;
 use std::alloc::{AllocError, Global};
 
 /// The names that the words are: `None` exactly where a word is no name.

@@ -1,18 +1,17 @@
 //! The edits of a file, made one after the other.
 
-ghost use Rattle.std.specs.Prelude.{◌≡◌, ◌-◌, ◌<◌, ◌^◌, ◌∷◌, [], false, length, IsTrue, None, Some, IfOk, IfErr, OnOk};
+ghost use Rattle.std.specs.Prelude.{◌≡◌, ◌-◌, ◌<◌, ◌^◌, length, IsTrue, None, Some, IfOk, IfErr, OnOk};
 ghost use Rattle.rail_base.specs.Refusals.{AnswersFirst};
 ghost use Rattle.rail_track.specs.NetFaults.{Answers};
-ghost use Rattle.rail_command.specs.Lines.{lines_from, lines_of};
-ghost use Rattle.rail_input.specs.Inputs.{refuses_file};
-ghost use Rattle.rail_edit_file.specs.EditLines.{is_formed_line};
-ghost use Rattle.rail_edit_file.specs.EditFiles.{after_asked, after_lines, asked_refusal, edited_network, edits_refusal, fault_of, lines_refusal, on_line};
+ghost use Rattle.rail_text.specs.Lines.{line_at, lines_of, words};
+ghost use Rattle.rail_edit_file.specs.EditLines.{edit_line, is_formed_line};
+ghost use Rattle.rail_edit_file.specs.EditFiles.{after_asked, after_line, after_lines, asked_at, asked_refusal, edited_network, edits_refusal, fault_of, lines_refusal, on_line};
 
 use crate::spelling::{EditLine, edit_line};
 use rail_base::{Fault, Part, Reason, Refusal};
-use rail_command::{is_skipped, next_line, refused_at};
 use rail_edit::{EditFault, Editor};
 use rail_routes::Network;
+use rail_text::{NumberedLine, numbered_lines, refused_at};
 use rail_track::NetFault;
 use std::alloc::Global;
 
@@ -47,25 +46,18 @@ fn edit_lines(alloc: Global, editor: &mut Editor, bytes: &[u8]) -> Result<(), Fa
     ensures edited { OnOk result (editor.new ≡ after_lines (lines_of bytes.now) editor.old) }
     ensures refused { IfErr result (AnswersFirst (lines_refusal (lines_of bytes.now) editor.old)) }
 {
-    let mut text = bytes;
-    let mut number = 0;
-    while let Some((line, rest)) = next_line(text) {
-        number += 1;
+    for NumberedLine { number, line } in numbered_lines(bytes) {
         make_line(alloc, editor, number, line)?;
-        text = rest;
     }
     Ok(())
 }
 
 /// Makes the edit of a line, which has this number.
 fn make_line(alloc: Global, editor: &mut Editor, number: u32, line: &[u8]) -> Result<(), Fault>
-    ensures accepted { OnOk result (lines_refusal (lines_from number (line.now ∷ [])) editor.old ≡ None) }
-    ensures edited { OnOk result (editor.new ≡ after_lines (lines_from number (line.now ∷ [])) editor.old) }
-    ensures refused { IfErr result (AnswersFirst (lines_refusal (lines_from number (line.now ∷ [])) editor.old)) }
+    ensures accepted { OnOk result (asked_at number (edit_line (words line.now)) editor.old ≡ None) }
+    ensures edited { OnOk result (editor.new ≡ after_line (line_at number line.now) editor.old) }
+    ensures refused { IfErr result (AnswersFirst (asked_at number (edit_line (words line.now)) editor.old)) }
 {
-    if is_skipped(line) {
-        return Ok(());
-    }
     let Some(asked) = edit_line(alloc, line)? else {
         return Err(refused_at(Reason::EditForm, number));
     };

@@ -1,7 +1,7 @@
 //! What the words of a line ask for.
 
 ghost use Rattle.std.specs.Prelude.{◌≡◌, IsTrue, MatchOption, Some, None, cond, option_and_then, IfOk, IfSome};
-ghost use Rattle.rail_command.specs.Lines.{words};
+ghost use Rattle.rail_text.specs.Lines.{words};
 ghost use Rattle.rail_routes.specs.PostRules.{is_formed};
 ghost use Rattle.rail_edit.specs.Edits.{is_formed_edit};
 ghost use Rattle.rail_edit_file.specs.EditLines.{added, are_joints, asked_alone, board_in, changed, edit_line, is_formed_line, portal_in, removed, removed_between, removed_named, route_in, route_over, section_in, signal_in, steps_from, times_in, turn_in};
@@ -9,9 +9,9 @@ ghost use Rattle.rail_edit_file.specs.EditLines.{added, are_joints, asked_alone,
 use crate::lists::{names, steps};
 use crate::words::{kind, number};
 use rail_base::{Name, Seq};
-use rail_command::next_word;
 use rail_edit::Edit;
 use rail_routes::{Post, Role, Route, Turn};
+use rail_text::next_word;
 use rail_track::{Section, SectionKind};
 use std::alloc::{AllocError, Global};
 

@@ -1,11 +1,11 @@
 //! Single words of an edit.
 
 ghost use Rattle.std.specs.Prelude.{◌≡◌, cond, Some, None};
-ghost use Rattle.rail_command.specs.Decimals.{value_of};
+ghost use Rattle.rail_text.specs.Decimals.{value_of};
 ghost use Rattle.rail_scene.specs.Fields.{kind_named};
 ghost use Rattle.rail_edit_file.specs.EditLines.{is_number};
 
-use rail_command::{is_decimal, value_of};
+use rail_text::{is_decimal, value_of};
 use rail_track::SectionKind;
 
 /// The number that a word spells: `None` exactly where it is no number in decimal digits without leading

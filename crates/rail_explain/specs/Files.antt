@@ -1,29 +1,40 @@
--- In which file a refusal lies, as a place among the words of a command line, of which the verb has place 0.
-use Rattle.std.specs.Prelude.{ℕ, ◌+◌, ◌-◌, ◌==◌, cond, Option, Some, None}
+-- In which file of a command a refusal lies, by the role of the file.
+use Rattle.std.specs.Prelude.{ℕ, ◌==◌, cond, Option, Some, None}
 use Rattle.rail_base.specs.declared.refusals.Part.{Part}
 use Rattle.rail_base.specs.declared.refusals.Part.TheVariants as part
 use Rattle.rail_base.specs.declared.refusals.Reason.{Reason}
 use Rattle.rail_base.specs.declared.refusals.Reason.TheVariants.{HistoryForm}
 use Rattle.rail_base.specs.declared.refusals.Refusal.{Refusal}
+use Rattle.rail_words.specs.declared.files.Role.{Role}
+use Rattle.rail_words.specs.declared.files.Role.TheVariants as role
 use Rattle.rail_words.specs.declared.forms.Form.{Form}
-use Rattle.rail_words.specs.declared.forms.Form.TheVariants.{Capacity, Check, Edit, Play}
+use Rattle.rail_words.specs.declared.forms.Form.TheVariants.{Check, Edit, Play}
 
--- the place of the scene, behind which the timetable and the commands come
-abbrev pub scene_place : Form → ℕ
-scene_place Capacity = 4
-scene_place form = 1
+-- the role of the file of lines: a list, edits, a history or commands
+abbrev pub role_of_lines : Form → Reason → Role
+role_of_lines Check HistoryForm = role.History
+role_of_lines Play reason = role.List
+role_of_lines Edit reason = role.Edits
+role_of_lines form reason = role.Commands
 
--- the place of the file of lines: a list, edits, a history or commands
-abbrev pub line_place : Form → Reason → ℕ
-line_place Check HistoryForm = 4
-line_place Play reason = 2
-line_place Edit reason = 2
-line_place form reason = scene_place form + 2
+-- the role of the second file
+abbrev pub second_role : Form → Role
+second_role Play = role.List
+second_role Edit = role.Edits
+second_role form = role.Timetable
 
--- the place of the file in which the refusal lies; a refusal of a word lies in none
-abbrev pub file_place : Form → Refusal → Part → Option ℕ
-file_place form refusal part.Word = None
-file_place form refusal part.Row = Some (scene_place form + 1)
-file_place form refusal part.Line = Some (line_place form refusal.reason)
-file_place form refusal part.File = cond (refusal.item == 0) None (Some (scene_place form + (refusal.item - 1)))
-file_place form refusal _ = Some (scene_place form)
+-- the role of the file of this number, among the file words of a form
+abbrev pub role_at : Form → ℕ → Option Role
+role_at form number =
+    cond (number == 1) (Some role.Scene)
+    (cond (number == 2) (Some (second_role form))
+    (cond (number == 3) (Some role.Commands)
+    (cond (number == 4) (Some role.History) None)))
+
+-- the role of the file in which the refusal lies; a refusal of a word lies in none
+abbrev pub role_of : Form → Refusal → Part → Option Role
+role_of form refusal part.Word = None
+role_of form refusal part.Row = Some role.Timetable
+role_of form refusal part.Line = Some (role_of_lines form refusal.reason)
+role_of form refusal part.File = role_at form refusal.item
+role_of form refusal _ = Some role.Scene

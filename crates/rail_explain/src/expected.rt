@@ -1,10 +1,18 @@
 //! What a key of a scene file has to have.
 
 ghost use Rattle.std.specs.Prelude.{◌+◌, ◌≤◌, length};
-ghost use Rattle.rail_history.specs.declared.line.TheConstants.{ROOM};
+ghost use Rattle.rail_text.specs.declared.line.TheConstants.{ROOM};
 
-use rail_history::Line;
+use rail_base::limits::{INPUT_TIME, ITINERARY_ROUTES, ROUTE_SECTIONS};
 use rail_scene::keys::{Bounds, Form, KeyName};
+use rail_text::Line;
+
+// The limits that the texts below tell: 240 hours, the names of a path of as many sections, the routes of an itinerary.
+const _: () = prove!(INPUT_TIME == 240 * 36_000);
+
+const _: () = prove!(2 * ROUTE_SECTIONS + 1 == 65);
+
+const _: () = prove!(ITINERARY_ROUTES == 64);
 
 /// Puts the range of a key.
 pub fn put_range(line: &mut Line, form: Form)

@@ -1,53 +1,60 @@
 //! In which file a refusal lies.
 
-ghost use Rattle.std.specs.Prelude.{◌≡◌, ◌≤◌, option_and_then, slice_get};
+ghost use Rattle.std.specs.Prelude.{◌≡◌, option_and_then};
 ghost use Rattle.std.specs.Option.{option_copied};
-ghost use Rattle.rail_explain.specs.Files.{file_place, line_place, scene_place};
+ghost use Rattle.rail_words.specs.Files.{file_with};
+ghost use Rattle.rail_words.specs.Forms.{files_in, form_in};
+ghost use Rattle.rail_explain.specs.Files.{role_at, role_of, role_of_lines};
 
-use rail_base::{Part, Reason, Refusal, Word};
-use rail_words::Form;
+use rail_base::{Part, Reason, Refusal};
+use rail_words::{Form, Request, Role};
 
-/// The word of the command line that names the file in which a refusal lies: `None` where it lies in a word.
-pub fn file_of<'w>(form: Form, words: &'w [Word], refusal: &Refusal) -> Option<&'w str>
-    ensures { option_copied result ≡ option_and_then (slice_get words.now) (file_place form refusal.now refusal.now.part) }
+/// The name of the file in which a refusal of what is asked for lies: `None` where it lies in a word.
+pub fn file_of<'w>(request: &Request<'w>, refusal: &Refusal) -> Option<&'w str>
+    ensures { option_copied result ≡ option_and_then
+        (λ role. file_with role (files_in request.now))
+        (role_of (form_in request.now) refusal.now refusal.now.part) }
 {
-    let place = file_place(form, refusal)?;
-    let word = words.get(place)?;
-    Some(word.as_str())
+    let role = role_of(request.form(), refusal)?;
+    request.file(role)
 }
 
-/// The place of the file among the words, of which the verb has place 0.
-fn file_place(form: Form, refusal: &Refusal) -> Option<usize>
-    ensures { result ≡ file_place form refusal.now refusal.now.part }
+/// The role of the file in which a refusal lies.
+fn role_of(form: Form, refusal: &Refusal) -> Option<Role>
+    ensures { result ≡ role_of form refusal.now refusal.now.part }
 {
     match refusal.part {
         Part::Word => None,
-        Part::Row => Some(scene_place(form) + 1),
-        Part::Line => Some(line_place(form, refusal.reason)),
-        Part::File if refusal.item == 0 => None,
-        Part::File => Some(scene_place(form) + (refusal.item as usize - 1)),
-        _ => Some(scene_place(form)),
+        Part::Row => Some(Role::Timetable),
+        Part::Line => Some(role_of_lines(form, refusal.reason)),
+        Part::File => role_at(form, refusal.item),
+        _ => Some(Role::Scene),
     }
 }
 
-/// The place of the scene.
-fn scene_place(form: Form) -> usize
-    ensures place { result ≡ scene_place form }
-    ensures small { result ≤ 4 }
-{
-    match form {
-        Form::Capacity => 4,
-        _ => 1,
-    }
-}
-
-/// The place of the file of lines in which a refusal lies.
-fn line_place(form: Form, reason: Reason) -> usize
-    ensures { result ≡ line_place form reason }
+/// The role of the file of lines in which a refusal lies.
+fn role_of_lines(form: Form, reason: Reason) -> Role
+    ensures { result ≡ role_of_lines form reason }
 {
     match (form, reason) {
-        (Form::Check, Reason::HistoryForm) => 4,
-        (Form::Play | Form::Edit, _) => 2,
-        _ => scene_place(form) + 2,
+        (Form::Check, Reason::HistoryForm) => Role::History,
+        (Form::Play, _) => Role::List,
+        (Form::Edit, _) => Role::Edits,
+        _ => Role::Commands,
+    }
+}
+
+/// The role of the file of this number, among the file words of a form.
+fn role_at(form: Form, number: u32) -> Option<Role>
+    ensures { result ≡ role_at form number }
+{
+    match (form, number) {
+        (_, 1) => Some(Role::Scene),
+        (Form::Play, 2) => Some(Role::List),
+        (Form::Edit, 2) => Some(Role::Edits),
+        (_, 2) => Some(Role::Timetable),
+        (_, 3) => Some(Role::Commands),
+        (_, 4) => Some(Role::History),
+        _ => None,
     }
 }

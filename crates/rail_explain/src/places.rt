@@ -1,11 +1,12 @@
 //! Where a refusal lies, in words.
 
 ghost use Rattle.std.specs.Prelude.{◌+◌, ◌≤◌, length};
-ghost use Rattle.rail_history.specs.declared.line.TheConstants.{ROOM};
+ghost use Rattle.rail_text.specs.declared.line.TheConstants.{ROOM};
 
 use rail_base::{Name, Part, Refusal};
-use rail_history::Line;
+use rail_scene::Version;
 use rail_scene::keys::{Key, keys_in};
+use rail_text::Line;
 
 /// The word for what a part has items of.
 fn part_text(part: Part) -> &'static [u8]
@@ -47,9 +48,10 @@ pub fn put_item(line: &mut Line, refusal: &Refusal, name: Option<Name>)
     }
 }
 
-/// The key of a scene file in which a refusal lies.
+/// The key of a scene file in which a refusal lies. A refusal does not tell the version of its file, so this is a key of the
+/// newest one.
 pub fn key_at(refusal: &Refusal) -> Option<Key> {
-    keys_in(refusal.part)
+    keys_in(refusal.part, Version::NEWEST)
         .get(refusal.step.checked_sub(1)? as usize)
         .copied()
 }
@@ -83,13 +85,13 @@ pub fn put_key(line: &mut Line, refusal: &Refusal)
     }
 }
 
-/// Puts the keys that a table of the part may have.
+/// Puts the keys that a table of the part may have in the newest version.
 pub fn put_keys(line: &mut Line, part: Part)
     requires { length line.old + 130 ≤ ROOM }
     ensures short { length line.new ≤ length line.old + 130 }
 {
     line.put(b":");
-    for key in keys_in(part) {
+    for key in keys_in(part, Version::NEWEST) {
         line.put_word(key.name.text().as_bytes());
     }
 }

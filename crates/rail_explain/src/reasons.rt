@@ -2,7 +2,22 @@
 
 ghost use Rattle.std.specs.Prelude.{◌≤◌, length};
 
+use rail_base::limits::{
+    COMMANDS, EDITS, FILE_BYTES, HISTORY_BYTES, KINDS, LIST_TRAINS, NAME_BYTES, POSTS, ROUTES,
+    SECTIONS, TRAINS, TURNS,
+};
 use rail_base::{Part, Reason, Refusal};
+
+// The limits that the texts below tell.
+const _: () = prove!(NAME_BYTES == 16);
+
+const _: () = prove!(FILE_BYTES == 1_048_576 && HISTORY_BYTES == 16_777_216);
+
+const _: () = prove!(SECTIONS == 512 && POSTS == 512 && TURNS == 512 && ROUTES == 1_024);
+
+const _: () = prove!(KINDS == 128 && TRAINS == 128);
+
+const _: () = prove!(COMMANDS == 1_024 && EDITS == 4_096 && LIST_TRAINS == 8_192);
 
 /// What the reason of a refusal means. The reasons that are told with a key, a joint, a step or a place have their words
 /// behind these.

@@ -2,13 +2,13 @@
 
 ghost use Rattle.std.specs.Prelude.{◌+◌, ◌≤◌, [], length};
 ghost use Rattle.rail_explain.specs.declared.refusals.TheConstants.{MOST};
-ghost use Rattle.rail_history.specs.declared.line.TheConstants.{ROOM};
+ghost use Rattle.rail_text.specs.declared.line.TheConstants.{ROOM};
 
 use crate::expected::{kind_text, put_range, unknown_text};
 use crate::places::{key_at, put_item, put_key, put_keys, put_step};
 use crate::reasons::meaning;
 use rail_base::{Name, Reason, Refusal};
-use rail_history::Line;
+use rail_text::Line;
 
 /// How many bytes the explanation of a refusal has at most.
 pub const MOST: usize = 340;

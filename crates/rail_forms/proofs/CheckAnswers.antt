@@ -5,8 +5,8 @@ use Rattle.rail_base.specs.declared.names.Names.{Names}
 use Rattle.rail_base.specs.declared.refusals.Fault.{Fault}
 use Rattle.rail_base.specs.declared.refusals.Fault.TheVariants as fault
 use Rattle.rail_base.specs.declared.refusals.Refusal.{Refusal}
+use Rattle.rail_text.specs.Names.{HasNames}
 use Rattle.rail_history.specs.HistoryLines.{IsHistory, IsRefusedFor, refusal_at}
-use Rattle.rail_history.specs.Lines.{HasNames}
 use Rattle.rail_history.proofs.CallerLemmas.{no_history, one_history, one_wrong}
 use Rattle.rail_input.specs.Inputs.{input_in, input_refusal, plant_refusal}
 use Rattle.rail_io.specs.Writes.{Adds, AddsPrefix}
@@ -31,23 +31,26 @@ use Rattle.rail_forms.specs.declared.status.Status.{Status}
 use Rattle.rail_forms.specs.declared.status.Status.TheVariants.{CheckedNo, Done, OutOfMemory, ReadFault, Refused, Usage, WriteFault}
 use Rattle.rail_forms.specs.Answers.{Decides, IsAnswer, Told, status_of}
 use Rattle.rail_forms.specs.Checks.{AnswersCheck, AnswersHistory, IsJudged, IsSaid, check_refusal, done_with, status_judged, verdict_text}
-use Rattle.rail_forms.specs.Files.{IsFileAnswer, IsNamedAnswer, named_file, told_of, too_large, too_large_if_any}
+use Rattle.rail_words.specs.Forms.{Scenario}
+use Rattle.rail_words.specs.declared.files.Role.{Role}
+use Rattle.rail_words.specs.declared.files.Role.TheVariants as role
+use Rattle.rail_forms.specs.Files.{IsFileAnswer, IsNamedAnswer, told_of, too_large, too_large_if_any}
 use Rattle.rail_forms.proofs.Answers.{answer_decides, file_answer, none_decides, unread_decides}
 use Rattle.rail_forms.proofs.ScenarioAnswers.{named_answer, named_decides}
 
 -- a file that was not read ends no command with a verdict
-file_done : {S : Type 0} (shelf : Ghosts S) (number : ℕ) (file : List ℕ) (before now : S) (status : Status) → IsFileAnswer shelf number file before now status → done_with status ≡ status
-file_done shelf number file before now Done is = refl
-file_done shelf number file before now Usage is = refl
-file_done shelf number file before now (Refused refusal) is = refl
-file_done shelf number file before now ReadFault is = refl
-file_done shelf number file before now WriteFault is = refl
-file_done shelf number file before now OutOfMemory is = refl
-file_done shelf number file before now (CheckedNo line law) is = absurd is
+file_done : {S : Type 0} (shelf : Ghosts S) (role : Role) (file : List ℕ) (before now : S) (status : Status) → IsFileAnswer shelf role file before now status → done_with status ≡ status
+file_done shelf role file before now Done is = refl
+file_done shelf role file before now Usage is = refl
+file_done shelf role file before now (Refused refusal) is = refl
+file_done shelf role file before now ReadFault is = refl
+file_done shelf role file before now WriteFault is = refl
+file_done shelf role file before now OutOfMemory is = refl
+file_done shelf role file before now (CheckedNo line law) is = absurd is
 
-named_done : {S : Type 0} (shelf : Ghosts S) (number : ℕ) (file : Option (List ℕ)) (before now : S) (status : Status) → IsNamedAnswer shelf number file before now status → done_with status ≡ status
-named_done shelf number None before now status is = absurd is
-named_done shelf number (Some file) before now status is = file_done shelf number file before now status is
+named_done : {S : Type 0} (shelf : Ghosts S) (role : Role) (file : Option (List ℕ)) (before now : S) (status : Status) → IsNamedAnswer shelf role file before now status → done_with status ≡ status
+named_done shelf role None before now status is = absurd is
+named_done shelf role (Some file) before now status is = file_done shelf role file before now status is
 
 -- what is decided for a command that is done is decided for one that ends with a verdict
 decides_done : (first : Option Refusal) (status : Status) → Decides first (done_with status) → Decides first status
@@ -185,16 +188,16 @@ module _ (input : Input) (run : RunInput) (read : IsRead input run) where
   verdict_input said lines is = is ∙ ap (λ (i : Input). verdict i lines) checked_for
 
 -- the scene was not read
-pub no_scene : {S : Type 0} (shelf : Ghosts S) (told : Told) (scene timetable commands history : List ℕ) (deck : List DeskSeat) (before now : Option (List ℕ)) (status : Status) (one two : S)
-    (why : Status) → status ≡ why → shelf.told one ≡ told → IsFileAnswer shelf 1 scene one two why → AnswersCheck scene timetable commands history deck told before now status
-no_scene shelf told scene timetable commands history deck before now status one two why same still why_answer =
-    let answer : IsFileAnswer shelf 1 scene one two status = subst (IsFileAnswer shelf 1 scene one two) (sym same) why_answer in
-    let any : (bytes : List ℕ) → told scene ≡ Some bytes → (rest : Option Refusal) (whole part : Type 0) → IsAnswer (or_else (too_large 1 bytes) rest) whole part status =
-    λ bytes at rest whole part. file_answer shelf 1 scene one two bytes rest whole part status answer (ap (λ (t : Told). t scene) still ∙ at) in
+pub no_scene : {S : Type 0} (shelf : Ghosts S) (told : Told) (scenario : Scenario) (history : List ℕ) (deck : List DeskSeat) (before now : Option (List ℕ)) (status : Status) (one two : S)
+    (why : Status) → status ≡ why → shelf.told one ≡ told → IsFileAnswer shelf role.Scene scenario.scene one two why → AnswersCheck scenario history deck told before now status
+no_scene shelf told scenario history deck before now status one two why same still why_answer =
+    let answer : IsFileAnswer shelf role.Scene scenario.scene one two status = subst (IsFileAnswer shelf role.Scene scenario.scene one two) (sym same) why_answer in
+    let any : (bytes : List ℕ) → told scenario.scene ≡ Some bytes → (rest : Option Refusal) (whole part : Type 0) → IsAnswer (or_else (too_large role.Scene bytes) rest) whole part status =
+    λ bytes at rest whole part. file_answer shelf role.Scene scenario.scene one two bytes rest whole part status answer (ap (λ (t : Told). t scenario.scene) still ∙ at) in
     record {
-      all = λ bytes calls orders text at calls_at orders_at text_at. history_unread (too_large 1 bytes) _ _ text before now status (file_done shelf 1 scene one two status answer) (any bytes at);
-      of_size = λ bytes at. subst (λ (o : Option Refusal). Decides o status) (or_else_none (too_large 1 bytes)) (answer_decides (or_else (too_large 1 bytes) None) ⊥ ⊥ status (any bytes at None ⊥ ⊥));
-      of_scene = λ bytes at not_second not_third not_fourth. answer_decides (or_else (too_large 1 bytes) (plant_refusal bytes)) ⊥ ⊥ status (any bytes at (plant_refusal bytes) ⊥ ⊥);
+      all = λ bytes calls orders text at calls_at orders_at text_at. history_unread (too_large role.Scene bytes) _ _ text before now status (file_done shelf role.Scene scenario.scene one two status answer) (any bytes at);
+      of_size = λ bytes at. subst (λ (o : Option Refusal). Decides o status) (or_else_none (too_large role.Scene bytes)) (answer_decides (or_else (too_large role.Scene bytes) None) ⊥ ⊥ status (any bytes at None ⊥ ⊥));
+      of_scene = λ bytes at not_second not_third not_fourth. answer_decides (or_else (too_large role.Scene bytes) (plant_refusal bytes)) ⊥ ⊥ status (any bytes at (plant_refusal bytes) ⊥ ⊥);
     }
   where
     or_else_none : (o : Option Refusal) → or_else o None ≡ o
@@ -202,67 +205,67 @@ no_scene shelf told scene timetable commands history deck before now status one 
     or_else_none (Some refusal) = refl
 
 -- the scene was read
-module _ (told : Told) (scene timetable commands history : List ℕ) (deck : List DeskSeat) (before now : Option (List ℕ)) (status : Status) (scene_read : List ℕ)
-    (scene_is : (bytes : List ℕ) → told scene ≡ Some bytes → scene_read ≡ bytes) (scene_fits : too_large 1 scene_read ≡ None) where
-  fits : (bytes : List ℕ) → told scene ≡ Some bytes → too_large 1 bytes ≡ None
-  fits bytes at = ap (too_large 1) (sym (scene_is bytes at)) ∙ scene_fits
+module _ (told : Told) (scenario : Scenario) (history : List ℕ) (deck : List DeskSeat) (before now : Option (List ℕ)) (status : Status) (scene_read : List ℕ)
+    (scene_is : (bytes : List ℕ) → told scenario.scene ≡ Some bytes → scene_read ≡ bytes) (scene_fits : too_large role.Scene scene_read ≡ None) where
+  fits : (bytes : List ℕ) → told scenario.scene ≡ Some bytes → too_large role.Scene bytes ≡ None
+  fits bytes at = ap (too_large role.Scene) (sym (scene_is bytes at)) ∙ scene_fits
 
   -- but not the timetable
-  pub no_timetable : {S : Type 0} (shelf : Ghosts S) (one two : S) (why : Status) → status ≡ why → shelf.told one ≡ told → IsNamedAnswer shelf 2 (named_file timetable) one two why
-      → AnswersCheck scene timetable commands history deck told before now status
+  pub no_timetable : {S : Type 0} (shelf : Ghosts S) (one two : S) (why : Status) → status ≡ why → shelf.told one ≡ told → IsNamedAnswer shelf role.Timetable scenario.timetable one two why
+      → AnswersCheck scenario history deck told before now status
   no_timetable shelf one two why same still why_answer =
-      let answer : IsNamedAnswer shelf 2 (named_file timetable) one two status = subst (IsNamedAnswer shelf 2 (named_file timetable) one two) (sym same) why_answer in
+      let answer : IsNamedAnswer shelf role.Timetable scenario.timetable one two status = subst (IsNamedAnswer shelf role.Timetable scenario.timetable one two) (sym same) why_answer in
       record {
-        all = λ bytes calls orders text at calls_at orders_at text_at. history_after (too_large 1 bytes) _ _ text before now status (fits bytes at)
-            (history_unread (too_large_if_any 2 calls) _ _ text before now status (named_done shelf 2 (named_file timetable) one two status answer)
-            (λ rest whole part. named_answer shelf 2 (named_file timetable) one two calls rest whole part status answer (ap (λ (t : Told). told_of t (named_file timetable)) still ∙ calls_at)));
-        of_size = λ bytes at. none_decides (too_large 1 bytes) status (fits bytes at);
-        of_scene = λ bytes at not_second not_third not_fourth. named_decides shelf 2 (named_file timetable) one two _ status answer not_second;
+        all = λ bytes calls orders text at calls_at orders_at text_at. history_after (too_large role.Scene bytes) _ _ text before now status (fits bytes at)
+            (history_unread (too_large_if_any role.Timetable calls) _ _ text before now status (named_done shelf role.Timetable scenario.timetable one two status answer)
+            (λ rest whole part. named_answer shelf role.Timetable scenario.timetable one two calls rest whole part status answer (ap (λ (t : Told). told_of t scenario.timetable) still ∙ calls_at)));
+        of_size = λ bytes at. none_decides (too_large role.Scene bytes) status (fits bytes at);
+        of_scene = λ bytes at not_second not_third not_fourth. named_decides shelf role.Timetable scenario.timetable one two _ status answer not_second;
       }
 
-  module _ (timetable_read : Option (List ℕ)) (timetable_is : (content : Option (List ℕ)) → told_of told (named_file timetable) ≡ Some content → timetable_read ≡ content)
-      (timetable_fits : too_large_if_any 2 timetable_read ≡ None) where
-    fits_second : (calls : Option (List ℕ)) → told_of told (named_file timetable) ≡ Some calls → too_large_if_any 2 calls ≡ None
-    fits_second calls at = ap (too_large_if_any 2) (sym (timetable_is calls at)) ∙ timetable_fits
+  module _ (timetable_read : Option (List ℕ)) (timetable_is : (content : Option (List ℕ)) → told_of told scenario.timetable ≡ Some content → timetable_read ≡ content)
+      (timetable_fits : too_large_if_any role.Timetable timetable_read ≡ None) where
+    fits_second : (calls : Option (List ℕ)) → told_of told scenario.timetable ≡ Some calls → too_large_if_any role.Timetable calls ≡ None
+    fits_second calls at = ap (too_large_if_any role.Timetable) (sym (timetable_is calls at)) ∙ timetable_fits
 
     -- nor the commands
-    pub no_commands : {S : Type 0} (shelf : Ghosts S) (one two : S) (why : Status) → status ≡ why → shelf.told one ≡ told → IsNamedAnswer shelf 3 (named_file commands) one two why
-        → AnswersCheck scene timetable commands history deck told before now status
+    pub no_commands : {S : Type 0} (shelf : Ghosts S) (one two : S) (why : Status) → status ≡ why → shelf.told one ≡ told → IsNamedAnswer shelf role.Commands scenario.commands one two why
+        → AnswersCheck scenario history deck told before now status
     no_commands shelf one two why same still why_answer =
-        let answer : IsNamedAnswer shelf 3 (named_file commands) one two status = subst (IsNamedAnswer shelf 3 (named_file commands) one two) (sym same) why_answer in
+        let answer : IsNamedAnswer shelf role.Commands scenario.commands one two status = subst (IsNamedAnswer shelf role.Commands scenario.commands one two) (sym same) why_answer in
         record {
-          all = λ bytes calls orders text at calls_at orders_at text_at. history_after (too_large 1 bytes) _ _ text before now status (fits bytes at)
-              (history_after (too_large_if_any 2 calls) _ _ text before now status (fits_second calls calls_at)
-              (history_unread (too_large_if_any 3 orders) _ _ text before now status (named_done shelf 3 (named_file commands) one two status answer)
-              (λ rest whole part. named_answer shelf 3 (named_file commands) one two orders rest whole part status answer (ap (λ (t : Told). told_of t (named_file commands)) still ∙ orders_at))));
-          of_size = λ bytes at. none_decides (too_large 1 bytes) status (fits bytes at);
-          of_scene = λ bytes at not_second not_third not_fourth. named_decides shelf 3 (named_file commands) one two _ status answer not_third;
+          all = λ bytes calls orders text at calls_at orders_at text_at. history_after (too_large role.Scene bytes) _ _ text before now status (fits bytes at)
+              (history_after (too_large_if_any role.Timetable calls) _ _ text before now status (fits_second calls calls_at)
+              (history_unread (too_large_if_any role.Commands orders) _ _ text before now status (named_done shelf role.Commands scenario.commands one two status answer)
+              (λ rest whole part. named_answer shelf role.Commands scenario.commands one two orders rest whole part status answer (ap (λ (t : Told). told_of t scenario.commands) still ∙ orders_at))));
+          of_size = λ bytes at. none_decides (too_large role.Scene bytes) status (fits bytes at);
+          of_scene = λ bytes at not_second not_third not_fourth. named_decides shelf role.Commands scenario.commands one two _ status answer not_third;
         }
 
-    module _ (commands_read : Option (List ℕ)) (commands_is : (content : Option (List ℕ)) → told_of told (named_file commands) ≡ Some content → commands_read ≡ content)
-        (commands_fits : too_large_if_any 3 commands_read ≡ None) where
-      fits_third : (orders : Option (List ℕ)) → told_of told (named_file commands) ≡ Some orders → too_large_if_any 3 orders ≡ None
-      fits_third orders at = ap (too_large_if_any 3) (sym (commands_is orders at)) ∙ commands_fits
+    module _ (commands_read : Option (List ℕ)) (commands_is : (content : Option (List ℕ)) → told_of told scenario.commands ≡ Some content → commands_read ≡ content)
+        (commands_fits : too_large_if_any role.Commands commands_read ≡ None) where
+      fits_third : (orders : Option (List ℕ)) → told_of told scenario.commands ≡ Some orders → too_large_if_any role.Commands orders ≡ None
+      fits_third orders at = ap (too_large_if_any role.Commands) (sym (commands_is orders at)) ∙ commands_fits
 
       -- nor the history
-      pub history_not_read : {S : Type 0} (shelf : Ghosts S) (one two : S) (why : Status) → status ≡ why → shelf.told one ≡ told → IsFileAnswer shelf 4 history one two why
-          → AnswersCheck scene timetable commands history deck told before now status
+      pub history_not_read : {S : Type 0} (shelf : Ghosts S) (one two : S) (why : Status) → status ≡ why → shelf.told one ≡ told → IsFileAnswer shelf role.History history one two why
+          → AnswersCheck scenario history deck told before now status
       history_not_read shelf one two why same still why_answer =
-          let answer : IsFileAnswer shelf 4 history one two status = subst (IsFileAnswer shelf 4 history one two) (sym same) why_answer in
+          let answer : IsFileAnswer shelf role.History history one two status = subst (IsFileAnswer shelf role.History history one two) (sym same) why_answer in
           record {
-            all = λ bytes calls orders text at calls_at orders_at text_at. history_after (too_large 1 bytes) _ _ text before now status (fits bytes at)
-                (history_after (too_large_if_any 2 calls) _ _ text before now status (fits_second calls calls_at)
-                (history_after (too_large_if_any 3 orders) _ _ text before now status (fits_third orders orders_at)
-                (history_unread (too_large 4 text) _ _ text before now status (file_done shelf 4 history one two status answer)
-                (λ rest whole part. file_answer shelf 4 history one two text rest whole part status answer (ap (λ (t : Told). t history) still ∙ text_at)))));
-            of_size = λ bytes at. none_decides (too_large 1 bytes) status (fits bytes at);
-            of_scene = λ bytes at not_second not_third not_fourth. unread_decides shelf 4 history one two _ status answer not_fourth;
+            all = λ bytes calls orders text at calls_at orders_at text_at. history_after (too_large role.Scene bytes) _ _ text before now status (fits bytes at)
+                (history_after (too_large_if_any role.Timetable calls) _ _ text before now status (fits_second calls calls_at)
+                (history_after (too_large_if_any role.Commands orders) _ _ text before now status (fits_third orders orders_at)
+                (history_unread (too_large role.History text) _ _ text before now status (file_done shelf role.History history one two status answer)
+                (λ rest whole part. file_answer shelf role.History history one two text rest whole part status answer (ap (λ (t : Told). t history) still ∙ text_at)))));
+            of_size = λ bytes at. none_decides (too_large role.Scene bytes) status (fits bytes at);
+            of_scene = λ bytes at not_second not_third not_fourth. unread_decides shelf role.History history one two _ status answer not_fourth;
           }
 
       -- all were
-      pub all_files : (history_read : List ℕ) → ((text : List ℕ) → told history ≡ Some text → history_read ≡ text) → too_large 4 history_read ≡ None
+      pub all_files : (history_read : List ℕ) → ((text : List ℕ) → told history ≡ Some text → history_read ≡ text) → too_large role.History history_read ≡ None
           → AnswersHistory (input_refusal scene_read timetable_read commands_read (names_of deck)) (input_in scene_read timetable_read commands_read (names_of deck)) history_read before now status
-          → AnswersCheck scene timetable commands history deck told before now status
+          → AnswersCheck scenario history deck told before now status
       all_files history_read history_is history_fits answer = record {
         all = λ bytes calls orders text at calls_at orders_at text_at.
             let Answer : List ℕ → Option (List ℕ) → Option (List ℕ) → List ℕ → Type 0 = λ b c o h.
@@ -271,12 +274,12 @@ module _ (told : Told) (scene timetable commands history : List ℕ) (deck : Lis
             (subst (λ c. Answer scene_read c orders text) (timetable_is calls calls_at)
             (subst (λ o. Answer scene_read timetable_read o text) (commands_is orders orders_at)
             (subst (λ h. Answer scene_read timetable_read commands_read h) (history_is text text_at)
-            (history_after (too_large 1 scene_read) _ _ history_read before now status scene_fits
-            (history_after (too_large_if_any 2 timetable_read) _ _ history_read before now status timetable_fits
-            (history_after (too_large_if_any 3 commands_read) _ _ history_read before now status commands_fits
-            (history_after (too_large 4 history_read) _ _ history_read before now status history_fits answer)))))));
-        of_size = λ bytes at. none_decides (too_large 1 bytes) status (fits bytes at);
-        of_scene = λ bytes at not_second not_third not_fourth. subst (λ xs. Decides (or_else (too_large 1 xs) (plant_refusal xs)) status) (scene_is bytes at)
+            (history_after (too_large role.Scene scene_read) _ _ history_read before now status scene_fits
+            (history_after (too_large_if_any role.Timetable timetable_read) _ _ history_read before now status timetable_fits
+            (history_after (too_large_if_any role.Commands commands_read) _ _ history_read before now status commands_fits
+            (history_after (too_large role.History history_read) _ _ history_read before now status history_fits answer)))))));
+        of_size = λ bytes at. none_decides (too_large role.Scene bytes) status (fits bytes at);
+        of_scene = λ bytes at not_second not_third not_fourth. subst (λ xs. Decides (or_else (too_large role.Scene xs) (plant_refusal xs)) status) (scene_is bytes at)
             (subst (λ (o : Option Refusal). Decides (or_else o (plant_refusal scene_read)) status) (sym scene_fits) (of_plant (plant_refusal scene_read) _ status answer.of_first));
       }
         where

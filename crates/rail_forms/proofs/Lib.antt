@@ -11,7 +11,6 @@ mod Lists
 mod Answers
 mod TwoFiles
 mod CheckAnswers
-mod Numbers
 mod Parts
 mod Reading
 mod ScenarioAnswers

@@ -10,10 +10,10 @@ use Rattle.rail_rules.proofs.CallerLemmas.{apart_at}
 use Rattle.rail_place.specs.Overlaps.{IsOverlap}
 use Rattle.rail_place.specs.Tables.{moves_in, MoveLists}
 use Rattle.rail_place.proofs.CallerLemmas.{holder_listed, state_apart}
-use Rattle.rail_command.specs.Lines.{lines_of}
+use Rattle.rail_text.specs.Lines.{lines_of}
 use Rattle.rail_words.specs.Lists.{last_setting, list_line_refusal, listed_in, places_test}
 use Rattle.rail_words.specs.ListAnswers.{ReadList, read_of}
-use Rattle.rail_forms.specs.Names.{names_of}
+use Rattle.rail_text.specs.Names.{names_of}
 use Rattle.rail_forms.specs.Plays.{list_refusal, shared_at}
 
 -- where two trains hold one section the state is none

@@ -25,7 +25,7 @@ use Rattle.rail_stairs.specs.Noted.{AreNoted, IsNoted}
 use Rattle.rail_stairs.specs.Stairways.{ended_at, ended_by, stairway}
 use Rattle.rail_stairs.specs.StairsTexts.{stairs_text}
 use Rattle.rail_forms.specs.Capacity.{IsCapacityText, capacity_text, line_of}
-use Rattle.rail_forms.specs.Names.{NameLists, names_of}
+use Rattle.rail_text.specs.Names.{NameLists, names_of}
 use Rattle.rail_forms.specs.Noted.{IsNotedRun, ReportsRun}
 use Rattle.rail_forms.specs.Reports.{IsReportText}
 use Rattle.rail_forms.specs.Runs.{IsFinished, IsRunWithin}
@@ -43,6 +43,14 @@ some_end input front finished =
     let ended : ended_at front ≡ Some finished.last.entry.at = ap ended_at finished.is_last
     ∙ ap (λ (what : What). cond (is_end what) (Some finished.last.entry.at) (ended_at finished.before)) finished.is_end in
     subst (λ (o : Option ℕ). IsSome o) (sym ended) refl
+
+-- the intervals that were noted, open ones ended at the time that was noted of the end line
+pub noted_intervals : (plant : Plant) (stairs : Stairs) (noted intervals : List Interval) (ended : ℕ)
+    → ((front : Front) → AreNoted plant front stairs → noted ≡ stairway plant front) → stairs.ended ≡ Some ended → intervals ≡ map (ended_by ended) noted
+    → (front : Front) → AreNoted plant front stairs → intervals ≡ map (ended_by (unwrap_or (ended_at front) 0)) (stairway plant front)
+noted_intervals plant stairs noted intervals ended are at is front h =
+    let time : ended ≡ unwrap_or (ended_at front) 0 = ap (λ (o : Option ℕ). unwrap_or o 0) (sym at ∙ h.ended) in
+    is ∙ (λ k. map (ended_by (time k)) (are front h k))
 
 -- what was noted of the stairway of a run
 module _ (input : Input) (seats : List Seat) (stairs : Stairs) (plant : Plant) (is : plant ≡ input.plant) (noted : IsNotedRun (λ i f. AreNoted i.plant f stairs) input seats) where

@@ -5,7 +5,7 @@ use Rattle.rail_base.specs.declared.refusals.Fault.{Fault}
 use Rattle.rail_base.specs.declared.refusals.Fault.TheVariants as fault
 use Rattle.rail_base.proofs.CallerLemmas.{AreOfBytes, first_of_bytes, of_both}
 use Rattle.rail_rules.specs.Moves.{Moves}
-use Rattle.rail_command.specs.Lines.{Line, lines_of}
+use Rattle.rail_text.specs.Lines.{Line, lines_of}
 use Rattle.rail_input.specs.Inputs.{refuses_file}
 use Rattle.rail_words.specs.Lists.{line_tests, lines_tests, list_line_refusal, some_moves, words_tests}
 use Rattle.rail_forms.specs.Answers.{status_of}

@@ -12,8 +12,8 @@ use Rattle.std.proofs.lemmas.Option.{none-some}
 use Rattle.rail_base.specs.NameForms.{is_name, same_name}
 use Rattle.rail_base.specs.declared.refusals.Reason.TheVariants.{Repeated, Unknown}
 use Rattle.rail_base.specs.declared.refusals.Refusal.{Refusal}
-use Rattle.rail_command.proofs.CallerLemmas.{found_at}
-use Rattle.rail_command.specs.Lines.{number_of_name}
+use Rattle.rail_text.proofs.CallerLemmas.{found_at}
+use Rattle.rail_text.specs.Lines.{number_of_name}
 use Rattle.rail_rules.specs.Numbers.{or_else}
 use Rattle.rail_forms.specs.Capacity.{piece_refusal, piece_refused, pieces_refusal, section_named, sections_on}
 

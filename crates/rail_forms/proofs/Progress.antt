@@ -1,21 +1,24 @@
--- What is written of a run so far.
-use Rattle.std.proofs.Common.{◌≡◌, ℕ, ◌+◌, ◌*◌, ◌≤◌, true, List, [], ◌∷◌, length, Option, refl, ap, ◌∙◌, subst, sym}
+-- What is noted of a run so far, and what its next line is.
+use Rattle.std.proofs.Common.{◌≡◌, ℕ, ◌+◌, ◌*◌, ◌≤◌, true, List, [], ◌∷◌, length, refl, ap, ◌∙◌, subst, sym, arith}
 use Rattle.std.proofs.lemmas.Bool.{and_parts, and_from, eqb-true}
 use Rattle.std.proofs.lemmas.List.{nil_from_length}
+use Rattle.rail_base.specs.declared.history.Entry.{Entry}
 use Rattle.rail_base.specs.declared.history.Note.TheVariants.{Pulled, Appended, Fresh}
 use Rattle.rail_base.specs.declared.history.What.{What}
 use Rattle.rail_base.specs.declared.history.What.TheVariants.{Free, Arrive, Enter, Out, Ready, Told, Untold, Admit, Hold, End}
 use Rattle.rail_history.specs.Lines.{brought, line_of}
+use Rattle.rail_io.specs.FaultCounts.{Rose}
 use Rattle.rail_io.specs.Writes.{Adds, AddsPrefix}
-use Rattle.rail_io.proofs.CallerLemmas.{Adds-same, Adds-append, AddsPrefix-append}
+use Rattle.rail_io.specs.declared.sink.Sink.{Ghosts}
+use Rattle.rail_io.proofs.CallerLemmas.{Adds-append, AddsPrefix-append}
 use Rattle.rail_rules.specs.Accepted.{is_accepted_input}
 use Rattle.rail_rules.specs.Fronts.{Front, Line, has_ended}
-use Rattle.rail_rules.specs.Lawful.{is_bare, is_lawful}
+use Rattle.rail_rules.specs.Lawful.{is_bare}
 use Rattle.rail_rules.specs.Plant.{Plant, bound, trains}
 use Rattle.rail_rules.specs.RunHistories.{Seat, is_run, is_run_history}
-use Rattle.rail_rules.specs.Texts.{text, line_text}
+use Rattle.rail_rules.specs.Texts.{line_text}
 use Rattle.rail_rules.specs.Orders.{Input}
-use Rattle.rail_policy.specs.Desks.{Table}
+use Rattle.rail_policy.specs.Desks.{Table, run_seats}
 use Rattle.rail_ledger.specs.declared.ledger.Ledger.{Ledger}
 use Rattle.rail_engine.specs.Engines.{StandsFor}
 use Rattle.rail_rules.specs.Writable.{is_writable}
@@ -28,22 +31,22 @@ use Rattle.rail_laws_run.proofs.CallerLemmas.{run_lawful}
 use Rattle.rail_laws_text.proofs.CallerLemmas.{line_writable}
 use Rattle.rail_ledger.specs.Inputs.{input_in}
 use Rattle.rail_ledger.specs.declared.input.RunInput.{RunInput}
-use Rattle.rail_forms.specs.Noted.{IsNext, IsNotedRun}
-use Rattle.rail_forms.specs.Runs.{IsRunWithin, RunsInput, RunsInputInPart}
+use Rattle.rail_forms.specs.Begun.{IsAtStart}
+use Rattle.rail_forms.specs.Noted.{IsCutRun, IsNext, IsNotedRun}
+use Rattle.rail_forms.specs.Runs.{IsRunWithin}
+use Rattle.rail_forms.specs.Written.{AreWritten, IsWrittenInPart}
 use Rattle.rail_forms.proofs.LineBounds.{lines_at_most}
 use Rattle.rail_forms.proofs.Endings.{finished_run}
 use Rattle.rail_forms.proofs.Histories.{only_run, safe_run, timely_run}
 
--- the engine stands for a front of so many lines, whose text was added
-pub record IsSoFar (count : ℕ) (seats : List Seat) (engine : Ledger) (desk : Table) (before now : Option (List ℕ)) : Type 0 where
-  pub front : Front
-  pub stands : StandsFor seats front engine desk
-  pub long : length front ≡ count
-  pub adds : Adds before now (text engine.input.plant front)
-
--- before the first line
-pub none_so_far : (seats : List Seat) (engine : Ledger) (desk : Table) (written : Option (List ℕ)) → StandsFor seats [] engine desk → IsSoFar 0 seats engine desk written written
-none_so_far seats engine desk written stands = record { front = []; stands = stands; long = refl; adds = Adds-same written }
+-- an engine that was begun with a desk is at the start of its run
+pub at_start : (ledger : Ledger) (table first : Table) → table ≡ first → StandsFor (run_seats first) [] ledger table → are_marks (run_seats first) ≡ true → IsAtStart ledger table
+at_start ledger table first same stands marks =
+    let seats = sym (ap run_seats same) in
+    record {
+      stands = subst (λ (s : List Seat). StandsFor s [] ledger table) seats stands;
+      marks = subst (λ (s : List Seat). are_marks s ≡ true) seats marks;
+    }
 
 bare_brings : (line : Line) (what : What) → is_bare line ≡ true → brought what line.trains ≡ line.trains
 bare_brings line what bare =
@@ -73,45 +76,41 @@ brings input front line (by_admission t m Appended h) = bare_brings line line.en
 brings input front line (by_hold t m why h) = bare_brings line line.entry.what h.bare
 brings input front line (by_end h) = ap (λ what. brought what line.trains) h.what
 
--- one line more of a run: it is handed on with the plant and the list that belongs to it
-module _ (input : Input) (seats : List Seat) (ok : is_accepted_input input ≡ true) (front : Front) (line : Line) (run : is_run input seats (line ∷ front) ≡ true)
-    (plant : Plant) (list : List ℕ) (is_plant : plant ≡ input.plant) (is_list : list ≡ line.trains) where
-  lawful : is_lawful input (line ∷ front) ≡ true
-  lawful = run_lawful input seats (line ∷ front) run
-
+-- one line more of a history: it is handed on with the plant and the list that belongs to it
+module _ (input : Input) (front : Front) (line : Line) (plant : Plant) (entry : Entry) (list : List ℕ) (next : IsNext input front line plant entry list) where
   -- the line that is handed on is the one that was given
-  same_line : line_of line.entry list ≡ line
+  same_line : line_of entry list ≡ line
   same_line =
-      let all = brings input front line (lawful_last input line front lawful) in
-      ap (line_of line.entry) is_list ∙ (λ i. record { entry = line.entry; trains = all i })
+      let all = brings input front line (lawful_last input line front next.lawful) in
+      ap (λ (e : Entry). line_of e list) (sym next.entry_is) ∙ ap (line_of line.entry) next.list_is ∙ (λ i. record { entry = line.entry; trains = all i })
 
-  same_text : line_text plant (line_of line.entry list) ≡ line_text input.plant line
-  same_text = ap (λ (p : Plant). line_text p (line_of line.entry list)) is_plant ∙ ap (line_text input.plant) same_line
+  same_text : line_text plant (line_of entry list) ≡ line_text input.plant line
+  same_text = ap (λ (p : Plant). line_text p (line_of entry list)) next.plant_is ∙ ap (line_text input.plant) same_line
 
   -- it can be written
-  pub next_writable : is_writable plant (line_of line.entry list) ≡ true
+  pub next_writable : is_writable plant (line_of entry list) ≡ true
   next_writable =
-      subst (λ (p : Plant). is_writable p (line_of line.entry list) ≡ true) (sym is_plant)
+      subst (λ (p : Plant). is_writable p (line_of entry list) ≡ true) (sym next.plant_is)
       (subst (λ (l : Line). is_writable input.plant l ≡ true) (sym same_line)
-      (line_writable input ok line front lawful))
+      (line_writable input next.accepted line front next.lawful))
 
   -- it was written
-  pub next_added : (before now then : Option (List ℕ)) → Adds before now (text input.plant front) → Adds now then (line_text plant (line_of line.entry list))
-      → Adds before then (text input.plant (line ∷ front))
-  next_added before now then so_far more = Adds-append so_far (subst (Adds now then) same_text more)
+  pub next_written : {O : Type 0} (sink : Ghosts O) (first old new : O) → AreWritten sink input front first old
+      → Adds (sink.written old) (sink.written new) (line_text plant (line_of entry list)) → sink.faults old ≤ sink.faults new
+      → AreWritten sink input (line ∷ front) first new
+  next_written sink first old new so_far more never_fall = record {
+    adds = Adds-append so_far.adds (subst (Adds (sink.written old) (sink.written new)) same_text more);
+    faults_never_fall = omega (arith, so_far.faults_never_fall, never_fall);
+  }
 
   -- it was not written to its end
-  pub in_part : (before now then : Option (List ℕ)) → Adds before now (text input.plant front) → AddsPrefix now then (line_text plant (line_of line.entry list))
-      → RunsInputInPart input seats before then
-  in_part before now then so_far more = record {
-    front = line ∷ front;
-    run = record {
-      accepted = ok;
-      run = run;
-      safe = safe_run input seats ok (line ∷ front) run;
-      timely = timely_run input seats ok (line ∷ front) run;
-    };
-    adds = AddsPrefix-append so_far (subst (AddsPrefix now then) same_text more);
+  pub next_cut : {O : Type 0} (sink : Ghosts O) (first old new : O) → AreWritten sink input front first old
+      → AddsPrefix (sink.written old) (sink.written new) (line_text plant (line_of entry list)) → Rose (sink.faults old) (sink.faults new) → sink.faults old ≤ sink.faults new
+      → IsWrittenInPart sink input (line ∷ front) first new
+  next_cut sink first old new so_far more rose never_fall = record {
+    adds = AddsPrefix-append so_far.adds (subst (AddsPrefix (sink.written old) (sink.written new)) same_text more);
+    rose = λ other. let rises = rose other in omega (arith, so_far.faults_never_fall, rises);
+    faults_never_fall = omega (arith, so_far.faults_never_fall, never_fall);
   }
 
 -- a run that has ended is a run history
@@ -124,11 +123,6 @@ run_ended input seats ok marks front run ended =
       timely = timely_run input seats ok front run;
       only = only_run input seats ok marks front history;
     }
-
--- all lines were written
-pub all_written : (input : Input) (seats : List Seat) → is_accepted_input input ≡ true → are_marks seats ≡ true → (front : Front) → is_run input seats front ≡ true → has_ended front ≡ true
-    → (before now : Option (List ℕ)) → Adds before now (text input.plant front) → RunsInput input seats before now
-all_written input seats ok marks front run ended before now adds = record { front = front; run = run_ended input seats ok marks front run ended; adds = adds }
 
 -- the engine stands for a front of so many lines, which were noted
 pub record IsNotedSoFar (are_noted : Input → Front → Type 0) (count : ℕ) (seats : List Seat) (engine : Ledger) (desk : Table) : Type 0 where
@@ -146,15 +140,34 @@ noted_ended are_noted count seats engine desk first is marks so_far ended = subs
   noted = so_far.noted;
 })
 
--- the next line may be noted
-pub next_noted : (seats : List Seat) (front : Front) (line : Line) (engine : Ledger) (desk : Table) (plant : Plant) → StandsFor seats (line ∷ front) engine desk → plant ≡ engine.input.plant
-    → IsNext (input_in engine.input) front line plant line.entry
-next_noted seats front line engine desk plant stands is = record {
-  accepted = stands.at.accepted;
-  lawful = run_lawful (input_in engine.input) seats (line ∷ front) stands.run.of_run;
-  plant_is = is;
-  entry_is = refl;
-}
+-- where a line of the run cannot be noted, those before it were, and that one in part
+pub noted_cut : (is_cut : Input → Front → Type 0) (seats : List Seat) (front : Front) (engine : Ledger) (desk : Table) (first : RunInput) → engine.input ≡ first
+    → StandsFor seats front engine desk → is_cut (input_in engine.input) front → IsCutRun is_cut (input_in first) seats
+noted_cut is_cut seats front engine desk first is stands cut =
+    let input = input_in engine.input in
+    let ok = stands.at.accepted in
+    let run = stands.run.of_run in
+    subst (λ (input : RunInput). IsCutRun is_cut (input_in input) seats) is (record {
+      front = front;
+      run = record { accepted = ok; run = run; safe = safe_run input seats ok front run; timely = timely_run input seats ok front run };
+      cut = cut;
+    })
+
+-- the next line follows those that were noted
+pub next_noted : (are_noted : Input → Front → Type 0) (count : ℕ) (seats : List Seat) (before : Ledger) (desk : Table)
+    (so_far : IsNotedSoFar are_noted count seats before desk) (now : Ledger) (after : Table) (line : Line) (plant : Plant) (list : List ℕ)
+    → now.input ≡ before.input → StandsFor seats (line ∷ so_far.front) now after → plant ≡ now.input.plant → list ≡ line.trains
+    → (IsNext (input_in now.input) so_far.front line plant line.entry list) × are_noted (input_in now.input) so_far.front
+next_noted are_noted count seats before desk so_far now after line plant list same stands is list_is = (
+  record {
+    accepted = stands.at.accepted;
+    lawful = run_lawful (input_in now.input) seats (line ∷ so_far.front) stands.run.of_run;
+    plant_is = is;
+    entry_is = refl;
+    list_is = list_is;
+  },
+  subst (λ (input : RunInput). are_noted (input_in input) so_far.front) (sym same) so_far.noted,
+)
 
 -- there are at most so many lines
 pub few_lines : (input : Input) (seats : List Seat) → is_accepted_input input ≡ true → (front : Front) → is_run input seats front ≡ true

@@ -1,5 +1,5 @@
 -- What is answered to a scenario, put together from what its files answer.
-use Rattle.std.proofs.Common.{Bor, suc, ◌≡◌, ◌≢◌, ℕ, ◌+◌, ◌≤◌, Bool, true, ◌&&◌, nat_lt, List, [], ◌∷◌, ◌++◌, length, map, Option, Some, None, refl, sym, ap, ◌∙◌, subst}
+use Rattle.std.proofs.Common.{Bor, ◌≡◌, ◌≢◌, ℕ, ◌≤◌, Bool, true, ◌&&◌, nat_lt, List, [], ◌∷◌, ◌++◌, length, map, Option, Some, None, refl, sym, ap, ◌∙◌, subst}
 use Rattle.std.specs.Option.{option_copied, option_map}
 use Rattle.std.proofs.lemmas.Option.{none-some, same_Some}
 use Rattle.rail_base.specs.Refusals.{AnswersFirst}
@@ -26,10 +26,14 @@ use Rattle.rail_forms.specs.declared.status.Status.TheVariants.{Refused}
 use Rattle.rail_forms.specs.Answers.{Decides, IsAnswer, Told, status_of}
 use Rattle.rail_forms.specs.declared.scenario.Purpose.{Purpose}
 use Rattle.rail_forms.specs.declared.scenario.Purpose.TheVariants.{Capacity, History, Report, Stairs}
-use Rattle.rail_forms.specs.Files.{IsFileAnswer, IsNamedAnswer, named_file, told_of, too_large, too_large_if_any, too_many_bytes}
+use Rattle.rail_words.specs.Files.{File, file_as}
+use Rattle.rail_words.specs.Forms.{Scenario}
+use Rattle.rail_words.specs.declared.files.Role.{Role}
+use Rattle.rail_words.specs.declared.files.Role.TheVariants as role
+use Rattle.rail_forms.specs.Files.{IsFileAnswer, IsNamedAnswer, told_of, too_large, too_large_if_any, too_many_bytes}
 use Rattle.rail_forms.specs.Promises.{KeepsPromise}
 use Rattle.rail_forms.specs.Purposes.{AnswersPurpose, late_refusal, part_of, refusal_of, whole_of}
-use Rattle.rail_forms.specs.Scenarios.{Scenario, scenario_refusal}
+use Rattle.rail_forms.specs.Scenarios.{scenario_refusal}
 use Rattle.rail_forms.proofs.Answers.{answer_after, answer_decides, file_answer, first_decides, none_decides, unread_decides}
 use Rattle.rail_forms.proofs.Reading.{AreFit, keeps_failed}
 
@@ -123,91 +127,98 @@ late_answers purpose first input whole part status none answer =
     subst (λ (o : Option Refusal). IsAnswer o whole part status) (sym (refusal_split purpose first input)) (answer_after first (late_refusal purpose input) whole part status none answer)
 
 -- what is answered where a file that may be missing was not read
-pub named_answer : {S : Type 0} (shelf : Ghosts S) (number : ℕ) (file : Option (List ℕ)) (before now : S) (content : Option (List ℕ)) (later : Option Refusal) (whole part : Type 0) (status : Status)
-    → IsNamedAnswer shelf number file before now status → told_of (shelf.told before) file ≡ Some content
-    → IsAnswer (or_else (too_large_if_any number content) later) whole part status
-named_answer shelf number None before now content later whole part status answer told = absurd answer
-named_answer shelf number (Some file) before now content later whole part status answer told = by (shelf.told before file) refl told
+pub named_answer : {S : Type 0} (shelf : Ghosts S) (role : Role) (file : Option (List ℕ)) (before now : S) (content : Option (List ℕ)) (later : Option Refusal) (whole part : Type 0) (status : Status)
+    → IsNamedAnswer shelf role file before now status → told_of (shelf.told before) file ≡ Some content
+    → IsAnswer (or_else (too_large_if_any role content) later) whole part status
+named_answer shelf role None before now content later whole part status answer told = absurd answer
+named_answer shelf role (Some file) before now content later whole part status answer told = by (shelf.told before file) refl told
   where
     by : (o : Option (List ℕ)) → shelf.told before file ≡ o → option_map (λ bytes. Some bytes) o ≡ Some content
-        → IsAnswer (or_else (too_large_if_any number content) later) whole part status
+        → IsAnswer (or_else (too_large_if_any role content) later) whole part status
     by None is none = absurd (none-some content none)
-    by (Some bytes) is some = subst (λ (c : Option (List ℕ)). IsAnswer (or_else (too_large_if_any number c) later) whole part status) (same_Some (Some bytes) content some)
-        (file_answer shelf number file before now bytes later whole part status answer is)
+    by (Some bytes) is some = subst (λ (c : Option (List ℕ)). IsAnswer (or_else (too_large_if_any role c) later) whole part status) (same_Some (Some bytes) content some)
+        (file_answer shelf role file before now bytes later whole part status answer is)
 
 -- where it was not for its size, nothing else is decided against
-pub named_decides : {S : Type 0} (shelf : Ghosts S) (number : ℕ) (file : Option (List ℕ)) (before now : S) (first : Option Refusal) (status : Status)
-    → IsNamedAnswer shelf number file before now status → status ≢ Refused (too_many_bytes number) → Decides first status
-named_decides shelf number None before now first status answer other = absurd answer
-named_decides shelf number (Some file) before now first status answer other = unread_decides shelf number file before now first status answer other
+pub named_decides : {S : Type 0} (shelf : Ghosts S) (role : Role) (file : Option (List ℕ)) (before now : S) (first : Option Refusal) (status : Status)
+    → IsNamedAnswer shelf role file before now status → status ≢ Refused (too_many_bytes role) → Decides first status
+named_decides shelf role None before now first status answer other = absurd answer
+named_decides shelf role (Some file) before now first status answer other = unread_decides shelf role file before now first status answer other
 
 -- what is promised where it was not read
-pub keeps_unnamed : {S O : Type 0} (shelf : Ghosts S) (sink : SinkGhosts O) (first later : List (Option (List ℕ))) (file : Option (List ℕ)) (before between now : S) (out : O) (status : Status)
-    → AreFit (shelf.told before) 1 first → shelf.told between ≡ shelf.told before → shelf.faults before ≤ shelf.faults between
+pub keeps_unnamed : {S O : Type 0} (shelf : Ghosts S) (sink : SinkGhosts O) (first later : List File) (role : Role) (file : Option (List ℕ)) (before between now : S) (out : O) (status : Status)
+    → AreFit (shelf.told before) first → shelf.told between ≡ shelf.told before → shelf.faults before ≤ shelf.faults between
     → shelf.told now ≡ shelf.told between → shelf.faults between ≤ shelf.faults now
-    → IsNamedAnswer shelf (1 + length first) file between now status → KeepsPromise shelf sink (first ++ file ∷ later) before now out out status
-keeps_unnamed shelf sink first later None before between now out status fit still faults_still stays rise answer = absurd answer
-keeps_unnamed shelf sink first later (Some file) before between now out status fit still faults_still stays rise answer =
-    keeps_failed shelf first later file before between now fit still faults_still stays rise sink out status answer
+    → IsNamedAnswer shelf role file between now status → KeepsPromise shelf sink (first ++ file_as role file ∷ later) before now out out status
+keeps_unnamed shelf sink first later role None before between now out status fit still faults_still stays rise answer = absurd answer
+keeps_unnamed shelf sink first later role (Some file) before between now out status fit still faults_still stays rise answer =
+    keeps_failed shelf first later role file before between now fit still faults_still stays rise sink out status answer
+
+-- a file that was read fits
+pub fit_read : (told : Told) (role : Role) (file : List ℕ) (later : List File) (read : List ℕ)
+    → ((bytes : List ℕ) → told file ≡ Some bytes → read ≡ bytes) → too_large role read ≡ None
+    → AreFit told later → AreFit told (file_as role (Some file) ∷ later)
+fit_read told role file later read is fits behind =
+    (λ name bytes named at. ap (too_large role) (sym (is bytes (ap told (same_Some file name named) ∙ at))) ∙ fits, behind)
 
 -- a file that may be missing fits where its bytes were read
-pub fit_named : (told : Told) (number : ℕ) (file : Option (List ℕ)) (later : List (Option (List ℕ))) (read : Option (List ℕ))
-    → ((content : Option (List ℕ)) → told_of told file ≡ Some content → read ≡ content) → too_large_if_any number read ≡ None
-    → AreFit told (suc number) later → AreFit told number (file ∷ later)
-fit_named told number None later read is fits behind = behind
-fit_named told number (Some file) later read is fits behind =
-    (λ bytes at. ap (too_large_if_any number) (sym (is (Some bytes) (ap (option_map (λ b. Some b)) at))) ∙ fits, behind)
+pub fit_named : (told : Told) (role : Role) (file : Option (List ℕ)) (later : List File) (read : Option (List ℕ))
+    → ((content : Option (List ℕ)) → told_of told file ≡ Some content → read ≡ content) → too_large_if_any role read ≡ None
+    → AreFit told later → AreFit told (file_as role file ∷ later)
+fit_named told role None later read is fits behind = (λ name bytes named at. absurd (none-some name named), behind)
+fit_named told role (Some file) later read is fits behind =
+    (λ name bytes named at. ap (too_large_if_any role) (sym (is (Some bytes) (ap (option_map (λ b. Some b)) (ap told (same_Some file name named) ∙ at)))) ∙ fits, behind)
 
 -- the scene was not read
 pub no_scene : (purpose : Purpose) (scenario : Scenario) (deck : List DeskSeat) (told : Told) (before now : Option (List ℕ)) {S : Type 0} (shelf : Ghosts S) (one two : S) (status why : Status)
-    → status ≡ why → shelf.told one ≡ told → IsFileAnswer shelf 1 scenario.scene one two why → AnswersPurpose purpose scenario deck told before now status
+    → status ≡ why → shelf.told one ≡ told → IsFileAnswer shelf role.Scene scenario.scene one two why → AnswersPurpose purpose scenario deck told before now status
 no_scene purpose scenario deck told before now shelf one two status why same still why_answer =
-    let answer : IsFileAnswer shelf 1 scenario.scene one two status = subst (IsFileAnswer shelf 1 scenario.scene one two) (sym same) why_answer in
+    let answer : IsFileAnswer shelf role.Scene scenario.scene one two status = subst (IsFileAnswer shelf role.Scene scenario.scene one two) (sym same) why_answer in
     let at_one = λ (bytes : List ℕ) (at : told scenario.scene ≡ Some bytes). ap (λ (t : Told). t scenario.scene) still ∙ at in
     record {
-      all = λ bytes calls orders at calls_at orders_at. file_answer shelf 1 scenario.scene one two bytes _ _ _ status answer (at_one bytes at);
-      of_size = λ bytes at. first_decides (too_large 1 bytes) None (Unit {0}) (Unit {0}) status
-          (file_answer shelf 1 scenario.scene one two bytes None (Unit {0}) (Unit {0}) status answer (at_one bytes at));
+      all = λ bytes calls orders at calls_at orders_at. file_answer shelf role.Scene scenario.scene one two bytes _ _ _ status answer (at_one bytes at);
+      of_size = λ bytes at. first_decides (too_large role.Scene bytes) None (Unit {0}) (Unit {0}) status
+          (file_answer shelf role.Scene scenario.scene one two bytes None (Unit {0}) (Unit {0}) status answer (at_one bytes at));
       of_scene = λ bytes at not_timetable not_commands. answer_decides _ (Unit {0}) (Unit {0}) status
-          (file_answer shelf 1 scenario.scene one two bytes (plant_refusal bytes) (Unit {0}) (Unit {0}) status answer (at_one bytes at));
+          (file_answer shelf role.Scene scenario.scene one two bytes (plant_refusal bytes) (Unit {0}) (Unit {0}) status answer (at_one bytes at));
     }
 
 -- it was read
 module _ (purpose : Purpose) (scenario : Scenario) (deck : List DeskSeat) (told : Told) (before now : Option (List ℕ)) (status : Status) (scene_read : List ℕ)
-    (scene_is : (bytes : List ℕ) → told scenario.scene ≡ Some bytes → scene_read ≡ bytes) (scene_fits : too_large 1 scene_read ≡ None) where
-  fits : (bytes : List ℕ) → told scenario.scene ≡ Some bytes → too_large 1 bytes ≡ None
-  fits bytes at = ap (too_large 1) (sym (scene_is bytes at)) ∙ scene_fits
+    (scene_is : (bytes : List ℕ) → told scenario.scene ≡ Some bytes → scene_read ≡ bytes) (scene_fits : too_large role.Scene scene_read ≡ None) where
+  fits : (bytes : List ℕ) → told scenario.scene ≡ Some bytes → too_large role.Scene bytes ≡ None
+  fits bytes at = ap (too_large role.Scene) (sym (scene_is bytes at)) ∙ scene_fits
 
   -- but not the timetable
-  pub no_timetable : {S : Type 0} (shelf : Ghosts S) (one two : S) (why : Status) → status ≡ why → shelf.told one ≡ told → IsNamedAnswer shelf 2 (named_file scenario.timetable) one two why
+  pub no_timetable : {S : Type 0} (shelf : Ghosts S) (one two : S) (why : Status) → status ≡ why → shelf.told one ≡ told → IsNamedAnswer shelf role.Timetable scenario.timetable one two why
       → AnswersPurpose purpose scenario deck told before now status
   no_timetable shelf one two why same still why_answer =
-      let answer : IsNamedAnswer shelf 2 (named_file scenario.timetable) one two status = subst (IsNamedAnswer shelf 2 (named_file scenario.timetable) one two) (sym same) why_answer in
+      let answer : IsNamedAnswer shelf role.Timetable scenario.timetable one two status = subst (IsNamedAnswer shelf role.Timetable scenario.timetable one two) (sym same) why_answer in
       record {
-        all = λ bytes calls orders at calls_at orders_at. answer_after (too_large 1 bytes) _ _ _ status (fits bytes at)
-            (named_answer shelf 2 (named_file scenario.timetable) one two calls _ _ _ status answer (ap (λ (t : Told). told_of t (named_file scenario.timetable)) still ∙ calls_at));
-        of_size = λ bytes at. none_decides (too_large 1 bytes) status (fits bytes at);
-        of_scene = λ bytes at not_timetable not_commands. named_decides shelf 2 (named_file scenario.timetable) one two _ status answer not_timetable;
+        all = λ bytes calls orders at calls_at orders_at. answer_after (too_large role.Scene bytes) _ _ _ status (fits bytes at)
+            (named_answer shelf role.Timetable scenario.timetable one two calls _ _ _ status answer (ap (λ (t : Told). told_of t scenario.timetable) still ∙ calls_at));
+        of_size = λ bytes at. none_decides (too_large role.Scene bytes) status (fits bytes at);
+        of_scene = λ bytes at not_timetable not_commands. named_decides shelf role.Timetable scenario.timetable one two _ status answer not_timetable;
       }
 
-  module _ (timetable_read : Option (List ℕ)) (timetable_is : (content : Option (List ℕ)) → told_of told (named_file scenario.timetable) ≡ Some content → timetable_read ≡ content)
-      (timetable_fits : too_large_if_any 2 timetable_read ≡ None) where
+  module _ (timetable_read : Option (List ℕ)) (timetable_is : (content : Option (List ℕ)) → told_of told scenario.timetable ≡ Some content → timetable_read ≡ content)
+      (timetable_fits : too_large_if_any role.Timetable timetable_read ≡ None) where
     -- nor the commands
-    pub no_commands : {S : Type 0} (shelf : Ghosts S) (one two : S) (why : Status) → status ≡ why → shelf.told one ≡ told → IsNamedAnswer shelf 3 (named_file scenario.commands) one two why
+    pub no_commands : {S : Type 0} (shelf : Ghosts S) (one two : S) (why : Status) → status ≡ why → shelf.told one ≡ told → IsNamedAnswer shelf role.Commands scenario.commands one two why
         → AnswersPurpose purpose scenario deck told before now status
     no_commands shelf one two why same still why_answer =
-        let answer : IsNamedAnswer shelf 3 (named_file scenario.commands) one two status = subst (IsNamedAnswer shelf 3 (named_file scenario.commands) one two) (sym same) why_answer in
+        let answer : IsNamedAnswer shelf role.Commands scenario.commands one two status = subst (IsNamedAnswer shelf role.Commands scenario.commands one two) (sym same) why_answer in
         record {
-          all = λ bytes calls orders at calls_at orders_at. answer_after (too_large 1 bytes) _ _ _ status (fits bytes at)
-              (answer_after (too_large_if_any 2 calls) _ _ _ status (ap (too_large_if_any 2) (sym (timetable_is calls calls_at)) ∙ timetable_fits)
-              (named_answer shelf 3 (named_file scenario.commands) one two orders _ _ _ status answer (ap (λ (t : Told). told_of t (named_file scenario.commands)) still ∙ orders_at)));
-          of_size = λ bytes at. none_decides (too_large 1 bytes) status (fits bytes at);
-          of_scene = λ bytes at not_timetable not_commands. named_decides shelf 3 (named_file scenario.commands) one two _ status answer not_commands;
+          all = λ bytes calls orders at calls_at orders_at. answer_after (too_large role.Scene bytes) _ _ _ status (fits bytes at)
+              (answer_after (too_large_if_any role.Timetable calls) _ _ _ status (ap (too_large_if_any role.Timetable) (sym (timetable_is calls calls_at)) ∙ timetable_fits)
+              (named_answer shelf role.Commands scenario.commands one two orders _ _ _ status answer (ap (λ (t : Told). told_of t scenario.commands) still ∙ orders_at)));
+          of_size = λ bytes at. none_decides (too_large role.Scene bytes) status (fits bytes at);
+          of_scene = λ bytes at not_timetable not_commands. named_decides shelf role.Commands scenario.commands one two _ status answer not_commands;
         }
 
     -- all were
-    module _ (commands_read : Option (List ℕ)) (commands_is : (content : Option (List ℕ)) → told_of told (named_file scenario.commands) ≡ Some content → commands_read ≡ content)
-        (commands_fits : too_large_if_any 3 commands_read ≡ None) where
+    module _ (commands_read : Option (List ℕ)) (commands_is : (content : Option (List ℕ)) → told_of told scenario.commands ≡ Some content → commands_read ≡ content)
+        (commands_fits : too_large_if_any role.Commands commands_read ≡ None) where
       abbrev Answers : List ℕ → Option (List ℕ) → Option (List ℕ) → Option Refusal → Type 0
       Answers b c o first = IsAnswer first (whole_of purpose before now (input_in b c o (names_of deck)) (handed_in deck)) (part_of purpose before now (input_in b c o (names_of deck)) (handed_in deck)) status
 
@@ -228,10 +239,10 @@ module _ (purpose : Purpose) (scenario : Scenario) (deck : List DeskSeat) (told 
             subst (λ b. Answer b calls orders) (scene_is bytes at)
             (subst (λ c. Answer scene_read c orders) (timetable_is calls calls_at)
             (subst (λ o. Answer scene_read timetable_read o) (commands_is orders orders_at)
-            (answer_after (too_large 1 scene_read) _ _ _ status scene_fits
-            (answer_after (too_large_if_any 2 timetable_read) _ _ _ status timetable_fits
-            (answer_after (too_large_if_any 3 commands_read) _ _ _ status commands_fits answer)))));
-        of_size = λ bytes at. none_decides (too_large 1 bytes) status (fits bytes at);
-        of_scene = λ bytes at not_timetable not_commands. subst (λ xs. Decides (or_else (too_large 1 xs) (plant_refusal xs)) status) (scene_is bytes at)
+            (answer_after (too_large role.Scene scene_read) _ _ _ status scene_fits
+            (answer_after (too_large_if_any role.Timetable timetable_read) _ _ _ status timetable_fits
+            (answer_after (too_large_if_any role.Commands commands_read) _ _ _ status commands_fits answer)))));
+        of_size = λ bytes at. none_decides (too_large role.Scene bytes) status (fits bytes at);
+        of_scene = λ bytes at not_timetable not_commands. subst (λ xs. Decides (or_else (too_large role.Scene xs) (plant_refusal xs)) status) (scene_is bytes at)
             (subst (λ (o : Option Refusal). Decides (or_else o (plant_refusal scene_read)) status) (sym scene_fits) (of_plant answer));
       }

@@ -59,9 +59,9 @@ few_lines input accepted front lawful =
     omega (arith, few, product)
 
 -- one more can be counted
-pub counts_fit : (summary : Summary) (plant : Plant) (entry : Entry) → FollowsNoted (λ input front. summary ≡ summary_of front) plant entry
+pub counts_fit : (summary : Summary) (plant : Plant) (entry : Entry) (list : List ℕ) → FollowsNoted (λ input front. summary ≡ summary_of front) plant entry list
     → (summary.moves < 2 ^ 64 - 1) × (summary.lines < 2 ^ 64 - 1) × (summary.holds < 2 ^ 64 - 1) × (summary.outs < 2 ^ 64 - 1)
-counts_fit summary plant entry follows =
+counts_fit summary plant entry list follows =
     let front = follows.front in
     let few = few_lines follows.input follows.next.accepted front (lawful_before follows.input follows.line front follows.next.lawful) in (
       omega (arith, ap (λ (s : Summary). s.moves) follows.noted, few_that is_admission front, few),
@@ -82,11 +82,11 @@ summary_told number input seats summary plant is noted X added = record {
   added = added;
 }
 
--- what is answered of the run of the same input, under the same number
-pub summary_answered : (number other : ℕ) → other ≡ number → (input made : Input) → input ≡ made → (seats handed : List Seat) → seats ≡ handed
+-- what is answered of the run of the same input
+pub summary_answered : (number : ℕ) (input made : Input) → input ≡ made → (seats handed : List Seat) → seats ≡ handed
     → (whole part : List ℕ → Type 0) (status : Status)
-    → IsAnswer None (ReportsRun (IsSummaryText other) input seats whole) (ReportsRun (IsSummaryText other) input seats part) status
+    → IsAnswer None (ReportsRun (IsSummaryText number) input seats whole) (ReportsRun (IsSummaryText number) input seats part) status
     → IsAnswer None (ReportsRun (IsSummaryText number) made handed whole) (ReportsRun (IsSummaryText number) made handed part) status
-summary_answered number other same input made is_made seats handed is_handed whole part status answer =
-    let Answers : ℕ → Input → List Seat → Type 0 = λ n i s. IsAnswer None (ReportsRun (IsSummaryText n) i s whole) (ReportsRun (IsSummaryText n) i s part) status in
-    subst (λ n. Answers n made handed) same (subst (λ i. Answers other i handed) is_made (subst (λ s. Answers other input s) is_handed answer))
+summary_answered number input made is_made seats handed is_handed whole part status answer =
+    let Answers : Input → List Seat → Type 0 = λ i s. IsAnswer None (ReportsRun (IsSummaryText number) i s whole) (ReportsRun (IsSummaryText number) i s part) status in
+    subst (λ i. Answers i handed) is_made (subst (λ s. Answers input s) is_handed answer)

@@ -2,7 +2,7 @@
 use Rattle.std.specs.Prelude.{◌≡◌, ℕ, suc, ◌/◌, ◌%◌, ◌==◌, cond, nat_le, length, List, [], ◌∷◌, ◌++◌, codes, decimal, flat_map, map, unwrap_or, Option, Some, None}
 use Rattle.std.specs.List.{filter_map, list_any, slice_split}
 use Rattle.std.specs.Option.{option_map_or}
-use Rattle.rail_base.specs.Clock.{IsLenientTime, two_digits}
+use Rattle.rail_base.specs.Clock.{two_digits}
 use Rattle.rail_base.specs.NameForms.{is_name}
 use Rattle.rail_base.specs.declared.refusals.Part.TheVariants.{Word}
 use Rattle.rail_base.specs.declared.refusals.Reason.{Reason}
@@ -14,7 +14,7 @@ use Rattle.rail_capacity.specs.declared.shifts.Tight.{Tight}
 use Rattle.rail_capacity.specs.declared.shifts.Tight.TheVariants.{After, Start}
 use Rattle.rail_capacity.specs.BlockingTimes.{taken_blocks}
 use Rattle.rail_capacity.specs.Compression.{IsCompression}
-use Rattle.rail_command.specs.Lines.{number_of_name}
+use Rattle.rail_text.specs.Lines.{number_of_name}
 use Rattle.rail_input.specs.Inputs.{section_names}
 use Rattle.rail_io.specs.Writes.{Adds, AddsPrefix}
 use Rattle.rail_policy.specs.Seats.{DeskSeat}
@@ -24,17 +24,13 @@ use Rattle.rail_rules.specs.Orders.{Input}
 use Rattle.rail_rules.specs.Plant.{Plant}
 use Rattle.rail_rules.specs.Texts.{spaced}
 use Rattle.rail_stairs.specs.Stairways.{ended_at, ended_by, stairway}
+use Rattle.rail_words.specs.Forms.{Scenario}
 use Rattle.rail_forms.specs.declared.status.Status.{Status}
 use Rattle.rail_forms.specs.declared.status.Status.TheVariants.{Refused}
 use Rattle.rail_forms.specs.Answers.{Told}
-use Rattle.rail_forms.specs.Names.{NameLists, names_of, section_name, train_name}
+use Rattle.rail_text.specs.Names.{NameLists, names_of, section_name, train_name}
 use Rattle.rail_forms.specs.Noted.{ReportsRun}
-use Rattle.rail_forms.specs.Scenarios.{AnswersScenario, OnScenario, Scenario}
-
--- the two words spell the times of the window
-pub record IsSpelled (from to : List ℕ) (window : Window) : Type 0 where
-  pub first : IsLenientTime from window.from
-  pub last : IsLenientTime to window.to
+use Rattle.rail_forms.specs.Scenarios.{AnswersScenario}
 
 -- the word for the line is the empty one
 abbrev pub line_empty : Refusal
@@ -128,15 +124,13 @@ AnswersStudy line window scenario deck told before now status = AnswersScenario 
     (λ input seats. ReportsRun (IsCapacityText line window) input seats (Adds before now))
     (λ input seats. ReportsRun (IsCapacityText line window) input seats (AddsPrefix before now)) scenario deck told status
 
--- what is answered to a line, two times and the words of a scenario
-pub record AnswersCapacity (line from to : List ℕ) (words : List (List ℕ)) (deck : List DeskSeat) (told : Told)
+-- what is answered to a line, a window and a scenario
+pub record AnswersCapacity (line : List ℕ) (window : Window) (scenario : Scenario) (deck : List DeskSeat) (told : Told)
     (before now : Option (List ℕ)) (status : Status) : Type 0 where
   -- the words are refused before any file
-  pub of_words : (window : Window) → IsSpelled from to window → (refusal : Refusal)
-      → study_refusal line window ≡ Some refusal → status ≡ Refused refusal
-  pub of_run : (window : Window) → IsSpelled from to window → study_refusal line window ≡ None
-      → OnScenario words (λ scenario. AnswersStudy line window scenario deck told before now status)
+  pub of_words : (refusal : Refusal) → study_refusal line window ≡ Some refusal → status ≡ Refused refusal
+  pub of_run : study_refusal line window ≡ None → AnswersStudy line window scenario deck told before now status
 
--- the words are those of a capacity study that is refused before any file
-abbrev pub IsEmptyStudy : List ℕ → List ℕ → List ℕ → Type 0
-IsEmptyStudy line from to = (window : Window) × IsSpelled from to window × ((refusal : Refusal) × (study_refusal line window ≡ Some refusal))
+-- a study of the line in the window is refused before any file
+abbrev pub IsEmptyStudy : List ℕ → Window → Type 0
+IsEmptyStudy line window = (refusal : Refusal) × (study_refusal line window ≡ Some refusal)

@@ -12,10 +12,12 @@ use Rattle.rail_rules.specs.Lawful.{is_complete}
 use Rattle.rail_rules.specs.Numbers.{or_else}
 use Rattle.rail_rules.specs.Orders.{Input}
 use Rattle.rail_rules.specs.Texts.{behind}
+use Rattle.rail_words.specs.Forms.{Scenario}
+use Rattle.rail_words.specs.declared.files.Role.TheVariants as role
 use Rattle.rail_forms.specs.declared.status.Status.{Status}
 use Rattle.rail_forms.specs.declared.status.Status.TheVariants.{CheckedNo, Done, Refused}
 use Rattle.rail_forms.specs.Answers.{Decides, IsAnswer, Told}
-use Rattle.rail_forms.specs.Files.{named_file, told_of, too_large, too_large_if_any, too_many_bytes}
+use Rattle.rail_forms.specs.Files.{told_of, too_large, too_large_if_any, too_many_bytes}
 
 -- the words for a verdict
 abbrev pub verdict_words : Verdict → List ℕ
@@ -61,22 +63,22 @@ pub record AnswersHistory (first : Option Refusal) (input : Input) (text : List 
 -- file in turn, and then for what the others spell
 abbrev pub check_refusal : List ℕ → Option (List ℕ) → Option (List ℕ) → List ℕ → List DeskSeat → Option Refusal
 check_refusal scene timetable commands history deck =
-    or_else (too_large 1 scene)
-    (or_else (too_large_if_any 2 timetable)
-    (or_else (too_large_if_any 3 commands)
-    (or_else (too_large 4 history)
+    or_else (too_large role.Scene scene)
+    (or_else (too_large_if_any role.Timetable timetable)
+    (or_else (too_large_if_any role.Commands commands)
+    (or_else (too_large role.History history)
     (input_refusal scene timetable commands (names_of deck)))))
 
--- the verdict on the history for the scene with the timetable and the commands that these words name, with this deck
-pub record AnswersCheck (scene timetable commands history : List ℕ) (deck : List DeskSeat) (told : Told) (before now : Option (List ℕ))
+-- the verdict on the history for the scenario, with this deck
+pub record AnswersCheck (scenario : Scenario) (history : List ℕ) (deck : List DeskSeat) (told : Told) (before now : Option (List ℕ))
     (status : Status) : Type 0 where
   -- where the bytes of all files are told
-  pub all : (bytes : List ℕ) (calls orders : Option (List ℕ)) (text : List ℕ) → told scene ≡ Some bytes
-      → told_of told (named_file timetable) ≡ Some calls → told_of told (named_file commands) ≡ Some orders → told history ≡ Some text
+  pub all : (bytes : List ℕ) (calls orders : Option (List ℕ)) (text : List ℕ) → told scenario.scene ≡ Some bytes
+      → told_of told scenario.timetable ≡ Some calls → told_of told scenario.commands ≡ Some orders → told history ≡ Some text
       → AnswersHistory (check_refusal bytes calls orders text deck) (input_in bytes calls orders (names_of deck)) text before now status
   -- where those of the scene are told, whatever the other files are: the size of the scene's file, and behind the sizes of
   -- the others the refusals of the scene
-  pub of_size : (bytes : List ℕ) → told scene ≡ Some bytes → Decides (too_large 1 bytes) status
-  pub of_scene : (bytes : List ℕ) → told scene ≡ Some bytes
-      → status ≢ Refused (too_many_bytes 2) → status ≢ Refused (too_many_bytes 3) → status ≢ Refused (too_many_bytes 4)
-      → Decides (or_else (too_large 1 bytes) (plant_refusal bytes)) status
+  pub of_size : (bytes : List ℕ) → told scenario.scene ≡ Some bytes → Decides (too_large role.Scene bytes) status
+  pub of_scene : (bytes : List ℕ) → told scenario.scene ≡ Some bytes
+      → status ≢ Refused (too_many_bytes role.Timetable) → status ≢ Refused (too_many_bytes role.Commands) → status ≢ Refused (too_many_bytes role.History)
+      → Decides (or_else (too_large role.Scene bytes) (plant_refusal bytes)) status

@@ -7,6 +7,7 @@ use Rattle.rail_scene.specs.SpelledScenes.{spelled_scene}
 use Rattle.rail_compile.specs.Refusals.{compile_refusal}
 use Rattle.rail_edit_file.specs.EditFiles.{edits_refusal}
 use Rattle.rail_edit_file.specs.EditedScenes.{edited_scene}
+use Rattle.rail_words.specs.declared.files.Role.TheVariants as role
 use Rattle.rail_forms.specs.declared.status.Status.{Status}
 use Rattle.rail_forms.specs.Answers.{Told}
 use Rattle.rail_forms.specs.SceneTexts.{WritesScene}
@@ -18,6 +19,6 @@ later_refusal scene edits = or_else (edits_refusal (spelled_scene scene).network
 
 -- the scene after the edits
 abbrev pub AnswersEdit : List ℕ → List ℕ → Told → Option (List ℕ) → Option (List ℕ) → Status → Type 0
-AnswersEdit scene edits told before now status = AnswersTwoFiles later_refusal
+AnswersEdit scene edits told before now status = AnswersTwoFiles role.Edits later_refusal
     (λ bytes lines. WritesScene (edited_scene bytes lines) (Adds before now))
     (λ bytes lines. WritesScene (edited_scene bytes lines) (AddsPrefix before now)) scene edits told status

@@ -10,6 +10,7 @@ use Rattle.rail_routes.specs.Net.{Net}
 use Rattle.rail_scene.specs.declared.scene.Scene.{Scene}
 use Rattle.rail_scene.specs.SpelledScenes.{spelled_scene}
 use Rattle.rail_rules.specs.Texts.{behind}
+use Rattle.rail_words.specs.declared.files.Role.TheVariants as role
 use Rattle.rail_forms.specs.declared.status.Status.{Status}
 use Rattle.rail_input.specs.Inputs.{plant_refusal}
 use Rattle.rail_forms.specs.Answers.{IsTextAnswer, Told}
@@ -64,4 +65,4 @@ infra_text scene = counts_line scene ++ route_lines scene.network.sections scene
 -- the counts and routes of the scene, where the bytes of its file are told
 abbrev pub AnswersInfra : List ℕ → Told → Option (List ℕ) → Option (List ℕ) → Status → Type 0
 AnswersInfra scene told before now status = (bytes : List ℕ) → told scene ≡ Some bytes
-    → IsTextAnswer (or_else (too_large 1 bytes) (plant_refusal bytes)) (infra_text (spelled_scene bytes)) before now status
+    → IsTextAnswer (or_else (too_large role.Scene bytes) (plant_refusal bytes)) (infra_text (spelled_scene bytes)) before now status

@@ -3,10 +3,11 @@ pub mod Statuses
 pub mod Files
 pub mod Promises
 pub mod Answers
-pub mod Names
 pub mod Scenarios
 pub mod Runs
+pub mod Written
 pub mod Noted
+pub mod Begun
 pub mod Stairs
 pub mod Reports
 pub mod Capacity

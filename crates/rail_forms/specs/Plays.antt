@@ -16,12 +16,13 @@ use Rattle.rail_place.specs.declared.barring.Played.{Played}
 use Rattle.rail_place.specs.declared.barring.Played.TheVariants.{Completes, Illegal, Inside}
 use Rattle.rail_rules.specs.Texts.{behind}
 use Rattle.rail_words.specs.Lists.{Listed, list_line_refusal, listed_in, places_test}
+use Rattle.rail_words.specs.declared.files.Role.TheVariants as role
 use Rattle.rail_forms.specs.declared.status.Status.{Status}
 use Rattle.rail_io.specs.Writes.{Adds, AddsPrefix}
 use Rattle.rail_input.specs.Inputs.{plant_in, plant_refusal}
 use Rattle.rail_forms.specs.Answers.{Told}
 use Rattle.rail_forms.specs.TwoFiles.{AnswersTwoFiles}
-use Rattle.rail_forms.specs.Names.{NameLists, names_in, names_of, section_name, train_name}
+use Rattle.rail_text.specs.Names.{NameLists, names_in, names_of, section_name, train_name}
 
 -- why a train of the list may not move
 abbrev pub bar_words : NameLists → ℕ → Barred → List (List ℕ)
@@ -65,6 +66,6 @@ play_text plant list = let listed : Listed = listed_for plant list in
 
 -- what the player of the scene answers to the list
 abbrev pub AnswersPlay : List ℕ → List ℕ → Told → Option (List ℕ) → Option (List ℕ) → Status → Type 0
-AnswersPlay scene list told before now status = AnswersTwoFiles (λ bytes listed. list_refusal (plant_in bytes) listed)
+AnswersPlay scene list told before now status = AnswersTwoFiles role.List (λ bytes listed. list_refusal (plant_in bytes) listed)
     (λ bytes listed. Adds before now (play_text (plant_in bytes) listed))
     (λ bytes listed. AddsPrefix before now (play_text (plant_in bytes) listed)) scene list told status

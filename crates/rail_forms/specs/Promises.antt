@@ -3,10 +3,9 @@ use Rattle.std.specs.Prelude.{◌≡◌, ◌≢◌, ℕ, ◌≤◌, Bool, true, 
 use Rattle.rail_base.specs.Refusals.{is_file}
 use Rattle.rail_base.specs.declared.refusals.Refusal.{Refusal}
 use Rattle.rail_io.specs.FaultCounts.{Rose}
-use Rattle.rail_io.specs.Writes.{Adds, AddsPrefix}
 use Rattle.rail_io.specs.declared.shelf.Shelf.{Ghosts as ShelfGhosts}
 use Rattle.rail_io.specs.declared.sink.Sink.{Ghosts as SinkGhosts}
-use Rattle.rail_io.specs.declared.sink.Failed.{Failed}
+use Rattle.rail_words.specs.Files.{File}
 use Rattle.rail_forms.specs.declared.status.Status.{Status}
 use Rattle.rail_forms.specs.declared.status.Status.TheVariants.{CheckedNo, Done, Usage, Refused, ReadFault, WriteFault}
 use Rattle.rail_forms.specs.Files.{IsOneTooLarge, IsRead, IsReadFault, comes_of_files, last_file}
@@ -32,12 +31,12 @@ is_of_bytes (Refused refusal) = not (is_file refusal.part)
 is_of_bytes status = true
 
 -- what a command that reads these files in this order promises of the shelf
-pub record ReadsFiles {S : Type 0} (shelf : ShelfGhosts S) (files : List (Option (List ℕ))) (before now : S) (status : Status) : Type 0 where
+pub record ReadsFiles {S : Type 0} (shelf : ShelfGhosts S) (files : List File) (before now : S) (status : Status) : Type 0 where
   -- the count of faults rose, and the failed name is that of one of the files
   pub read_fault : status ≡ ReadFault → IsReadFault shelf files before now
   -- a file is refused for its size only where more of its bytes were moved than a file may have
   pub too_large : (refusal : Refusal) → status ≡ Refused refusal → is_file refusal.part ≡ true
-      → IsOneTooLarge shelf 1 files before now refusal
+      → IsOneTooLarge shelf files before now refusal
   -- all files were read before a status that comes of them
   pub read : comes_of_files status ≡ true → IfSome (last_file files) (λ file. IsRead shelf file now)
   -- no other file is read
@@ -56,16 +55,8 @@ pub record WritesAnswer {O : Type 0} (sink : SinkGhosts O) (before now : O) (sta
   pub faults_never_fall : sink.faults before ≤ sink.faults now
 
 -- what a form that reads these files in this order promises beside its answer
-pub record KeepsPromise {S O : Type 0} (shelf : ShelfGhosts S) (sink : SinkGhosts O) (files : List (Option (List ℕ)))
+pub record KeepsPromise {S O : Type 0} (shelf : ShelfGhosts S) (sink : SinkGhosts O) (files : List File)
     (before now : S) (out_before out_now : O) (status : Status) : Type 0 where
   pub reads : ReadsFiles shelf files before now status
   pub writes : WritesAnswer sink out_before out_now status
   pub in_table : status ≢ Usage
-
--- a text was added to the output, or a first part of it where a write failed
-pub record WritesText {O : Type 0} (sink : SinkGhosts O) (before now : O) (text : List ℕ)
-    (result : Result (Unit {0}) Failed) : Type 0 where
-  pub adds : OnOk result (Adds (sink.written before) (sink.written now) text)
-  pub failed_adds_prefix : OnErr result (AddsPrefix (sink.written before) (sink.written now) text)
-  pub failed_rose : OnErr result (Rose (sink.faults before) (sink.faults now))
-  pub faults_never_fall : sink.faults before ≤ sink.faults now

@@ -13,7 +13,8 @@ use Rattle.rail_forms.specs.Capacity.{IsCapacityText, line_refusal, with_line}
 use Rattle.rail_forms.specs.Noted.{ReportsRun}
 use Rattle.rail_forms.specs.Reports.{IsReportText}
 use Rattle.rail_forms.specs.Runs.{RunsInput, RunsInputInPart}
-use Rattle.rail_forms.specs.Scenarios.{AnswersScenario, Scenario, nothing_else}
+use Rattle.rail_words.specs.Forms.{Scenario}
+use Rattle.rail_forms.specs.Scenarios.{AnswersScenario, nothing_else}
 use Rattle.rail_forms.specs.Stairs.{IsStairsText}
 
 -- what else is refused, behind the refusals of the input

@@ -8,7 +8,8 @@ use Rattle.rail_rules.specs.Orders.{Input}
 use Rattle.rail_forms.specs.declared.status.Status.{Status}
 use Rattle.rail_forms.specs.Answers.{Told}
 use Rattle.rail_forms.specs.Noted.{ReportsRun}
-use Rattle.rail_forms.specs.Scenarios.{AnswersScenario, Scenario, nothing_else}
+use Rattle.rail_words.specs.Forms.{Scenario}
+use Rattle.rail_forms.specs.Scenarios.{AnswersScenario, nothing_else}
 
 -- the text is the report of the history
 abbrev pub IsReportText : Input → Front → List ℕ → Type 0

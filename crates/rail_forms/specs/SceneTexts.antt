@@ -6,7 +6,6 @@ use Rattle.rail_scene.specs.Order.{scene_refusal}
 use Rattle.rail_scene.specs.SpelledScenes.{spelled_scene}
 use Rattle.rail_scene.specs.declared.scene.Scene.{Scene}
 use Rattle.rail_scene_text.specs.Tables.{IsSceneText}
-use Rattle.rail_words.specs.Forms.{IsNumber}
 use Rattle.rail_forms.specs.declared.status.Status.{Status}
 use Rattle.rail_forms.specs.Answers.{IsAnswer}
 
@@ -18,7 +17,7 @@ pub record WritesScene (scene : Scene) (adds : List ℕ → Type 0) : Type 0 whe
   pub same : spelled_scene text ≡ scene
   pub added : adds text
 
--- the made-up scene of the number that the word spells
-abbrev pub AnswersScene : List ℕ → Option (List ℕ) → Option (List ℕ) → Status → Type 0
-AnswersScene word before now status = (number : ℕ) → IsNumber word number
-    → IsAnswer None (WritesScene (made_scene number) (Adds before now)) (WritesScene (made_scene number) (AddsPrefix before now)) status
+-- the made-up scene of the number
+abbrev pub AnswersScene : ℕ → Option (List ℕ) → Option (List ℕ) → Status → Type 0
+AnswersScene number before now status =
+    IsAnswer None (WritesScene (made_scene number) (Adds before now)) (WritesScene (made_scene number) (AddsPrefix before now)) status

@@ -12,7 +12,6 @@ use Rattle.rail_rules.specs.LineCounts.{lines_that}
 use Rattle.rail_rules.specs.Orders.{Input}
 use Rattle.rail_rules.specs.Plant.{trains}
 use Rattle.rail_rules.specs.Texts.{spaced}
-use Rattle.rail_words.specs.Forms.{IsNumber}
 use Rattle.rail_forms.specs.declared.summary.Summary.{Summary}
 use Rattle.rail_forms.specs.declared.status.Status.{Status}
 use Rattle.rail_forms.specs.Answers.{IsAnswer}
@@ -48,8 +47,8 @@ IsSummaryText number input front text = text ≡ summary_line number (trains inp
 abbrev pub made_input : ℕ → List DeskSeat → Input
 made_input number deck = scene_input (made_scene number) (names_of deck)
 
--- the line of the run of the made-up scene of the number that the word spells, with this deck
-abbrev pub AnswersGen : List ℕ → List DeskSeat → Option (List ℕ) → Option (List ℕ) → Status → Type 0
-AnswersGen word deck before now status = (number : ℕ) → IsNumber word number → IsAnswer None
+-- the line of the run of the made-up scene of the number, with this deck
+abbrev pub AnswersGen : ℕ → List DeskSeat → Option (List ℕ) → Option (List ℕ) → Status → Type 0
+AnswersGen number deck before now status = IsAnswer None
     (ReportsRun (IsSummaryText number) (made_input number deck) (handed_in deck) (Adds before now))
     (ReportsRun (IsSummaryText number) (made_input number deck) (handed_in deck) (AddsPrefix before now)) status

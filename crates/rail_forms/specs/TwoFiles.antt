@@ -3,21 +3,23 @@ use Rattle.std.specs.Prelude.{◌≡◌, ◌≢◌, ℕ, List, Option, Some}
 use Rattle.rail_base.specs.declared.refusals.Refusal.{Refusal}
 use Rattle.rail_rules.specs.Numbers.{or_else}
 use Rattle.rail_input.specs.Inputs.{plant_refusal}
+use Rattle.rail_words.specs.declared.files.Role.{Role}
+use Rattle.rail_words.specs.declared.files.Role.TheVariants as role
 use Rattle.rail_forms.specs.declared.status.Status.{Status}
 use Rattle.rail_forms.specs.declared.status.Status.TheVariants.{Refused}
 use Rattle.rail_forms.specs.Answers.{Decides, IsAnswer, Told}
 use Rattle.rail_forms.specs.Files.{too_large, too_many_bytes}
 
--- what is answered to the two files by a form that refuses this behind the scene, and adds the whole or a part of what they
--- stand for together
-pub record AnswersTwoFiles (later : List ℕ → List ℕ → Option Refusal) (whole part : List ℕ → List ℕ → Type 0)
+-- what is answered to the two files, of which the second has this role, by a form that refuses this behind the scene, and adds
+-- the whole or a part of what they stand for together
+pub record AnswersTwoFiles (second_role : Role) (later : List ℕ → List ℕ → Option Refusal) (whole part : List ℕ → List ℕ → Type 0)
     (scene second : List ℕ) (told : Told) (status : Status) : Type 0 where
   -- where the bytes of both files are told
   pub both : (bytes others : List ℕ) → told scene ≡ Some bytes → told second ≡ Some others
-      → IsAnswer (or_else (too_large 1 bytes) (or_else (too_large 2 others) (or_else (plant_refusal bytes) (later bytes others))))
+      → IsAnswer (or_else (too_large role.Scene bytes) (or_else (too_large second_role others) (or_else (plant_refusal bytes) (later bytes others))))
       (whole bytes others) (part bytes others) status
   -- where those of the scene are told, whatever the other file is: the size of the scene's file, and behind that of the
   -- other file the refusals of the scene
-  pub of_size : (bytes : List ℕ) → told scene ≡ Some bytes → Decides (too_large 1 bytes) status
-  pub of_scene : (bytes : List ℕ) → told scene ≡ Some bytes → status ≢ Refused (too_many_bytes 2)
-      → Decides (or_else (too_large 1 bytes) (plant_refusal bytes)) status
+  pub of_size : (bytes : List ℕ) → told scene ≡ Some bytes → Decides (too_large role.Scene bytes) status
+  pub of_scene : (bytes : List ℕ) → told scene ≡ Some bytes → status ≢ Refused (too_many_bytes second_role)
+      → Decides (or_else (too_large role.Scene bytes) (plant_refusal bytes)) status

@@ -3,44 +3,38 @@
 
 ghost use Rattle.std.specs.Prelude.{◌≡◌, ◌≢◌, ◌+◌, ◌-◌, ◌<◌, ◌≤◌, ◌^◌, ◌++◌, ◌∷◌, [], IfErr, IfOk, IsTrue, MatchOption, None, OnOk, OnErr, Some, decimal, flat_map, length, map, true, false};
 ghost use Rattle.std.specs.List.{IsDistinct};
-ghost use Rattle.rail_base.specs.Clock.{IsLenientTime};
 ghost use Rattle.rail_base.specs.Refusals.{AnswersFirst};
 ghost use Rattle.rail_base.specs.declared.limits.TheConstants.{SECTIONS};
 ghost use Rattle.rail_base.specs.declared.refusals.Fault.TheVariants.{Refused};
 ghost use Rattle.rail_base.specs.declared.refusals.Refusal.{Refusal};
-ghost use Rattle.rail_engine.specs.Engines.{StandsFor};
-ghost use Rattle.rail_history.specs.declared.line.TheConstants.{ROOM};
+ghost use Rattle.rail_text.specs.declared.line.TheConstants.{ROOM};
+ghost use Rattle.rail_capacity.specs.BlockingTimes.{are_conflict_free, block_of, taken_blocks};
+ghost use Rattle.rail_capacity.specs.Compression.{IsCompression};
 ghost use Rattle.rail_input.specs.Inputs.{refuses_file};
 ghost use Rattle.rail_io.specs.Writes.{Adds, AddsPrefix};
-ghost use Rattle.rail_laws_end.specs.Forks.{are_marks};
-ghost use Rattle.rail_ledger.specs.Inputs.{input_in};
-ghost use Rattle.rail_policy.specs.Desks.{run_seats};
 ghost use Rattle.rail_policy.specs.Seats.{is_fine_deck};
 ghost use Rattle.rail_rules.specs.Texts.{behind, spaced};
-ghost use Rattle.rail_words.specs.Forms.{IsScenario, IsTimeWord};
+ghost use Rattle.rail_words.specs.Forms.{scenario_files, scenario_in};
 ghost use Rattle.rail_forms.specs.Answers.{IsAnswer};
-ghost use Rattle.rail_forms.specs.Capacity.{AnswersCapacity, IsCapacityText, IsEmptyStudy, IsSpelled, capacity_text, line_refusal, piece_refusal, piece_refused, pieces, pieces_refusal, rate_lines, rate_word, section_named, sections_on, shift_line, study_refusal, tight_words};
-ghost use Rattle.rail_forms.specs.Names.{names_in};
+ghost use Rattle.rail_forms.specs.Begun.{HasBegun, input_of, seats_of};
+ghost use Rattle.rail_forms.specs.Capacity.{AnswersCapacity, IsCapacityText, IsEmptyStudy, capacity_text, line_refusal, piece_refusal, piece_refused, pieces, pieces_refusal, rate_lines, rate_word, section_named, sections_on, shift_line, study_refusal, tight_words};
+ghost use Rattle.rail_text.specs.Names.{names_in};
 ghost use Rattle.rail_forms.specs.Noted.{ReportsRun};
-ghost use Rattle.rail_forms.specs.Promises.{KeepsPromise, WritesAnswer, WritesText, ended, is_of_bytes};
-ghost use Rattle.rail_forms.specs.Scenarios.{scenario_files};
+ghost use Rattle.rail_forms.specs.Promises.{KeepsPromise, WritesAnswer, ended, is_of_bytes};
+ghost use Rattle.rail_text.specs.Writes.{WritesText};
 
-use crate::names::{put_section, put_train};
-use crate::notes::note_lines;
+use crate::begun::Begun;
 use crate::scenario;
 use crate::scenario::Purpose;
 use crate::status::Status;
 use crate::study::Study;
-use rail_base::{
-    Fault, Name, Names, Part, Reason, Refusal, SectionNo, Time, Word, a_text_stands_for_one_time,
-    read_time,
-};
+use rail_base::{Fault, Interval, Name, Names, OutOfMemory, Part, Reason, Refusal, SectionNo};
 use rail_capacity::{CapacityFault, Compressed, Shift, Tight, Window, compress};
-use rail_engine::Engine;
-use rail_history::Line;
 use rail_io::{Failed, Shelf, Sink, write_whole};
 use rail_policy::{Desk, Policy, Seen};
-use rail_stairs::{Stairs, ended_intervals_are_without_conflict};
+use rail_stairs::{Stairs, ended_by, ended_intervals_are_without_conflict};
+use rail_text::Line;
+use rail_words::Scenario;
 use std::alloc::{AllocError, Global};
 
 /// The refusal of the empty word for a line.
@@ -59,80 +53,78 @@ const WINDOW_EMPTY: Refusal = Refusal {
     step: 0,
 };
 
-/// Writes the compression over the line, from one time to another, of the scenario that the words name. Where the word
-/// for the line is empty, or the first time is not before the other, it is refused before any file is read.
+/// Writes the compression over the line in the window, of the scenario. Where the line is empty, or the window does not
+/// begin before it ends, it is refused before any file is read.
 pub fn answer<S: Shelf, O: Sink>(
     alloc: Global,
     line: &str,
-    from: &str,
-    to: &str,
-    words: &[Word],
+    window: Window,
+    scenario: &Scenario,
     shelf: &mut S,
     out: &mut O,
     deck: Vec<Box<dyn Policy>>,
 ) -> Result<(), Status>
     requires fine { IsTrue (is_fine_deck (map ⟦<Box<dyn Policy> as Policy>⟧.seat deck.items)) }
-    requires from { IsTimeWord from.now }
-    requires to { IsTimeWord to.now }
-    requires words { IsScenario words.now }
-    ensures kept { KeepsPromise S.Shelf O.Sink (scenario_files words.now) shelf.old shelf.new out.old out.new (ended result) }
-    ensures answer { AnswersCapacity line.now from.now to.now words.now (map ⟦<Box<dyn Policy> as Policy>⟧.seat deck.items)
+    ensures kept { KeepsPromise S.Shelf O.Sink (scenario_files (scenario_in scenario.now)) shelf.old shelf.new out.old out.new (ended result) }
+    ensures answer { AnswersCapacity line.now window (scenario_in scenario.now) (map ⟦<Box<dyn Policy> as Policy>⟧.seat deck.items)
         (S.told shelf.old) (O.written out.old) (O.written out.new) (ended result) }
-    ensures unread { IsEmptyStudy line.now from.now to.now → shelf.new ≡ shelf.old }
+    ensures unread { IsEmptyStudy line.now window → shelf.new ≡ shelf.old }
 {
-    a_text_stands_for_one_time();
-    let window = Window {
-        from: time_of(from),
-        to: time_of(to),
-    };
     if line.is_empty() {
         return Err(Status::Refused(LINE_EMPTY));
     }
     if window.to.0 <= window.from.0 {
         return Err(Status::Refused(WINDOW_EMPTY));
     }
-    let study = Study { line, window };
-    let purpose = Purpose::Capacity(study);
-    scenario::answer(alloc, &purpose, words, shelf, out, deck)
+    let purpose = Purpose::Capacity(Study { line, window });
+    scenario::answer(alloc, &purpose, scenario, shelf, out, deck)
 }
 
-/// The time that a word spells.
-fn time_of(word: &str) -> Time
-    requires { IsTimeWord word.now }
-    ensures { IsLenientTime word.now result }
-{
-    read_time(word.as_bytes()).unwrap()
-}
-
-/// Runs the engine to its end, and writes the compression of that run. All memory is taken before the first byte.
+/// Follows the run to its end, and writes the compression of that run. All memory is taken before the first byte.
 pub(crate) fn report<O: Sink>(
     alloc: Global,
     study: &Study,
-    engine: &mut Engine,
+    begun: Begun,
     out: &mut O,
 ) -> Result<(), Status>
-    requires begun { let desk = ⟦<Desk as Seen>⟧.table engine.old.desk in StandsFor (run_seats desk) [] engine.old.core desk }
-    requires marks { IsTrue (are_marks (run_seats (⟦<Desk as Seen>⟧.table engine.old.desk))) }
-    ensures answer { let desk = ⟦<Desk as Seen>⟧.table engine.old.desk in let input = input_in engine.old.core.input in
+    requires { HasBegun ⟦<Desk as Seen>⟧.table begun }
+    ensures answer { let input = input_of begun in let seats = seats_of ⟦<Desk as Seen>⟧.table begun in
         let tells = IsCapacityText study.now.line.now study.now.window in
         IsAnswer (line_refusal input.plant study.now.line.now)
-        (ReportsRun tells input (run_seats desk) (Adds (O.written out.old) (O.written out.new)))
-        (ReportsRun tells input (run_seats desk) (AddsPrefix (O.written out.old) (O.written out.new))) (ended result) }
+        (ReportsRun tells input seats (Adds (O.written out.old) (O.written out.new)))
+        (ReportsRun tells input seats (AddsPrefix (O.written out.old) (O.written out.new))) (ended result) }
     ensures writes { WritesAnswer O.Sink out.old out.new (ended result) }
     ensures of_bytes { is_of_bytes (ended result) ≡ true }
 {
-    let line = read_line(alloc, engine.plant().names(), study.line)?;
-    let mut stairs = Stairs::new(alloc, engine.plant())?;
-    note_lines(engine, &mut stairs);
+    let line = read_line(alloc, begun.plant().names(), study.line)?;
+    let mut stairs = Stairs::new(alloc, begun.plant())?;
+    let Ok(engine) = begun.follow_to_end(&mut stairs);
     ended_intervals_are_without_conflict();
-    let intervals = stairs.intervals(alloc, engine.plant())?;
-    let compressed = match compress(alloc, &intervals, &line, study.window) {
-        Ok(compressed) => compressed,
-        Err(CapacityFault::OutOfMemory) => return Err(Status::OutOfMemory),
-        Err(CapacityFault::LineEmpty | CapacityFault::WindowEmpty) => unreachable!(),
-    };
+    let stairway = stairs.intervals(alloc, engine.plant())?;
+    let intervals = ended_by(stairway, stairs.ended());
+    let compressed = compressed_by(alloc, &intervals, &line, study.window)?;
     write_compressed(engine.plant().names(), &compressed, out)?;
     Ok(())
+}
+
+/// The compression of the intervals over the line, where it has a section and the window begins before it ends.
+fn compressed_by(
+    alloc: Global,
+    intervals: &[Interval],
+    line: &[SectionNo],
+    window: Window,
+) -> Result<Compressed, OutOfMemory>
+    requires apart { IsTrue (are_conflict_free (map block_of intervals.now)) }
+    requires filled { line.now ≢ [] }
+    requires ordered { window.from < window.to }
+    ensures { IfOk result (λ compressed. IsCompression (taken_blocks intervals.now line.now window) window
+        compressed.trains.items compressed.occupancy compressed.rate) }
+{
+    match compress(alloc, intervals, line, window) {
+        Ok(compressed) => Ok(compressed),
+        Err(CapacityFault::OutOfMemory) => Err(OutOfMemory),
+        Err(CapacityFault::LineEmpty | CapacityFault::WindowEmpty) => unreachable!(),
+    }
 }
 
 /// The sections of a line, in the order of the pieces between its commas. It is refused by its first piece that is no
@@ -221,7 +213,7 @@ fn write_shift<O: Sink>(names: &Names, shift: &Shift, out: &mut O) -> Result<(),
 {
     let mut line = Line::new();
     line.put(b"train");
-    put_train(&mut line, names, shift.train);
+    line.put_train(names, shift.train);
     line.put_number(shift.earlier);
     put_tight(&mut line, names, shift.tight);
     line.put(b"\n");
@@ -238,8 +230,8 @@ fn put_tight(line: &mut Line, names: &Names, tight: Tight)
         Tight::Start => line.put_word(b"start"),
         Tight::After { train, section } => {
             line.put_word(b"after");
-            put_train(line, names, train);
-            put_section(line, names, section);
+            line.put_train(names, train);
+            line.put_section(names, section);
         }
     }
 }

@@ -3,6 +3,8 @@
 ghost use Rattle.std.specs.Prelude.{◌≡◌, ◌-◌, ◌<◌, ◌^◌, ◌∷◌, [], Some, length, true};
 ghost use Rattle.rail_io.specs.Writes.{Adds, AddsPrefix};
 ghost use Rattle.rail_edit_file.specs.EditedScenes.{edited_scene, edited_scene_refusal};
+ghost use Rattle.rail_words.specs.Files.{file_as};
+ghost use Rattle.rail_words.specs.declared.files.Role.TheVariants as role;
 ghost use Rattle.rail_forms.specs.Answers.{IsAnswer};
 ghost use Rattle.rail_forms.specs.Edits.{AnswersEdit};
 ghost use Rattle.rail_forms.specs.Promises.{KeepsPromise, WritesAnswer, ended, is_of_bytes};
@@ -13,6 +15,7 @@ use crate::scene::write_text;
 use crate::status::Status;
 use rail_edit_file::edit_scene;
 use rail_io::{Shelf, Sink};
+use rail_words::Role;
 use std::alloc::Global;
 
 /// Writes a text that is read as the scene after the edits, in the files of these names.
@@ -23,11 +26,13 @@ pub fn answer<S: Shelf, O: Sink>(
     shelf: &mut S,
     out: &mut O,
 ) -> Result<(), Status>
-    ensures kept { KeepsPromise S.Shelf O.Sink (Some scene.now ∷ Some edits.now ∷ []) shelf.old shelf.new out.old out.new (ended result) }
+    ensures kept { KeepsPromise S.Shelf O.Sink
+        (file_as role.Scene (Some scene.now) ∷ file_as role.Edits (Some edits.now) ∷ [])
+        shelf.old shelf.new out.old out.new (ended result) }
     ensures answer { AnswersEdit scene.now edits.now (S.told shelf.old) (O.written out.old) (O.written out.new) (ended result) }
 {
-    let scene = read_file(alloc, shelf, scene, 1)?;
-    let edits = read_file(alloc, shelf, edits, 2)?;
+    let scene = read_file(alloc, shelf, scene, Role::Scene)?;
+    let edits = read_file(alloc, shelf, edits, Role::Edits)?;
     write_edited(alloc, &scene, &edits, out)
 }
 

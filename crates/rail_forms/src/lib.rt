@@ -1,20 +1,21 @@
 //! The forms of the command line: what each of them does, from the bytes of its files to the bytes of its answer.
 //!
 //! A form has a module, whose call `answer` reads the files that it is handed the names of, and adds its answer to an
-//! output. `run`, `stairs`, `report` and `capacity` read and begin a run in one way (`src/scenario.rt`), and what
-//! reports on a run is noted in one loop (`src/notes.rt`). This layer stands on all that is below the program and joins
+//! output. `run`, `stairs`, `report` and `capacity` read and begin a run in one way (`src/scenario.rt`). Every run is
+//! followed to its end by one loop (`src/begun.rt`), which hands each line to what is noted of it (`src/notes.rt`): the
+//! history is written so as well (`src/run.rt`). This layer stands on all that is below the program and joins
 //! it; which words ask for which form is told above. What every form promises of the files and of the output is one
 //! record, `KeepsPromise` in `specs/Promises.antt`; what it answers is defined in a module of its own, as what a run
 //! writes in `specs/Runs.antt`. The contracts of the calls `answer`, the exit statuses and the texts are relied upon;
 //! how a form is put together may be changed freely.
 #![tactic(auto)]
 
+mod begun;
 pub mod capacity;
 pub mod check;
 pub mod edit;
 mod files;
 pub mod infra;
-mod names;
 mod notes;
 pub mod play;
 mod report;

@@ -2,23 +2,25 @@
 
 ghost use Rattle.std.specs.Prelude.{◌≡◌, ◌+◌, ◌-◌, ◌<◌, ◌≤◌, ◌^◌, ◌++◌, ◌∷◌, [], Some, get_or, length, true};
 ghost use Rattle.rail_rules.specs.Texts.{behind};
-ghost use Rattle.rail_history.specs.declared.line.TheConstants.{ROOM};
+ghost use Rattle.rail_text.specs.declared.line.TheConstants.{ROOM};
 ghost use Rattle.rail_input.specs.Inputs.{plant_in};
+ghost use Rattle.rail_words.specs.Files.{file_as};
+ghost use Rattle.rail_words.specs.declared.files.Role.TheVariants as role;
 ghost use Rattle.rail_forms.specs.Answers.{IsTextAnswer};
-ghost use Rattle.rail_forms.specs.Names.{names_in};
+ghost use Rattle.rail_text.specs.Names.{names_in};
 ghost use Rattle.rail_forms.specs.Plays.{AnswersPlay, bar_words, list_refusal, play_refusal, play_text, played_line, played_words, shared_at};
-ghost use Rattle.rail_forms.specs.Promises.{KeepsPromise, WritesAnswer, WritesText, ended, is_of_bytes};
+ghost use Rattle.rail_forms.specs.Promises.{KeepsPromise, WritesAnswer, ended, is_of_bytes};
+ghost use Rattle.rail_text.specs.Writes.{WritesText};
 
 use crate::files::read_file;
-use crate::names::{put_section, put_train};
 use crate::status::Status;
 use rail_base::{Names, Part, Reason, Refusal, TrainNo};
-use rail_history::Line;
 use rail_input::read_plant;
 use rail_io::{Failed, Shelf, Sink, write_whole};
 use rail_place::{Barred, Places, PlacesFault, Played};
 use rail_plan::Plant;
-use rail_words::read_list;
+use rail_text::Line;
+use rail_words::{Role, read_list};
 use std::alloc::Global;
 
 /// Writes what the player of the scene answers to the list, in the files of these names.
@@ -29,11 +31,13 @@ pub fn answer<S: Shelf, O: Sink>(
     shelf: &mut S,
     out: &mut O,
 ) -> Result<(), Status>
-    ensures kept { KeepsPromise S.Shelf O.Sink (Some scene.now ∷ Some list.now ∷ []) shelf.old shelf.new out.old out.new (ended result) }
+    ensures kept { KeepsPromise S.Shelf O.Sink
+        (file_as role.Scene (Some scene.now) ∷ file_as role.List (Some list.now) ∷ [])
+        shelf.old shelf.new out.old out.new (ended result) }
     ensures answer { AnswersPlay scene.now list.now (S.told shelf.old) (O.written out.old) (O.written out.new) (ended result) }
 {
-    let scene = read_file(alloc, shelf, scene, 1)?;
-    let list = read_file(alloc, shelf, list, 2)?;
+    let scene = read_file(alloc, shelf, scene, Role::Scene)?;
+    let list = read_file(alloc, shelf, list, Role::List)?;
     play_list(alloc, &scene, &list, out)
 }
 
@@ -111,7 +115,7 @@ fn put_played(line: &mut Line, names: &Names, list: &[TrainNo], played: Played)
         Played::Completes => line.put(b"completes"),
         Played::Inside { train } => {
             line.put(b"inside");
-            put_train(line, names, train);
+            line.put_train(names, train);
         }
         Played::Illegal { index, why } => {
             line.put(b"illegal");
@@ -130,17 +134,17 @@ fn put_bar(line: &mut Line, names: &Names, train: TrainNo, why: Barred)
     match why {
         Barred::Outside => {
             line.put_word(b"outside");
-            put_train(line, names, train);
+            line.put_train(names, train);
         }
         Barred::Out => {
             line.put_word(b"out");
-            put_train(line, names, train);
+            line.put_train(names, train);
         }
         Barred::Held { section, holder } => {
             line.put_word(b"held");
-            put_train(line, names, train);
-            put_section(line, names, section);
-            put_train(line, names, holder);
+            line.put_train(names, train);
+            line.put_section(names, section);
+            line.put_train(names, holder);
         }
     }
 }

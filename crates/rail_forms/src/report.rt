@@ -1,36 +1,31 @@
 //! `report SCENE [TIMETABLE [COMMANDS]]`: how late the trains of a run are, and for which causes they are held.
 
-ghost use Rattle.std.specs.Prelude.{◌≡◌, None, [], IsTrue, true};
-ghost use Rattle.rail_engine.specs.Engines.{StandsFor};
+ghost use Rattle.std.specs.Prelude.{◌≡◌, None, true};
 ghost use Rattle.rail_io.specs.Writes.{Adds, AddsPrefix};
-ghost use Rattle.rail_laws_end.specs.Forks.{are_marks};
-ghost use Rattle.rail_ledger.specs.Inputs.{input_in};
-ghost use Rattle.rail_policy.specs.Desks.{run_seats};
 ghost use Rattle.rail_forms.specs.Answers.{IsAnswer};
+ghost use Rattle.rail_forms.specs.Begun.{HasBegun, input_of, seats_of};
 ghost use Rattle.rail_forms.specs.Noted.{ReportsRun};
 ghost use Rattle.rail_forms.specs.Promises.{WritesAnswer, ended, is_of_bytes};
 ghost use Rattle.rail_forms.specs.Reports.{IsReportText};
 
-use crate::notes::note_lines;
+use crate::begun::Begun;
 use crate::status::Status;
 use rail_delay::{Delays, write_report};
-use rail_engine::Engine;
 use rail_io::Sink;
 use rail_policy::{Desk, Seen};
 use std::alloc::Global;
 
-/// Runs the engine to its end, and writes the report of that run.
-pub fn report<O: Sink>(alloc: Global, engine: &mut Engine, out: &mut O) -> Result<(), Status>
-    requires begun { let desk = ⟦<Desk as Seen>⟧.table engine.old.desk in StandsFor (run_seats desk) [] engine.old.core desk }
-    requires marks { IsTrue (are_marks (run_seats (⟦<Desk as Seen>⟧.table engine.old.desk))) }
-    ensures answer { let desk = ⟦<Desk as Seen>⟧.table engine.old.desk in let input = input_in engine.old.core.input in
-        IsAnswer None (ReportsRun IsReportText input (run_seats desk) (Adds (O.written out.old) (O.written out.new)))
-        (ReportsRun IsReportText input (run_seats desk) (AddsPrefix (O.written out.old) (O.written out.new))) (ended result) }
+/// Follows the run to its end, and writes the report of that run.
+pub fn report<O: Sink>(alloc: Global, begun: Begun, out: &mut O) -> Result<(), Status>
+    requires { HasBegun ⟦<Desk as Seen>⟧.table begun }
+    ensures answer { let input = input_of begun in let seats = seats_of ⟦<Desk as Seen>⟧.table begun in
+        IsAnswer None (ReportsRun IsReportText input seats (Adds (O.written out.old) (O.written out.new)))
+        (ReportsRun IsReportText input seats (AddsPrefix (O.written out.old) (O.written out.new))) (ended result) }
     ensures writes { WritesAnswer O.Sink out.old out.new (ended result) }
     ensures of_bytes { is_of_bytes (ended result) ≡ true }
 {
-    let mut delays = Delays::new(alloc, engine.plant(), engine.commands())?;
-    note_lines(engine, &mut delays);
+    let mut delays = Delays::new(alloc, begun.plant(), begun.commands())?;
+    let Ok(engine) = begun.follow_to_end(&mut delays);
     write_report(engine.plant(), &delays, out)?;
     Ok(())
 }

@@ -3,7 +3,6 @@
 ghost use Rattle.std.specs.Prelude.{◌≡◌, None, true};
 ghost use Rattle.rail_io.specs.Writes.{Adds, AddsPrefix};
 ghost use Rattle.rail_scene.specs.Scenes.{IsScene};
-ghost use Rattle.rail_words.specs.Forms.{IsNumber, IsNumberWord};
 ghost use Rattle.rail_forms.specs.Answers.{IsAnswer};
 ghost use Rattle.rail_forms.specs.Promises.{WritesAnswer, ended, is_of_bytes};
 ghost use Rattle.rail_forms.specs.SceneTexts.{AnswersScene, WritesScene};
@@ -13,26 +12,16 @@ use rail_gen::scene_of;
 use rail_io::{Sink, write_whole};
 use rail_scene::Scene;
 use rail_scene_text::write_scene;
-use rail_words::read_number;
 use std::alloc::Global;
 
-/// Writes a text that is read as the made-up scene of the number that the word spells.
-pub fn answer<O: Sink>(alloc: Global, number: &str, out: &mut O) -> Result<(), Status>
-    requires { IsNumberWord number.now }
-    ensures answer { AnswersScene number.now (O.written out.old) (O.written out.new) (ended result) }
+/// Writes a text that is read as the made-up scene of the number.
+pub fn answer<O: Sink>(alloc: Global, number: u64, out: &mut O) -> Result<(), Status>
+    ensures answer { AnswersScene number (O.written out.old) (O.written out.new) (ended result) }
     ensures writes { WritesAnswer O.Sink out.old out.new (ended result) }
     ensures of_bytes { is_of_bytes (ended result) ≡ true }
 {
-    let scene = scene_of(alloc, number_of(number))?;
+    let scene = scene_of(alloc, number)?;
     write_text(alloc, &scene, out)
-}
-
-/// The number that a word spells.
-pub(crate) fn number_of(word: &str) -> u64
-    requires { IsNumberWord word.now }
-    ensures { IsNumber word.now result }
-{
-    read_number(word.as_bytes()).unwrap()
 }
 
 /// Writes a text that is read as the scene. All memory is taken before the first byte.

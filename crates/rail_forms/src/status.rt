@@ -2,12 +2,12 @@
 
 ghost use Rattle.std.specs.Prelude.{◌≡◌, ◌+◌, ◌≤◌, ◌++◌, ◌∷◌, [], decimal, drop, length, take};
 ghost use Rattle.rail_base.specs.Refusals.{number_of};
-ghost use Rattle.rail_history.specs.declared.line.TheConstants.{ROOM};
+ghost use Rattle.rail_text.specs.declared.line.TheConstants.{ROOM};
 ghost use Rattle.rail_forms.specs.Statuses.{exit_of, part_text, reason_text, refusal_text, status_text};
 
 use rail_base::{Fault, OutOfMemory, Part, Reason, Refusal};
-use rail_history::Line;
 use rail_io::Failed;
+use rail_text::Line;
 
 /// How a command ended.
 #[derive(Clone, Copy, Debug, PartialEq, Eq)]

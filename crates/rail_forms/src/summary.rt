@@ -1,31 +1,27 @@
 //! `gen NUMBER`: a run of the made-up scene of the number, told in one line.
 
 ghost use Rattle.std.specs.Prelude.{◌≡◌, ◌<◌, [], IsTrue, None, map, true};
-ghost use Rattle.rail_engine.specs.Engines.{StandsFor};
 ghost use Rattle.rail_io.specs.Writes.{Adds, AddsPrefix};
-ghost use Rattle.rail_laws_end.specs.Forks.{are_marks};
-ghost use Rattle.rail_ledger.specs.Inputs.{input_in};
-ghost use Rattle.rail_policy.specs.Desks.{run_seats};
 ghost use Rattle.rail_policy.specs.Seats.{is_fine_deck};
-ghost use Rattle.rail_words.specs.Forms.{IsNumberWord};
 ghost use Rattle.rail_forms.specs.Answers.{IsAnswer};
+ghost use Rattle.rail_forms.specs.Begun.{HasBegun, input_of, seats_of};
 ghost use Rattle.rail_forms.specs.Noted.{ReportsRun};
 ghost use Rattle.rail_forms.specs.Promises.{WritesAnswer, ended, is_of_bytes};
 ghost use Rattle.rail_forms.specs.Summaries.{AnswersGen, IsSummaryText, summary_line, summary_of};
 
-use crate::notes::{Notes, note_lines};
-use crate::scene::number_of;
+use crate::begun::Begun;
+use crate::notes::Notes;
 use crate::status::Status;
-use rail_base::{Entry, Time, What};
+use rail_base::{Entry, Time, TrainNo, What};
 use rail_delay::put_count;
-use rail_engine::Engine;
 use rail_gen::scene_of;
-use rail_history::Line;
 use rail_input::{ReadInput, scene_input};
 use rail_io::{Sink, write_whole};
 use rail_plan::Plant;
 use rail_policy::{Desk, Policy, Seen, names_of, read_marks};
+use rail_text::Line;
 use std::alloc::Global;
+use std::convert::Infallible;
 
 /// What is counted of the lines of a run.
 #[derive(Clone, Copy, Debug, PartialEq, Eq)]
@@ -60,13 +56,20 @@ impl Summary {
 impl Notes for Summary {
     ghost use Rattle.rail_forms.specs.Summaries.{summary_of};
 
-    ghost are_noted = { λ input front summary. summary ≡ summary_of front };
+    type Fault = Infallible;
 
-    fn note_line(&mut self, _plant: &Plant, entry: Entry) {
+    ghost are_noted = { λ input front first now. now ≡ summary_of front };
+
+    fn note_line(
+        &mut self,
+        _plant: &Plant,
+        entry: Entry,
+        _listed: &[TrainNo],
+    ) -> Result<(), Infallible> {
         self.last = entry.at;
         if let What::Hold { .. } = entry.what {
             self.holds += 1;
-            return;
+            return Ok(());
         }
         self.lines += 1;
         match entry.what {
@@ -74,25 +77,24 @@ impl Notes for Summary {
             What::Out { .. } => self.outs += 1,
             _ => {}
         }
+        Ok(())
     }
 }
 
-/// Runs the made-up scene of the number that the word spells, and writes the line that tells of that run. The policy that
+/// Runs the made-up scene of the number, and writes the line that tells of that run. The policy that
 /// is in force first is the one that the scene names, and the first of the deck where it has none of that name.
 pub fn answer<O: Sink>(
     alloc: Global,
-    number: &str,
+    number: u64,
     out: &mut O,
     deck: Vec<Box<dyn Policy>>,
 ) -> Result<(), Status>
     requires fine { IsTrue (is_fine_deck (map ⟦<Box<dyn Policy> as Policy>⟧.seat deck.items)) }
-    requires number { IsNumberWord number.now }
-    ensures answer { AnswersGen number.now (map ⟦<Box<dyn Policy> as Policy>⟧.seat deck.items)
+    ensures answer { AnswersGen number (map ⟦<Box<dyn Policy> as Policy>⟧.seat deck.items)
         (O.written out.old) (O.written out.new) (ended result) }
     ensures writes { WritesAnswer O.Sink out.old out.new (ended result) }
     ensures of_bytes { is_of_bytes (ended result) ≡ true }
 {
-    let number = number_of(number);
     let names = names_of(alloc, &deck)?;
     read_marks(&deck);
     let scene = scene_of(alloc, number)?;
@@ -102,22 +104,21 @@ pub fn answer<O: Sink>(
         force,
     } = scene_input(alloc, &scene, &names)?;
     let desk = Desk::new(deck, force);
-    let mut engine = Engine::begin(alloc, plant, commands, desk)?;
-    summarize(number, &mut engine, out)
+    let begun = Begun::new(alloc, plant, commands, desk)?;
+    summarize(number, begun, out)
 }
 
-/// Runs the engine to its end, and writes the line that tells of that run.
-fn summarize<O: Sink>(number: u64, engine: &mut Engine, out: &mut O) -> Result<(), Status>
-    requires begun { let desk = ⟦<Desk as Seen>⟧.table engine.old.desk in StandsFor (run_seats desk) [] engine.old.core desk }
-    requires marks { IsTrue (are_marks (run_seats (⟦<Desk as Seen>⟧.table engine.old.desk))) }
-    ensures answer { let desk = ⟦<Desk as Seen>⟧.table engine.old.desk in let input = input_in engine.old.core.input in
-        IsAnswer None (ReportsRun (IsSummaryText number) input (run_seats desk) (Adds (O.written out.old) (O.written out.new)))
-        (ReportsRun (IsSummaryText number) input (run_seats desk) (AddsPrefix (O.written out.old) (O.written out.new))) (ended result) }
+/// Follows the run to its end, and writes the line that tells of that run.
+fn summarize<O: Sink>(number: u64, begun: Begun, out: &mut O) -> Result<(), Status>
+    requires { HasBegun ⟦<Desk as Seen>⟧.table begun }
+    ensures answer { let input = input_of begun in let seats = seats_of ⟦<Desk as Seen>⟧.table begun in
+        IsAnswer None (ReportsRun (IsSummaryText number) input seats (Adds (O.written out.old) (O.written out.new)))
+        (ReportsRun (IsSummaryText number) input seats (AddsPrefix (O.written out.old) (O.written out.new))) (ended result) }
     ensures writes { WritesAnswer O.Sink out.old out.new (ended result) }
     ensures of_bytes { is_of_bytes (ended result) ≡ true }
 {
     let mut summary = Summary::new();
-    note_lines(engine, &mut summary);
+    let Ok(engine) = begun.follow_to_end(&mut summary);
     let line = text_of(number, engine.plant().moves().trains(), &summary);
     write_whole(out, line.as_slice())?;
     Ok(())

@@ -1,9 +1,7 @@
 -- The trains that a line brings, as words.
-use Rattle.std.proofs.Common.{◌≡◌, ℕ, ◌<◌, true, ◌==◌, cond, List, [], ◌∷◌, ◌++◌, map, get_or, codes, decimal, refl, sym, ap, ◌∙◌, arith, append_assoc}
-use Rattle.std.specs.List.{list_all, AllByRecursion}
+use Rattle.std.proofs.Common.{◌≡◌, ℕ, ◌==◌, cond, List, [], ◌∷◌, ◌++◌, map, get_or, codes, decimal, refl, sym, ap, ◌∙◌, append_assoc}
 use Rattle.std.proofs.lemmas.List.{append-nil}
 use Rattle.std.proofs.Math.ListN.{get_or-map}
-use Rattle.std.proofs.lemmas.Bool.{and_parts, ltb-true}
 use Rattle.rail_base.specs.Clock.{time_text}
 use Rattle.rail_base.specs.declared.history.Entry.{Entry}
 use Rattle.rail_base.specs.declared.history.What.{What}
@@ -12,14 +10,14 @@ use Rattle.rail_base.specs.declared.history.Note.{Note}
 use Rattle.rail_base.specs.declared.history.Note.TheVariants.{Pulled, Appended, Fresh}
 use Rattle.rail_base.specs.declared.names.Names.{Names}
 use Rattle.rail_base.specs.declared.plant.TrainRow.{TrainRow}
-use Rattle.rail_rules.specs.Plant.{Plant, no_train, trains}
+use Rattle.rail_rules.specs.Plant.{Plant, no_train}
 use Rattle.rail_rules.specs.Texts.{Item, cause_words, items_of, item_word, line_text, note_words, train_word, what_words}
-use Rattle.rail_rules.specs.Writable.{is_known_train}
 use Rattle.rail_rules.specs.Texts.{behind}
-use Rattle.rail_history.specs.Lines.{HasNames, bare, brought_by_note, brought_words, item_text, line_of, note_brought_words, train_name}
+use Rattle.rail_text.specs.Names.{HasNames, names_in, train_name}
+use Rattle.rail_history.specs.Lines.{bare, brought_by_note, brought_words, item_text, line_of, note_brought_words}
 
 -- the names are those of the plant's trains
-pub name_is : (plant : Plant) (names : Names) → HasNames plant names → (t : ℕ) → train_word plant t ≡ train_name names t
+pub name_is : (plant : Plant) (names : Names) → HasNames plant names → (t : ℕ) → train_word plant t ≡ train_name (names_in names) t
 name_is plant names named t =
     sym (ap (λ (keys : List (List ℕ)). get_or keys t []) named.trains ∙ get_or-map (λ (row : TrainRow). row.name) plant.tables.trains t no_train)
 
@@ -31,7 +29,7 @@ behind_append (x ∷ xs) ys = ap (λ rest. 32 ∷ x ++ rest) (behind_append xs y
 items_are : (plant : Plant) (names : Names) → HasNames plant names → (kept : List ℕ) → map (item_word plant) (items_of kept) ≡ map (item_text names) (items_of kept)
 items_are plant names named kept = λ i. map (λ (item : Item). name_is plant names named item.train i ++ cond (item.count == 1) [] (42 ∷ decimal item.count)) (items_of kept)
 
-names_are : (plant : Plant) (names : Names) → HasNames plant names → (kept : List ℕ) → map (train_word plant) kept ≡ map (train_name names) kept
+names_are : (plant : Plant) (names : Names) → HasNames plant names → (kept : List ℕ) → map (train_word plant) kept ≡ map (train_name (names_in names)) kept
 names_are plant names named kept = λ i. map (λ (t : ℕ). name_is plant names named t i) kept
 
 note_words_are : (plant : Plant) (names : Names) → HasNames plant names → (entry : Entry) (kept : List ℕ) (note : Note)
@@ -67,9 +65,3 @@ text_together plant names named entry kept {said} {begun} a b =
     ap (λ (xs : List ℕ). (xs ++ behind more) ++ 10 ∷ []) all
     ∙ ap (λ (xs : List ℕ). xs ++ 10 ∷ []) (append_assoc time (behind first) (behind more))
     ∙ sym (ap (λ (xs : List ℕ). (time ++ xs) ++ 10 ∷ []) e)
-
-known_each : (plant : Plant) (count : ℕ) → count ≡ trains plant → (kept : List ℕ) → list_all (is_known_train plant) kept ≡ true → AllByRecursion (λ t. t < count) kept
-known_each plant count e [] h = tt
-known_each plant count e (t ∷ kept) h =
-    let both = and_parts (is_known_train plant t) (list_all (is_known_train plant) kept) h in
-    (omega (arith, e, ltb-true t (trains plant) both.0), known_each plant count e kept both.1)

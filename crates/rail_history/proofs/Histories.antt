@@ -19,9 +19,10 @@ use Rattle.rail_rules.specs.Fronts.{Line}
 use Rattle.rail_rules.specs.Texts.{line_text, line_words, text}
 use Rattle.rail_rules.specs.Writable.{IsNamed, is_writable}
 use Rattle.rail_laws_text.proofs.CallerLemmas.{text_same}
+use Rattle.rail_text.specs.Names.{HasNames}
 use Rattle.rail_history.specs.HistoryLines.{IsFirstWrong, IsHistory, IsRefusedFor, IsSpelled, does_list, is_fresh, is_history_line, lines_in, lines_text, refusal_at}
 use Rattle.rail_history.specs.LineReads.{IsWrongLine}
-use Rattle.rail_history.specs.Lines.{HasNames, brought, line_of}
+use Rattle.rail_history.specs.Lines.{brought, line_of}
 use Rattle.rail_history.specs.ReadWords.{joined}
 use Rattle.rail_history.proofs.FileLines.{is_feed}
 use Rattle.rail_history.proofs.LineRead.{can_write, one_feed, text_is}

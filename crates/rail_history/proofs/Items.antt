@@ -9,7 +9,8 @@ use Rattle.std.specs.List.{prefix_len}
 use Rattle.rail_rules.specs.Texts.{Item, items_of, with_train}
 use Rattle.rail_base.specs.declared.names.Names.{Names}
 use Rattle.rail_rules.specs.Texts.{behind}
-use Rattle.rail_history.specs.Lines.{item_text, train_name}
+use Rattle.rail_text.specs.Names.{names_in, train_name}
+use Rattle.rail_history.specs.Lines.{item_text}
 
 -- the train, so many times in a row, and the items of what is behind them
 IsFirst : ℕ → List ℕ → Type 0
@@ -67,7 +68,7 @@ first_word word list t others k front count =
 
 -- the words of a list whose trains are each named by themselves: the first one's, and those of the others
 pub first_name : (names : Names) (list : List ℕ) (t : ℕ) (others : List ℕ) → list ≡ t ∷ others
-    → behind (map (train_name names) list) ≡ (32 ∷ item_text names (record { train = t; count = 1 })) ++ behind (map (train_name names) others)
+    → behind (map (train_name (names_in names)) list) ≡ (32 ∷ item_text names (record { train = t; count = 1 })) ++ behind (map (train_name (names_in names)) others)
 first_name names list t others front =
-    ap (λ (ts : List ℕ). behind (map (train_name names) ts)) front
-    ∙ sym (ap (λ (word : List ℕ). (32 ∷ word) ++ behind (map (train_name names) others)) (append-nil (train_name names t)))
+    ap (λ (ts : List ℕ). behind (map (train_name (names_in names)) ts)) front
+    ∙ sym (ap (λ (word : List ℕ). (32 ∷ word) ++ behind (map (train_name (names_in names)) others)) (append-nil (train_name (names_in names) t)))

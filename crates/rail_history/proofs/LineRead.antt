@@ -17,10 +17,11 @@ use Rattle.rail_laws_text.proofs.CallerLemmas.{AreWords, of_what, one_more}
 use Rattle.rail_io.specs.Writes.{Adds}
 use Rattle.std.specs.Io.KnownBytes.{append_known}
 use Rattle.std.specs.Prelude.{Option, IsSomeAnd}
+use Rattle.rail_text.specs.Names.{HasNames}
 use Rattle.rail_history.specs.declared.read_line.ReadLine.{ReadLine}
 use Rattle.rail_history.specs.LineReads.{line_read}
 use Rattle.rail_history.specs.HistoryLines.{IsSpelled, is_history_line, is_list_within, is_history_what}
-use Rattle.rail_history.specs.Lines.{HasNames, brought, line_of}
+use Rattle.rail_history.specs.Lines.{brought, line_of}
 use Rattle.rail_history.specs.ReadWords.{is_small_what, is_spaceless, joined}
 use Rattle.rail_history.proofs.FileLines.{is_feed}
 use Rattle.rail_history.proofs.Spelled.{what_spaceless}

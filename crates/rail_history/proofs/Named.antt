@@ -7,7 +7,7 @@ use Rattle.rail_base.specs.NameForms.{same_name}
 use Rattle.rail_base.specs.declared.names.Names.{Names}
 use Rattle.rail_base.specs.declared.plant.SectionRow.{SectionRow}
 use Rattle.rail_base.specs.declared.plant.TrainRow.{TrainRow}
-use Rattle.rail_history.specs.Lines.{HasNames}
+use Rattle.rail_text.specs.Names.{HasNames}
 use Rattle.rail_rules.specs.Plant.{Plant, section, train, trains}
 use Rattle.rail_rules.specs.Texts.{section_word, train_word}
 use Rattle.rail_rules.specs.Writable.{IsNamed}

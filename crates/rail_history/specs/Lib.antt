@@ -1,6 +1,5 @@
 -- What the contracts of this crate, and of the crates above it, speak of.
 pub mod Lines
-pub mod Minutes
 pub mod Pieces
 -- Lines of a history that are read.
 pub mod HistoryLines

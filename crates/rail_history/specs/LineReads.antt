@@ -11,10 +11,11 @@ use Rattle.rail_rules.specs.Plant.{Plant}
 use Rattle.rail_rules.specs.Fronts.{Line}
 use Rattle.rail_rules.specs.Texts.{line_words, note_words, what_words}
 use Rattle.rail_rules.specs.Writable.{IsNamed, is_writable_note, is_writable_what}
+use Rattle.rail_text.specs.Names.{HasNames}
 use Rattle.rail_history.specs.declared.read_line.ReadLine.{ReadLine}
 use Rattle.rail_history.specs.declared.files.History.{History}
 use Rattle.rail_history.specs.HistoryLines.{IsLine, IsSpelled, does_list, is_fresh, is_fresh_list, is_fresh_note, is_history_line, is_list_within, lines_in, refusal_at}
-use Rattle.rail_history.specs.Lines.{HasNames, brought, brought_by_note, line_of}
+use Rattle.rail_history.specs.Lines.{brought, brought_by_note, line_of}
 use Rattle.rail_history.specs.ReadWords.{joined}
 
 -- the line that was read

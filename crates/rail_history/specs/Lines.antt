@@ -1,21 +1,14 @@
--- The names of a plant, and the lines that entries make.
-use Rattle.std.specs.Prelude.{◌≡◌, ℕ, ◌==◌, cond, List, [], ◌∷◌, ◌++◌, map, get_or, codes, decimal}
+-- The lines that entries make.
+use Rattle.std.specs.Prelude.{ℕ, ◌==◌, cond, List, [], ◌∷◌, ◌++◌, map, codes, decimal}
 use Rattle.rail_base.specs.declared.history.Entry.{Entry}
 use Rattle.rail_base.specs.declared.history.What.{What}
 use Rattle.rail_base.specs.declared.history.What.TheVariants.{Admit, End}
 use Rattle.rail_base.specs.declared.history.Note.{Note}
 use Rattle.rail_base.specs.declared.history.Note.TheVariants.{Pulled, Appended, Fresh}
 use Rattle.rail_base.specs.declared.names.Names.{Names}
-use Rattle.rail_base.specs.declared.plant.SectionRow.{SectionRow}
-use Rattle.rail_base.specs.declared.plant.TrainRow.{TrainRow}
-use Rattle.rail_rules.specs.Plant.{Plant}
 use Rattle.rail_rules.specs.Fronts.{Line}
 use Rattle.rail_rules.specs.Texts.{Item, items_of}
-
--- these are the names of the plant's sections and trains, in the order of their numbers
-pub record HasNames (plant : Plant) (names : Names) : Type 0 where
-  pub sections : names.sections.keys ≡ map (λ (row : SectionRow). row.name) plant.tables.sections
-  pub trains : names.trains.keys ≡ map (λ (row : TrainRow). row.name) plant.tables.trains
+use Rattle.rail_text.specs.Names.{names_in, train_name}
 
 -- the line of an entry, without trains beside it
 abbrev pub bare : Entry → Line
@@ -37,13 +30,9 @@ brought _ kept = []
 abbrev pub line_of : Entry → List ℕ → Line
 line_of entry kept = record { entry = entry; trains = brought entry.what kept }
 
--- the name of a train
-abbrev pub train_name : Names → ℕ → List ℕ
-train_name names t = get_or names.trains.keys t []
-
 -- an item is spelled TRAIN, or TRAIN*COUNT from two on
 abbrev pub item_text : Names → Item → List ℕ
-item_text names item = train_name names item.train ++ cond (item.count == 1) [] (42 ∷ decimal item.count)
+item_text names item = train_name (names_in names) item.train ++ cond (item.count == 1) [] (42 ∷ decimal item.count)
 
 -- the words for the list of an admission with this note
 abbrev pub note_brought_words : Names → Note → List ℕ → List (List ℕ)
@@ -54,7 +43,7 @@ note_brought_words names Appended kept = []
 -- the words for the trains that a line brings: a fresh list as items, and each train of an end line
 abbrev pub brought_words : Names → What → List ℕ → List (List ℕ)
 brought_words names (Admit t m note) kept = note_brought_words names note kept
-brought_words names End kept = map (train_name names) kept
+brought_words names End kept = map (train_name (names_in names)) kept
 brought_words names _ kept = []
 
 -- the word of a note

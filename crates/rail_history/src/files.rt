@@ -4,14 +4,15 @@ ghost use Rattle.std.specs.Prelude.{◌≡◌, ◌≢◌, ◌==◌, ◌+◌, ◌
 ghost use Rattle.std.specs.List.{list_any};
 ghost use Rattle.rail_base.specs.declared.limits.TheConstants.{FRESH_LINES};
 ghost use Rattle.rail_base.specs.declared.refusals.Fault.TheVariants.{Refused};
+ghost use Rattle.rail_text.specs.Names.{HasNames};
 ghost use Rattle.rail_history.specs.HistoryLines.{IsHistory, IsRefusedFor, does_list, is_fresh, refusal_at};
 ghost use Rattle.rail_history.specs.LineReads.{IsPaired, IsWrongLine, TakesLine, lines_of};
-ghost use Rattle.rail_history.specs.Lines.{HasNames};
 ghost use Rattle.rail_rules.specs.Plant.{Plant};
 
+use crate::lists::{does_list, is_fresh};
 use crate::read_line::{ReadLine, read_line};
 use rail_base::limits::FRESH_LINES;
-use rail_base::{Entry, Fault, Names, Note, Part, Reason, Refusal, Seq, TrainNo, What};
+use rail_base::{Entry, Fault, Names, Part, Reason, Refusal, Seq, TrainNo};
 use std::alloc::{AllocError, Global};
 
 /// A history that was read.
@@ -93,26 +94,6 @@ fn add(history: &mut History, line: ReadLine) -> Result<(), AllocError>
     }
     history.entries.push(entry)?;
     Ok(())
-}
-
-/// Whether this is an admission with a fresh list.
-fn is_fresh(what: &What) -> bool
-    ensures { result ≡ is_fresh what.now }
-{
-    matches!(
-        what,
-        What::Admit {
-            note: Note::Fresh,
-            ..
-        }
-    )
-}
-
-/// Whether an entry that says this has trains beside it.
-fn does_list(what: &What) -> bool
-    ensures { result ≡ does_list what.now }
-{
-    is_fresh(what) || matches!(what, What::End)
 }
 
 /// The first line with its line feed, and the text behind it; the whole text where it has no line feed.

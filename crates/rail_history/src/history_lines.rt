@@ -2,8 +2,9 @@
 
 ghost use Rattle.std.specs.Prelude.{◌≡◌, ◌&&◌, length, nat_lt};
 ghost use Rattle.std.specs.List.{list_all};
+ghost use Rattle.rail_text.specs.Names.{HasNames};
 ghost use Rattle.rail_history.specs.HistoryLines.{does_fit_note, is_history_line, is_history_what};
-ghost use Rattle.rail_history.specs.Lines.{HasNames, line_of};
+ghost use Rattle.rail_history.specs.Lines.{line_of};
 ghost use Rattle.rail_history.specs.ReadWords.{is_small};
 ghost use Rattle.rail_rules.specs.Plant.{Plant};
 ghost use Rattle.rail_rules.specs.Writable.{does_fit_counter, is_writable_cause};

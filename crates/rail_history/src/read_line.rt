@@ -2,15 +2,14 @@
 
 ghost use Rattle.std.specs.Prelude.{◌≡◌, ◌↔◌, ◌≤◌, ◌^◌, ℕ, List, IfOk, IfSome, IfNone, drop, length, true};
 ghost use Rattle.std.specs.List.{list_all};
+ghost use Rattle.rail_text.specs.Names.{HasNames};
 ghost use Rattle.rail_history.specs.HistoryLines.{IsLine, IsNoLine, IsSpelled, is_history_line};
 ghost use Rattle.rail_history.specs.LineReads.{AreLikelyTrains, AreNotedTrains, IsLikelyLine, line_read};
-ghost use Rattle.rail_history.specs.Lines.{HasNames};
 ghost use Rattle.rail_history.specs.ReadWords.{is_spaceless, joined};
 ghost use Rattle.rail_rules.specs.Plant.{Plant};
 
 use crate::cutting::cut;
 use crate::history_lines::is_history_line;
-use crate::line::Line;
 use crate::read_time::likely_time;
 use crate::read_trains::likely_trains;
 use crate::read_what::likely_what;
@@ -18,6 +17,7 @@ use crate::writing::write_entry;
 use crate::written::Written;
 use rail_base::limits::LIST_TRAINS;
 use rail_base::{Entry, Names, Note, OutOfMemory, TrainNo, What};
+use rail_text::Line;
 use std::alloc::Global;
 
 /// A line of a history: its entry, and the trains of a fresh list or those that an end line names.

@@ -2,7 +2,7 @@
 
 ghost use Rattle.std.specs.Prelude.{◌≡◌, ◌==◌, ◌≤◌, ◌^◌, List, Some, IfOk, length, map, position, true};
 ghost use Rattle.std.specs.List.{list_all};
-ghost use Rattle.rail_history.specs.Lines.{HasNames};
+ghost use Rattle.rail_text.specs.Names.{HasNames};
 ghost use Rattle.rail_history.specs.HistoryLines.{expanded, is_small_item};
 ghost use Rattle.rail_history.specs.ReadWords.{joined};
 ghost use Rattle.rail_rules.specs.Plant.{Plant};

@@ -5,7 +5,7 @@ ghost use Rattle.rail_base.specs.declared.history.Cause.{Cause as Why};
 ghost use Rattle.rail_base.specs.declared.history.Note.{Note as Said_note};
 ghost use Rattle.rail_base.specs.declared.history.What.{What as Said};
 ghost use Rattle.rail_base.specs.declared.history.What.TheVariants.{Admit, Arrive, Enter, Free, Hold, Out, Ready, Told, Untold};
-ghost use Rattle.rail_history.specs.Lines.{HasNames};
+ghost use Rattle.rail_text.specs.Names.{HasNames};
 ghost use Rattle.rail_history.specs.ReadWords.{is_small_what, joined, note_of};
 ghost use Rattle.rail_rules.specs.Fronts.{Line};
 ghost use Rattle.rail_rules.specs.Plant.{Plant, trains};

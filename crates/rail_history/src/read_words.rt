@@ -4,7 +4,7 @@ ghost use Rattle.std.specs.Prelude.{◌≡◌, ◌<◌, ◌≤◌, ◌^◌, ℕ,
 ghost use Rattle.rail_base.specs.NameForms.{is_name, same_name};
 ghost use Rattle.rail_base.specs.declared.history.Cause.{Cause as Why};
 ghost use Rattle.rail_base.specs.declared.history.Cause.TheVariants.{Blocked, Closed};
-ghost use Rattle.rail_history.specs.Lines.{HasNames};
+ghost use Rattle.rail_text.specs.Names.{HasNames};
 ghost use Rattle.rail_history.specs.ReadWords.{joined, note_of, rare_verb_of, reason_of, verb_of};
 ghost use Rattle.rail_rules.specs.Plant.{Plant, trains};
 ghost use Rattle.rail_rules.specs.Texts.{cause_words, section_word, train_word};

@@ -1,22 +1,20 @@
 //! The trains that a line brings, put behind its words. Where the line is full, it is handed on so far.
 
-ghost use Rattle.std.specs.Prelude.{◌≡◌, ◌+◌, ◌≤◌, ◌<◌, ◌∷◌, ◌++◌, length, map, nat_eq, All, IsTrue, OnOk, OnErr};
+ghost use Rattle.std.specs.Prelude.{◌≡◌, ◌+◌, ◌≤◌, ◌<◌, ◌∷◌, ◌++◌, length, map, nat_eq, OnOk, OnErr};
 ghost use Rattle.std.specs.List.{prefix_len};
 ghost use Rattle.rail_io.specs.FaultCounts.{Rose};
 ghost use Rattle.rail_io.specs.Writes.{Adds, AddsPrefix};
-ghost use Rattle.rail_rules.specs.Plant.{Plant};
 ghost use Rattle.rail_rules.specs.Texts.{items_of};
-ghost use Rattle.rail_rules.specs.Writable.{is_writable_what};
 ghost use Rattle.rail_rules.specs.Texts.{behind};
-ghost use Rattle.rail_history.specs.Lines.{HasNames, brought_words, item_text, line_of, train_name};
+ghost use Rattle.rail_text.specs.Names.{names_in, train_name};
+ghost use Rattle.rail_history.specs.Lines.{brought_words, item_text};
 ghost use Rattle.rail_history.specs.Pieces.{IsHandedOn};
-ghost use Rattle.rail_history.specs.declared.line.TheConstants.{ROOM};
+ghost use Rattle.rail_text.specs.declared.line.TheConstants.{ROOM};
 ghost use Rattle.rail_history.specs.declared.trains.TheConstants.{FULL};
 
-use crate::line::Line;
-use crate::words::put_train;
 use rail_base::{Entry, Names, Note, TrainNo, What};
 use rail_io::{Failed, Sink, write_whole};
+use rail_text::Line;
 
 /// The bytes from which on a line is handed on before one more train is put.
 const FULL: usize = 448;
@@ -29,9 +27,7 @@ pub(crate) fn put_brought<O: Sink>(
     kept: &[TrainNo],
     out: &mut O,
 ) -> Result<(), Failed>
-    requires room { length line.old < ROOM }
-    requires known { (plant : Plant) × HasNames plant names.now
-        × IsTrue (is_writable_what plant (line_of entry.now kept.now) entry.now.what) }
+    requires { length line.old < ROOM }
     ensures adds { OnOk result (IsHandedOn (O.written out.old) (O.written out.new) line.new
         (line.old ++ behind (brought_words names.now entry.now.what kept.now))) }
     ensures room { OnOk result (length line.new < ROOM) }
@@ -57,8 +53,7 @@ fn put_items<O: Sink>(
     list: &[TrainNo],
     out: &mut O,
 ) -> Result<(), Failed>
-    requires room { length line.old < ROOM }
-    requires known { All (λ t. t < length names.now.trains.keys) list.now }
+    requires { length line.old < ROOM }
     ensures adds { OnOk result (IsHandedOn (O.written out.old) (O.written out.new) line.new
         (line.old ++ behind (map (item_text names.now) (items_of list.now)))) }
     ensures room { OnOk result (length line.new < ROOM) }
@@ -83,13 +78,12 @@ fn put_trains<O: Sink>(
     list: &[TrainNo],
     out: &mut O,
 ) -> Result<(), Failed>
-    requires room { length line.old < ROOM }
-    requires known { All (λ t. t < length names.now.trains.keys) list.now }
+    requires { length line.old < ROOM }
     ensures adds { OnOk result (IsHandedOn (O.written out.old) (O.written out.new) line.new
-        (line.old ++ behind (map (train_name names.now) list.now))) }
+        (line.old ++ behind (map (train_name (names_in names.now)) list.now))) }
     ensures room { OnOk result (length line.new < ROOM) }
     ensures failed_adds_prefix { OnErr result (AddsPrefix (O.written out.old) (O.written out.new)
-        (line.old ++ behind (map (train_name names.now) list.now))) }
+        (line.old ++ behind (map (train_name (names_in names.now)) list.now))) }
     ensures failed_rose { OnErr result (Rose (O.faults out.old) (O.faults out.new)) }
     ensures faults_never_fall { O.faults out.old ≤ O.faults out.new }
 {
@@ -117,8 +111,7 @@ fn put_item<O: Sink>(
     count: usize,
     out: &mut O,
 ) -> Result<(), Failed>
-    requires room { length line.old < ROOM }
-    requires known { train < length names.now.trains.keys }
+    requires { length line.old < ROOM }
     ensures adds { OnOk result (IsHandedOn (O.written out.old) (O.written out.new) line.new
         (line.old ++ 32 ∷ item_text names.now (record { train = train; count = count }))) }
     ensures room { OnOk result (length line.new < ROOM) }
@@ -128,7 +121,7 @@ fn put_item<O: Sink>(
     ensures faults_never_fall { O.faults out.old ≤ O.faults out.new }
 {
     make_room(line, out)?;
-    put_train(line, names, train);
+    line.put_train(names, train);
     if count != 1 {
         line.put_count(count as u64);
     }

@@ -1,41 +1,19 @@
 //! The words of a line behind its time, put at the end of the line one after another.
 
-ghost use Rattle.std.specs.Prelude.{◌≡◌, ◌+◌, ◌≤◌, ◌<◌, [], ◌∷◌, ◌++◌, length, decimal, IsTrue};
+ghost use Rattle.std.specs.Prelude.{◌≡◌, ◌+◌, ◌≤◌, [], ◌∷◌, ◌++◌, length, decimal};
 ghost use Rattle.rail_rules.specs.Plant.{Plant};
-ghost use Rattle.rail_rules.specs.Texts.{cause_words, section_word, train_word, what_words};
-ghost use Rattle.rail_rules.specs.Writable.{is_writable_cause, is_writable_what};
+ghost use Rattle.rail_rules.specs.Texts.{cause_words, train_word, what_words};
 ghost use Rattle.rail_rules.specs.Texts.{behind};
-ghost use Rattle.rail_history.specs.Lines.{HasNames, bare, note_word, train_name};
-ghost use Rattle.rail_history.specs.declared.line.TheConstants.{ROOM};
+ghost use Rattle.rail_text.specs.Names.{HasNames};
+ghost use Rattle.rail_history.specs.Lines.{bare, note_word};
+ghost use Rattle.rail_text.specs.declared.line.TheConstants.{ROOM};
 
-use crate::line::Line;
-use rail_base::{Cause, Entry, Names, Note, SectionNo, TrainNo, What};
-
-/// Puts the name of a train.
-pub(crate) fn put_train(line: &mut Line, names: &Names, train: TrainNo)
-    requires room { length line.old + 17 ≤ ROOM }
-    requires known { train < length names.now.trains.keys }
-    ensures text { (plant : Plant) → HasNames plant names.now → line.new ≡ line.old ++ 32 ∷ train_word plant train }
-    ensures named { line.new ≡ line.old ++ 32 ∷ train_name names.now train }
-    ensures short { length line.new ≤ length line.old + 17 }
-{
-    line.put_name(names.trains.get_index(usize::from(train.0)).unwrap());
-}
-
-/// Puts the name of a section.
-fn put_section(line: &mut Line, names: &Names, section: SectionNo)
-    requires room { length line.old + 17 ≤ ROOM }
-    requires known { section < length names.now.sections.keys }
-    ensures text { (plant : Plant) → HasNames plant names.now → line.new ≡ line.old ++ 32 ∷ section_word plant section }
-    ensures short { length line.new ≤ length line.old + 17 }
-{
-    line.put_name(names.sections.get_index(usize::from(section.0)).unwrap());
-}
+use rail_base::{Cause, Entry, Names, Note, TrainNo, What};
+use rail_text::Line;
 
 /// Puts the words of an entry behind its time.
 pub(crate) fn put_what(line: &mut Line, names: &Names, entry: &Entry)
-    requires room { length line.old + 128 ≤ ROOM }
-    requires known { (plant : Plant) × HasNames plant names.now × IsTrue (is_writable_what plant (bare entry.now) entry.now.what) }
+    requires { length line.old + 128 ≤ ROOM }
     ensures text { (plant : Plant) → HasNames plant names.now
         → line.new ≡ line.old ++ behind (what_words plant (bare entry.now) entry.now.what) }
     ensures short { length line.new ≤ length line.old + 128 }
@@ -43,8 +21,8 @@ pub(crate) fn put_what(line: &mut Line, names: &Names, entry: &Entry)
     match entry.what {
         What::Free { section, train } => {
             line.put_word(b"free");
-            put_section(line, names, section);
-            put_train(line, names, train);
+            line.put_section(names, section);
+            line.put_train(names, train);
         }
         What::Arrive { train, place } => {
             line.put_word(b"arrive");
@@ -57,11 +35,11 @@ pub(crate) fn put_what(line: &mut Line, names: &Names, entry: &Entry)
         } => {
             line.put_word(b"enter");
             put_move(line, names, train, place);
-            put_section(line, names, section);
+            line.put_section(names, section);
         }
         What::Out { train } => {
             line.put_word(b"out");
-            put_train(line, names, train);
+            line.put_train(names, train);
         }
         What::Ready { train, place } => {
             line.put_word(b"ready");
@@ -95,13 +73,12 @@ pub(crate) fn put_what(line: &mut Line, names: &Names, entry: &Entry)
 
 /// Puts the name of a train and the number of its move.
 fn put_move(line: &mut Line, names: &Names, train: TrainNo, place: u16)
-    requires room { length line.old + 58 ≤ ROOM }
-    requires known { train < length names.now.trains.keys }
+    requires { length line.old + 58 ≤ ROOM }
     ensures text { (plant : Plant) → HasNames plant names.now
         → line.new ≡ line.old ++ behind (train_word plant train ∷ decimal place ∷ []) }
     ensures short { length line.new ≤ length line.old + 58 }
 {
-    put_train(line, names, train);
+    line.put_train(names, train);
     line.put_number(u64::from(place));
 }
 
@@ -120,8 +97,7 @@ fn put_note(line: &mut Line, note: Note)
 
 /// Puts the words of a cause.
 fn put_cause(line: &mut Line, names: &Names, cause: Cause)
-    requires room { length line.old + 43 ≤ ROOM }
-    requires known { (plant : Plant) × HasNames plant names.now × IsTrue (is_writable_cause plant cause) }
+    requires { length line.old + 43 ≤ ROOM }
     ensures text { (plant : Plant) → HasNames plant names.now → line.new ≡ line.old ++ behind (cause_words plant cause) }
     ensures short { length line.new ≤ length line.old + 43 }
 {
@@ -129,12 +105,12 @@ fn put_cause(line: &mut Line, names: &Names, cause: Cause)
         Cause::Stopped => line.put_word(b"stopped"),
         Cause::Closed { section } => {
             line.put_word(b"closed");
-            put_section(line, names, section);
+            line.put_section(names, section);
         }
         Cause::Blocked { section, holder } => {
             line.put_word(b"blocked");
-            put_section(line, names, section);
-            put_train(line, names, holder);
+            line.put_section(names, section);
+            line.put_train(names, holder);
         }
         Cause::NoList => line.put_word(b"nolist"),
     }

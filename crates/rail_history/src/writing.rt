@@ -4,13 +4,14 @@ ghost use Rattle.rail_io.specs.Writes.{Adds, AddsPrefix};
 ghost use Rattle.rail_rules.specs.Plant.{Plant};
 ghost use Rattle.rail_rules.specs.Texts.{line_text};
 ghost use Rattle.rail_rules.specs.Writable.{is_writable};
-ghost use Rattle.rail_history.specs.Lines.{HasNames, line_of};
+ghost use Rattle.rail_text.specs.Names.{HasNames};
+ghost use Rattle.rail_history.specs.Lines.{line_of};
 
-use crate::line::Line;
 use crate::trains::put_brought;
 use crate::words::put_what;
 use rail_base::{Entry, Names, TrainNo};
 use rail_io::{Failed, Sink, write_whole};
+use rail_text::Line;
 
 /// Writes the line of an entry. `kept` is the list of a fresh admission, or the trains that an end line
 /// names; at another entry it isn't looked at. The trains and sections are those of the names. The line is

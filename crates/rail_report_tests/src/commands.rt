@@ -2,7 +2,7 @@
 //! rows of `rail_rows`.
 
 use rail_base::{Fault, Part, Reason, Refusal, Time};
-use rail_command::{input_time, is_decimal, next_line, next_word, refused_at, value_of};
+use rail_text::{input_time, is_decimal, next_line, next_word, refused_at, value_of};
 
 #[test]
 fn cuts_lines_and_words(rt: HostRuntime) {

@@ -1,8 +1,8 @@
 //! What is said of a refusal.
 
 use rail_base::{Name, Part, Reason, Refusal, Word};
-use rail_explain::{ALL_FORMS, explained, file_of, law_text, usage_of};
-use rail_words::Form;
+use rail_explain::{VERSION, explained, file_of, help_line, law_text, usage_with_hint};
+use rail_words::{Form, request_of};
 use std::alloc::{AllocError, Global};
 
 /// What is said of item 2 of the part, at this step.
@@ -315,26 +315,28 @@ fn names_the_item(rt: HostRuntime) {
 fn names_the_file_of_the_item(rt: HostRuntime) {
     let alloc = rt.alloc();
     let are_in_files = [
-        is_in_file(alloc, "run s t c", Form::Run, Part::Train, Some("s")),
+        is_in_file(alloc, "run s t c", Part::Train, Some("s")),
         is_in_file(
             alloc,
-            "capacity l f t s",
-            Form::Capacity,
+            "capacity l 00:00:00 01:00:00 s",
             Part::Train,
             Some("s"),
         ),
-        is_in_file(alloc, "check s t c h", Form::Check, Part::Row, Some("t")),
-        is_in_file(alloc, "report s t c", Form::Report, Part::Line, Some("c")),
-        is_in_file(alloc, "edit s e", Form::Edit, Part::Line, Some("e")),
-        is_in_file(alloc, "capacity l f t s", Form::Capacity, Part::Word, None),
+        is_in_file(alloc, "check s t c h", Part::Row, Some("t")),
+        is_in_file(alloc, "report s t c", Part::Line, Some("c")),
+        is_in_file(alloc, "edit s e", Part::Line, Some("e")),
+        is_in_file(alloc, "capacity l 00:00:00 01:00:00 s", Part::Word, None),
     ];
     assert_eq!(rt; are_in_files, [true; 6]);
 }
 
 /// Whether a refusal in this part lies in this file of the command line.
-fn is_in_file(alloc: Global, words: &str, form: Form, part: Part, file: Option<&str>) -> bool {
+fn is_in_file(alloc: Global, words: &str, part: Part, file: Option<&str>) -> bool {
     match words_of(alloc, words) {
-        Ok(words) => file_of(form, &words, &repeated(part)) == file,
+        Ok(words) => match request_of(&words) {
+            Some(request) => file_of(&request, &repeated(part)) == file,
+            None => false,
+        },
         Err(_) => false,
     }
 }
@@ -349,30 +351,16 @@ fn words_of(alloc: Global, text: &str) -> Result<Vec<Word>, AllocError> {
 }
 
 #[test]
-fn shows_the_form_that_begins_so(rt: HostRuntime) {
-    let alloc = rt.alloc();
+fn shows_how_a_form_is_typed(rt: HostRuntime) {
     let are_shown = [
-        shows(alloc, "play s", "rail play SCENE LIST"),
-        shows(alloc, "infra", "rail infra SCENE"),
-        shows(alloc, "rnu s", ALL_FORMS),
-        shows(alloc, "", ALL_FORMS),
+        usage_with_hint(Form::Play).as_slice() == b"rail play SCENE LIST".as_slice(),
+        usage_with_hint(Form::Gen).as_slice()
+            == b"rail gen NUMBER, where NUMBER is below 2^64 and has no leading zeros".as_slice(),
+        help_line(Form::Stairs).as_slice()
+            == b"    rail stairs SCENE [TIMETABLE [COMMANDS]] blocking intervals of the trains, and how long each section is occupied\n".as_slice(),
+        help_line(Form::Check).as_slice()
+            == b"    rail check SCENE TIMETABLE COMMANDS HISTORY\n                                             whether a history is lawful to its end, or its first wrong line\n".as_slice(),
+        VERSION == "rail 0.1.0\n",
     ];
-    assert_eq!(rt; are_shown, [true; 4]);
-}
-
-/// Whether this is shown for the words.
-fn shows(alloc: Global, text: &str, usage: &str) -> bool {
-    match words_of(alloc, text) {
-        Ok(words) => usage_of(&words) == usage,
-        Err(_) => false,
-    }
-}
-
-#[test]
-fn says_what_each_law_is(rt: HostRuntime) {
-    let laws = [
-        "law 3: the train is stopped, or a section that it needs is closed",
-        "law 7: the end line is missing",
-    ];
-    assert!(rt; [law_text(3), law_text(7)] == laws);
+    assert_eq!(rt; are_shown, [true; 5]);
 }

@@ -1,5 +1,5 @@
 use rail_base::Word;
-use rail_words::{Form, form_of};
+use rail_words::{Form, Request, request_of};
 use std::alloc::{AllocError, Global};
 
 fn words_of(alloc: Global, line: &str) -> Result<Vec<Word>, AllocError> {
@@ -55,7 +55,7 @@ fn first_other(alloc: Global) -> Option<&'static str> {
 /// Whether the line has this form.
 fn has_form(alloc: Global, line: &str, form: Option<Form>) -> bool {
     match words_of(alloc, line) {
-        Ok(words) => form_of(&words) == form,
+        Ok(words) => request_of(&words).as_ref().map(Request::form) == form,
         Err(_) => false,
     }
 }

@@ -13,6 +13,7 @@ use Rattle.rail_scene.specs.SceneItems.{SceneItems}
 use Rattle.rail_scene.specs.declared.keys.Key.{Key}
 use Rattle.rail_scene.specs.declared.keys.ListPart.{ListPart}
 use Rattle.rail_scene.specs.declared.keys.ListPart.TheVariants.{Section, Portal, Signal, Board, Turn, Route, Kind, Train}
+use Rattle.rail_scene.specs.declared.versions.Version.{Version}
 use Rattle.rail_scene.specs.Keys.{list_key, part_of}
 use Rattle.rail_scene.specs.Fields.{elements_at}
 use Rattle.rail_scene.specs.Entries.{section_of, portal_of, signal_of, board_of, turn_of, route_of, kind_of, train_of}
@@ -45,31 +46,31 @@ with_none Route draft = ap (λ xs. record draft { network = record draft.network
 with_none Kind draft = ap (λ xs. record draft { kinds = xs }) (append-nil draft.kinds)
 with_none Train draft = ap (λ xs. record draft { trains = xs }) (append-nil draft.trains)
 
-module _ (part : ListPart) (draft : SceneItems) (tables : List Value) (i : ℕ) (table : Value) (within : i < length tables) (is : table ≡ get_or tables i table) where
+module _ (part : ListPart) (version : Version) (draft : SceneItems) (tables : List Value) (i : ℕ) (table : Value) (within : i < length tables) (is : table ≡ get_or tables i table) where
   abbrev own : List (Test NetFault)
-  own = item_tests part draft (view table)
+  own = item_tests part version draft (view table)
 
   abbrev next : SceneItems
   next = with_items part (view table ∷ []) draft
 
   abbrev rest : List (Test Refusal)
-  rest = list_values part (i + 1 + 1) next (map view (drop (i + 1) tables))
+  rest = list_values part version (i + 1 + 1) next (map view (drop (i + 1) tables))
 
-  more : first_failing (list_values part (i + 1) draft (map view (drop i tables))) ≡ first_failing (located (part_of part) (i + 1) own ++ rest)
-  more = view_more (λ ys. first_failing (list_values part (i + 1) draft ys)) tables i table within is
+  more : first_failing (list_values part version (i + 1) draft (map view (drop i tables))) ≡ first_failing (located (part_of part) (i + 1) own ++ rest)
+  more = view_more (λ ys. first_failing (list_values part version (i + 1) draft ys)) tables i table within is
 
-  pub value_stop : (fault : NetFault) → Answers (first_failing own) fault → AnswersFirst (first_failing (list_values part (i + 1) draft (map view (drop i tables)))) (fault_at (part_of part) (item_number (i + 1)) fault)
+  pub value_stop : (fault : NetFault) → Answers (first_failing own) fault → AnswersFirst (first_failing (list_values part version (i + 1) draft (map view (drop i tables)))) (fault_at (part_of part) (item_number (i + 1)) fault)
   value_stop fault answers =
       let placed = fault_at (part_of part) (item_number (i + 1)) fault in
       subst (λ first. AnswersFirst first placed) (sym more) (scene_before (located (part_of part) (i + 1) own) rest placed (answers_located (part_of part) (i + 1) own fault answers))
 
-  pub value_pass : first_failing own ≡ None → first_failing (list_values part (i + 1) draft (map view (drop i tables))) ≡ first_failing rest
+  pub value_pass : first_failing own ≡ None → first_failing (list_values part version (i + 1) draft (map view (drop i tables))) ≡ first_failing rest
   value_pass none = more ∙ passed_on (located (part_of part) (i + 1) own) rest (located_none (part_of part) (i + 1) own none)
 
   pub draft_pass : with_items part (map view (drop i tables)) draft ≡ with_items part (map view (drop (i + 1) tables)) next
   draft_pass = view_more (λ ys. with_items part ys draft) tables i table within is ∙ sym (with_more part (view table) (map view (drop (i + 1) tables)) draft)
 
-module _ (root : Data) (draft : SceneItems) (parts : List ListPart) (i : ℕ) (d : ListPart) (within : i < length parts) where
+module _ (version : Version) (root : Data) (draft : SceneItems) (parts : List ListPart) (i : ℕ) (d : ListPart) (within : i < length parts) where
   abbrev part : ListPart
   part = get_or parts i d
 
@@ -78,18 +79,18 @@ module _ (root : Data) (draft : SceneItems) (parts : List ListPart) (i : ℕ) (d
     stand = are ∙ ap (λ k. elements_at k root) has
 
     abbrev later : List (Test Refusal)
-    later = values_of root (with_items part nodes draft) (drop (i + 1) parts)
+    later = values_of version root (with_items part nodes draft) (drop (i + 1) parts)
 
-    unfolded : first_failing (values_of root draft (drop i parts)) ≡ first_failing (list_values part 1 draft nodes ++ later)
+    unfolded : first_failing (values_of version root draft (drop i parts)) ≡ first_failing (list_values part version 1 draft nodes ++ later)
     unfolded =
-        at_drop_more (λ ys. first_failing (values_of root draft ys)) parts i d within
-        ∙ ap (λ ys. first_failing (list_values part 1 draft ys ++ values_of root (with_items part ys draft) (drop (i + 1) parts))) (sym stand)
+        at_drop_more (λ ys. first_failing (values_of version root draft ys)) parts i d within
+        ∙ ap (λ ys. first_failing (list_values part version 1 draft ys ++ values_of version root (with_items part ys draft) (drop (i + 1) parts))) (sym stand)
 
-    pub values_stop : (fault : Fault) → AnswersFirst (first_failing (list_values part 1 draft nodes)) fault → AnswersFirst (first_failing (values_of root draft (drop i parts))) fault
-    values_stop fault answers = subst (λ first. AnswersFirst first fault) (sym unfolded) (scene_before (list_values part 1 draft nodes) later fault answers)
+    pub values_stop : (fault : Fault) → AnswersFirst (first_failing (list_values part version 1 draft nodes)) fault → AnswersFirst (first_failing (values_of version root draft (drop i parts))) fault
+    values_stop fault answers = subst (λ first. AnswersFirst first fault) (sym unfolded) (scene_before (list_values part version 1 draft nodes) later fault answers)
 
-    pub values_pass : first_failing (list_values part 1 draft nodes) ≡ None → first_failing (values_of root draft (drop i parts)) ≡ first_failing later
-    values_pass none = unfolded ∙ passed_on (list_values part 1 draft nodes) later none
+    pub values_pass : first_failing (list_values part version 1 draft nodes) ≡ None → first_failing (values_of version root draft (drop i parts)) ≡ first_failing later
+    values_pass none = unfolded ∙ passed_on (list_values part version 1 draft nodes) later none
 
     pub lists_pass : with_lists root (drop i parts) draft ≡ with_lists root (drop (i + 1) parts) (with_items part nodes draft)
     lists_pass =

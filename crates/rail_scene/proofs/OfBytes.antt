@@ -1,5 +1,5 @@
 -- No refusal of a scene is one of a file for its size.
-use Rattle.std.proofs.Common.{◌≡◌, ℕ, ◌+◌, Bool, false, List, [], ◌∷◌, Some, refl}
+use Rattle.std.proofs.Common.{◌≡◌, ℕ, ◌+◌, Bool, false, List, [], ◌∷◌, ◌++◌, Some, refl}
 use Rattle.toml.specs.Data.{Data}
 use Rattle.rail_base.specs.FirstRefusals.{Test}
 use Rattle.rail_base.specs.Refusals.{is_file}
@@ -11,7 +11,8 @@ use Rattle.rail_track.specs.declared.section.NetFault.{NetFault}
 use Rattle.rail_track.specs.declared.section.NetFault.TheVariants.{Refused, OutOfMemory}
 use Rattle.rail_scene.specs.declared.keys.ListPart.{ListPart}
 use Rattle.rail_scene.specs.declared.keys.ListPart.TheVariants.{Section, Portal, Signal, Board, Turn, Route, Kind, Train}
-use Rattle.rail_scene.specs.Fields.{elements_at}
+use Rattle.rail_scene.specs.declared.versions.Version.{Version}
+use Rattle.rail_scene.specs.Fields.{elements_at, version_of}
 use Rattle.rail_scene.specs.Forms.{form_tests}
 use Rattle.rail_scene.specs.Values.{value_tests}
 use Rattle.rail_scene.specs.Keys.{keys_of, list_key, list_parts, part_of, root_keys}
@@ -39,35 +40,38 @@ no_file Kind = refl
 no_file Train = refl
 
 -- the forms and the values of the tables of a list, and of the lists in turn
-of_forms : (part : ListPart) (n : ℕ) (nodes : List Data) → AreOfBytes (list_forms part n nodes)
-of_forms part n [] = tt
-of_forms part n (node ∷ nodes) = of_both (located (part_of part) n (form_tests (keys_of part) node)) (list_forms part (n + 1) nodes)
-    (of_table (part_of part) (no_file part) n (form_tests (keys_of part) node)) (of_forms part (n + 1) nodes)
+of_forms : (part : ListPart) (version : Version) (n : ℕ) (nodes : List Data) → AreOfBytes (list_forms part version n nodes)
+of_forms part version n [] = tt
+of_forms part version n (node ∷ nodes) = of_both (located (part_of part) n (form_tests (keys_of part version) node)) (list_forms part version (n + 1) nodes)
+    (of_table (part_of part) (no_file part) n (form_tests (keys_of part version) node)) (of_forms part version (n + 1) nodes)
 
-of_all_forms : (root : Data) (parts : List ListPart) → AreOfBytes (forms_of root parts)
-of_all_forms root [] = tt
-of_all_forms root (part ∷ parts) = of_both (list_forms part 1 (elements_at (list_key part) root)) (forms_of root parts)
-    (of_forms part 1 (elements_at (list_key part) root)) (of_all_forms root parts)
+of_all_forms : (version : Version) (root : Data) (parts : List ListPart) → AreOfBytes (forms_of version root parts)
+of_all_forms version root [] = tt
+of_all_forms version root (part ∷ parts) = of_both (list_forms part version 1 (elements_at (list_key part) root)) (forms_of version root parts)
+    (of_forms part version 1 (elements_at (list_key part) root)) (of_all_forms version root parts)
 
-of_values : (part : ListPart) (n : ℕ) (items : SceneItems) (nodes : List Data) → AreOfBytes (list_values part n items nodes)
-of_values part n items [] = tt
-of_values part n items (node ∷ nodes) = of_both (located (part_of part) n (item_tests part items node)) (list_values part (n + 1) (with_items part (node ∷ []) items) nodes)
-    (of_table (part_of part) (no_file part) n (item_tests part items node)) (of_values part (n + 1) (with_items part (node ∷ []) items) nodes)
+of_values : (part : ListPart) (version : Version) (n : ℕ) (items : SceneItems) (nodes : List Data) → AreOfBytes (list_values part version n items nodes)
+of_values part version n items [] = tt
+of_values part version n items (node ∷ nodes) = of_both (located (part_of part) n (item_tests part version items node)) (list_values part version (n + 1) (with_items part (node ∷ []) items) nodes)
+    (of_table (part_of part) (no_file part) n (item_tests part version items node)) (of_values part version (n + 1) (with_items part (node ∷ []) items) nodes)
 
-of_all_values : (root : Data) (items : SceneItems) (parts : List ListPart) → AreOfBytes (values_of root items parts)
-of_all_values root items [] = tt
-of_all_values root items (part ∷ parts) = of_both (list_values part 1 items (elements_at (list_key part) root)) (values_of root (with_items part (elements_at (list_key part) root) items) parts)
-    (of_values part 1 items (elements_at (list_key part) root)) (of_all_values root (with_items part (elements_at (list_key part) root) items) parts)
+of_all_values : (version : Version) (root : Data) (items : SceneItems) (parts : List ListPart) → AreOfBytes (values_of version root items parts)
+of_all_values version root items [] = tt
+of_all_values version root items (part ∷ parts) = of_both (list_values part version 1 items (elements_at (list_key part) root)) (values_of version root (with_items part (elements_at (list_key part) root) items) parts)
+    (of_values part version 1 items (elements_at (list_key part) root)) (of_all_values version root (with_items part (elements_at (list_key part) root) items) parts)
+
+-- the tests of the tables of a scene
+of_root : (version : Version) (root : Data) → AreOfBytes (scene_forms version root ++ scene_values version root)
+unfolding scene_forms scene_values lists_values
+of_root version root =
+    let keys = root_keys version in
+    of_both (scene_forms version root) (scene_values version root)
+    (of_both (located Root 0 (form_tests keys root)) (forms_of version root list_parts) (of_table Root refl 0 (form_tests keys root)) (of_all_forms version root list_parts))
+    (of_both (located Root 0 (value_tests 1 keys root)) (values_of version root no_items list_parts) (of_table Root refl 0 (value_tests 1 keys root)) (of_all_values version root no_items list_parts))
 
 -- the tests of a scene
 of_scene : (bytes : List ℕ) → AreOfBytes (scene_tests bytes)
-unfolding scene_forms scene_values lists_values
-of_scene bytes = let root : Data = root_of bytes in (
-  refl,
-  of_both (scene_forms root) (scene_values root)
-      (of_both (located Root 0 (form_tests root_keys root)) (forms_of root list_parts) (of_table Root refl 0 (form_tests root_keys root)) (of_all_forms root list_parts))
-      (of_both (located Root 0 (value_tests 1 root_keys root)) (values_of root no_items list_parts) (of_table Root refl 0 (value_tests 1 root_keys root)) (of_all_values root no_items list_parts)),
-)
+of_scene bytes = let root : Data = root_of bytes in (refl, of_root (version_of root) root)
 
 pub scene_of_bytes : (bytes : List ℕ) (refusal : Refusal) → scene_refusal bytes ≡ Some refusal → is_file refusal.part ≡ false
 unfolding scene_refusal

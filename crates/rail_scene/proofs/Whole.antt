@@ -8,6 +8,8 @@ use Rattle.rail_base.specs.declared.refusals.Refusal.{Refusal}
 use Rattle.rail_track.specs.declared.section.NetFault.{NetFault}
 use Rattle.rail_base.specs.FirstRefusals.{Test, first_failing}
 use Rattle.rail_track.specs.NetFaults.{Answers}
+use Rattle.rail_scene.specs.declared.versions.Version.{Version}
+use Rattle.rail_scene.specs.Fields.{version_of}
 use Rattle.rail_scene.specs.Keys.{root_keys}
 use Rattle.rail_scene.specs.Values.{value_tests}
 use Rattle.rail_scene.specs.SpelledScenes.{root_of}
@@ -16,34 +18,37 @@ use Rattle.rail_scene.specs.Order.{located, fault_at, lists_values, scene_values
 use Rattle.rail_scene.proofs.Segments.{both_passed, scene_before, scene_after}
 use Rattle.rail_scene.proofs.Locating.{located_none, answers_located}
 
-module _ (root : Data) where
+module _ (version : Version) (root : Data) where
   abbrev own : List (Test NetFault)
-  own = value_tests 1 root_keys root
+  own = value_tests 1 (root_keys version) root
 
   abbrev lists : List (Test Refusal)
-  lists = lists_values root
+  lists = lists_values version root
 
-  pub values_none : first_failing own ≡ None → first_failing lists ≡ None → first_failing (scene_values root) ≡ None
+  pub values_none : first_failing own ≡ None → first_failing lists ≡ None → first_failing (scene_values version root) ≡ None
   unfolding scene_values
   values_none a b = both_passed (located Root 0 own) lists (located_none Root 0 own a) b
 
-  pub at_root : (fault : NetFault) → Answers (first_failing own) fault → AnswersFirst (first_failing (scene_values root)) (fault_at Root 0 fault)
+  pub at_root : (fault : NetFault) → Answers (first_failing own) fault → AnswersFirst (first_failing (scene_values version root)) (fault_at Root 0 fault)
   unfolding scene_values
   at_root fault answers = scene_before (located Root 0 own) lists (fault_at Root 0 fault) (answers_located Root 0 own fault answers)
 
-  pub at_lists : first_failing own ≡ None → (fault : Fault) → AnswersFirst (first_failing lists) fault → AnswersFirst (first_failing (scene_values root)) fault
+  pub at_lists : first_failing own ≡ None → (fault : Fault) → AnswersFirst (first_failing lists) fault → AnswersFirst (first_failing (scene_values version root)) fault
   unfolding scene_values
   at_lists none fault answers = scene_after (located Root 0 own) lists fault (located_none Root 0 own none) answers
 
 module _ (bytes : List ℕ) where
+  abbrev version : Version
+  version = version_of (root_of bytes)
+
   abbrev first : List (Test Refusal)
   first = toml_test bytes ∷ []
 
   abbrev forms : List (Test Refusal)
-  forms = scene_forms (root_of bytes)
+  forms = scene_forms version (root_of bytes)
 
   abbrev values : List (Test Refusal)
-  values = scene_values (root_of bytes)
+  values = scene_values version (root_of bytes)
 
   pub none_refused : first_failing first ≡ None → first_failing forms ≡ None → first_failing values ≡ None → scene_refusal bytes ≡ None
   unfolding scene_refusal

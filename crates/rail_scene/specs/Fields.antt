@@ -14,7 +14,9 @@ use Rattle.rail_scene.specs.declared.keys.Form.{Form}
 use Rattle.rail_scene.specs.declared.keys.Form.TheVariants.{Whole}
 use Rattle.rail_scene.specs.declared.keys.Key.{Key}
 use Rattle.rail_scene.specs.declared.keys.KeyName.TheVariants as word
+use Rattle.rail_scene.specs.declared.versions.Version.{Version}
 use Rattle.rail_scene.specs.Keys.{text_of, key_of}
+use Rattle.rail_scene.specs.Versions.{newest, version_named}
 
 -- the value of a key
 abbrev pub value_at : Key → Data → Option Data
@@ -58,6 +60,10 @@ number_by form value = None
 -- the number at a key, which has its default where it is absent
 abbrev pub number_at : Key → Data → Option ℕ
 number_at key node = number_by key.form (value_at key node)
+
+-- the version that a root names; a root that names none is read as one of the newest
+abbrev pub version_of : Data → Version
+version_of root = unwrap_or (option_and_then version_named (number_at (key_of word.Version) root)) newest
 
 -- the section kind that a word stands for
 abbrev pub kind_named : List ℕ → Option SectionKind

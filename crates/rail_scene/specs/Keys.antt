@@ -10,15 +10,18 @@ use Rattle.rail_scene.specs.declared.keys.KeyName.{KeyName}
 use Rattle.rail_scene.specs.declared.keys.KeyName.TheVariants as word
 use Rattle.rail_scene.specs.declared.keys.ListPart.{ListPart}
 use Rattle.rail_scene.specs.declared.keys.ListPart.TheVariants.{Section, Portal, Signal, Board, Turn, Route, Kind, Train}
+use Rattle.rail_scene.specs.declared.versions.Version.{Version}
+use Rattle.rail_scene.specs.declared.versions.Version.TheVariants.{One}
+use Rattle.rail_scene.specs.Versions.{newest, version_number}
 
 -- a whole number from the one to the other, and the first where the key is absent
 abbrev pub whole : ℕ → ℕ → Form
 whole low high = form.Whole (record { low = low; high = high; default = low })
 
--- the table of the keys: how a key is written, what its value has to be, and whether it has to be there; lengths in
--- metres, speeds in km/h, times in tenths of a second
+-- the table of the keys of all versions: how a key is written, what its value has to be, and whether it has to be there;
+-- lengths in metres, speeds in km/h, times in tenths of a second
 abbrev pub key_row : KeyName → List ℕ × Form × Bool
-key_row word.Version = (codes "version", whole 1 1, true)
+key_row word.Version = (codes "version", whole 1 (version_number newest), true)
 key_row word.Release = (codes "release", whole 0 (most ReleaseTime), true)
 key_row word.Depth = (codes "depth", form.Whole (record { low = 0; high = most Depth; default = 1 }), false)
 key_row word.Policy = (codes "policy", form.Policy, false)
@@ -77,20 +80,52 @@ list_key Route = key_of word.Route
 list_key Kind = key_of word.Kind
 list_key Train = key_of word.Train
 
--- the keys of the root
-abbrev pub root_keys : List Key
-root_keys = key_of word.Version ∷ key_of word.Release ∷ key_of word.Depth ∷ key_of word.Policy ∷ map list_key list_parts
+-- the keys of the root by the version of the file
+abbrev pub root_keys : Version → List Key
+root_keys One = key_of word.Version ∷ key_of word.Release ∷ key_of word.Depth ∷ key_of word.Policy ∷ map list_key list_parts
 
--- the keys of a table in the list
-abbrev pub keys_of : ListPart → List Key
-keys_of Section = map key_of (word.Name ∷ word.SectionKind ∷ word.SectionLength ∷ word.Speed ∷ word.Joints ∷ [])
-keys_of Portal = map key_of (word.Name ∷ word.Joint ∷ word.Setting ∷ word.Watching ∷ word.Approach ∷ [])
-keys_of Signal = map key_of (word.Name ∷ word.Joint ∷ word.Ahead ∷ word.Setting ∷ word.Watching ∷ word.Approach ∷ [])
-keys_of Board = map key_of (word.Name ∷ word.Joint ∷ [])
-keys_of Turn = map key_of (word.Arriving ∷ word.Leaving ∷ word.Time ∷ [])
-keys_of Route = map key_of (word.Name ∷ word.From ∷ word.To ∷ word.Path ∷ [])
-keys_of Kind = map key_of (word.Name ∷ word.TrainLength ∷ word.Speed ∷ word.Start ∷ word.Stop ∷ [])
-keys_of Train = map key_of (word.Name ∷ word.TrainKind ∷ word.Entry ∷ word.Priority ∷ word.Routes ∷ [])
+-- the keys of a section in each version
+abbrev pub section_keys : List Key
+section_keys = map key_of (word.Name ∷ word.SectionKind ∷ word.SectionLength ∷ word.Speed ∷ word.Joints ∷ [])
+
+-- the keys of a portal in each version
+abbrev pub portal_keys : List Key
+portal_keys = map key_of (word.Name ∷ word.Joint ∷ word.Setting ∷ word.Watching ∷ word.Approach ∷ [])
+
+-- the keys of a signal in each version
+abbrev pub signal_keys : List Key
+signal_keys = map key_of (word.Name ∷ word.Joint ∷ word.Ahead ∷ word.Setting ∷ word.Watching ∷ word.Approach ∷ [])
+
+-- the keys of a board in each version
+abbrev pub board_keys : List Key
+board_keys = map key_of (word.Name ∷ word.Joint ∷ [])
+
+-- the keys of a turn in each version
+abbrev pub turn_keys : List Key
+turn_keys = map key_of (word.Arriving ∷ word.Leaving ∷ word.Time ∷ [])
+
+-- the keys of a route by the version of the file
+abbrev pub route_keys : Version → List Key
+route_keys One = map key_of (word.Name ∷ word.From ∷ word.To ∷ word.Path ∷ [])
+
+-- the keys of a train kind in each version
+abbrev pub kind_keys : List Key
+kind_keys = map key_of (word.Name ∷ word.TrainLength ∷ word.Speed ∷ word.Start ∷ word.Stop ∷ [])
+
+-- the keys of a train in each version
+abbrev pub train_keys : List Key
+train_keys = map key_of (word.Name ∷ word.TrainKind ∷ word.Entry ∷ word.Priority ∷ word.Routes ∷ [])
+
+-- the keys of a table in the list, by the version of the file
+abbrev pub keys_of : ListPart → Version → List Key
+keys_of Section version = section_keys
+keys_of Portal version = portal_keys
+keys_of Signal version = signal_keys
+keys_of Board version = board_keys
+keys_of Turn version = turn_keys
+keys_of Route version = route_keys version
+keys_of Kind version = kind_keys
+keys_of Train version = train_keys
 
 -- the part of a refusal in the list
 abbrev pub part_of : ListPart → Part
@@ -103,18 +138,18 @@ part_of Route = part.Route
 part_of Kind = part.Kind
 part_of Train = part.Train
 
--- the keys of a table of the part: of the root, or of an item
-abbrev pub keys_in : Part → List Key
-keys_in part.Root = root_keys
-keys_in part.Section = keys_of Section
-keys_in part.Portal = keys_of Portal
-keys_in part.Signal = keys_of Signal
-keys_in part.Board = keys_of Board
-keys_in part.Turn = keys_of Turn
-keys_in part.Route = keys_of Route
-keys_in part.Kind = keys_of Kind
-keys_in part.Train = keys_of Train
-keys_in _ = []
+-- the keys of a table of the part, by the version of the file: of the root, or of an item
+abbrev pub keys_in : Part → Version → List Key
+keys_in part.Root version = root_keys version
+keys_in part.Section version = keys_of Section version
+keys_in part.Portal version = keys_of Portal version
+keys_in part.Signal version = keys_of Signal version
+keys_in part.Board version = keys_of Board version
+keys_in part.Turn version = keys_of Turn version
+keys_in part.Route version = keys_of Route version
+keys_in part.Kind version = keys_of Kind version
+keys_in part.Train version = keys_of Train version
+keys_in _ version = []
 
 -- the list of a part that is one
 abbrev pub list_in : Part → Option ListPart

@@ -1,5 +1,6 @@
 -- What the contracts of this crate, and the definitions above it, speak of.
 pub mod Scenes
+pub mod Versions
 pub mod Keys
 pub mod Fields
 pub mod Entries

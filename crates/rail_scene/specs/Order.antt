@@ -12,8 +12,9 @@ use Rattle.rail_track.specs.declared.section.NetFault.TheVariants.{Refused, OutO
 use Rattle.rail_base.specs.FirstRefusals.{Test, first_failing}
 use Rattle.rail_scene.specs.SceneItems.{SceneItems}
 use Rattle.rail_scene.specs.declared.keys.ListPart.{ListPart}
+use Rattle.rail_scene.specs.declared.versions.Version.{Version}
 use Rattle.rail_scene.specs.Keys.{list_parts, list_key, root_keys, keys_of, part_of}
-use Rattle.rail_scene.specs.Fields.{elements_at}
+use Rattle.rail_scene.specs.Fields.{elements_at, version_of}
 use Rattle.rail_scene.specs.Forms.{form_tests}
 use Rattle.rail_scene.specs.Values.{value_tests}
 use Rattle.rail_scene.specs.SceneItems.{no_items, item_tests, with_items}
@@ -40,57 +41,62 @@ fault_at part item (Refused reason step) = fault.Refused record { reason = reaso
 fault_at part item OutOfMemory = fault.OutOfMemory
 
 -- the forms of the tables of a list, which are numbered from n
-abbrev pub list_forms : ListPart → ℕ → List Data → List (Test Refusal)
-list_forms part n [] = []
-list_forms part n (node ∷ nodes) = located (part_of part) n (form_tests (keys_of part) node) ++ list_forms part (n + 1) nodes
+abbrev pub list_forms : ListPart → Version → ℕ → List Data → List (Test Refusal)
+list_forms part version n [] = []
+list_forms part version n (node ∷ nodes) =
+    located (part_of part) n (form_tests (keys_of part version) node) ++ list_forms part version (n + 1) nodes
 
 -- the forms of the lists in turn
-abbrev pub forms_of : Data → List ListPart → List (Test Refusal)
-forms_of root [] = []
-forms_of root (part ∷ parts) = list_forms part 1 (elements_at (list_key part) root) ++ forms_of root parts
+abbrev pub forms_of : Version → Data → List ListPart → List (Test Refusal)
+forms_of version root [] = []
+forms_of version root (part ∷ parts) = list_forms part version 1 (elements_at (list_key part) root) ++ forms_of version root parts
 
--- the forms of all tables: the root, then its lists
-unfoldable pub scene_forms : Data → List (Test Refusal)
-scene_forms root = located Root 0 (form_tests root_keys root) ++ forms_of root list_parts
+-- the forms of all tables by the keys of a version: the root, then its lists
+unfoldable pub scene_forms : Version → Data → List (Test Refusal)
+scene_forms version root = located Root 0 (form_tests (root_keys version) root) ++ forms_of version root list_parts
 
 -- the values of the tables of a list, numbered from n, each beside the items before it
-abbrev pub list_values : ListPart → ℕ → SceneItems → List Data → List (Test Refusal)
-list_values part n items [] = []
-list_values part n items (node ∷ nodes) =
-    located (part_of part) n (item_tests part items node)
-    ++ list_values part (n + 1) (with_items part (node ∷ []) items) nodes
+abbrev pub list_values : ListPart → Version → ℕ → SceneItems → List Data → List (Test Refusal)
+list_values part version n items [] = []
+list_values part version n items (node ∷ nodes) =
+    located (part_of part) n (item_tests part version items node)
+    ++ list_values part version (n + 1) (with_items part (node ∷ []) items) nodes
 
 -- the values of the lists in turn
-abbrev pub values_of : Data → SceneItems → List ListPart → List (Test Refusal)
-values_of root items [] = []
-values_of root items (part ∷ parts) =
-    list_values part 1 items (elements_at (list_key part) root)
-    ++ values_of root (with_items part (elements_at (list_key part) root) items) parts
+abbrev pub values_of : Version → Data → SceneItems → List ListPart → List (Test Refusal)
+values_of version root items [] = []
+values_of version root items (part ∷ parts) =
+    list_values part version 1 items (elements_at (list_key part) root)
+    ++ values_of version root (with_items part (elements_at (list_key part) root) items) parts
 
 -- the items with those of the lists of these parts
 abbrev pub with_lists : Data → List ListPart → SceneItems → SceneItems
 with_lists root [] items = items
 with_lists root (part ∷ parts) items = with_lists root parts (with_items part (elements_at (list_key part) root) items)
 
--- the values of all lists of a root
-unfoldable pub lists_values : Data → List (Test Refusal)
-lists_values root = values_of root no_items list_parts
+-- the values of all lists of a root by the keys of a version
+unfoldable pub lists_values : Version → Data → List (Test Refusal)
+lists_values version root = values_of version root no_items list_parts
 
 -- the items that all lists of a root fill
 unfoldable pub listed_items : Data → SceneItems
 listed_items root = with_lists root list_parts no_items
 
--- the values of all tables: the root, then its lists
-unfoldable pub scene_values : Data → List (Test Refusal)
-scene_values root = located Root 0 (value_tests 1 root_keys root) ++ lists_values root
+-- the values of all tables by the keys of a version: the root, then its lists
+unfoldable pub scene_values : Version → Data → List (Test Refusal)
+scene_values version root = located Root 0 (value_tests 1 (root_keys version) root) ++ lists_values version root
 
 -- the bytes are TOML
 abbrev pub toml_test : List ℕ → Test Refusal
 toml_test bytes = record { answer = record { reason = NotToml; part = Bytes; item = 0; step = 0 }; fails = not (is_some (document bytes)) }
 
--- the tests of a scene file: that it is TOML, then all forms, then all values
+-- the tests of the tables of a root, by the version that it names: all forms, then all values
+abbrev pub root_tests : Data → List (Test Refusal)
+root_tests root = scene_forms (version_of root) root ++ scene_values (version_of root) root
+
+-- the tests of a scene file: that it is TOML, then its tables
 abbrev pub scene_tests : List ℕ → List (Test Refusal)
-scene_tests bytes = toml_test bytes ∷ scene_forms (root_of bytes) ++ scene_values (root_of bytes)
+scene_tests bytes = toml_test bytes ∷ root_tests (root_of bytes)
 
 -- why a scene file is refused
 unfoldable pub scene_refusal : List ℕ → Option Refusal

@@ -15,6 +15,7 @@ use Rattle.rail_routes.specs.TurnRules.{turn_tests}
 use Rattle.rail_routes.specs.RouteRules.{route_tests}
 use Rattle.rail_scene.specs.declared.keys.ListPart.{ListPart}
 use Rattle.rail_scene.specs.declared.scene.SceneTrain.{SceneTrain}
+use Rattle.rail_scene.specs.declared.versions.Version.{Version}
 use Rattle.rail_scene.specs.declared.keys.ListPart.TheVariants.{Section, Portal, Signal, Board, Turn, Route, Kind, Train}
 use Rattle.rail_scene.specs.Keys.{keys_of}
 use Rattle.rail_scene.specs.Entries.{section_of, portal_of, signal_of, board_of, turn_of, route_of, kind_of, train_of}
@@ -63,12 +64,12 @@ place_tests Kind items node = kind_tests items.kinds (kind_of node)
 place_tests Train items node = train_tests items.trains (train_of node)
 
 -- the tests of the item of a table: its own values key by key, then those beside the items that stand
-abbrev pub own_tests : ListPart → SceneItems → Data → List (Test NetFault)
-own_tests part items node = value_tests 1 (keys_of part) node ++ place_tests part items node
+abbrev pub own_tests : ListPart → Version → SceneItems → Data → List (Test NetFault)
+own_tests part version items node = value_tests 1 (keys_of part version) node ++ place_tests part items node
 
 -- the tests of an item: one too many, then its own
-abbrev pub item_tests : ListPart → SceneItems → Data → List (Test NetFault)
-item_tests part items node = refused_where TooMany 0 (is_full part items) ∷ own_tests part items node
+abbrev pub item_tests : ListPart → Version → SceneItems → Data → List (Test NetFault)
+item_tests part version items node = refused_where TooMany 0 (is_full part items) ∷ own_tests part version items node
 
 -- the items with those of these tables last in their list
 abbrev pub with_items : ListPart → List Data → SceneItems → SceneItems

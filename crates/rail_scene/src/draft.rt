@@ -11,6 +11,7 @@ use crate::fields::elements_at;
 use crate::keys::ListPart;
 use crate::places::{item_number, located};
 use crate::rosters::{Kinds, Trains};
+use crate::versions::Version;
 use rail_base::limits::{KINDS, POSTS, ROUTES, SECTIONS, TRAINS, TURNS};
 use rail_base::{Fault, Reason};
 use rail_routes::Network;
@@ -60,26 +61,33 @@ impl Draft {
         &mut self,
         alloc: Global,
         root: &Value,
+        version: Version,
         parts: &[ListPart],
     ) -> Result<(), Fault>
-        ensures accepted { OnOk result (first_failing (values_of (view root.now) self.old parts.now) ≡ None) }
+        ensures accepted { OnOk result (first_failing (values_of version (view root.now) self.old parts.now) ≡ None) }
         ensures added { OnOk result (self.new ≡ with_lists (view root.now) parts.now self.old) }
-        ensures refused { IfErr result (AnswersFirst (first_failing (values_of (view root.now) self.old parts.now))) }
+        ensures refused { IfErr result (AnswersFirst (first_failing (values_of version (view root.now) self.old parts.now))) }
     {
         for part in parts {
-            self.add_list(alloc, *part, elements_at(root, part.key()))?;
+            self.add_list(alloc, *part, version, elements_at(root, part.key()))?;
         }
         Ok(())
     }
 
     /// Adds the items of the tables of a list. The first that is refused ends it.
-    fn add_list(&mut self, alloc: Global, part: ListPart, tables: &[Value]) -> Result<(), Fault>
-        ensures accepted { OnOk result (first_failing (list_values part 1 self.old (map view tables.now)) ≡ None) }
+    fn add_list(
+        &mut self,
+        alloc: Global,
+        part: ListPart,
+        version: Version,
+        tables: &[Value],
+    ) -> Result<(), Fault>
+        ensures accepted { OnOk result (first_failing (list_values part version 1 self.old (map view tables.now)) ≡ None) }
         ensures added { OnOk result (self.new ≡ with_items part (map view tables.now) self.old) }
-        ensures refused { IfErr result (AnswersFirst (first_failing (list_values part 1 self.old (map view tables.now)))) }
+        ensures refused { IfErr result (AnswersFirst (first_failing (list_values part version 1 self.old (map view tables.now)))) }
     {
         for (index, table) in tables.iter().enumerate() {
-            match self.add(alloc, part, table) {
+            match self.add(alloc, part, version, table) {
                 Ok(()) => {}
                 Err(fault) => return Err(located(part.part(), item_number(index), fault)),
             }
@@ -89,10 +97,16 @@ impl Draft {
 
     /// Adds the item of a table last in its list. It is refused as too many, then for its own values
     /// key by key, then beside the items that stand already.
-    fn add(&mut self, alloc: Global, part: ListPart, table: &Value) -> Result<(), NetFault>
-        ensures accepted { OnOk result (first_failing (item_tests part self.old (view table.now)) ≡ None) }
+    fn add(
+        &mut self,
+        alloc: Global,
+        part: ListPart,
+        version: Version,
+        table: &Value,
+    ) -> Result<(), NetFault>
+        ensures accepted { OnOk result (first_failing (item_tests part version self.old (view table.now)) ≡ None) }
         ensures added { OnOk result (self.new ≡ with_items part (view table.now ∷ []) self.old) }
-        ensures refused { IfErr result (Answers (first_failing (item_tests part self.old (view table.now)))) }
+        ensures refused { IfErr result (Answers (first_failing (item_tests part version self.old (view table.now)))) }
     {
         if self.is_full(part) {
             return Err(NetFault::Refused {
@@ -100,7 +114,7 @@ impl Draft {
                 step: 0,
             });
         }
-        self.place(alloc, part, table)
+        self.place(alloc, part, version, table)
     }
 
     /// Whether the list takes no further item.
@@ -126,11 +140,17 @@ impl Draft {
     }
 
     /// Adds the item of a table last in its list, which is not full.
-    fn place(&mut self, alloc: Global, part: ListPart, table: &Value) -> Result<(), NetFault>
+    fn place(
+        &mut self,
+        alloc: Global,
+        part: ListPart,
+        version: Version,
+        table: &Value,
+    ) -> Result<(), NetFault>
         requires { is_full part self.old ≡ false }
-        ensures accepted { OnOk result (first_failing (own_tests part self.old (view table.now)) ≡ None) }
+        ensures accepted { OnOk result (first_failing (own_tests part version self.old (view table.now)) ≡ None) }
         ensures added { OnOk result (self.new ≡ with_items part (view table.now ∷ []) self.old) }
-        ensures refused { IfErr result (Answers (first_failing (own_tests part self.old (view table.now)))) }
+        ensures refused { IfErr result (Answers (first_failing (own_tests part version self.old (view table.now)))) }
     {
         let network = &mut self.network;
         match part {
@@ -139,7 +159,7 @@ impl Draft {
             ListPart::Signal => add_signal(network, alloc, table),
             ListPart::Board => add_board(network, alloc, table),
             ListPart::Turn => add_turn(network, alloc, table),
-            ListPart::Route => add_route(network, alloc, table),
+            ListPart::Route => add_route(network, alloc, version, table),
             ListPart::Kind => add_kind(&mut self.kinds, table),
             ListPart::Train => add_train(&mut self.trains, alloc, table),
         }
@@ -209,12 +229,17 @@ fn add_turn(network: &mut Network, alloc: Global, table: &Value) -> Result<(), N
 }
 
 /// Adds the route of a table last.
-fn add_route(network: &mut Network, alloc: Global, table: &Value) -> Result<(), NetFault>
-    ensures accepted { OnOk result (spelled_route_refusal network.old (view table.now) ≡ None) }
+fn add_route(
+    network: &mut Network,
+    alloc: Global,
+    version: Version,
+    table: &Value,
+) -> Result<(), NetFault>
+    ensures accepted { OnOk result (spelled_route_refusal version network.old (view table.now) ≡ None) }
     ensures added { OnOk result (network.new ≡ record network.old { routes = network.old.routes ++ route_of (view table.now) ∷ [] }) }
-    ensures refused { IfErr result (Answers (spelled_route_refusal network.old (view table.now))) }
+    ensures refused { IfErr result (Answers (spelled_route_refusal version network.old (view table.now))) }
 {
-    let item = entries::route(alloc, table)?;
+    let item = entries::route(alloc, version, table)?;
     network.add_route(alloc, item)
 }
 

@@ -8,9 +8,10 @@ ghost use Rattle.rail_base.specs.Limits.{is_from_one};
 ghost use Rattle.rail_track.specs.SectionRules.{joint_count};
 ghost use Rattle.rail_base.specs.FirstRefusals.{first_failing};
 ghost use Rattle.rail_track.specs.NetFaults.{Answers};
-ghost use Rattle.rail_scene.specs.declared.keys.TheConstants.{SECTION_KEYS, PORTAL_KEYS, SIGNAL_KEYS, BOARD_KEYS, TURN_KEYS, ROUTE_KEYS, KIND_KEYS, TRAIN_KEYS};
+ghost use Rattle.rail_scene.specs.declared.keys.TheConstants.{SECTION_KEYS, PORTAL_KEYS, SIGNAL_KEYS, BOARD_KEYS, TURN_KEYS, KIND_KEYS, TRAIN_KEYS};
 ghost use Rattle.rail_scene.specs.Fields.{name_in, name_at, number_at, kind_at, time_at, elements_at, are_names, names_in, is_path_count};
 ghost use Rattle.rail_scene.specs.Entries.{section_of, portal_of, signal_of, board_of, turn_of, route_of, kind_of, train_of, steps_of, spelled_names};
+ghost use Rattle.rail_scene.specs.Keys.{route_keys};
 ghost use Rattle.rail_scene.specs.Values.{value_tests, tests_by, list_tests};
 ghost use Rattle.rail_scene.specs.Scenes.{is_fit_kind, is_fit_train};
 ghost use Rattle.rail_scene.specs.declared.keys.Form.TheVariants as Form;
@@ -22,6 +23,7 @@ use crate::keys::{
     TRAIN_LENGTH, TURN_TIME, WATCHING,
 };
 use crate::scene::SceneTrain;
+use crate::versions::Version;
 use rail_base::limits::{ITINERARY_ROUTES, ROUTE_SECTIONS};
 use rail_base::{Name, Reason, Seq, Time, TrainKind};
 use rail_routes::{Post, Role, Route, Step, Turn};
@@ -235,12 +237,13 @@ pub(crate) fn turn(table: &Value) -> Result<Turn, NetFault>
     })
 }
 
-/// The route of a table.
-pub(crate) fn route(alloc: Global, table: &Value) -> Result<Route, NetFault>
-    ensures accepted { OnOk result (first_failing (value_tests 1 ROUTE_KEYS (view table.now)) ≡ None) }
+/// The route of a table, by the keys of a version.
+pub(crate) fn route(alloc: Global, version: Version, table: &Value) -> Result<Route, NetFault>
+    ensures accepted { OnOk result (first_failing (value_tests 1 (route_keys version) (view table.now)) ≡ None) }
     ensures spelled { IfOk result (λ route. route ≡ route_of (view table.now)) }
-    ensures refused { IfErr result (Answers (first_failing (value_tests 1 ROUTE_KEYS (view table.now)))) }
+    ensures refused { IfErr result (Answers (first_failing (value_tests 1 (route_keys version) (view table.now)))) }
 {
+    let Version::One = version;
     let name = read_name(table, NAME, 1)?;
     let from = read_name(table, FROM, 2)?;
     let to = read_name(table, TO, 3)?;

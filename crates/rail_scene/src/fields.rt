@@ -3,9 +3,10 @@ ghost use Rattle.std.specs.Prelude.{◌≡◌, ◌<◌, ◌==◌, ◌&&◌, ◌/
 ghost use Rattle.std.specs.Option.{option_copied};
 ghost use Rattle.toml.specs.Data.{as_str, as_integer};
 ghost use Rattle.toml.specs.View.{view};
-ghost use Rattle.rail_scene.specs.Fields.{value_at, text_at, name_in, name_at, policy_at, counted, bounded, number_at, kind_named, kind_at, time_up_to, time_at, elements_of, elements_at};
+ghost use Rattle.rail_scene.specs.Fields.{value_at, text_at, name_in, name_at, policy_at, counted, bounded, number_at, version_of, kind_named, kind_at, time_up_to, time_at, elements_of, elements_at};
 
-use crate::keys::{Bounds, Form, Key};
+use crate::keys::{Bounds, Form, Key, VERSION};
+use crate::versions::Version;
 use rail_base::limits::INPUT_TIME;
 use rail_base::{Name, Time, a_text_stands_for_one_time, read_time};
 use rail_track::SectionKind;
@@ -85,6 +86,16 @@ fn bounded(bounds: Bounds, number: u64) -> Option<u32>
         Some(number as u32)
     } else {
         None
+    }
+}
+
+/// The version that a root names. A root that names none is read as one of the newest.
+pub(crate) fn version_of(root: &Value) -> Version
+    ensures { result ≡ version_of (view root.now) }
+{
+    match number_at(root, VERSION) {
+        Some(number) => Version::named(number).unwrap_or(Version::NEWEST),
+        None => Version::NEWEST,
     }
 }
 

@@ -18,42 +18,43 @@ ghost use Rattle.rail_base.specs.Refusals.{AnswersFirst};
 ghost use Rattle.rail_scene.specs.Order.{located, list_forms, forms_of, scene_forms};
 
 use crate::fields::{elements_at, value_at};
-use crate::keys::{Form, Key, LIST_PARTS, ListPart, MOST_KEYS, ROOT_KEYS};
+use crate::keys::{Form, Key, LIST_PARTS, ListPart, MOST_KEYS, root_keys};
 use crate::places::{item_number, located};
+use crate::versions::Version;
 use rail_base::{Fault, Part, Reason};
 use rail_track::NetFault;
 use toml::{Table, Value};
 
-/// Whether all tables of a scene file are of their form, from the root on. The first that is not is
-/// told, as a key that is missing, a value of another kind, or a key that is unknown.
-pub(crate) fn check_forms(root: &Value) -> Result<(), Fault>
-    ensures accepted { OnOk result (first_failing (scene_forms (view root.now)) ≡ None) }
-    ensures refused { IfErr result (AnswersFirst (first_failing (scene_forms (view root.now)))) }
+/// Whether all tables of a scene file are of their form by the keys of a version, from the root on. The first that is
+/// not is told, as a key that is missing, a value of another kind, or a key that is unknown.
+pub(crate) fn check_forms(root: &Value, version: Version) -> Result<(), Fault>
+    ensures accepted { OnOk result (first_failing (scene_forms version (view root.now)) ≡ None) }
+    ensures refused { IfErr result (AnswersFirst (first_failing (scene_forms version (view root.now)))) }
 {
-    match form_fault(root, &ROOT_KEYS) {
+    match form_fault(root, root_keys(version)) {
         Some(fault) => Err(located(Part::Root, 0, fault)),
-        None => check_lists(root, &LIST_PARTS),
+        None => check_lists(root, version, &LIST_PARTS),
     }
 }
 
 /// Whether the tables of the lists are of their form.
-fn check_lists(root: &Value, parts: &[ListPart]) -> Result<(), Fault>
-    ensures accepted { OnOk result (first_failing (forms_of (view root.now) parts.now) ≡ None) }
-    ensures refused { IfErr result (AnswersFirst (first_failing (forms_of (view root.now) parts.now))) }
+fn check_lists(root: &Value, version: Version, parts: &[ListPart]) -> Result<(), Fault>
+    ensures accepted { OnOk result (first_failing (forms_of version (view root.now) parts.now) ≡ None) }
+    ensures refused { IfErr result (AnswersFirst (first_failing (forms_of version (view root.now) parts.now))) }
 {
     for part in parts {
-        check_list(*part, elements_at(root, part.key()))?;
+        check_list(*part, version, elements_at(root, part.key()))?;
     }
     Ok(())
 }
 
 /// Whether the tables of a list are of their form. Most are, which one walk over their members tells; only in
 /// another one are the keys looked up in their order.
-fn check_list(part: ListPart, tables: &[Value]) -> Result<(), Fault>
-    ensures accepted { OnOk result (first_failing (list_forms part 1 (map view tables.now)) ≡ None) }
-    ensures refused { IfErr result (AnswersFirst (first_failing (list_forms part 1 (map view tables.now)))) }
+fn check_list(part: ListPart, version: Version, tables: &[Value]) -> Result<(), Fault>
+    ensures accepted { OnOk result (first_failing (list_forms part version 1 (map view tables.now)) ≡ None) }
+    ensures refused { IfErr result (AnswersFirst (first_failing (list_forms part version 1 (map view tables.now)))) }
 {
-    let keys = part.keys();
+    let keys = part.keys(version);
     for (index, table) in tables.iter().enumerate() {
         if is_of_form(table, keys) {
             continue;

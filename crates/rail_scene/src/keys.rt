@@ -1,11 +1,14 @@
-//! The tables of a scene file: which keys each has, in which order, and of which form.
+//! The tables of a scene file: which keys each has in each version of the format, in which order, and of which form.
 //!
 //! The reader cites these constants alone. The contracts here say that they are the keys of the format, which stand in
 //! a table of the definitions, `key_row` in `specs/Keys.antt`. The types are public, since the definitions speak of them, and
 //! so is `keys_in`, for whoever tells of a key; what the reader does with them is not.
-ghost use Rattle.std.specs.Prelude.{◌≡◌, ◌≤◌, length};
-ghost use Rattle.rail_scene.specs.Keys.{text_of, list_key, keys_of, part_of, keys_in, list_in};
+ghost use Rattle.std.specs.Prelude.{◌≡◌, ◌≤◌, length, IsTrue};
+ghost use Rattle.rail_base.specs.Lists.{are_distinct};
+ghost use Rattle.rail_scene.specs.Forms.{have_one_text};
+ghost use Rattle.rail_scene.specs.Keys.{text_of, list_key, root_keys, route_keys, keys_of, part_of, keys_in, list_in};
 
+use crate::versions::Version;
 use rail_base::{Part, limits};
 
 /// Which key it is. Two keys of different tables that are written alike and are of one form are one.
@@ -175,9 +178,11 @@ impl ListPart {
         }
     }
 
-    /// The keys of a table in the list.
-    pub(crate) fn keys(self) -> &'static [Key]
-        ensures { result.now ≡ keys_of self }
+    /// The keys of a table in the list, in a file of the version.
+    pub(crate) fn keys(self, version: Version) -> &'static [Key]
+        ensures keys { result.now ≡ keys_of self version }
+        ensures few { length result.now ≤ MOST_KEYS }
+        ensures distinct { IsTrue (are_distinct have_one_text result.now) }
     {
         match self {
             ListPart::Section => &SECTION_KEYS,
@@ -185,7 +190,7 @@ impl ListPart {
             ListPart::Signal => &SIGNAL_KEYS,
             ListPart::Board => &BOARD_KEYS,
             ListPart::Turn => &TURN_KEYS,
-            ListPart::Route => &ROUTE_KEYS,
+            ListPart::Route => route_keys(version),
             ListPart::Kind => &KIND_KEYS,
             ListPart::Train => &TRAIN_KEYS,
         }
@@ -208,19 +213,41 @@ impl ListPart {
     }
 }
 
-/// The keys of a table of the part, in their order: of the root, or of an item. Other parts have none.
-pub fn keys_in(part: Part) -> &'static [Key]
-    ensures keys { result.now ≡ keys_in part }
-    ensures few { length result.now ≤ 12 }
+/// The keys of the root of a file of the version.
+pub(crate) fn root_keys(version: Version) -> &'static [Key]
+    ensures keys { result.now ≡ root_keys version }
+    ensures few { length result.now ≤ MOST_KEYS }
+{
+    match version {
+        Version::One => &ROOT_KEYS,
+    }
+}
+
+/// The keys of a route in a file of the version.
+fn route_keys(version: Version) -> &'static [Key]
+    ensures keys { result.now ≡ route_keys version }
+    ensures few { length result.now ≤ MOST_KEYS }
+    ensures distinct { IsTrue (are_distinct have_one_text result.now) }
+{
+    match version {
+        Version::One => &ROUTE_KEYS,
+    }
+}
+
+/// The keys of a table of the part in a file of the version, in their order: of the root, or of an item. Other parts have
+/// none.
+pub fn keys_in(part: Part, version: Version) -> &'static [Key]
+    ensures keys { result.now ≡ keys_in part version }
+    ensures few { length result.now ≤ MOST_KEYS }
 {
     match part {
-        Part::Root => &ROOT_KEYS,
+        Part::Root => root_keys(version),
         Part::Section => &SECTION_KEYS,
         Part::Portal => &PORTAL_KEYS,
         Part::Signal => &SIGNAL_KEYS,
         Part::Board => &BOARD_KEYS,
         Part::Turn => &TURN_KEYS,
-        Part::Route => &ROUTE_KEYS,
+        Part::Route => route_keys(version),
         Part::Kind => &KIND_KEYS,
         Part::Train => &TRAIN_KEYS,
         Part::Bytes | Part::Row | Part::Line | Part::Word | Part::File => &[],
@@ -332,10 +359,10 @@ pub(crate) const TRAIN_LIST: Key = Key {
 };
 
 /// The most keys of a table.
-pub(crate) const MOST_KEYS: usize = 12;
+pub const MOST_KEYS: usize = 12;
 
-/// The keys of the root.
-pub(crate) const ROOT_KEYS: [Key; MOST_KEYS] = [
+/// The keys of the root in the first version.
+const ROOT_KEYS: [Key; MOST_KEYS] = [
     VERSION,
     RELEASE,
     DEPTH,
@@ -485,8 +512,8 @@ pub(crate) const PATH: Key = Key {
     required: true,
 };
 
-/// The keys of a route.
-pub(crate) const ROUTE_KEYS: [Key; 4] = [NAME, FROM, TO, PATH];
+/// The keys of a route in the first version.
+const ROUTE_KEYS: [Key; 4] = [NAME, FROM, TO, PATH];
 
 pub(crate) const TRAIN_LENGTH: Key = Key {
     name: KeyName::TrainLength,

@@ -5,10 +5,10 @@
 //! reads.
 //!
 //! A file is read in two passes over its tree: whether each table is of its form, and then the values,
-//! item by item into the network, the kinds and the trains. Both go by the tables of keys in `keys`. The
-//! definitions have a table of their own, and contracts say that the two agree: a key, its range or its
-//! default is changed in both. The layers above use the contracts of the public calls alone, so the bodies
-//! may be changed freely.
+//! item by item into the network, the kinds and the trains. Both go by the tables of keys in `keys`, those of
+//! the version that the root names. The definitions have a table of their own, and contracts say that the two
+//! agree: a key, its range or its default is changed in both. The layers above use the contracts of the public
+//! calls alone, so the bodies may be changed freely.
 #![tactic(auto)]
 
 mod draft;
@@ -22,8 +22,10 @@ mod places;
 mod reading;
 mod rosters;
 mod scene;
+mod versions;
 
 pub use laws::the_number_of_an_item_is_told_as_it_is;
 pub use naming::item_name;
 pub use reading::read_scene;
 pub use scene::{Scene, SceneTrain};
+pub use versions::Version;

@@ -16,11 +16,12 @@ ghost use Rattle.rail_scene.specs.SpelledScenes.{spelled_scene, scene_of, root_o
 
 use crate::draft::Draft;
 use crate::entries::read_number;
-use crate::fields::policy_at;
+use crate::fields::{policy_at, version_of};
 use crate::forms::check_forms;
 use crate::keys::{DEPTH, LIST_PARTS, POLICY, RELEASE, VERSION};
 use crate::places::located;
 use crate::scene::Scene;
+use crate::versions::Version;
 use rail_base::{Fault, Name, Part, Reason, Refusal};
 use rail_track::NetFault;
 use std::alloc::Global;
@@ -30,7 +31,8 @@ use toml::Value;
 ///
 /// The file is TOML in UTF-8. Its root has `version`, which is 1, `release`, `depth`, `policy`, and a
 /// list of tables for each part: `section`, `portal`, `signal`, `board`, `turn`, `route`, `kind` and
-/// `train`. Times that are whole numbers are tenths of a second, lengths metres, speeds km/h.
+/// `train`. The version says which keys a table has. Times that are whole numbers are tenths of a second,
+/// lengths metres, speeds km/h.
 ///
 /// It is refused with the first reason that holds: bytes that are no TOML; then the forms of all tables,
 /// the root first and then each list in order, where in each table a key that is missing or whose value
@@ -49,8 +51,9 @@ pub fn read_scene(alloc: Global, bytes: &[u8]) -> Result<Scene, Fault>
     ensures refused { IfErr result (AnswersFirst (scene_refusal bytes.now)) }
 {
     let root = read_root(alloc, bytes)?;
-    check_forms(&root)?;
-    read_values(alloc, &root)
+    let version = version_of(&root);
+    check_forms(&root, version)?;
+    read_values(alloc, &root, version)
 }
 
 /// The root of the table that the bytes are by TOML.
@@ -76,29 +79,29 @@ pub(crate) fn read_root(alloc: Global, bytes: &[u8]) -> Result<Value, Fault>
     }
 }
 
-/// The scene of a root, whether or not its tables are of their form.
-fn read_values(alloc: Global, root: &Value) -> Result<Scene, Fault>
-    ensures accepted { OnOk result (first_failing (scene_values (view root.now)) ≡ None) }
+/// The scene of a root by the keys of a version, whether or not its tables are of their form.
+fn read_values(alloc: Global, root: &Value, version: Version) -> Result<Scene, Fault>
+    ensures accepted { OnOk result (first_failing (scene_values version (view root.now)) ≡ None) }
     ensures spelled { IfOk result (λ scene. scene ≡ scene_of (view root.now)) }
     ensures kept { IfOk result IsScene }
-    ensures refused { IfErr result (AnswersFirst (first_failing (scene_values (view root.now)))) }
+    ensures refused { IfErr result (AnswersFirst (first_failing (scene_values version (view root.now)))) }
 {
-    let header = match read_header(root) {
+    let header = match read_header(root, version) {
         Ok(header) => header,
         Err(fault) => return Err(located(Part::Root, 0, fault)),
     };
-    let draft = read_lists(alloc, root)?;
+    let draft = read_lists(alloc, root, version)?;
     Ok(finished(header, draft))
 }
 
-/// The items of the lists of a root.
-fn read_lists(alloc: Global, root: &Value) -> Result<Draft, Fault>
-    ensures accepted { OnOk result (first_failing (lists_values (view root.now)) ≡ None) }
+/// The items of the lists of a root, by the keys of a version.
+fn read_lists(alloc: Global, root: &Value, version: Version) -> Result<Draft, Fault>
+    ensures accepted { OnOk result (first_failing (lists_values version (view root.now)) ≡ None) }
     ensures draft { IfOk result (λ draft. draft ≡ listed_items (view root.now)) }
-    ensures refused { IfErr result (AnswersFirst (first_failing (lists_values (view root.now)))) }
+    ensures refused { IfErr result (AnswersFirst (first_failing (lists_values version (view root.now)))) }
 {
     let mut draft = Draft::new(alloc);
-    match draft.add_lists(alloc, root, &LIST_PARTS) {
+    match draft.add_lists(alloc, root, version, &LIST_PARTS) {
         Ok(()) => Ok(draft),
         Err(fault) => {
             // A call of its own, so that the proof of this function does not go into each table of the draft.
@@ -145,17 +148,18 @@ struct Header {
     policy: Name,
 }
 
-/// What the root says beside its lists.
-fn read_header(root: &Value) -> Result<Header, NetFault>
-    ensures accepted { OnOk result (first_failing (value_tests 1 root_keys (view root.now)) ≡ None) }
+/// What the root says beside its lists, by the keys of a version.
+fn read_header(root: &Value, version: Version) -> Result<Header, NetFault>
+    ensures accepted { OnOk result (first_failing (value_tests 1 (root_keys version) (view root.now)) ≡ None) }
     ensures release { IfOk result (λ header. header.release ≡ spelled_number (key_of word.Release) (view root.now)) }
     ensures depth { IfOk result (λ header. header.depth ≡ spelled_number (key_of word.Depth) (view root.now)) }
     ensures policy { IfOk result (λ header. header.policy ≡ unwrap_or (policy_at (key_of word.Policy) (view root.now)) []) }
     ensures release_fits { IfOk result (λ header. header.release ≤ limit.RELEASE) }
     ensures depth_fits { IfOk result (λ header. header.depth ≤ limit.DEPTH) }
-    ensures refused { IfErr result (Answers (first_failing (value_tests 1 root_keys (view root.now)))) }
+    ensures refused { IfErr result (Answers (first_failing (value_tests 1 (root_keys version) (view root.now)))) }
 {
-    let _version = read_number(root, VERSION, 1)?;
+    let Version::One = version;
+    let _number = read_number(root, VERSION, 1)?;
     let release = read_number(root, RELEASE, 2)?;
     let depth = read_number(root, DEPTH, 3)?;
     match policy_at(root, POLICY) {

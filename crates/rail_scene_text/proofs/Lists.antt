@@ -7,6 +7,7 @@ use Rattle.rail_base.specs.FirstRefusals.{first_failing}
 use Rattle.rail_base.specs.declared.refusals.Reason.TheVariants.{TooMany}
 use Rattle.rail_track.specs.declared.section.NetFault.TheVariants.{Refused}
 use Rattle.rail_scene.specs.declared.keys.ListPart.{ListPart}
+use Rattle.rail_scene.specs.declared.versions.Version.{Version}
 use Rattle.rail_scene.specs.Forms.{form_tests, is_table}
 use Rattle.rail_scene.specs.Keys.{keys_of, part_of}
 use Rattle.rail_scene.specs.Order.{located, list_forms, list_values}
@@ -28,23 +29,23 @@ each_both p q (x ∷ xs) a b =
     ((here, there), each_both p q xs more rest)
 
 -- an item passes after those before it: the list is not full, its values pass, and it is accepted
-pub item_none : (p : ListPart) (items : SceneItems) (d : Data) → is_full p items ≡ false → first_failing (value_tests 1 (keys_of p) d) ≡ None
-    → first_failing (place_tests p items d) ≡ None → first_failing (item_tests p items d) ≡ None
-item_none p items d room values place =
-    ap (λ b. cond b (Some (Refused TooMany 0)) (first_failing (own_tests p items d))) room
-    ∙ both_passed (value_tests 1 (keys_of p) d) (place_tests p items d) values place
+pub item_none : (p : ListPart) (version : Version) (items : SceneItems) (d : Data) → is_full p items ≡ false → first_failing (value_tests 1 (keys_of p version) d) ≡ None
+    → first_failing (place_tests p items d) ≡ None → first_failing (item_tests p version items d) ≡ None
+item_none p version items d room values place =
+    ap (λ b. cond b (Some (Refused TooMany 0)) (first_failing (own_tests p version items d))) room
+    ∙ both_passed (value_tests 1 (keys_of p version) d) (place_tests p items d) values place
 
-module _ (p : ListPart) {X : Type 0} (f : X → Data) (G : X → Type 0) where
+module _ (p : ListPart) (version : Version) {X : Type 0} (f : X → Data) (G : X → Type 0) where
   pub are_tables : ((x : X) → is_table (f x) ≡ true) → (xs : List X) → list_all is_table (map f xs) ≡ true
   are_tables each [] = refl
   are_tables each (x ∷ xs) = λ i. each x i && are_tables each xs i
 
-  pub forms_pass : ((x : X) → G x → first_failing (form_tests (keys_of p) (f x)) ≡ None)
-      → (n : ℕ) (xs : List X) → Each G xs → first_failing (list_forms p n (map f xs)) ≡ None
+  pub forms_pass : ((x : X) → G x → first_failing (form_tests (keys_of p version) (f x)) ≡ None)
+      → (n : ℕ) (xs : List X) → Each G xs → first_failing (list_forms p version n (map f xs)) ≡ None
   forms_pass each n [] all = refl
   forms_pass each n (x ∷ xs) all =
-      both_passed (located (part_of p) n (form_tests (keys_of p) (f x))) (list_forms p (n + 1) (map f xs))
-      (located_none (part_of p) n (form_tests (keys_of p) (f x)) (each x all.0)) (forms_pass each (n + 1) xs all.1)
+      both_passed (located (part_of p) n (form_tests (keys_of p version) (f x))) (list_forms p version (n + 1) (map f xs))
+      (located_none (part_of p) n (form_tests (keys_of p version) (f x)) (each x all.0)) (forms_pass each (n + 1) xs all.1)
 
   pub spelled : (read : Data → X) → ((x : X) → G x → read (f x) ≡ x) → (xs : List X) → Each G xs → map read (map f xs) ≡ xs
   spelled read each [] all = refl
@@ -52,12 +53,12 @@ module _ (p : ListPart) {X : Type 0} (f : X → Data) (G : X → Type 0) where
 
   -- D has the items so far
   module _ (D : List X → SceneItems) (xs : List X)
-      (passes : (before : List X) (x : X) (after : List X) → xs ≡ before ++ x ∷ after → G x → first_failing (item_tests p (D before) (f x)) ≡ None)
+      (passes : (before : List X) (x : X) (after : List X) → xs ≡ before ++ x ∷ after → G x → first_failing (item_tests p version (D before) (f x)) ≡ None)
       (next : (before : List X) (x : X) → G x → with_items p (f x ∷ []) (D before) ≡ D (before ++ x ∷ [])) where
-    pub values_pass : (n : ℕ) (before rest : List X) → xs ≡ before ++ rest → Each G rest → first_failing (list_values p n (D before) (map f rest)) ≡ None
+    pub values_pass : (n : ℕ) (before rest : List X) → xs ≡ before ++ rest → Each G rest → first_failing (list_values p version n (D before) (map f rest)) ≡ None
     values_pass n before [] is all = refl
     values_pass n before (x ∷ rest) is all =
-        both_passed (located (part_of p) n (item_tests p (D before) (f x))) (list_values p (n + 1) (with_items p (f x ∷ []) (D before)) (map f rest))
-        (located_none (part_of p) n (item_tests p (D before) (f x)) (passes before x rest is all.0))
-        (ap (λ items. first_failing (list_values p (n + 1) items (map f rest))) (next before x all.0)
+        both_passed (located (part_of p) n (item_tests p version (D before) (f x))) (list_values p version (n + 1) (with_items p (f x ∷ []) (D before)) (map f rest))
+        (located_none (part_of p) n (item_tests p version (D before) (f x)) (passes before x rest is all.0))
+        (ap (λ items. first_failing (list_values p version (n + 1) items (map f rest))) (next before x all.0)
         ∙ values_pass (n + 1) (before ++ x ∷ []) rest (is ∙ sym (append_assoc before (x ∷ []) rest)) all.1)

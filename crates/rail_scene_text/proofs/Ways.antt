@@ -23,6 +23,7 @@ use Rattle.rail_routes.specs.Sound.{IsSoundNetwork, is_sound_turn, is_sound_rout
 use Rattle.rail_routes.proofs.CallerLemmas.{turn_after, route_after}
 use Rattle.rail_scene.specs.declared.keys.KeyName.TheVariants as word
 use Rattle.rail_scene.specs.declared.keys.ListPart.TheVariants as part
+use Rattle.rail_scene.specs.declared.versions.Version.TheVariants.{One}
 use Rattle.rail_scene.specs.Entries.{turn_of, route_of, steps_from, steps_of}
 use Rattle.rail_scene.specs.Fields.{name_at, number_at, elements_at, is_path_count}
 use Rattle.rail_scene.specs.Forms.{form_tests}
@@ -58,13 +59,13 @@ module _ (net : Net) (turn : Turn) (good : GoodTurn net turn) where
     time = unwrap_or (number_is 0 (most TurnTime) 0 turn.time (from_zero (most TurnTime) turn.time turn_parts.timed) i) 0;
   }
 
-  pub turn_form : first_failing (form_tests (keys_of part.Turn) (turn_data turn)) ≡ None
+  pub turn_form : first_failing (form_tests (keys_of part.Turn One) (turn_data turn)) ≡ None
   turn_form = refl
 
-  pub turn_values : first_failing (value_tests 1 (keys_of part.Turn) (turn_data turn)) ≡ None
+  pub turn_values : first_failing (value_tests 1 (keys_of part.Turn One) (turn_data turn)) ≡ None
   turn_values =
       let d = turn_data turn in
-      none_failing (value_tests 1 (keys_of part.Turn) d) (
+      none_failing (value_tests 1 (keys_of part.Turn One) d) (
         found (name_at (key_of word.Arriving) d) turn.arriving (name_is turn.arriving turn_parts.arriving),
         (
           found (name_at (key_of word.Leaving) d) turn.leaving (name_is turn.leaving turn_parts.leaving),
@@ -146,16 +147,16 @@ module _ (net : Net) (route : Route) (good : GoodRoute net route) where
         ∙ path_between net.sections (post_named route.from net) (post_named route.to net) route.steps route_parts.led) i;
   }
 
-  pub route_form : first_failing (form_tests (keys_of part.Route) (route_data route)) ≡ None
+  pub route_form : first_failing (form_tests (keys_of part.Route One) (route_data route)) ≡ None
   route_form = ap (λ b. cond (not b) (Some (Refused WrongKind 4)) None) (strings (path_of route.steps))
 
-  pub route_values : first_failing (value_tests 1 (keys_of part.Route) (route_data route)) ≡ None
+  pub route_values : first_failing (value_tests 1 (keys_of part.Route One) (route_data route)) ≡ None
   route_values =
       let d = route_data route in
       let path = path_of route.steps in
       let counted : not (is_path_count (length (elements_at (key_of word.Path) d))) ≡ false =
       ap (λ n. not (is_path_count n)) (names_count path) ∙ ap not (path_counted route.steps route_parts.many) in
-      none_failing (value_tests 1 (keys_of part.Route) d) (
+      none_failing (value_tests 1 (keys_of part.Route One) d) (
         found (name_at (key_of word.Name) d) route.name (name_is route.name route_parts.name),
         (
           found (name_at (key_of word.From) d) route.from (name_is route.from route_parts.from),
@@ -177,24 +178,24 @@ module _ (net : Net) (sound : IsSoundNetwork net) where
   with_routes routes = record { network = record net { routes = routes }; kinds = []; trains = [] }
 
   pub turn_passes : (before : List Turn) (turn : Turn) (after : List Turn) → net.turns ≡ before ++ turn ∷ after → GoodTurn net turn
-      → first_failing (item_tests part.Turn (with_turns before) (turn_data turn)) ≡ None
+      → first_failing (item_tests part.Turn One (with_turns before) (turn_data turn)) ≡ None
   turn_passes before turn after is good =
       let so_far = (with_turns before).network in
       let accepted : first_failing (turn_tests so_far turn) ≡ None = turn_after net before turn after sound is in
       let room = all_passed (turn_tests so_far turn) accepted in
-      item_none part.Turn (with_turns before) (turn_data turn) room.0 (turn_values net turn good)
+      item_none part.Turn One (with_turns before) (turn_data turn) room.0 (turn_values net turn good)
       (ap (λ t. first_failing (turn_tests so_far t)) (turn_read net turn good) ∙ accepted)
 
   pub turn_next : (before : List Turn) (turn : Turn) → GoodTurn net turn → with_items part.Turn (turn_data turn ∷ []) (with_turns before) ≡ with_turns (before ++ turn ∷ [])
   turn_next before turn good = ap (λ t. with_turns (before ++ t ∷ [])) (turn_read net turn good)
 
   pub route_passes : (before : List Route) (route : Route) (after : List Route) → net.routes ≡ before ++ route ∷ after → GoodRoute net route
-      → first_failing (item_tests part.Route (with_routes before) (route_data route)) ≡ None
+      → first_failing (item_tests part.Route One (with_routes before) (route_data route)) ≡ None
   route_passes before route after is good =
       let so_far = (with_routes before).network in
       let accepted = route_after net before route after sound is in
       let room = all_passed (route_tests so_far route) accepted in
-      item_none part.Route (with_routes before) (route_data route) room.0 (route_values net route good)
+      item_none part.Route One (with_routes before) (route_data route) room.0 (route_values net route good)
       (ap (λ r. first_failing (route_tests so_far r)) (route_read net route good) ∙ accepted)
 
   pub route_next : (before : List Route) (route : Route) → GoodRoute net route → with_items part.Route (route_data route ∷ []) (with_routes before) ≡ with_routes (before ++ route ∷ [])

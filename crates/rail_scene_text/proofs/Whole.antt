@@ -8,6 +8,7 @@ use Rattle.rail_base.specs.declared.refusals.Part.TheVariants.{Bytes}
 use Rattle.rail_base.specs.declared.refusals.Reason.TheVariants.{NotToml}
 use Rattle.rail_routes.specs.Sound.{IsSoundNetwork}
 use Rattle.rail_scene.specs.declared.scene.Scene.{Scene}
+use Rattle.rail_scene.specs.Fields.{version_of}
 use Rattle.rail_scene.specs.Order.{scene_refusal, scene_forms, scene_values, toml_test}
 use Rattle.rail_scene.specs.Scenes.{IsScene}
 use Rattle.rail_scene.specs.SpelledScenes.{document, root_of, scene_of, spelled_scene}
@@ -30,8 +31,8 @@ module _ (scene : Scene) (one : OneTime) (kept : IsScene scene) (typed : IsTyped
       let toml : first_failing (toml_test text ∷ []) ≡ None =
       ap (λ (o : Option Members). cond (not (is_some o)) (Some record { reason = NotToml; part = Bytes; item = 0; step = 0 }) None) is_document in
       none_refused text toml
-      (ap (λ r. first_failing (scene_forms r)) is_root ∙ of_root.forms scene one kept typed sound)
-      (ap (λ r. first_failing (scene_values r)) is_root ∙ of_root.values scene one kept typed sound)
+      (ap (λ r. first_failing (scene_forms (version_of r) r)) is_root ∙ of_root.forms scene one kept typed sound)
+      (ap (λ r. first_failing (scene_values (version_of r) r)) is_root ∙ of_root.values scene one kept typed sound)
 
   pub same : spelled_scene text ≡ scene
   unfolding spelled_scene

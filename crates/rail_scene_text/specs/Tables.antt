@@ -18,8 +18,12 @@ use Rattle.rail_routes.specs.declared.items.Route.{Route}
 use Rattle.rail_routes.specs.declared.items.Step.{Step}
 use Rattle.rail_routes.specs.declared.items.Turn.{Turn}
 use Rattle.rail_routes.specs.Net.{Net}
+use Rattle.rail_scene.specs.declared.keys.KeyName.TheVariants as word
 use Rattle.rail_scene.specs.declared.scene.Scene.{Scene}
 use Rattle.rail_scene.specs.declared.scene.SceneTrain.{SceneTrain}
+use Rattle.rail_scene.specs.declared.versions.Version.TheVariants.{One}
+use Rattle.rail_scene.specs.Keys.{text_of}
+use Rattle.rail_scene.specs.Versions.{version_number}
 
 -- the members with a value at a key, which keep the order of the keys' bytes
 abbrev pub put : List ℕ → Data → Members → Members
@@ -48,24 +52,24 @@ kind_word Slip = codes "slip"
 -- the table of a section
 abbrev pub section_data : Section → Data
 section_data section = table (
-    member (codes "joints") (array_of string section.joints) (
-    member (codes "kind") (string (kind_word section.kind)) (
-    member (codes "length") (number section.length) (
-    member (codes "name") (string section.name) (
-    member (codes "speed") (number section.speed) no_members)))))
+    member (text_of word.Joints) (array_of string section.joints) (
+    member (text_of word.SectionKind) (string (kind_word section.kind)) (
+    member (text_of word.SectionLength) (number section.length) (
+    member (text_of word.Name) (string section.name) (
+    member (text_of word.Speed) (number section.speed) no_members)))))
 
 -- the members of a board's table
 abbrev pub board_members : Post → Members
-board_members post = member (codes "joint") (string post.joint) (member (codes "name") (string post.name) no_members)
+board_members post = member (text_of word.Joint) (string post.joint) (member (text_of word.Name) (string post.name) no_members)
 
 -- the members of a portal's table
 abbrev pub portal_members : Post → Members
 portal_members post =
-    member (codes "approach") (number post.approach) (
-    member (codes "joint") (string post.joint) (
-    member (codes "name") (string post.name) (
-    member (codes "setting") (number post.setting) (
-    member (codes "watching") (number post.watching) no_members))))
+    member (text_of word.Approach) (number post.approach) (
+    member (text_of word.Joint) (string post.joint) (
+    member (text_of word.Name) (string post.name) (
+    member (text_of word.Setting) (number post.setting) (
+    member (text_of word.Watching) (number post.watching) no_members))))
 
 -- the members that a post of the role has beside its section ahead
 abbrev pub post_members : Role → Post → Members
@@ -76,7 +80,7 @@ post_members Board post = board_members post
 -- the members with the section ahead, where there is one
 abbrev pub with_ahead : Option (List ℕ) → Members → Members
 with_ahead None members = members
-with_ahead (Some ahead) members = put (codes "ahead") (string ahead) members
+with_ahead (Some ahead) members = put (text_of word.Ahead) (string ahead) members
 
 -- the table of a post
 abbrev pub post_data : Post → Data
@@ -85,9 +89,9 @@ post_data post = table (with_ahead post.ahead (post_members post.role post))
 -- the table of a turn
 abbrev pub turn_data : Turn → Data
 turn_data turn = table (
-    member (codes "arriving") (string turn.arriving) (
-    member (codes "leaving") (string turn.leaving) (
-    member (codes "time") (number turn.time) no_members)))
+    member (text_of word.Arriving) (string turn.arriving) (
+    member (text_of word.Leaving) (string turn.leaving) (
+    member (text_of word.Time) (number turn.time) no_members)))
 
 -- the joint where the steps begin
 abbrev pub first_joint : List Step → List (List ℕ)
@@ -101,54 +105,54 @@ path_of steps = first_joint steps ++ flat_map (λ (step : Step). step.section �
 -- the table of a route
 abbrev pub route_data : Route → Data
 route_data route = table (
-    member (codes "from") (string route.from) (
-    member (codes "name") (string route.name) (
-    member (codes "path") (array_of string (path_of route.steps)) (
-    member (codes "to") (string route.to) no_members))))
+    member (text_of word.From) (string route.from) (
+    member (text_of word.Name) (string route.name) (
+    member (text_of word.Path) (array_of string (path_of route.steps)) (
+    member (text_of word.To) (string route.to) no_members))))
 
 -- the table of a train kind
 abbrev pub kind_data : TrainKind → Data
 kind_data kind = table (
-    member (codes "length") (number kind.length) (
-    member (codes "name") (string kind.name) (
-    member (codes "speed") (number kind.speed) (
-    member (codes "start") (number kind.start) (
-    member (codes "stop") (number kind.stop) no_members)))))
+    member (text_of word.TrainLength) (number kind.length) (
+    member (text_of word.Name) (string kind.name) (
+    member (text_of word.Speed) (number kind.speed) (
+    member (text_of word.Start) (number kind.start) (
+    member (text_of word.Stop) (number kind.stop) no_members)))))
 
 -- the table of a train
 abbrev pub train_data : SceneTrain → Data
 train_data train = table (
-    member (codes "entry") (string (time_text train.entry)) (
-    member (codes "kind") (string train.kind) (
-    member (codes "name") (string train.name) (
-    member (codes "priority") (number train.priority) (
-    member (codes "routes") (array_of string train.routes) no_members)))))
+    member (text_of word.Entry) (string (time_text train.entry)) (
+    member (text_of word.TrainKind) (string train.kind) (
+    member (text_of word.Name) (string train.name) (
+    member (text_of word.Priority) (number train.priority) (
+    member (text_of word.Routes) (array_of string train.routes) no_members)))))
 
 -- the members of the root that are of the network
 abbrev pub network_members : Net → Members
 network_members network =
-    member (codes "board") (array_of post_data network.boards) (
-    member (codes "portal") (array_of post_data network.portals) (
-    member (codes "route") (array_of route_data network.routes) (
-    member (codes "section") (array_of section_data network.sections) (
-    member (codes "signal") (array_of post_data network.signals) (
-    member (codes "turn") (array_of turn_data network.turns) no_members)))))
+    member (text_of word.Board) (array_of post_data network.boards) (
+    member (text_of word.Portal) (array_of post_data network.portals) (
+    member (text_of word.Route) (array_of route_data network.routes) (
+    member (text_of word.Section) (array_of section_data network.sections) (
+    member (text_of word.Signal) (array_of post_data network.signals) (
+    member (text_of word.Turn) (array_of turn_data network.turns) no_members)))))
 
 -- the members of the root
 abbrev pub scene_members : Scene → Members
 scene_members scene =
-    member (codes "board") (array_of post_data scene.network.boards) (
-    member (codes "depth") (number scene.depth) (
-    member (codes "kind") (array_of kind_data scene.kinds) (
-    member (codes "policy") (string scene.policy) (
-    member (codes "portal") (array_of post_data scene.network.portals) (
-    member (codes "release") (number scene.release) (
-    member (codes "route") (array_of route_data scene.network.routes) (
-    member (codes "section") (array_of section_data scene.network.sections) (
-    member (codes "signal") (array_of post_data scene.network.signals) (
-    member (codes "train") (array_of train_data scene.trains) (
-    member (codes "turn") (array_of turn_data scene.network.turns) (
-    member (codes "version") (number 1) no_members)))))))))))
+    member (text_of word.Board) (array_of post_data scene.network.boards) (
+    member (text_of word.Depth) (number scene.depth) (
+    member (text_of word.Kind) (array_of kind_data scene.kinds) (
+    member (text_of word.Policy) (string scene.policy) (
+    member (text_of word.Portal) (array_of post_data scene.network.portals) (
+    member (text_of word.Release) (number scene.release) (
+    member (text_of word.Route) (array_of route_data scene.network.routes) (
+    member (text_of word.Section) (array_of section_data scene.network.sections) (
+    member (text_of word.Signal) (array_of post_data scene.network.signals) (
+    member (text_of word.Train) (array_of train_data scene.trains) (
+    member (text_of word.Turn) (array_of turn_data scene.network.turns) (
+    member (text_of word.Version) (number (version_number One)) no_members)))))))))))
 
 -- the text is the TOML document of the scene's keys and tables, as the library lays it out
 abbrev pub IsSceneText : Scene → List ℕ → Type 0

@@ -9,6 +9,7 @@ use crate::values::{Written, array, byte_value, put, time_value};
 use rail_base::{Name, TrainKind};
 use rail_routes::{Post, Role, Route, Step, Turn};
 use rail_scene::SceneTrain;
+use rail_scene::keys::KeyName;
 use rail_track::{Section, SectionKind};
 use std::alloc::{AllocError, Global};
 use toml::{Table, Value};
@@ -35,19 +36,24 @@ impl Written for Section {
 
     fn value(&self, alloc: Global) -> Result<Value, AllocError> {
         let mut members = Table::new(alloc);
-        put(alloc, &mut members, "name", self.name.value(alloc)?)?;
+        put(alloc, &mut members, KeyName::Name, self.name.value(alloc)?)?;
         put(
             alloc,
             &mut members,
-            "kind",
+            KeyName::SectionKind,
             Value::string(alloc, kind_word(self.kind))?,
         )?;
-        put(alloc, &mut members, "length", Value::from(self.length))?;
-        put(alloc, &mut members, "speed", Value::from(self.speed))?;
         put(
             alloc,
             &mut members,
-            "joints",
+            KeyName::SectionLength,
+            Value::from(self.length),
+        )?;
+        put(alloc, &mut members, KeyName::Speed, Value::from(self.speed))?;
+        put(
+            alloc,
+            &mut members,
+            KeyName::Joints,
             array(alloc, self.joints.as_slice())?,
         )?;
         Ok(Value::Table(members))
@@ -60,14 +66,34 @@ fn post_members(alloc: Global, post: &Post) -> Result<Table, AllocError>
     ensures typed { OnOk result (IsTrue (is_name post.now.name && is_name post.now.joint)) }
 {
     let mut members = Table::new(alloc);
-    put(alloc, &mut members, "name", post.name.value(alloc)?)?;
-    put(alloc, &mut members, "joint", post.joint.value(alloc)?)?;
+    put(alloc, &mut members, KeyName::Name, post.name.value(alloc)?)?;
+    put(
+        alloc,
+        &mut members,
+        KeyName::Joint,
+        post.joint.value(alloc)?,
+    )?;
     match post.role {
         Role::Board => Ok(members),
         Role::Portal | Role::Signal => {
-            put(alloc, &mut members, "setting", Value::from(post.setting))?;
-            put(alloc, &mut members, "watching", Value::from(post.watching))?;
-            put(alloc, &mut members, "approach", Value::from(post.approach))?;
+            put(
+                alloc,
+                &mut members,
+                KeyName::Setting,
+                Value::from(post.setting),
+            )?;
+            put(
+                alloc,
+                &mut members,
+                KeyName::Watching,
+                Value::from(post.watching),
+            )?;
+            put(
+                alloc,
+                &mut members,
+                KeyName::Approach,
+                Value::from(post.approach),
+            )?;
             Ok(members)
         }
     }
@@ -80,7 +106,7 @@ fn with_ahead(alloc: Global, mut members: Table, ahead: Option<Name>) -> Result<
 {
     match ahead {
         Some(ahead) => {
-            put(alloc, &mut members, "ahead", ahead.value(alloc)?)?;
+            put(alloc, &mut members, KeyName::Ahead, ahead.value(alloc)?)?;
             Ok(members)
         }
         None => Ok(members),
@@ -111,9 +137,19 @@ impl Written for Turn {
 
     fn value(&self, alloc: Global) -> Result<Value, AllocError> {
         let mut members = Table::new(alloc);
-        put(alloc, &mut members, "arriving", self.arriving.value(alloc)?)?;
-        put(alloc, &mut members, "leaving", self.leaving.value(alloc)?)?;
-        put(alloc, &mut members, "time", Value::from(self.time))?;
+        put(
+            alloc,
+            &mut members,
+            KeyName::Arriving,
+            self.arriving.value(alloc)?,
+        )?;
+        put(
+            alloc,
+            &mut members,
+            KeyName::Leaving,
+            self.leaving.value(alloc)?,
+        )?;
+        put(alloc, &mut members, KeyName::Time, Value::from(self.time))?;
         Ok(Value::Table(members))
     }
 }
@@ -155,10 +191,15 @@ impl Written for Route {
     fn value(&self, alloc: Global) -> Result<Value, AllocError> {
         let path = path_of(alloc, self.steps.as_slice())?;
         let mut members = Table::new(alloc);
-        put(alloc, &mut members, "name", self.name.value(alloc)?)?;
-        put(alloc, &mut members, "from", self.from.value(alloc)?)?;
-        put(alloc, &mut members, "to", self.to.value(alloc)?)?;
-        put(alloc, &mut members, "path", array(alloc, path.as_slice())?)?;
+        put(alloc, &mut members, KeyName::Name, self.name.value(alloc)?)?;
+        put(alloc, &mut members, KeyName::From, self.from.value(alloc)?)?;
+        put(alloc, &mut members, KeyName::To, self.to.value(alloc)?)?;
+        put(
+            alloc,
+            &mut members,
+            KeyName::Path,
+            array(alloc, path.as_slice())?,
+        )?;
         Ok(Value::Table(members))
     }
 }
@@ -173,11 +214,16 @@ impl Written for TrainKind {
 
     fn value(&self, alloc: Global) -> Result<Value, AllocError> {
         let mut members = Table::new(alloc);
-        put(alloc, &mut members, "name", self.name.value(alloc)?)?;
-        put(alloc, &mut members, "length", Value::from(self.length))?;
-        put(alloc, &mut members, "speed", Value::from(self.speed))?;
-        put(alloc, &mut members, "start", Value::from(self.start))?;
-        put(alloc, &mut members, "stop", Value::from(self.stop))?;
+        put(alloc, &mut members, KeyName::Name, self.name.value(alloc)?)?;
+        put(
+            alloc,
+            &mut members,
+            KeyName::TrainLength,
+            Value::from(self.length),
+        )?;
+        put(alloc, &mut members, KeyName::Speed, Value::from(self.speed))?;
+        put(alloc, &mut members, KeyName::Start, Value::from(self.start))?;
+        put(alloc, &mut members, KeyName::Stop, Value::from(self.stop))?;
         Ok(Value::Table(members))
     }
 }
@@ -192,14 +238,29 @@ impl Written for SceneTrain {
 
     fn value(&self, alloc: Global) -> Result<Value, AllocError> {
         let mut members = Table::new(alloc);
-        put(alloc, &mut members, "name", self.name.value(alloc)?)?;
-        put(alloc, &mut members, "kind", self.kind.value(alloc)?)?;
-        put(alloc, &mut members, "entry", time_value(alloc, self.entry)?)?;
-        put(alloc, &mut members, "priority", byte_value(self.priority))?;
+        put(alloc, &mut members, KeyName::Name, self.name.value(alloc)?)?;
         put(
             alloc,
             &mut members,
-            "routes",
+            KeyName::TrainKind,
+            self.kind.value(alloc)?,
+        )?;
+        put(
+            alloc,
+            &mut members,
+            KeyName::Entry,
+            time_value(alloc, self.entry)?,
+        )?;
+        put(
+            alloc,
+            &mut members,
+            KeyName::Priority,
+            byte_value(self.priority),
+        )?;
+        put(
+            alloc,
+            &mut members,
+            KeyName::Routes,
             array(alloc, self.routes.as_slice())?,
         )?;
         Ok(Value::Table(members))

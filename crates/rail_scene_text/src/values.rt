@@ -4,9 +4,11 @@ ghost use Rattle.std.specs.List.{list_all};
 ghost use Rattle.toml.specs.Data.{string};
 ghost use Rattle.toml.specs.View.{view, table_view};
 ghost use Rattle.rail_base.specs.Clock.{time_text};
+ghost use Rattle.rail_scene.specs.Keys.{text_of};
 ghost use Rattle.rail_scene_text.specs.Tables.{put, number, array_of};
 
 use rail_base::{Name, Time, write_time};
+use rail_scene::keys::KeyName;
 use std::alloc::{AllocError, Global};
 use toml::{Table, Value};
 
@@ -74,12 +76,12 @@ pub(crate) fn time_value(alloc: Global, time: Time) -> Result<Value, AllocError>
 pub(crate) fn put(
     alloc: Global,
     members: &mut Table,
-    key: &str,
+    key: KeyName,
     value: Value,
 ) -> Result<(), AllocError>
-    ensures { OnOk result (table_view members.new ≡ put key.now (view value) (table_view members.old)) }
+    ensures { OnOk result (table_view members.new ≡ put (text_of key) (view value) (table_view members.old)) }
 {
-    let text = String::from_str(alloc, key)?;
+    let text = String::from_str(alloc, key.text())?;
     match members.insert(text, value) {
         Ok(_) => Ok(()),
         Err(_) => Err(AllocError),

@@ -10,12 +10,13 @@ ghost use Rattle.rail_scene_text.specs.Typed.{IsTyped, IsTypedNetwork};
 use crate::values::{Written, array, put};
 use rail_base::{OutOfMemory, a_text_stands_for_one_time};
 use rail_routes::Network;
-use rail_scene::Scene;
+use rail_scene::keys::KeyName;
+use rail_scene::{Scene, Version};
 use std::alloc::{AllocError, Global};
 use toml::{Table, Value};
 
 /// The version of the scene format that is written.
-const VERSION: u32 = 1;
+const VERSION: Version = Version::One;
 
 /// A text that is read as the scene: the TOML document of its keys and tables, as the library `toml` lays it out. How
 /// that is may change from one release to the next.
@@ -46,14 +47,29 @@ fn scene_table(alloc: Global, scene: &Scene) -> Result<Table, AllocError>
     ensures typed { OnOk result (IsTyped scene.now) }
 {
     let mut root = network_table(alloc, &scene.network)?;
-    put(alloc, &mut root, "version", Value::from(VERSION))?;
-    put(alloc, &mut root, "release", Value::from(scene.release))?;
-    put(alloc, &mut root, "depth", Value::from(scene.depth))?;
-    put(alloc, &mut root, "policy", scene.policy.value(alloc)?)?;
+    put(
+        alloc,
+        &mut root,
+        KeyName::Version,
+        Value::from(VERSION.number()),
+    )?;
+    put(
+        alloc,
+        &mut root,
+        KeyName::Release,
+        Value::from(scene.release),
+    )?;
+    put(alloc, &mut root, KeyName::Depth, Value::from(scene.depth))?;
+    put(
+        alloc,
+        &mut root,
+        KeyName::Policy,
+        scene.policy.value(alloc)?,
+    )?;
     let kinds = array(alloc, scene.kinds.as_slice())?;
-    put(alloc, &mut root, "kind", kinds)?;
+    put(alloc, &mut root, KeyName::Kind, kinds)?;
     let trains = array(alloc, scene.trains.as_slice())?;
-    put(alloc, &mut root, "train", trains)?;
+    put(alloc, &mut root, KeyName::Train, trains)?;
     Ok(root)
 }
 
@@ -66,13 +82,38 @@ fn network_table(alloc: Global, network: &Network) -> Result<Table, AllocError>
     put(
         alloc,
         &mut root,
-        "section",
+        KeyName::Section,
         array(alloc, network.sections())?,
     )?;
-    put(alloc, &mut root, "portal", array(alloc, network.portals())?)?;
-    put(alloc, &mut root, "signal", array(alloc, network.signals())?)?;
-    put(alloc, &mut root, "board", array(alloc, network.boards())?)?;
-    put(alloc, &mut root, "turn", array(alloc, network.turns())?)?;
-    put(alloc, &mut root, "route", array(alloc, network.routes())?)?;
+    put(
+        alloc,
+        &mut root,
+        KeyName::Portal,
+        array(alloc, network.portals())?,
+    )?;
+    put(
+        alloc,
+        &mut root,
+        KeyName::Signal,
+        array(alloc, network.signals())?,
+    )?;
+    put(
+        alloc,
+        &mut root,
+        KeyName::Board,
+        array(alloc, network.boards())?,
+    )?;
+    put(
+        alloc,
+        &mut root,
+        KeyName::Turn,
+        array(alloc, network.turns())?,
+    )?;
+    put(
+        alloc,
+        &mut root,
+        KeyName::Route,
+        array(alloc, network.routes())?,
+    )?;
     Ok(root)
 }

@@ -1,6 +1,7 @@
 -- How many intervals there are at most, and the sections that they are on.
 use Rattle.std.proofs.Common.{◌≡◌, ℕ, ◌*◌, ◌<◌, ◌≤◌, ◌^◌, true, ltb, length, length-append, arith}
 use Rattle.std.proofs.lemmas.Bool.{ltb-true}
+use Rattle.rail_base.specs.Limits.{most, Trains, ItineraryRoutes, RouteSections}
 use Rattle.rail_base.specs.declared.limits.TheConstants.{SECTIONS}
 use Rattle.rail_rules.specs.Accepted.{is_accepted}
 use Rattle.rail_rules.specs.Intervals.{interval_of}
@@ -18,16 +19,16 @@ module _ (plant : Plant) (accepted : is_accepted plant ≡ true) where
   pub few_sections : length plant.tables.sections ≤ SECTIONS
   few_sections = (accepted_parts plant accepted).few_sections
 
-  pub few_trains : trains plant ≤ 128
+  pub few_trains : trains plant ≤ most Trains
   few_trains = (accepted_parts plant accepted).few_trains
 
-  pub few_moves : (t : ℕ) → t < trains plant → moves plant t ≤ 64
+  pub few_moves : (t : ℕ) → t < trains plant → moves plant t ≤ most ItineraryRoutes
   few_moves t lt = (row_in_range plant (accepted_parts plant accepted).trains_in_range t lt).few_moves
 
   fine_move : (t m : ℕ) → t < trains plant → m < moves plant t → IsMoveInRange (length plant.tables.sections) (move_row plant t m)
   fine_move t m lt lm = move_in_range (length plant.tables.sections) (move_row plant t m) ((row_in_range plant (accepted_parts plant accepted).trains_in_range t lt).each_move m lm)
 
-  pub few_steps : (t m : ℕ) → t < trains plant → m < moves plant t → steps plant t m ≤ 32
+  pub few_steps : (t m : ℕ) → t < trains plant → m < moves plant t → steps plant t m ≤ most RouteSections
   few_steps t m lt lm = (fine_move t m lt lm).few_steps
 
   -- the section of a step is one of the plant's
@@ -37,16 +38,16 @@ module _ (plant : Plant) (accepted : is_accepted plant ≡ true) where
       (list_all_get (λ x. ltb x (length plant.tables.sections)) (needed plant t m) j 0 (fine_move t m lt lm).known lj)
 
   module _ (stairs : Stairs) (fine : AreAllAdmissible plant stairs) where
-    few_of_move : (t m : ℕ) → t < trains plant → m < length (noted_of stairs t) → length (move_intervals plant t (noted_of stairs t) m) ≤ 32
+    few_of_move : (t m : ℕ) → t < trains plant → m < length (noted_of stairs t) → length (move_intervals plant t (noted_of stairs t) m) ≤ most RouteSections
     few_of_move t m lt lm =
         omega (arith, length-listed (interval_of plant t (noted_of stairs t) m) (steps plant t m), few_steps t m lt (omega (arith, lm, (fine t lt).few)))
 
-    few_of_train : (t : ℕ) → t < trains plant → length (train_intervals plant t (noted_of stairs t)) ≤ 2048
+    few_of_train : (t : ℕ) → t < trains plant → length (train_intervals plant t (noted_of stairs t)) ≤ most ItineraryRoutes * most RouteSections
     few_of_train t lt =
-        omega (arith, gather_short (move_intervals plant t (noted_of stairs t)) (length (noted_of stairs t)) 32 (λ m lm. few_of_move t m lt lm), (fine t lt).few, few_moves t lt)
+        omega (arith, gather_short (move_intervals plant t (noted_of stairs t)) (length (noted_of stairs t)) (most RouteSections) (λ m lm. few_of_move t m lt lm), (fine t lt).few, few_moves t lt)
 
-    pub few_before_train : (t : ℕ) → t ≤ trains plant → length (before_train plant stairs t) ≤ t * 2048
-    few_before_train t le = gather_short (λ u. train_intervals plant u (noted_of stairs u)) t 2048 (λ u lu. few_of_train u (omega (arith, lu, le)))
+    pub few_before_train : (t : ℕ) → t ≤ trains plant → length (before_train plant stairs t) ≤ t * (most ItineraryRoutes * most RouteSections)
+    few_before_train t le = gather_short (λ u. train_intervals plant u (noted_of stairs u)) t (most ItineraryRoutes * most RouteSections) (λ u lu. few_of_train u (omega (arith, lu, le)))
 
     -- so few intervals stand before a step
     pub few_before_step : (t m j : ℕ) → t < trains plant → m < length (noted_of stairs t) → j ≤ steps plant t m → length (before_step plant stairs t m j) < 2 ^ 20
@@ -57,7 +58,7 @@ module _ (plant : Plant) (accepted : is_accepted plant ≡ true) where
           length-append (before_move plant stairs t m) (listed (interval_of plant t (noted_of stairs t) m) j),
           length-append (before_train plant stairs t) (gather (move_intervals plant t (noted_of stairs t)) m),
           length-listed (interval_of plant t (noted_of stairs t) m) j,
-          gather_short (move_intervals plant t (noted_of stairs t)) m 32 (λ n ln. few_of_move t n lt (omega (arith, ln, lm))),
+          gather_short (move_intervals plant t (noted_of stairs t)) m (most RouteSections) (λ n ln. few_of_move t n lt (omega (arith, ln, lm))),
           few_before_train t (omega (arith, lt)),
           few_trains,
           few_moves t lt,

@@ -1,8 +1,8 @@
 -- Lists that are gathered.
-use Rattle.std.proofs.Common.{◌≡◌, ℕ, zero, suc, ◌+◌, ◌*◌, ◌<◌, ◌≤◌, List, [], ◌++◌, get_or, length, map, add-one, sym, ap, ◌∙◌, ⊎_elim, append_assoc, length-append, arith}
+use Rattle.std.proofs.Common.{◌≡◌, ℕ, zero, suc, ◌+◌, ◌*◌, ◌<◌, ◌≤◌, List, [], ◌++◌, get_or, length, add-one, sym, ap, ◌∙◌, ⊎_elim, append_assoc, length-append, arith}
 use Rattle.std.proofs.lemmas.Bool.{cases_lt}
 use Rattle.std.specs.Prelude.{slice_get, Some}
-use Rattle.std.proofs.lemmas.List.{append-nil, get_or-append-add, get_or_append_left, map-append}
+use Rattle.std.proofs.lemmas.List.{append-nil, get_or-append-add, get_or_append_left}
 use Rattle.std.proofs.lemmas.Option.{get_or_from_slice_get, slice_get-get_or, slice_get_within}
 use Rattle.rail_rules.specs.Numbers.{listed}
 use Rattle.rail_laws_front.proofs.CallerLemmas.{get_or-listed, length-listed}
@@ -23,12 +23,11 @@ gather_short f zero most each = omega arith
 gather_short f (suc n) most each =
     omega (arith, length-append (gather f n) (f n), gather_short f n most (λ i lt. each i (omega (arith, lt))), each n (omega arith))
 
--- what is made of gathered lists, and of one more
-pub map_more : {X Y : Type 0} (g : X → Y) (f : ℕ → List X) (i : ℕ) (before now new : List Y) → now ≡ before ++ map g (gather f i) → new ≡ now ++ map g (f i)
-    → new ≡ before ++ map g (gather f (i + 1))
-map_more g f i before now new is more =
-    more ∙ ap (λ xs. xs ++ map g (f i)) is ∙ append_assoc before (map g (gather f i)) (map g (f i))
-    ∙ ap (λ xs. before ++ xs) (sym (ap (λ n. map g (gather f n)) (add-one i) ∙ map-append g (gather f i) (f i)))
+-- gathered lists, and one more
+pub gather_more : {X : Type 0} (f : ℕ → List X) (i : ℕ) (before now new : List X) → now ≡ before ++ gather f i → new ≡ now ++ f i
+    → new ≡ before ++ gather f (i + 1)
+gather_more f i before now new is more =
+    more ∙ ap (λ xs. xs ++ f i) is ∙ append_assoc before (gather f i) (f i) ∙ ap (λ xs. before ++ xs) (sym (ap (gather f) (add-one i)))
 
 -- an item of one of the gathered lists
 pub item_of_gathered : {X : Type 0} (f : ℕ → List X) (n i k : ℕ) (x : X) → i < n → slice_get (f i) k ≡ Some x → slice_get (gather f n) (length (gather f i) + k) ≡ Some x

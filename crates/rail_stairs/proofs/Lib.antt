@@ -9,6 +9,7 @@ mod Conflicts
 mod Carried
 -- Lists that are gathered, tables that count them, and texts that are written part by part.
 mod Gathered
+mod OpenIntervals
 mod Counts
 mod Before
 mod Tallied

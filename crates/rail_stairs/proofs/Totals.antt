@@ -2,6 +2,7 @@
 use Rattle.std.proofs.Common.{◌≡◌, ℕ, zero, suc, ◌<◌, ◌≤◌, List, [], length, map, get_or, refl, sym, ap, ◌∙◌, length-append, arith}
 use Rattle.std.specs.Global.{Vec}
 use Rattle.std.proofs.Math.ListN.{get_or-map}
+use Rattle.rail_base.specs.Limits.{most, Trains, RouteSections}
 use Rattle.rail_base.specs.declared.plant.MoveRow.{MoveRow}
 use Rattle.rail_base.specs.declared.plant.TrainRow.{TrainRow}
 use Rattle.rail_rules.specs.Fronts.{Front, admissions}
@@ -55,7 +56,7 @@ total plant front stairs h =
 pub record AreStepsNoted (plant : Plant) (stairs : Stairs) (t : ℕ) : Type 0 where
   pub known : t < length stairs.steps.items
   pub long : length (noted_of stairs t) ≤ length (get_or (map (λ (row : Vec ℕ). row.items) stairs.steps.items) t [])
-  pub few : (m : ℕ) → m < length (noted_of stairs t) → noted_steps stairs t m ≤ 32
+  pub few : (m : ℕ) → m < length (noted_of stairs t) → noted_steps stairs t m ≤ most RouteSections
 
 pub steps_noted : (plant : Plant) (stairs : Stairs) → IsNoted plant stairs → (t : ℕ) → t < length stairs.admissions.items → AreStepsNoted plant stairs t
 steps_noted plant stairs h t lt =
@@ -81,5 +82,5 @@ steps_noted plant stairs h t lt =
     }
 
 -- and of how many trains
-pub few_rows : (plant : Plant) (stairs : Stairs) → IsNoted plant stairs → length stairs.admissions.items ≤ 128
+pub few_rows : (plant : Plant) (stairs : Stairs) → IsNoted plant stairs → length stairs.admissions.items ≤ most Trains
 few_rows plant stairs h = omega (arith, noted_rows plant h.front stairs h.noted, few_trains plant (input_parts (input_of h.dispatch plant) h.accepted).0)

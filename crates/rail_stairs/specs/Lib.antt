@@ -8,6 +8,5 @@ pub mod Noted
 pub mod Journeys
 pub mod OfTrains
 pub mod Tallies
-pub mod Writes
 -- Worked stairways.
 pub mod Rows

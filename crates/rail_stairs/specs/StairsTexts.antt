@@ -1,5 +1,5 @@
 -- The text of a stairway.
-use Rattle.std.specs.Prelude.{ℕ, List, [], ◌∷◌, ◌++◌, length, flat_map, codes, decimal, unwrap_or, Option, Some, None}
+use Rattle.std.specs.Prelude.{ℕ, List, [], ◌∷◌, ◌++◌, length, flat_map, codes, decimal, unwrap_or}
 use Rattle.rail_base.specs.Clock.{time_text}
 use Rattle.rail_base.specs.declared.intervals.Interval.{Interval}
 use Rattle.rail_base.specs.declared.intervals.Parts.{Parts}
@@ -7,17 +7,8 @@ use Rattle.rail_rules.specs.Numbers.{gather}
 use Rattle.rail_rules.specs.Plant.{Plant}
 use Rattle.rail_rules.specs.Fronts.{Front}
 use Rattle.rail_rules.specs.Texts.{train_word, section_word, spaced}
+use Rattle.rail_text.specs.Words.{number_word, time_word}
 use Rattle.rail_stairs.specs.Stairways.{ended_at, occupation, stairway, visits}
-
--- a number of tenths of a second, or a dash where it is undecided
-abbrev pub number_word : Option ℕ → List ℕ
-number_word None = codes "-"
-number_word (Some n) = decimal n
-
--- a time, or a dash where there is none
-abbrev pub time_word : Option ℕ → List ℕ
-time_word None = codes "-"
-time_word (Some at) = time_text at
 
 -- the nine parts, in their order
 abbrev pub part_words : Parts → List (List ℕ)

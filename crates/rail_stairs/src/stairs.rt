@@ -75,7 +75,7 @@ impl Stairs {
     }
 
     /// The time of the end line, which was noted.
-    pub(crate) fn ended(&self) -> Time
+    pub fn ended(&self) -> Time
         requires { IsSome self.now.ended }
         ensures { self.now.ended ≡ Some result }
     {

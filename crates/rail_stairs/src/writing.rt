@@ -13,16 +13,16 @@ ghost use Rattle.rail_stairs.specs.OfTrains.{admissions_in, at_train, of_train};
 ghost use Rattle.rail_stairs.specs.Stairways.{move_intervals, train_intervals};
 ghost use Rattle.rail_stairs.specs.StairsTexts.{section_line, section_lines, stair_line, stairs_text};
 ghost use Rattle.rail_stairs.specs.Tallies.{IsTallied};
-ghost use Rattle.rail_stairs.specs.Writes.{WritesText};
+ghost use Rattle.rail_text.specs.Writes.{WritesText};
 
 use crate::journey::Journey;
 use crate::stairs::Stairs;
 use crate::tallies::Tallies;
-use crate::words::{put_end, put_number, put_parts, put_section, put_sum, put_time, put_train};
+use crate::words::put_parts;
 use rail_base::{Interval, SectionNo, Time, TrainNo};
-use rail_history::Line;
 use rail_io::{Failed, Sink, write_whole};
 use rail_plan::Plant;
+use rail_text::Line;
 
 /// Writes the stairway of the history that was noted to its end: a line for each blocking interval, by train,
 /// move and step, and a line for each section. It takes no memory.
@@ -108,11 +108,11 @@ fn write_interval<O: Sink>(plant: &Plant, interval: &Interval, out: &mut O) -> R
 {
     let mut line = Line::new();
     line.put(b"stair");
-    put_train(&mut line, plant, interval.train);
-    put_number(&mut line, u64::from(interval.place));
-    put_section(&mut line, plant, interval.section);
-    put_time(&mut line, interval.begin);
-    put_end(&mut line, interval.end);
+    line.put_name(&plant.train(interval.train).name);
+    line.put_number(u64::from(interval.place));
+    line.put_name(&plant.section(interval.section).name);
+    line.put_time(interval.begin);
+    line.put_time_or_dash(interval.end);
     put_parts(&mut line, &interval.parts);
     line.put(b"\n");
     write_whole(out, line.as_slice())
@@ -143,9 +143,9 @@ fn write_section<O: Sink>(
 {
     let mut line = Line::new();
     line.put(b"section");
-    put_section(&mut line, plant, section);
-    put_number(&mut line, tallies.visits(section));
-    put_sum(&mut line, tallies.occupied(section));
+    line.put_name(&plant.section(section).name);
+    line.put_number(tallies.visits(section));
+    line.put_sum(tallies.occupied(section));
     line.put(b"\n");
     write_whole(out, line.as_slice())
 }

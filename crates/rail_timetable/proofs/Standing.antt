@@ -13,10 +13,10 @@ use Rattle.rail_rules.specs.Numbers.{same_numbers}
 use Rattle.rail_rules.specs.Plant.{Plant, move_row, moves, trains}
 use Rattle.rail_rules.proofs.CallerLemmas.{accepted_parts, all_below_at, from_one}
 use Rattle.rail_plan.specs.PlanFaults.{bare}
-use Rattle.rail_command.specs.Decimals.{is_decimal, value_of}
-use Rattle.rail_command.specs.Lines.{number_of_name}
-use Rattle.rail_command.specs.Times.{IsInputTime, input_time}
-use Rattle.rail_command.proofs.CallerLemmas.{found_at}
+use Rattle.rail_text.specs.Decimals.{is_decimal, value_of}
+use Rattle.rail_text.specs.Lines.{number_of_name}
+use Rattle.rail_text.specs.Times.{IsInputTime, input_time}
+use Rattle.rail_text.proofs.CallerLemmas.{found_at}
 use Rattle.rail_timetable.specs.declared.fields.Dwell.{Dwell}
 use Rattle.rail_timetable.specs.declared.fields.Dwell.TheVariants.{Empty, Pass, Least}
 use Rattle.rail_timetable.specs.declared.rows.PlacedCall.{PlacedCall}

@@ -9,9 +9,9 @@ use Rattle.rail_rules.specs.Accepted.{is_call_in_range}
 use Rattle.rail_rules.specs.Numbers.{same_numbers}
 use Rattle.rail_rules.specs.Plant.{move_row, moves}
 use Rattle.rail_plan.specs.PlanFaults.{bare}
-use Rattle.rail_command.specs.Decimals.{is_decimal, value_of}
-use Rattle.rail_command.specs.Lines.{number_of_name}
-use Rattle.rail_command.specs.Times.{input_time}
+use Rattle.rail_text.specs.Decimals.{is_decimal, value_of}
+use Rattle.rail_text.specs.Lines.{number_of_name}
+use Rattle.rail_text.specs.Times.{input_time}
 use Rattle.rail_timetable.specs.declared.fields.Dwell.{Dwell}
 use Rattle.rail_timetable.specs.declared.fields.Dwell.TheVariants.{Empty, Pass, Least}
 use Rattle.rail_timetable.specs.declared.records.Fields.{Fields}

@@ -4,8 +4,8 @@ ghost use Rattle.std.specs.Prelude.{◌≡◌, cond};
 ghost use Rattle.rail_timetable.specs.Fields.{call_at_place, dwell_of, earlier_call, last_call, place_within, time_if_any, train_named};
 
 use rail_base::{Call, Name, Time, TrainNo};
-use rail_command::{a_word_spells_an_input_time, input_time, is_decimal, value_of};
 use rail_plan::Plant;
+use rail_text::{a_word_spells_an_input_time, input_time, is_decimal, value_of};
 
 /// How long a train stands at a place, as a field spells it.
 #[derive(Clone, Copy, Debug)]

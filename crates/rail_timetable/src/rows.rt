@@ -15,8 +15,8 @@ use crate::fields::{call_at_place, place_within, train_named};
 use crate::records::{Fields, five_fields};
 use csv::ByteRecord;
 use rail_base::{Call, Fault, Part, Reason, Refusal, TrainNo};
-use rail_command::a_word_spells_an_input_time;
 use rail_plan::{Calls, Plant};
+use rail_text::a_word_spells_an_input_time;
 
 /// A call of a train at a place, which counts from 1.
 #[derive(Clone, Copy, Debug)]

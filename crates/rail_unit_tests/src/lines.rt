@@ -10,8 +10,9 @@ use crate::plants::trains_of;
 use crate::shelves::alone;
 use indexmap::IndexSet;
 use rail_base::{Entry, Name, Names, Note, OutOfMemory, Time, TrainNo, What};
-use rail_history::{Line, write_entry};
+use rail_history::write_entry;
 use rail_io::{Failed, MemorySink, Sink, SureSink};
+use rail_text::Line;
 use std::alloc::{AllocError, Global};
 
 // The trains of the list by their numbers, what the entry says, the number of the write that fails,

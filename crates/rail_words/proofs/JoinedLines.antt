@@ -13,11 +13,10 @@ use Rattle.rail_base.specs.declared.refusals.Fault.TheVariants.{Refused, OutOfMe
 use Rattle.rail_base.specs.declared.refusals.Refusal.{Refusal}
 use Rattle.rail_base.proofs.CallerLemmas.{first_failing-append}
 use Rattle.rail_rules.specs.Moves.{Moves}
-use Rattle.rail_command.specs.Decimals.{value_of}
-use Rattle.rail_command.specs.Lines.{Line, is_comment, is_skipped, line_at, lines_from, lines_of, words}
-use Rattle.rail_command.proofs.CallerLemmas.{lines_from-cons}
-use Rattle.rail_words.specs.Lists.{is_moving, is_setting, line_tests, lines_tests, list_line_refusal, moved, moves_trains, number_of_train, sets, some_moves, with_position, words_tests}
-use Rattle.rail_words.specs.ListAnswers.{ReadList, after_asked, after_line, after_moves, after_position, line_refusal, read_of, tests_after}
+use Rattle.rail_text.specs.Decimals.{value_of}
+use Rattle.rail_text.specs.Lines.{Line, lines_of}
+use Rattle.rail_words.specs.Lists.{is_moving, is_setting, line_tests, lines_tests, list_line_refusal, moved, moves_trains, number_of_train, sets, some_moves, with_position}
+use Rattle.rail_words.specs.ListAnswers.{ReadList, after_line, after_moves, after_position, read_of, words_refusal}
 
 or_false : (b : Bool) → (b || false) ≡ b
 or_false true = refl
@@ -46,8 +45,8 @@ module _ (names : List (List ℕ)) (read : ReadList) (n : ℕ) where
   pushed args = λ i. kept read.positions (read.list ++ map (number_of_train names) args) read.last_at (sym (or_true read.has_moved) i)
 
   -- what a line adds
-  abbrev added : List ℕ → List (List ℕ) → ReadList
-  added verb args = kept (with_position names read.positions (verb ∷ args)) (read.list ++ moved names (verb ∷ args)) (cond (is_setting (verb ∷ args)) n read.last_at) (read.has_moved || is_moving (verb ∷ args))
+  abbrev added : List (List ℕ) → ReadList
+  added words = kept (with_position names read.positions words) (read.list ++ moved names words) (cond (is_setting words) n read.last_at) (read.has_moved || is_moving words)
 
   -- by whether it sets a position, and whether it moves trains; it doesn't do both
   two : (at move : Bool) → (at ≡ true → move ≡ false) → (train number : List ℕ) →
@@ -65,83 +64,71 @@ module _ (names : List (List ℕ)) (read : ReadList) (n : ℕ) where
   other false true one args = pushed args
   other false false one args = unchanged
 
-  pub step : (verb : List ℕ) (args : List (List ℕ)) → after_asked names read n verb args ≡ added verb args
-  step verb [] = other (sets verb) (moves_trains verb) (sets_alone verb) []
-  step verb (train ∷ []) = other (sets verb) (moves_trains verb) (sets_alone verb) (train ∷ [])
-  step verb (train ∷ number ∷ []) = two (sets verb) (moves_trains verb) (sets_alone verb) train number
-  step verb (train ∷ number ∷ more ∷ rest) = other (sets verb) (moves_trains verb) (sets_alone verb) (train ∷ number ∷ more ∷ rest)
+  pub step : (words : List (List ℕ)) → after_line names read n words ≡ added words
+  step [] = unchanged
+  step (verb ∷ []) = other (sets verb) (moves_trains verb) (sets_alone verb) []
+  step (verb ∷ train ∷ []) = other (sets verb) (moves_trains verb) (sets_alone verb) (train ∷ [])
+  step (verb ∷ train ∷ number ∷ []) = two (sets verb) (moves_trains verb) (sets_alone verb) train number
+  step (verb ∷ train ∷ number ∷ more ∷ rest) = other (sets verb) (moves_trains verb) (sets_alone verb) (train ∷ number ∷ more ∷ rest)
 
 -- what is kept of one line more
-module _ (names : List (List ℕ)) (trains : ℕ) (before : List Line) where
-  joined : (n : ℕ) (verb : List ℕ) (args : List (List ℕ)) → read_of names trains (before ++ record { number = n; words = verb ∷ args } ∷ []) ≡ added names (read_of names trains before) n verb args
-  joined n verb args =
-      let line : Line = record { number = n; words = verb ∷ args } in
+module _ (names : List (List ℕ)) (trains : ℕ) (before : List Line) (line : Line) where
+  joined : read_of names trains (before ++ line ∷ []) ≡ added names (read_of names trains before) line.number line.words
+  joined =
       let positions = fold-append (λ (ps : List ℕ) (line : Line). with_position names ps line.words) (replicate trains 0) before (line ∷ []) in
-      let list : flat_map (λ (line : Line). moved names line.words) (before ++ line ∷ []) ≡ flat_map (λ (line : Line). moved names line.words) before ++ moved names (verb ∷ args) =
-      flat_map-append (λ (line : Line). moved names line.words) before (line ∷ []) ∙ ap (λ (ts : List ℕ). flat_map (λ (line : Line). moved names line.words) before ++ ts) (append-nil (moved names (verb ∷ args))) in
+      let list : flat_map (λ (line : Line). moved names line.words) (before ++ line ∷ []) ≡ flat_map (λ (line : Line). moved names line.words) before ++ moved names line.words =
+      flat_map-append (λ (line : Line). moved names line.words) before (line ∷ []) ∙ ap (λ (ts : List ℕ). flat_map (λ (line : Line). moved names line.words) before ++ ts) (append-nil (moved names line.words)) in
       let last = fold-append (λ (m : ℕ) (line : Line). cond (is_setting line.words) line.number m) 0 before (line ∷ []) in
-      let moves : some_moves (before ++ line ∷ []) ≡ (some_moves before || is_moving (verb ∷ args)) =
-      list_any-append (λ (line : Line). is_moving line.words) before (line ∷ []) ∙ ap (λ b. some_moves before || b) (or_false (is_moving (verb ∷ args))) in
+      let moves : some_moves (before ++ line ∷ []) ≡ (some_moves before || is_moving line.words) =
+      list_any-append (λ (line : Line). is_moving line.words) before (line ∷ []) ∙ ap (λ b. some_moves before || b) (or_false (is_moving line.words)) in
       λ i. kept (positions i) (list i) (last i) (moves i)
 
-  nothing : read_of names trains (before ++ []) ≡ read_of names trains before
-  nothing = ap (read_of names trains) (append-nil before)
-
-  asked_on : (n : ℕ) (verb : List ℕ) (args : List (List ℕ)) (skipped : Bool) →
-      cond skipped (read_of names trains before) (after_asked names (read_of names trains before) n verb args) ≡ read_of names trains (before ++ cond skipped [] (record { number = n; words = verb ∷ args } ∷ []))
-  asked_on n verb args true = sym nothing
-  asked_on n verb args false = step names (read_of names trains before) n verb args ∙ sym (joined n verb args)
-
   -- what is kept after a line is what is kept of the lines with it
-  on_words : (n : ℕ) (words : List (List ℕ)) → after_line names (read_of names trains before) n words ≡ read_of names trains (before ++ cond (is_skipped words) [] (record { number = n; words = words } ∷ []))
-  on_words n [] = sym nothing
-  on_words n (verb ∷ args) = asked_on n verb args (is_comment verb)
+  read_on : after_line names (read_of names trains before) line.number line.words ≡ read_of names trains (before ++ line ∷ [])
+  read_on = step names (read_of names trains before) line.number line.words ∙ sym joined
 
-  pub read_on : (n : ℕ) (line : List ℕ) → after_line names (read_of names trains before) n (words line) ≡ read_of names trains (before ++ lines_from n (line ∷ []))
-  read_on n line = on_words n (words line)
-
--- the tests of a line, if it is not skipped
-tests_unless : (names : List (List ℕ)) (plan : Moves) (has_moved : Bool) (n : ℕ) (words : List (List ℕ)) → tests_after names plan has_moved n words ≡ cond (is_skipped words) [] (words_tests names plan has_moved n words)
-tests_unless names plan has_moved n [] = refl
-tests_unless names plan has_moved n (verb ∷ args) = refl
-
--- behind a line that is not refused, the refusal is that of the lines behind it; else it is that of the line
-module _ (names : List (List ℕ)) (plan : Moves) (before rest : List Line) (line : Line) where
-  passed_by : (skipped : Bool) → first_failing (cond skipped [] (line_tests names plan before line)) ≡ None →
-      first_failing (lines_tests names plan before (cond skipped rest (line ∷ rest))) ≡ first_failing (lines_tests names plan (before ++ cond skipped [] (line ∷ [])) rest)
-  passed_by true ok = ap (λ (ls : List Line). first_failing (lines_tests names plan ls rest)) (sym (append-nil before))
-  passed_by false ok =
-      first_failing-append (line_tests names plan before line) (lines_tests names plan (before ++ line ∷ []) rest)
-      ∙ ap (λ o. option_or o (first_failing (lines_tests names plan (before ++ line ∷ []) rest))) ok
-
-  refused_by : (skipped : Bool) (r : Refusal) → first_failing (cond skipped [] (line_tests names plan before line)) ≡ Some r →
-      first_failing (lines_tests names plan before (cond skipped rest (line ∷ rest))) ≡ Some r
-  refused_by true r bad = cc
-  refused_by false r bad =
-      first_failing-append (line_tests names plan before line) (lines_tests names plan (before ++ line ∷ []) rest)
-      ∙ ap (λ o. option_or o (first_failing (lines_tests names plan (before ++ line ∷ []) rest))) bad
-
--- how far a list file was read: the lines before a place in it
-pub record IsReadTo (names : List (List ℕ)) (plan : Moves) (trains : ℕ) (bytes : List ℕ) (read : ReadList) (n : ℕ) (left : List (List ℕ)) : Type 0 where
+-- how far a list file was read: the lines before a place in it, and the lines that are left
+pub record IsReadTo (names : List (List ℕ)) (plan : Moves) (trains : ℕ) (bytes : List ℕ) (read : ReadList) (left : List Line) : Type 0 where
   pub before : List Line
-  pub whole : lines_of bytes ≡ before ++ lines_from n left
+  pub whole : lines_of bytes ≡ before ++ left
   pub kept : read ≡ read_of names trains before
-  pub refusals : list_line_refusal names plan bytes ≡ first_failing (lines_tests names plan before (lines_from n left))
+  pub refusals : list_line_refusal names plan bytes ≡ first_failing (lines_tests names plan before left)
 
-module _ (names : List (List ℕ)) (plan : Moves) (trains : ℕ) (bytes : List ℕ) (read : ReadList) (n : ℕ) (line : List ℕ) (left : List (List ℕ)) (h : IsReadTo names plan trains bytes read n (line ∷ left)) where
-  its_tests : first_failing (cond (is_skipped (words line)) [] (line_tests names plan h.before (line_at n line))) ≡ line_refusal names plan read n line
-  its_tests = ap first_failing (sym (tests_unless names plan (some_moves h.before) n (words line))) ∙ ap (λ (r : ReadList). line_refusal names plan r n line) (sym h.kept)
+module _ (names : List (List ℕ)) (plan : Moves) (trains : ℕ) (bytes : List ℕ) (read : ReadList) where
+  module _ (left : List Line) (h : IsReadTo names plan trains bytes read left) where
+    module _ (line : Line) (rest : List Line) (is : left ≡ line ∷ rest) where
+      its_tests : first_failing (line_tests names plan h.before line) ≡ words_refusal names plan read line.number line.words
+      its_tests = ap (λ (r : ReadList). words_refusal names plan r line.number line.words) (sym h.kept)
 
-  -- a line that is not refused
-  pub one_more : (after : ReadList) → line_refusal names plan read n line ≡ None → after ≡ after_line names read n (words line) → IsReadTo names plan trains bytes after (n + 1) left
-  one_more after ok is = record {
-    before = h.before ++ lines_from n (line ∷ []);
-    whole = h.whole ∙ ap (λ (ls : List Line). h.before ++ ls) (lines_from-cons n line left) ∙ sym (append_assoc h.before (lines_from n (line ∷ [])) (lines_from (n + 1) left));
-    kept = is ∙ ap (λ (r : ReadList). after_line names r n (words line)) h.kept ∙ read_on names trains h.before n line;
-    refusals = h.refusals ∙ passed_by names plan h.before (lines_from (n + 1) left) (line_at n line) (is_skipped (words line)) (its_tests ∙ ok);
-  }
+      refused_first : list_line_refusal names plan bytes
+          ≡ option_or (words_refusal names plan read line.number line.words) (first_failing (lines_tests names plan (h.before ++ line ∷ []) rest))
+      refused_first =
+          h.refusals
+          ∙ ap (λ (ls : List Line). first_failing (lines_tests names plan h.before ls)) is
+          ∙ first_failing-append (line_tests names plan h.before line) (lines_tests names plan (h.before ++ line ∷ []) rest)
+          ∙ ap (λ o. option_or o (first_failing (lines_tests names plan (h.before ++ line ∷ []) rest))) its_tests
 
-  -- what answers a line answers the file
-  pub answers_line : (fault : Fault) → AnswersFirst (line_refusal names plan read n line) fault → AnswersFirst (list_line_refusal names plan bytes) fault
-  answers_line (Refused r) answer = h.refusals ∙ refused_by names plan h.before (lines_from (n + 1) left) (line_at n line) (is_skipped (words line)) r (its_tests ∙ answer)
-  answers_line OutOfMemory answer = tt
+      -- a line that is not refused
+      pub one_more : (after : ReadList) → words_refusal names plan read line.number line.words ≡ None → after ≡ after_line names read line.number line.words → IsReadTo names plan trains bytes after rest
+      one_more after ok made = record {
+        before = h.before ++ line ∷ [];
+        whole = h.whole ∙ ap (λ (ls : List Line). h.before ++ ls) is ∙ sym (append_assoc h.before (line ∷ []) rest);
+        kept = made ∙ ap (λ (r : ReadList). after_line names r line.number line.words) h.kept ∙ read_on names trains h.before line;
+        refusals = refused_first ∙ ap (λ o. option_or o (first_failing (lines_tests names plan (h.before ++ line ∷ []) rest))) ok;
+      }
+
+      -- what answers a line answers the file
+      pub answers_file : (fault : Fault) → AnswersFirst (words_refusal names plan read line.number line.words) fault → AnswersFirst (list_line_refusal names plan bytes) fault
+      answers_file (Refused r) answer = refused_first ∙ ap (λ o. option_or o (first_failing (lines_tests names plan (h.before ++ line ∷ []) rest))) answer
+      answers_file OutOfMemory answer = tt
+
+    -- behind the last line
+    module _ (none : left ≡ []) where
+      all_before : lines_of bytes ≡ h.before
+      all_before = h.whole ∙ ap (λ (ls : List Line). h.before ++ ls) none ∙ append-nil h.before
+
+      pub all_accepted : list_line_refusal names plan bytes ≡ None
+      all_accepted = h.refusals ∙ ap (λ (ls : List Line). first_failing (lines_tests names plan h.before ls)) none
+
+      pub all_read : read ≡ read_of names trains (lines_of bytes)
+      all_read = h.kept ∙ ap (read_of names trains) (sym all_before)

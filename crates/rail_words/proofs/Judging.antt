@@ -5,13 +5,12 @@ use Rattle.std.specs.Prelude.{unwrap_or}
 use Rattle.std.proofs.lemmas.Bool.{and_parts, false≢true}
 use Rattle.std.proofs.lemmas.List.Elements.{All-append, All-nil, All-cons}
 use Rattle.rail_base.specs.NameForms.{same_name}
-use Rattle.rail_rules.specs.Moves.{Moves}
-use Rattle.rail_words.specs.Lists.{asked_tests, knows, moves_trains, number_of_train, sets}
-use Rattle.rail_command.specs.Lines.{is_comment, number_of_name, words}
-use Rattle.rail_words.specs.ListAnswers.{IsListFor, ReadList, after_moves, tests_after}
+use Rattle.rail_words.specs.Lists.{knows, moves_trains, number_of_train, sets}
+use Rattle.rail_text.specs.Lines.{number_of_name}
+use Rattle.rail_words.specs.ListAnswers.{IsListFor, ReadList, after_moves}
 use Rattle.rail_words.specs.Verbs.{verb_of}
-use Rattle.rail_words.specs.declared.checking.Verb.TheVariants.{Comment, At, Move, Other}
-use Rattle.rail_command.proofs.CallerLemmas.{found_at}
+use Rattle.rail_words.specs.declared.checking.Verb.TheVariants.{At, Move, Other}
+use Rattle.rail_text.proofs.CallerLemmas.{found_at}
 use Rattle.rail_place.specs.Tables.{MoveLists}
 
 -- a known train has a number below the count of the trains
@@ -37,24 +36,18 @@ moves_kept names table listed args same fit known = record {
 
 -- a line that moves trains has the verb for it
 pub record IsMoving (verb : List ℕ) : Type 0 where
-  pub plain : is_comment verb ≡ false
   pub other : sets verb ≡ false
   pub moving : moves_trains verb ≡ true
 
-moving_by : (comment at move : Bool) → cond comment Comment (cond at At (cond move Move Other)) ≡ Move → (comment ≡ false) × (at ≡ false) × (move ≡ true)
-moving_by true at move h = absurd (cc)
-moving_by false true move h = absurd (cc)
-moving_by false false true h = (refl, refl, refl)
-moving_by false false false h = absurd (cc)
+moving_by : (at move : Bool) → cond at At (cond move Move Other) ≡ Move → (at ≡ false) × (move ≡ true)
+moving_by true move h = absurd (cc)
+moving_by false true h = (refl, refl)
+moving_by false false h = absurd (cc)
 
 pub moving_from : (verb : List ℕ) → verb_of verb ≡ Move → IsMoving verb
 moving_from verb h =
-    let parts = moving_by (is_comment verb) (sets verb) (moves_trains verb) h in
-    record { plain = parts.0; other = parts.1; moving = parts.2 }
-
--- the tests of a line that is no comment
-pub asked : (names : List (List ℕ)) (plan : Moves) (has_moved : Bool) (n : ℕ) (line verb : List ℕ) (args : List (List ℕ)) → words line ≡ verb ∷ args → is_comment verb ≡ false → tests_after names plan has_moved n (words line) ≡ asked_tests names plan has_moved n verb args
-asked names plan has_moved n line verb args is plain = ap (tests_after names plan has_moved n) is ∙ ap (λ b. cond b [] (asked_tests names plan has_moved n verb args)) plain
+    let parts = moving_by (sets verb) (moves_trains verb) h in
+    record { other = parts.0; moving = parts.1 }
 
 -- two facts of an `Ok` give a third
 pub both_on_ok : {X E : Type 0} (r : Result X E) {A B C : Type 0} → OnOk r A → OnOk r B → (A → B → C) → OnOk r C

@@ -1,3 +1,4 @@
 mod Reading
 mod Judging
 mod JoinedLines
+mod Spelling

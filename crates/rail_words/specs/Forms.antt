@@ -1,65 +1,189 @@
--- The table of words: the forms of a command line.
-use Rattle.std.specs.Prelude.{◌≡◌, ℕ, ◌<◌, ◌≤◌, ◌^◌, cond, List, [], ◌∷◌, length, Option, Some, None, codes, decimal}
+-- The table of words: the forms of a command line, what the words of each spell, and what a request says.
+use Rattle.std.specs.Prelude.{◌≡◌, ℕ, ◌<◌, ◌^◌, find, List, [], ◌∷◌, ◌++◌, Option, Some, None, codes, decimal}
+use Rattle.std.specs.Option.{option_copied}
 use Rattle.std.specs.Str.{bytes_eq}
 use Rattle.rail_base.specs.Clock.{IsLenientTime}
+use Rattle.rail_words.specs.declared.files.Role.TheVariants as role
 use Rattle.rail_words.specs.declared.forms.Form.{Form}
-use Rattle.rail_words.specs.declared.forms.Form.TheVariants.{Run, Infra, Play, Check, Stairs, Report, Capacity, Edit, Gen, Scene}
+use Rattle.rail_words.specs.declared.forms.Form.TheVariants.{Run, Infra, Play, Check, Stairs, Report, Capacity, Edit, Scene, Gen}
+use Rattle.rail_words.specs.declared.forms.Request.{Request}
+use Rattle.rail_words.specs.declared.forms.Request.TheVariants as request
+use Rattle.rail_words.specs.declared.forms.Scenario.{Scenario as Named}
+use Rattle.rail_words.specs.Files.{File, file_as, named_file}
+
+-- the word that a command line of the form begins with
+abbrev pub verb_of : Form → List ℕ
+verb_of Run = codes "run"
+verb_of Infra = codes "infra"
+verb_of Play = codes "play"
+verb_of Check = codes "check"
+verb_of Stairs = codes "stairs"
+verb_of Report = codes "report"
+verb_of Capacity = codes "capacity"
+verb_of Edit = codes "edit"
+verb_of Scene = codes "scene"
+verb_of Gen = codes "gen"
+
+-- all forms
+abbrev pub all_forms : List Form
+all_forms = Run ∷ Infra ∷ Play ∷ Check ∷ Stairs ∷ Report ∷ Capacity ∷ Edit ∷ Scene ∷ Gen ∷ []
+
+-- the form with this verb
+abbrev pub form_named : List ℕ → Option Form
+form_named verb = find (λ (form : Form). bytes_eq (verb_of form) verb) all_forms
+
+-- the files of a run: a scene, a timetable where there is one, and commands where there are some
+pub record Scenario : Type 0 where
+  pub scene : List ℕ
+  pub timetable : Option (List ℕ)
+  pub commands : Option (List ℕ)
+
+-- a scene and one file more
+pub record SceneAnd : Type 0 where
+  pub scene : List ℕ
+  pub other : List ℕ
+
+-- a scenario and a history
+pub record Checked : Type 0 where
+  pub scenario : Scenario
+  pub history : List ℕ
+
+-- a line, a window from one time to another, in tenths of a second, and a scenario
+pub record Study : Type 0 where
+  pub line : List ℕ
+  pub from : ℕ
+  pub to : ℕ
+  pub scenario : Scenario
+
+-- what the words behind the verb of a form spell
+abbrev pub Values : Form → Type 0
+Values Run = Scenario
+Values Infra = List ℕ
+Values Play = SceneAnd
+Values Check = Checked
+Values Stairs = Scenario
+Values Report = Scenario
+Values Capacity = Study
+Values Edit = SceneAnd
+Values Scene = ℕ
+Values Gen = ℕ
+
+-- the scenario that words name: a word that is not there stands for no file, and so does `-`
+abbrev pub scenario_named : List (List ℕ) → Option Scenario
+scenario_named (scene ∷ []) = Some (record { scene = scene; timetable = None; commands = None })
+scenario_named (scene ∷ timetable ∷ []) = Some (record { scene = scene; timetable = named_file timetable; commands = None })
+scenario_named (scene ∷ timetable ∷ commands ∷ []) =
+    Some (record { scene = scene; timetable = named_file timetable; commands = named_file commands })
+scenario_named words = None
+
+-- the scenario and the history that words name
+abbrev pub checked_named : List (List ℕ) → Option Checked
+checked_named (scene ∷ timetable ∷ commands ∷ history ∷ []) = Some (record {
+  scenario = record { scene = scene; timetable = named_file timetable; commands = named_file commands };
+  history = history;
+})
+checked_named words = None
+
+-- the words spell the study
+abbrev pub IsStudy : Study → List (List ℕ) → Type 0
+IsStudy study (line ∷ from ∷ to ∷ words) = (study.line ≡ line) × IsLenientTime from study.from × IsLenientTime to study.to
+    × (scenario_named words ≡ Some study.scenario)
+IsStudy study words = ⊥
 
 -- the word spells a number below 2^64 in decimal digits without leading zeros
 pub record IsNumber (word : List ℕ) (n : ℕ) : Type 0 where
   pub fits : n < 2 ^ 64
   pub spelled : word ≡ decimal n
 
--- the word is a number
-abbrev pub IsNumberWord : List ℕ → Type 0
-IsNumberWord word = (n : ℕ) × IsNumber word n
+-- the words are one that spells the number
+abbrev pub IsOneNumber : ℕ → List (List ℕ) → Type 0
+IsOneNumber n (word ∷ []) = IsNumber word n
+IsOneNumber n words = ⊥
 
--- the word is a time
-abbrev pub IsTimeWord : List ℕ → Type 0
-IsTimeWord word = (time : ℕ) × IsLenientTime word time
+-- the words behind the verb of a form spell these values
+abbrev pub Spells : (form : Form) → Values form → List (List ℕ) → Type 0
+Spells Run scenario words = scenario_named words ≡ Some scenario
+Spells Infra scene words = words ≡ scene ∷ []
+Spells Play files words = words ≡ files.scene ∷ files.other ∷ []
+Spells Check checked words = checked_named words ≡ Some checked
+Spells Stairs scenario words = scenario_named words ≡ Some scenario
+Spells Report scenario words = scenario_named words ≡ Some scenario
+Spells Capacity study words = IsStudy study words
+Spells Edit files words = words ≡ files.scene ∷ files.other ∷ []
+Spells Scene number words = IsOneNumber number words
+Spells Gen number words = IsOneNumber number words
 
--- the form with this verb
-abbrev pub form_named : List ℕ → Option Form
-form_named verb =
-    cond (bytes_eq verb (codes "run")) (Some Run)
-    (cond (bytes_eq verb (codes "infra")) (Some Infra)
-    (cond (bytes_eq verb (codes "play")) (Some Play)
-    (cond (bytes_eq verb (codes "check")) (Some Check)
-    (cond (bytes_eq verb (codes "stairs")) (Some Stairs)
-    (cond (bytes_eq verb (codes "report")) (Some Report)
-    (cond (bytes_eq verb (codes "capacity")) (Some Capacity)
-    (cond (bytes_eq verb (codes "edit")) (Some Edit)
-    (cond (bytes_eq verb (codes "gen")) (Some Gen)
-    (cond (bytes_eq verb (codes "scene")) (Some Scene) None)))))))))
+-- the words ask for the form with these values
+abbrev pub IsAsked : (form : Form) → Values form → List (List ℕ) → Type 0
+IsAsked form values [] = ⊥
+IsAsked form values (verb ∷ words) = (form_named verb ≡ Some form) × Spells form values words
 
--- a scene, a timetable where there is one, and commands where there are some
-abbrev pub IsScenario : List (List ℕ) → Type 0
-IsScenario words = (1 ≤ length words) × (length words ≤ 3)
+-- the words behind the verb of a form spell nothing for it
+abbrev pub Lacks : Form → List (List ℕ) → Type 0
+Lacks form words = (values : Values form) → Spells form values words → ⊥
 
--- a line, a window from one time to another, and a scenario
-abbrev pub IsWindow : List (List ℕ) → Type 0
-IsWindow (line ∷ from ∷ to ∷ scene ∷ more) = (length more ≤ 2) × IsTimeWord from × IsTimeWord to
-IsWindow _ = ⊥
+-- the files of a scenario, in the order in which they are read
+abbrev pub scenario_files : Scenario → List File
+scenario_files scenario =
+    file_as role.Scene (Some scenario.scene) ∷ file_as role.Timetable scenario.timetable
+    ∷ file_as role.Commands scenario.commands ∷ []
 
--- one number
-abbrev pub IsOneNumber : List (List ℕ) → Type 0
-IsOneNumber (number ∷ []) = IsNumberWord number
-IsOneNumber _ = ⊥
+-- the files that a form reads, in this order; a made-up scene stands in no file
+abbrev pub files_of : (form : Form) → Values form → List File
+files_of Run scenario = scenario_files scenario
+files_of Infra scene = file_as role.Scene (Some scene) ∷ []
+files_of Play files = file_as role.Scene (Some files.scene) ∷ file_as role.List (Some files.other) ∷ []
+files_of Check checked = scenario_files checked.scenario ++ file_as role.History (Some checked.history) ∷ []
+files_of Stairs scenario = scenario_files scenario
+files_of Report scenario = scenario_files scenario
+files_of Capacity study = scenario_files study.scenario
+files_of Edit files = file_as role.Scene (Some files.scene) ∷ file_as role.Edits (Some files.other) ∷ []
+files_of Scene number = []
+files_of Gen number = []
 
--- the words may follow the verb of the form
-abbrev pub Fits : Form → List (List ℕ) → Type 0
-Fits Run words = IsScenario words
-Fits Infra words = length words ≡ 1
-Fits Play words = length words ≡ 2
-Fits Check words = length words ≡ 4
-Fits Stairs words = IsScenario words
-Fits Report words = IsScenario words
-Fits Capacity words = IsWindow words
-Fits Edit words = length words ≡ 2
-Fits Gen words = IsOneNumber words
-Fits Scene words = IsOneNumber words
+-- the scenario of the files with these names
+abbrev pub scenario_in : Named → Scenario
+scenario_in named = record {
+  scene = named.scene.now;
+  timetable = option_copied named.timetable;
+  commands = option_copied named.commands;
+}
 
--- the words ask for the form
-abbrev pub IsForm : Form → List (List ℕ) → Type 0
-IsForm form [] = ⊥
-IsForm form (verb ∷ words) = (form_named verb ≡ Some form) × Fits form words
+-- the form of a request
+abbrev pub form_in : Request → Form
+form_in (request.Run scenario) = Run
+form_in (request.Infra scene) = Infra
+form_in (request.Play scene list) = Play
+form_in (request.Check scenario history) = Check
+form_in (request.Stairs scenario) = Stairs
+form_in (request.Report scenario) = Report
+form_in (request.Capacity line from to scenario) = Capacity
+form_in (request.Edit scene edits) = Edit
+form_in (request.Scene number) = Scene
+form_in (request.Gen number) = Gen
+
+-- its values
+abbrev pub values_in : (asked : Request) → Values (form_in asked)
+values_in (request.Run scenario) = scenario_in scenario
+values_in (request.Infra scene) = scene.now
+values_in (request.Play scene list) = record { scene = scene.now; other = list.now }
+values_in (request.Check scenario history) = record { scenario = scenario_in scenario; history = history.now }
+values_in (request.Stairs scenario) = scenario_in scenario
+values_in (request.Report scenario) = scenario_in scenario
+values_in (request.Capacity line from to scenario) = record { line = line.now; from = from; to = to; scenario = scenario_in scenario }
+values_in (request.Edit scene edits) = record { scene = scene.now; other = edits.now }
+values_in (request.Scene number) = number
+values_in (request.Gen number) = number
+
+-- the files that a request reads, in this order: those of its form with its values
+abbrev pub files_in : Request → List File
+files_in (request.Run scenario) = scenario_files (scenario_in scenario)
+files_in (request.Infra scene) = file_as role.Scene (Some scene.now) ∷ []
+files_in (request.Play scene list) = file_as role.Scene (Some scene.now) ∷ file_as role.List (Some list.now) ∷ []
+files_in (request.Check scenario history) = scenario_files (scenario_in scenario) ++ file_as role.History (Some history.now) ∷ []
+files_in (request.Stairs scenario) = scenario_files (scenario_in scenario)
+files_in (request.Report scenario) = scenario_files (scenario_in scenario)
+files_in (request.Capacity line from to scenario) = scenario_files (scenario_in scenario)
+files_in (request.Edit scene edits) = file_as role.Scene (Some scene.now) ∷ file_as role.Edits (Some edits.now) ∷ []
+files_in (request.Scene number) = []
+files_in (request.Gen number) = []

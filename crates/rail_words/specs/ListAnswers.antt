@@ -1,16 +1,16 @@
 -- What the reading of a list file answers, line by line.
 use Rattle.std.specs.Prelude.{◌≡◌, ◌≢◌, ◌⊎◌, ℕ, ◌<◌, ◌≤◌, ◌^◌, ◌++◌, Bool, List, [], ◌∷◌, cond, length, get_or, map, set, Option, Some, None, true, false}
 use Rattle.std.specs.List.{All, list_all}
-use Rattle.rail_base.specs.FirstRefusals.{Test, first_failing}
+use Rattle.rail_base.specs.FirstRefusals.{first_failing}
 use Rattle.rail_base.specs.declared.refusals.Fault.{Fault}
 use Rattle.rail_base.specs.declared.refusals.Fault.TheVariants.{Refused, OutOfMemory}
 use Rattle.rail_base.specs.declared.refusals.Reason.TheVariants.{ListForm, ListName}
 use Rattle.rail_base.specs.declared.refusals.Refusal.{Refusal}
 use Rattle.rail_rules.specs.Moves.{Moves}
 use Rattle.rail_place.specs.Tables.{moves_in, MoveLists}
-use Rattle.rail_command.specs.Decimals.{value_of}
-use Rattle.rail_command.specs.Lines.{Line, is_comment, number_of_name, refusal_at, words}
-use Rattle.rail_words.specs.Lists.{Listed, asked_tests, knows, last_setting, listed_on, moves_trains, number_of_train, sets, some_moves}
+use Rattle.rail_text.specs.Decimals.{value_of}
+use Rattle.rail_text.specs.Lines.{Line, number_of_name, refusal_at}
+use Rattle.rail_words.specs.Lists.{Listed, asked_tests, knows, last_setting, listed_on, moves_trains, number_of_train, sets, some_moves, words_tests}
 
 -- what is kept of the lines that were read: what they say, the last line that sets a position, and whether one moves trains
 pub record ReadList : Type 0 where
@@ -45,23 +45,18 @@ abbrev pub after_asked : List (List ℕ) → ReadList → ℕ → List ℕ → L
 after_asked names read n verb args =
     cond (sets verb) (after_position names read n args) (cond (moves_trains verb) (after_moves names read args) read)
 
--- what is kept after a line; a comment and a line without words change nothing
+-- what is kept after a line with these words
 abbrev pub after_line : List (List ℕ) → ReadList → ℕ → List (List ℕ) → ReadList
 after_line names read n [] = read
-after_line names read n (verb ∷ args) = cond (is_comment verb) read (after_asked names read n verb args)
+after_line names read n (verb ∷ args) = after_asked names read n verb args
 
 -- why a line of this verb is refused, if it is
 abbrev pub asked_refusal : List (List ℕ) → Moves → ReadList → ℕ → List ℕ → List (List ℕ) → Option Refusal
 asked_refusal names plan read n verb args = first_failing (asked_tests names plan read.has_moved n verb args)
 
--- the tests of a line; a comment and a line without words have none
-abbrev pub tests_after : List (List ℕ) → Moves → Bool → ℕ → List (List ℕ) → List (Test Refusal)
-tests_after names plan has_moved n [] = []
-tests_after names plan has_moved n (verb ∷ args) = cond (is_comment verb) [] (asked_tests names plan has_moved n verb args)
-
--- why a line is refused, if it is
-abbrev pub line_refusal : List (List ℕ) → Moves → ReadList → ℕ → List ℕ → Option Refusal
-line_refusal names plan read n line = first_failing (tests_after names plan read.has_moved n (words line))
+-- why a line with these words is refused, if it is
+abbrev pub words_refusal : List (List ℕ) → Moves → ReadList → ℕ → List (List ℕ) → Option Refusal
+words_refusal names plan read n words = first_failing (words_tests names plan read.has_moved n words)
 
 -- why a position is refused: no train has the name, or the one that has it makes fewer moves
 abbrev pub IsRefusedPosition : List (List ℕ) → Moves → List ℕ → ℕ → ℕ → Fault → Type 0

@@ -5,8 +5,8 @@ use Rattle.rail_base.specs.FirstRefusals.{Test, first_failing}
 use Rattle.rail_base.specs.NameForms.{is_name}
 use Rattle.rail_base.specs.declared.refusals.Refusal.{Refusal}
 use Rattle.rail_base.specs.declared.refusals.Reason.TheVariants.{ListForm, ListName, ListPlaces}
-use Rattle.rail_command.specs.Decimals.{is_decimal, value_of}
-use Rattle.rail_command.specs.Lines.{Line, lines_of, number_of_name, refused_line}
+use Rattle.rail_text.specs.Decimals.{is_decimal, value_of}
+use Rattle.rail_text.specs.Lines.{Line, lines_of, number_of_name, refused_line}
 use Rattle.rail_rules.specs.Moves.{Moves}
 use Rattle.rail_rules.specs.Numbers.{same_numbers}
 use Rattle.rail_rules.specs.Places.{is_valid_state}

@@ -4,17 +4,16 @@ ghost use Rattle.std.specs.Prelude.{◌≡◌, ◌≤◌, ◌^◌, ◌-◌, ◌=
 ghost use Rattle.std.specs.List.{list_all};
 ghost use Rattle.rail_base.specs.NameForms.{is_name};
 ghost use Rattle.rail_words.specs.Verbs.{verb_of};
-ghost use Rattle.rail_command.specs.Decimals.{value_of};
-ghost use Rattle.rail_command.specs.Lines.{number_of_name, words};
+ghost use Rattle.rail_text.specs.Decimals.{value_of};
+ghost use Rattle.rail_text.specs.Lines.{number_of_name, words};
 ghost use Rattle.rail_words.specs.Lists.{is_position, knows};
 
 use rail_base::{Name, Names, TrainNo};
-use rail_command::{is_decimal, next_word, value_of};
+use rail_text::{is_decimal, next_word, value_of};
 
 /// What the first word of a line asks for.
 #[derive(Clone, Copy, Debug, PartialEq, Eq)]
 pub(crate) enum Verb {
-    Comment,
     At,
     Move,
     Other,
@@ -24,9 +23,7 @@ pub(crate) enum Verb {
 pub(crate) fn verb_of(word: &[u8]) -> Verb
     ensures { result ≡ verb_of word.now }
 {
-    if word.first() == Some(&b'#') {
-        Verb::Comment
-    } else if word == b"at".as_slice() {
+    if word == b"at".as_slice() {
         Verb::At
     } else if word == b"move".as_slice() {
         Verb::Move

@@ -1,10 +1,18 @@
-ghost use Rattle.std.specs.Prelude.{◌≡◌, ◌↔◌, IsTrue, MatchOption};
-ghost use Rattle.rail_words.specs.Forms.{Fits, IsForm, IsNumberWord, IsTimeWord, form_named};
+//! The forms of a command line: the word that each begins with, the words behind it and what it prints; and what the words
+//! of a command line ask for, with the values that they spell.
 
+ghost use Rattle.std.specs.Prelude.{◌≡◌, ◌≤◌, ℕ, ◌∷◌, [], List, MatchOption, length};
+ghost use Rattle.std.specs.Option.{option_copied, option_map};
+ghost use Rattle.rail_words.specs.declared.forms.Form.{Form as AnyForm};
+ghost use Rattle.rail_words.specs.declared.forms.Form.TheVariants.{Capacity};
+ghost use Rattle.rail_words.specs.Files.{file_with};
+ghost use Rattle.rail_words.specs.Forms.{IsAsked, IsOneNumber, IsStudy, Lacks, SceneAnd, Spells, Study, Values, checked_named, files_in, form_in, form_named, scenario_files, scenario_in, scenario_named, values_in, verb_of};
+
+use crate::files::{Role, named_file};
 use crate::numbers::read_number;
-use rail_base::{Word, read_time};
+use rail_base::{Time, Word, read_time};
 
-/// What a command line asks for.
+/// A form of a command line.
 #[derive(Clone, Copy, Debug, PartialEq, Eq)]
 pub enum Form {
     Run,
@@ -15,66 +23,356 @@ pub enum Form {
     Report,
     Capacity,
     Edit,
-    Gen,
     Scene,
+    Gen,
 }
 
-/// The form that the words ask for: `None` exactly where they are not in the table of words.
-pub fn form_of(words: &[Word]) -> Option<Form>
-    ensures { MatchOption result ((form : Form) → IsForm form words.now → ⊥) (λ form. IsForm form words.now) }
-{
-    let (verb, others) = words.split_first()?;
-    let form = form_named(verb.as_str())?;
-    if fits(form, others) { Some(form) } else { None }
+/// The forms, in the order in which they are told.
+pub const FORMS: [Form; 10] = [
+    Form::Run,
+    Form::Infra,
+    Form::Play,
+    Form::Check,
+    Form::Stairs,
+    Form::Report,
+    Form::Capacity,
+    Form::Edit,
+    Form::Scene,
+    Form::Gen,
+];
+
+impl Form {
+    /// The word that a command line of the form begins with.
+    pub fn verb(self) -> &'static str
+        ensures text { result.now ≡ verb_of self }
+        ensures short { length result.now ≤ 8 }
+    {
+        match self {
+            Form::Run => "run",
+            Form::Infra => "infra",
+            Form::Play => "play",
+            Form::Check => "check",
+            Form::Stairs => "stairs",
+            Form::Report => "report",
+            Form::Capacity => "capacity",
+            Form::Edit => "edit",
+            Form::Scene => "scene",
+            Form::Gen => "gen",
+        }
+    }
+
+    /// The words behind it, as they are typed: what stands in brackets may be left out.
+    pub fn words(self) -> &'static str
+        ensures short { length result.now ≤ 50 }
+    {
+        match self {
+            Form::Run | Form::Stairs | Form::Report => "SCENE [TIMETABLE [COMMANDS]]",
+            Form::Infra => "SCENE",
+            Form::Play => "SCENE LIST",
+            Form::Check => "SCENE TIMETABLE COMMANDS HISTORY",
+            Form::Capacity => "LINE FROM TO SCENE [TIMETABLE [COMMANDS]]",
+            Form::Edit => "SCENE EDITS",
+            Form::Scene | Form::Gen => "NUMBER",
+        }
+    }
+
+    /// What is to be known of its words beside their order; nothing at most forms.
+    pub fn hint(self) -> &'static str
+        ensures short { length result.now ≤ 70 }
+    {
+        match self {
+            Form::Check => ", with - for no timetable or no commands",
+            Form::Capacity => ", where FROM and TO are times as 01:30:00",
+            Form::Scene | Form::Gen => ", where NUMBER is below 2^64 and has no leading zeros",
+            _ => "",
+        }
+    }
+
+    /// What it prints.
+    pub fn sentence(self) -> &'static str
+        ensures short { length result.now ≤ 80 }
+    {
+        match self {
+            Form::Run => "the history of the scene, line by line",
+            Form::Infra => "counts, and routes with their lengths",
+            Form::Play => "whether a list of moves brings every train inside to its exit",
+            Form::Check => "whether a history is lawful to its end, or its first wrong line",
+            Form::Stairs =>
+                "blocking intervals of the trains, and how long each section is occupied",
+            Form::Report => "how late the trains are, and for which causes they are held",
+            Form::Capacity => "the trains pushed together on a line, and how full it is",
+            Form::Edit => "the scene after the edits, as a scene file",
+            Form::Scene => "the made-up scene of the number, as a scene file",
+            Form::Gen => "a run of that scene, told in one line",
+        }
+    }
 }
 
-/// The form with this verb.
-fn form_named(verb: &str) -> Option<Form>
+/// The form that begins with this word.
+pub fn form_named(verb: &str) -> Option<Form>
     ensures { result ≡ form_named verb.now }
 {
-    match verb {
-        "run" => Some(Form::Run),
-        "infra" => Some(Form::Infra),
-        "play" => Some(Form::Play),
-        "check" => Some(Form::Check),
-        "stairs" => Some(Form::Stairs),
-        "report" => Some(Form::Report),
-        "capacity" => Some(Form::Capacity),
-        "edit" => Some(Form::Edit),
-        "gen" => Some(Form::Gen),
-        "scene" => Some(Form::Scene),
+    FORMS.iter().copied().find(|form| form.verb() == verb)
+}
+
+/// The files of a run, by their names; a timetable or commands may be missing.
+#[derive(Clone, Copy, Debug, PartialEq, Eq)]
+pub struct Scenario<'w> {
+    pub scene: &'w str,
+    pub timetable: Option<&'w str>,
+    pub commands: Option<&'w str>,
+}
+
+/// What a command line asks for.
+#[derive(Clone, Copy, Debug, PartialEq, Eq)]
+pub enum Request<'w> {
+    Run(Scenario<'w>),
+    Infra {
+        scene: &'w str,
+    },
+    Play {
+        scene: &'w str,
+        list: &'w str,
+    },
+    Check {
+        scenario: Scenario<'w>,
+        history: &'w str,
+    },
+    Stairs(Scenario<'w>),
+    Report(Scenario<'w>),
+    /// The line is the names of its sections with commas between them, which are not looked up.
+    Capacity {
+        line: &'w str,
+        from: Time,
+        to: Time,
+        scenario: Scenario<'w>,
+    },
+    Edit {
+        scene: &'w str,
+        edits: &'w str,
+    },
+    Scene {
+        number: u64,
+    },
+    Gen {
+        number: u64,
+    },
+}
+
+impl<'w> Request<'w> {
+    /// The form of the request.
+    pub fn form(&self) -> Form
+        ensures { result ≡ form_in self.now }
+    {
+        match self {
+            Request::Run(_) => Form::Run,
+            Request::Infra { .. } => Form::Infra,
+            Request::Play { .. } => Form::Play,
+            Request::Check { .. } => Form::Check,
+            Request::Stairs(_) => Form::Stairs,
+            Request::Report(_) => Form::Report,
+            Request::Capacity { .. } => Form::Capacity,
+            Request::Edit { .. } => Form::Edit,
+            Request::Scene { .. } => Form::Scene,
+            Request::Gen { .. } => Form::Gen,
+        }
+    }
+
+    /// The name of the file of the role that the request reads, where it reads one.
+    pub fn file(&self, role: Role) -> Option<&'w str>
+        ensures { option_copied result ≡ file_with role (files_in self.now) }
+    {
+        match self {
+            Request::Run(scenario) => scenario.file(role),
+            Request::Infra { scene } => match role {
+                Role::Scene => Some(*scene),
+                Role::Timetable | Role::Commands | Role::History | Role::List | Role::Edits => None,
+            },
+            Request::Play { scene, list } => match role {
+                Role::Scene => Some(*scene),
+                Role::List => Some(*list),
+                Role::Timetable | Role::Commands | Role::History | Role::Edits => None,
+            },
+            Request::Check { scenario, history } => match role {
+                Role::History => Some(*history),
+                Role::Scene | Role::Timetable | Role::Commands | Role::List | Role::Edits => {
+                    scenario.file(role)
+                }
+            },
+            Request::Stairs(scenario) => scenario.file(role),
+            Request::Report(scenario) => scenario.file(role),
+            Request::Capacity { scenario, .. } => scenario.file(role),
+            Request::Edit { scene, edits } => match role {
+                Role::Scene => Some(*scene),
+                Role::Edits => Some(*edits),
+                Role::Timetable | Role::Commands | Role::History | Role::List => None,
+            },
+            Request::Scene { .. } | Request::Gen { .. } => None,
+        }
+    }
+}
+
+impl<'w> Scenario<'w> {
+    /// The name of the file of the role, where it is there.
+    fn file(&self, role: Role) -> Option<&'w str>
+        ensures { option_copied result ≡ file_with role (scenario_files (scenario_in self.now)) }
+    {
+        match role {
+            Role::Scene => Some(self.scene),
+            Role::Timetable => self.timetable,
+            Role::Commands => self.commands,
+            Role::History | Role::List | Role::Edits => None,
+        }
+    }
+}
+
+/// What the words ask for: `None` exactly where they are not in the table of words.
+pub fn request_of<'w>(words: &'w [Word]) -> Option<Request<'w>>
+    ensures { MatchOption result
+        ((form : AnyForm) (values : Values form) → IsAsked form values words.now → ⊥)
+        (λ request. IsAsked (form_in request) (values_in request) words.now) }
+{
+    match words {
+        [verb, words @ ..] => request_behind(verb, words),
+        [] => None,
+    }
+}
+
+/// What the words behind a verb ask for.
+fn request_behind<'w>(verb: &Word, words: &'w [Word]) -> Option<Request<'w>>
+    ensures { MatchOption result
+        ((form : AnyForm) (values : Values form) → IsAsked form values (verb.now ∷ words.now) → ⊥)
+        (λ request. IsAsked (form_in request) (values_in request) (verb.now ∷ words.now)) }
+{
+    let form = form_named(verb.as_str())?;
+    request_with(form, words)
+}
+
+/// What the words behind the verb of the form ask for.
+fn request_with<'w>(form: Form, words: &'w [Word]) -> Option<Request<'w>>
+    ensures { MatchOption result (Lacks form words.now)
+        (λ request. (form_in request ≡ form) × Spells (form_in request) (values_in request) words.now) }
+{
+    match form {
+        Form::Run => Some(Request::Run(scenario_of(words)?)),
+        Form::Stairs => Some(Request::Stairs(scenario_of(words)?)),
+        Form::Report => Some(Request::Report(scenario_of(words)?)),
+        Form::Infra => Some(Request::Infra {
+            scene: one_file(words)?,
+        }),
+        Form::Play => {
+            let (scene, list) = two_files(words)?;
+            Some(Request::Play { scene, list })
+        }
+        Form::Check => {
+            let (scenario, history) = checked_files(words)?;
+            Some(Request::Check { scenario, history })
+        }
+        Form::Capacity => study_of(words),
+        Form::Edit => {
+            let (scene, edits) = two_files(words)?;
+            Some(Request::Edit { scene, edits })
+        }
+        Form::Scene => Some(Request::Scene {
+            number: number_in(words)?,
+        }),
+        Form::Gen => Some(Request::Gen {
+            number: number_in(words)?,
+        }),
+    }
+}
+
+/// The scenario that words name: a word that is not there stands for no file, and so does `-`.
+fn scenario_of<'w>(words: &'w [Word]) -> Option<Scenario<'w>>
+    ensures { option_map scenario_in result ≡ scenario_named words.now }
+{
+    let (scene, timetable, commands) = match words {
+        [scene] => (scene, None, None),
+        [scene, timetable] => (scene, named_file(timetable), None),
+        [scene, timetable, commands] => (scene, named_file(timetable), named_file(commands)),
+        _ => return None,
+    };
+    Some(Scenario {
+        scene: scene.as_str(),
+        timetable,
+        commands,
+    })
+}
+
+/// The one file that words name.
+fn one_file<'w>(words: &'w [Word]) -> Option<&'w str>
+    ensures { MatchOption result ((scene : List ℕ) → words.now ≡ scene ∷ [] → ⊥) (λ scene. words.now ≡ scene.now ∷ []) }
+{
+    match words {
+        [scene] => Some(scene.as_str()),
         _ => None,
     }
 }
 
-/// Whether these words may follow the verb of the form.
-fn fits(form: Form, words: &[Word]) -> bool
-    ensures { IsTrue result ↔ Fits form words.now }
+/// The two files that words name.
+fn two_files<'w>(words: &'w [Word]) -> Option<(&'w str, &'w str)>
+    ensures { MatchOption result
+        ((files : SceneAnd) → words.now ≡ files.scene ∷ files.other ∷ [] → ⊥)
+        (λ files. words.now ≡ files.0.now ∷ files.1.now ∷ []) }
 {
-    match (form, words) {
-        (Form::Run | Form::Stairs | Form::Report, words) => 1 <= words.len() && words.len() <= 3,
-        (Form::Infra, words) => words.len() == 1,
-        (Form::Play | Form::Edit, words) => words.len() == 2,
-        (Form::Check, words) => words.len() == 4,
-        (Form::Capacity, [_, from, to, _, more @ ..]) => {
-            more.len() <= 2 && is_time(from) && is_time(to)
-        }
-        (Form::Capacity, _) => false,
-        (Form::Gen | Form::Scene, [number]) => is_number(number),
-        (Form::Gen | Form::Scene, _) => false,
+    match words {
+        [scene, other] => Some((scene.as_str(), other.as_str())),
+        _ => None,
     }
 }
 
-/// Whether the word is a time.
-fn is_time(word: &Word) -> bool
-    ensures { IsTrue result ↔ IsTimeWord word.now }
+/// The scenario and the history that words name.
+fn checked_files<'w>(words: &'w [Word]) -> Option<(Scenario<'w>, &'w str)>
+    ensures { option_map (λ read. record { scenario = scenario_in read.0; history = read.1.now }) result ≡ checked_named words.now }
 {
-    read_time(word.as_str().as_bytes()).is_some()
+    match words {
+        [scene, timetable, commands, history] => {
+            let scenario = Scenario {
+                scene: scene.as_str(),
+                timetable: named_file(timetable),
+                commands: named_file(commands),
+            };
+            Some((scenario, history.as_str()))
+        }
+        _ => None,
+    }
 }
 
-/// Whether the word is a number.
-fn is_number(word: &Word) -> bool
-    ensures { IsTrue result ↔ IsNumberWord word.now }
+/// The capacity study that words spell.
+fn study_of<'w>(words: &'w [Word]) -> Option<Request<'w>>
+    ensures { MatchOption result ((study : Study) → IsStudy study words.now → ⊥)
+        (λ request. (form_in request ≡ Capacity) × Spells (form_in request) (values_in request) words.now) }
 {
-    read_number(word.as_str().as_bytes()).is_some()
+    match words {
+        [line, from, to, files @ ..] => study_with(line, from, to, files),
+        _ => None,
+    }
+}
+
+/// The capacity study that the words for a line, the two times of a window and the files of a run spell.
+fn study_with<'w>(line: &'w Word, from: &Word, to: &Word, files: &'w [Word]) -> Option<Request<'w>>
+    ensures { MatchOption result ((study : Study) → IsStudy study (line.now ∷ from.now ∷ to.now ∷ files.now) → ⊥)
+        (λ request. (form_in request ≡ Capacity)
+        × Spells (form_in request) (values_in request) (line.now ∷ from.now ∷ to.now ∷ files.now)) }
+{
+    let from = read_time(from.as_str().as_bytes())?;
+    let to = read_time(to.as_str().as_bytes())?;
+    let scenario = scenario_of(files)?;
+    let line = line.as_str();
+    Some(Request::Capacity {
+        line,
+        from,
+        to,
+        scenario,
+    })
+}
+
+/// The number that the one word spells.
+fn number_in(words: &[Word]) -> Option<u64>
+    ensures { MatchOption result ((number : ℕ) → IsOneNumber number words.now → ⊥) (λ number. IsOneNumber number words.now) }
+{
+    match words {
+        [number] => read_number(number.as_str().as_bytes()),
+        _ => None,
+    }
 }

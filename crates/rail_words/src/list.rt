@@ -3,15 +3,15 @@ ghost use Rattle.std.specs.List.{list_all};
 ghost use Rattle.rail_base.specs.NameForms.{is_name};
 ghost use Rattle.rail_place.specs.Tables.{moves_in};
 ghost use Rattle.rail_rules.specs.Moves.{Moves as plan_of_moves};
-ghost use Rattle.rail_command.specs.Lines.{lines_of, words};
+ghost use Rattle.rail_text.specs.Lines.{lines_of, words};
 ghost use Rattle.rail_words.specs.Lists.{knows, list_line_refusal, moves_trains, number_of_train, sets};
 ghost use Rattle.rail_base.specs.Refusals.{AnswersFirst};
-ghost use Rattle.rail_words.specs.ListAnswers.{IsListFor, IsPosition, IsRefusedMoves, IsRefusedPosition, after_line, after_moves, after_position, asked_refusal, line_refusal, read_of};
+ghost use Rattle.rail_words.specs.ListAnswers.{IsListFor, IsPosition, IsRefusedMoves, IsRefusedPosition, after_line, after_moves, after_position, asked_refusal, read_of, words_refusal};
 
 use crate::checking::{Verb, are_known, are_names, read_position, train_of, verb_of};
 use rail_base::{Fault, Name, Names, Reason, TrainNo};
-use rail_command::{next_line, next_word, refused_at};
 use rail_place::Moves;
+use rail_text::{NumberedLine, next_word, numbered_lines, refused_at};
 use std::alloc::{AllocError, Global};
 use std::marker::Model;
 
@@ -93,16 +93,15 @@ impl ListFile {
         requires names { length names.now.trains.keys ≡ length moves.now }
         requires few { length moves.now ≤ 2 ^ 16 }
         requires list { IsListFor moves.now self.old }
-        ensures accepted { OnOk result (line_refusal names.now.trains.keys (moves_in moves.now) self.old number line.now ≡ None) }
+        ensures accepted { OnOk result (words_refusal names.now.trains.keys (moves_in moves.now) self.old number (words line.now) ≡ None) }
         ensures listed { OnOk result (self.new ≡ after_line names.now.trains.keys self.old number (words line.now)) }
         ensures list { OnOk result (IsListFor moves.now self.new) }
-        ensures refused { IfErr result (AnswersFirst (line_refusal names.now.trains.keys (moves_in moves.now) self.old number line.now)) }
+        ensures refused { IfErr result (AnswersFirst (words_refusal names.now.trains.keys (moves_in moves.now) self.old number (words line.now))) }
     {
         let Some((verb, args)) = next_word(line) else {
             return Ok(());
         };
         match verb_of(verb) {
-            Verb::Comment => Ok(()),
             Verb::At => self.read_at(names, moves, number, args),
             Verb::Move => self.read_moves(names, number, args),
             Verb::Other => Err(refused_at(Reason::ListForm, number)),
@@ -237,12 +236,8 @@ pub fn read_list(
     ensures refused { IfErr result (AnswersFirst (list_line_refusal names.now.trains.keys (moves_in moves.now) bytes.now)) }
 {
     let mut file = ListFile::new(alloc, moves.trains())?;
-    let mut text = bytes;
-    let mut number = 0;
-    while let Some((line, rest)) = next_line(text) {
-        number += 1;
+    for NumberedLine { number, line } in numbered_lines(bytes) {
         file.read_line(names, moves, number, line)?;
-        text = rest;
     }
     Ok(file)
 }

@@ -3,7 +3,8 @@ use Rattle.rail_base.specs.declared.plant.TrainRow.{TrainRow}
 use Rattle.rail_rules.specs.Plant.{train}
 use Rattle.rail_rules.specs.Texts.{behind, train_word}
 use Rattle.rail_delay.specs.declared.visits.Visit.{Visit}
-use Rattle.rail_delay.specs.Reports.{entry_words, held_words, time_word, times_words, visit_of}
+use Rattle.rail_text.specs.Words.{time_word}
+use Rattle.rail_delay.specs.Reports.{entry_words, held_words, times_words, visit_of}
 use Rattle.rail_delay.proofs.Words.{ended_line, first_word, more_words, one_word}
 use Rattle.rail_delay.proofs.report.train_text.Goals as goal
 
@@ -21,6 +22,6 @@ returns c =
     ∙ ap (λ (row : TrainRow). c.put_word.new.self ++ behind (times_words (Some row.entry) c.visit_of.result.departed)) c.train.ensures.row
     ∙ ap (λ (visit : Visit). c.put_word.new.self ++ behind (times_words (Some (train c.args.plant.now c.args.train).entry) visit.departed)) c.visit_of.ensures) in
     let leaves = one_word word (name ∷ entry) (codes "out") entered c.put_word-2.ensures in
-    let left = one_word word (name ∷ entry ++ codes "out" ∷ []) out leaves c.put_time.ensures.text in
+    let left = one_word word (name ∷ entry ++ codes "out" ∷ []) out leaves c.put_time_or_dash.ensures.text in
     let held = more_words word (name ∷ entry ++ codes "out" ∷ out ∷ []) (held_words c.args.account.now) left c.put_held.ensures.text in
     ended_line word (name ∷ entry ++ codes "out" ∷ out ∷ held_words c.args.account.now) held c.put-2.ensures

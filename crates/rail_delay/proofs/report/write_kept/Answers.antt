@@ -1,5 +1,5 @@
 use Rattle.std.proofs.Common.{refl}
-use Rattle.rail_delay.proofs.Writes.{both_written, part_written}
+use Rattle.rail_text.proofs.CallerLemmas.{both_written, part_written}
 use Rattle.rail_delay.proofs.report.write_kept.Goals as goal
 
 pub returns-in_err-write_calls : goal.returns-in_err-write_calls

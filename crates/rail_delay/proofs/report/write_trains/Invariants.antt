@@ -1,8 +1,8 @@
 use Rattle.std.proofs.Common.{Ok}
 use Rattle.rail_rules.specs.Numbers.{gather}
 use Rattle.rail_delay.specs.Reports.{train_line}
-use Rattle.rail_delay.specs.Written.{IsWritten}
+use Rattle.rail_text.specs.Writes.{WritesText}
 use Rattle.rail_delay.proofs.report.write_trains.Given as goal
 
 abbrev pub invariant-loop-number : goal.invariant-loop-number
-invariant-loop-number g l = IsWritten g.O.Sink l.initial.out l.out (gather (train_line l.plant l.delays.accounts l.delays.visits) l.number) (Ok tt)
+invariant-loop-number g l = WritesText g.O.Sink l.initial.out l.out (gather (train_line l.plant l.delays.accounts l.delays.visits) l.number) (Ok tt)

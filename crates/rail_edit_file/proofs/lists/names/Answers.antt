@@ -2,7 +2,7 @@ use Rattle.std.proofs.Common.{ℕ, ◌&&◌, true, List, [], ◌∷◌, ◌++◌
 use Rattle.std.specs.List.{list_all}
 use Rattle.std.proofs.lemmas.List.Folds.{list_all-append}
 use Rattle.rail_base.specs.NameForms.{is_name}
-use Rattle.rail_command.specs.Lines.{words}
+use Rattle.rail_text.specs.Lines.{words}
 use Rattle.rail_edit_file.proofs.Steps.{read_as}
 use Rattle.rail_edit_file.proofs.lists.names.Goals as goal
 

@@ -1,7 +1,7 @@
 use Rattle.std.proofs.Common.{◌≡◌, ◌++◌, true, length}
 use Rattle.std.specs.List.{list_all}
 use Rattle.rail_base.specs.NameForms.{is_name}
-use Rattle.rail_command.specs.Lines.{words}
+use Rattle.rail_text.specs.Lines.{words}
 use Rattle.rail_edit_file.proofs.lists.names.Given as goal
 
 abbrev pub invariant-loop-word : goal.invariant-loop-word

@@ -1,4 +1,4 @@
-use Rattle.rail_command.specs.Lines.{words}
+use Rattle.rail_text.specs.Lines.{words}
 use Rattle.rail_edit_file.proofs.Steps.{first_step}
 use Rattle.rail_edit_file.proofs.lists.step.Goals as goal
 

@@ -1,5 +1,5 @@
 use Rattle.std.proofs.Common.{◌≡◌, ◌++◌, length, option_map}
-use Rattle.rail_command.specs.Lines.{words}
+use Rattle.rail_text.specs.Lines.{words}
 use Rattle.rail_edit_file.specs.EditLines.{steps_from}
 use Rattle.rail_edit_file.proofs.lists.steps.Given as goal
 

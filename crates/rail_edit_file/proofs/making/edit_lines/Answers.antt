@@ -1,36 +1,19 @@
-use Rattle.std.proofs.Common.{◌≡◌, ℕ, ◌+◌, ◌∷◌, ◌∙◌, List, sym, ap, arith}
-use Rattle.std.specs.Str.Lines.{lines}
+use Rattle.std.proofs.Common.{◌≡◌, ◌∷◌}
 use Rattle.rail_base.proofs.CallerLemmas.{passed_up}
-use Rattle.rail_command.specs.Lines.{lines_from}
-use Rattle.rail_edit.specs.Editing.{Editing}
-use Rattle.rail_edit_file.specs.EditFiles.{after_lines, lines_refusal}
-use Rattle.rail_edit_file.proofs.JoinedLines.{answers, behind, joined}
+use Rattle.rail_text.specs.Lines.{Line, line_at, lines_of}
+use Rattle.rail_edit_file.proofs.JoinedLines.{answers_lines, one_more}
 use Rattle.rail_edit_file.proofs.making.edit_lines.Goals as goal
 
-pub loop-line-preserved : goal.loop-line-preserved
-loop-line-preserved c =
-    let n : ℕ = c.loop-line.number + 1 in
-    let before = c.loop-line.editor in
-    let others = lines c.in-Some.rest.now in
-    let here : lines c.loop-line.text.now ≡ c.in-Some.line.now ∷ others = c.in-Some.ensures.lines in
-    record {
-      edited = c.loop-line.invariant.edited
-          ∙ ap (λ (ls : List (List ℕ)). after_lines (lines_from n ls) before) here
-          ∙ joined n c.in-Some.line.now others before
-          ∙ ap (λ (e : Editing). after_lines (lines_from (n + 1) others) e) (sym c.in_ok-make_line.ensures.edited);
-      refusals = c.loop-line.invariant.refusals
-          ∙ ap (λ (ls : List (List ℕ)). lines_refusal (lines_from n ls) before) here
-          ∙ behind n c.in-Some.line.now others before c.in_ok-make_line.ensures.accepted
-          ∙ ap (λ (e : Editing). lines_refusal (lines_from (n + 1) others) e) (sym c.in_ok-make_line.ensures.edited);
-      counted = omega (arith, c.loop-line.invariant.counted, c.in-Some.ensures.less);
-    }
+pub loop-number-preserved : goal.loop-number-preserved
+loop-number-preserved c =
+    let line : Line = line_at c.in-Some.field-0.number c.in-Some.field-0.line.now in
+    let is : c.loop-number.number-iterator ≡ line ∷ c.next.new.self = c.in-Some.ensures.steps in
+    one_more (lines_of c.args.bytes.now) c.args.editor.now c.loop-number.editor c.loop-number.number-iterator c.loop-number.invariant line c.next.new.self is
+    _ c.in_ok-make_line.ensures.accepted c.in_ok-make_line.ensures.edited
 
 pub returns-in_err-make_line-clause-refused : goal.returns-in_err-make_line-clause-refused
 returns-in_err-make_line-clause-refused c =
-    let n : ℕ = c.loop-line.number + 1 in
-    let before = c.loop-line.editor in
-    let others = lines c.in-Some.rest.now in
-    let here : lines c.loop-line.text.now ≡ c.in-Some.line.now ∷ others = c.in-Some.ensures.lines in
+    let line : Line = line_at c.in-Some.field-0.number c.in-Some.field-0.line.now in
+    let is : c.loop-number.number-iterator ≡ line ∷ c.next.new.self = c.in-Some.ensures.steps in
     passed_up c.from_residual.result _ _ c.from_residual.ensures.1
-    (rw (c.loop-line.invariant.refusals ∙ ap (λ (ls : List (List ℕ)). lines_refusal (lines_from n ls) before) here)
-    (answers n c.in-Some.line.now others before _ c.in_err-make_line.ensures.refused))
+    (answers_lines (lines_of c.args.bytes.now) c.args.editor.now c.loop-number.editor c.loop-number.number-iterator c.loop-number.invariant line c.next.new.self is _ c.in_err-make_line.ensures.refused)

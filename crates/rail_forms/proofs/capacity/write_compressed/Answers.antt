@@ -2,9 +2,9 @@ use Rattle.std.proofs.Common.{List, ℕ, ◌++◌, subst}
 use Rattle.std.specs.Prelude.{flat_map}
 use Rattle.rail_capacity.specs.declared.shifts.Shift.{Shift}
 use Rattle.rail_forms.specs.Capacity.{capacity_text, shift_line}
-use Rattle.rail_forms.specs.Names.{names_in}
-use Rattle.rail_forms.specs.Promises.{WritesText}
-use Rattle.rail_forms.proofs.Writes.{both_written, part_written}
+use Rattle.rail_text.specs.Names.{names_in}
+use Rattle.rail_text.specs.Writes.{WritesText}
+use Rattle.rail_text.proofs.CallerLemmas.{both_written, part_written}
 use Rattle.rail_forms.proofs.capacity.write_compressed.Goals as goal
 
 pub returns-in_err-write_shifts : goal.returns-in_err-write_shifts

@@ -2,7 +2,7 @@ use Rattle.std.proofs.Common.{◌≡◌, ℕ, List, [], ◌∷◌, ◌++◌, cod
 use Rattle.rail_delay.proofs.CallerLemmas.{ended_line, first_word, one_word}
 use Rattle.rail_rules.specs.Texts.{spaced}
 use Rattle.rail_forms.specs.Capacity.{rate_lines, rate_word}
-use Rattle.rail_forms.specs.Promises.{WritesText}
+use Rattle.rail_text.specs.Writes.{WritesText}
 use Rattle.rail_forms.proofs.CapacityTexts.{second_line}
 use Rattle.rail_forms.proofs.capacity.write_rate.Goals as goal
 

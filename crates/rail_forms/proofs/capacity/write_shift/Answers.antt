@@ -2,8 +2,8 @@ use Rattle.std.proofs.Common.{◌≡◌, ℕ, List, [], ◌∷◌, codes, decima
 use Rattle.rail_rules.specs.Texts.{spaced}
 use Rattle.rail_delay.proofs.CallerLemmas.{ended_line, first_word, more_words, one_word}
 use Rattle.rail_forms.specs.Capacity.{shift_line, tight_words}
-use Rattle.rail_forms.specs.Names.{names_in, train_name}
-use Rattle.rail_forms.specs.Promises.{WritesText}
+use Rattle.rail_text.specs.Names.{names_in, train_name}
+use Rattle.rail_text.specs.Writes.{WritesText}
 use Rattle.rail_forms.proofs.capacity.write_shift.Goals as goal
 
 pub returns : goal.returns

@@ -1,10 +1,10 @@
 use Rattle.std.proofs.Common.{sym, subst, List, ℕ, arith, Ok, ◌++◌}
 use Rattle.std.specs.Prelude.{flat_map}
 use Rattle.rail_forms.specs.Capacity.{shift_line}
-use Rattle.rail_forms.specs.Names.{names_in}
-use Rattle.rail_forms.specs.Promises.{WritesText}
+use Rattle.rail_text.specs.Names.{names_in}
+use Rattle.rail_text.specs.Writes.{WritesText}
 use Rattle.rail_forms.proofs.CapacityTexts.{texts_more, texts_whole}
-use Rattle.rail_forms.proofs.Writes.{both_written, part_written}
+use Rattle.rail_text.proofs.CallerLemmas.{both_written, part_written}
 use Rattle.rail_forms.proofs.capacity.write_shifts.Goals as goal
 
 pub returns-in_err-write_shift : goal.returns-in_err-write_shift

@@ -1,8 +1,8 @@
 use Rattle.std.proofs.Common.{Ok, take}
 use Rattle.std.specs.Prelude.{flat_map}
 use Rattle.rail_forms.specs.Capacity.{shift_line}
-use Rattle.rail_forms.specs.Names.{names_in}
-use Rattle.rail_forms.specs.Promises.{WritesText}
+use Rattle.rail_text.specs.Names.{names_in}
+use Rattle.rail_text.specs.Writes.{WritesText}
 use Rattle.rail_forms.proofs.capacity.write_shifts.Given as goal
 
 abbrev pub invariant-loop-shift : goal.invariant-loop-shift

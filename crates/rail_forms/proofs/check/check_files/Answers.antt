@@ -1,8 +1,8 @@
 use Rattle.std.proofs.Common.{◌≡◌, ◌∙◌, List, ℕ, None, true, length, map, sym, ap, subst, arith}
 use Rattle.std.specs.Option.{option_copied}
 use Rattle.rail_check.specs.Answers.{judged_in}
+use Rattle.rail_text.specs.Names.{HasNames}
 use Rattle.rail_history.specs.LineReads.{lines_of}
-use Rattle.rail_history.specs.Lines.{HasNames}
 use Rattle.rail_judging.specs.Verdicts.{Verdict}
 use Rattle.rail_rules.specs.Fronts.{Line}
 use Rattle.rail_forms.proofs.Writes.{ended-failed}

@@ -1,9 +1,9 @@
 use Rattle.std.proofs.Common.{sym, subst, List, ℕ, arith}
 use Rattle.rail_routes.specs.declared.items.Route.{Route}
 use Rattle.rail_forms.specs.Infra.{route_lines}
-use Rattle.rail_forms.specs.Promises.{WritesText}
+use Rattle.rail_text.specs.Writes.{WritesText}
 use Rattle.rail_forms.proofs.InfraTexts.{lines_whole}
-use Rattle.rail_forms.proofs.Writes.{both_written, part_written}
+use Rattle.rail_text.proofs.CallerLemmas.{both_written, part_written}
 use Rattle.rail_forms.proofs.infra.write_routes.Goals as goal
 
 pub returns-in_err-write_route : goal.returns-in_err-write_route

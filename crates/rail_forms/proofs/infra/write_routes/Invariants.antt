@@ -1,6 +1,6 @@
 use Rattle.std.proofs.Common.{Ok, take}
 use Rattle.rail_forms.specs.Infra.{route_lines}
-use Rattle.rail_forms.specs.Promises.{WritesText}
+use Rattle.rail_text.specs.Writes.{WritesText}
 use Rattle.rail_forms.proofs.infra.write_routes.Given as goal
 
 abbrev pub invariant-loop-route : goal.invariant-loop-route

@@ -1,7 +1,7 @@
 use Rattle.std.proofs.Common.{sym, subst, List, ℕ}
-use Rattle.rail_forms.specs.Promises.{WritesText}
+use Rattle.rail_text.specs.Writes.{WritesText}
 use Rattle.rail_forms.proofs.InfraTexts.{infra_is}
-use Rattle.rail_forms.proofs.Writes.{both_written, part_written}
+use Rattle.rail_text.proofs.CallerLemmas.{both_written, part_written}
 use Rattle.rail_forms.proofs.infra.write_scene.Goals as goal
 
 pub returns-in_err-write_counts : goal.returns-in_err-write_counts

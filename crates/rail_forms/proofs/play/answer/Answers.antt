@@ -1,4 +1,5 @@
 use Rattle.std.proofs.Common.{refl, ap, ◌∙◌}
+use Rattle.rail_words.specs.declared.files.Role.TheVariants as role
 use Rattle.rail_forms.specs.Answers.{Told}
 use Rattle.rail_forms.specs.Files.{too_large}
 use Rattle.rail_forms.proofs.Answers.{ended_with}
@@ -7,16 +8,16 @@ use Rattle.rail_forms.proofs.play.answer.Goals as goal
 
 pub returns-in_err-scene-clause-answer : goal.returns-in_err-scene-clause-answer
 returns-in_err-scene-clause-answer g c =
-    scene_unread _ _ _ _ _ _ _ g.S.Shelf _ _ c.in_err-scene.field-0.0
+    scene_unread _ _ _ _ _ _ _ _ g.S.Shelf _ _ c.in_err-scene.field-0.0
     (ended_with c.from_residual.result c.in_err-scene.field-0.0 c.from_residual.ensures.1) refl c.in_err-scene.ensures.refused
 
 pub returns-in_err-list-clause-answer : goal.returns-in_err-list-clause-answer
 returns-in_err-list-clause-answer g c =
-    second_unread _ _ _ _ _ _ _ c.in_ok-scene.scene.items c.in_ok-scene.ensures.bytes c.in_ok-scene.ensures.fits g.S.Shelf _ _ c.in_err-list.field-0.0
+    second_unread _ _ _ _ _ _ _ _ c.in_ok-scene.scene.items c.in_ok-scene.ensures.bytes c.in_ok-scene.ensures.fits g.S.Shelf _ _ c.in_err-list.field-0.0
     (ended_with c.from_residual-in_err-list.result c.in_err-list.field-0.0 c.from_residual-in_err-list.ensures.1) c.in_ok-scene.ensures.told_stays c.in_err-list.ensures.refused
 
 pub returns-clause-answer : goal.returns-clause-answer
 returns-clause-answer g c =
-    both_read _ _ _ _ _ _ _ c.deref.result.now (λ bytes at. c.deref.ensures.value ∙ c.in_ok-scene.ensures.bytes bytes at) (ap (too_large 1) c.deref.ensures.value ∙ c.in_ok-scene.ensures.fits)
+    both_read _ _ _ _ _ _ _ _ c.deref.result.now (λ bytes at. c.deref.ensures.value ∙ c.in_ok-scene.ensures.bytes bytes at) (ap (too_large role.Scene) c.deref.ensures.value ∙ c.in_ok-scene.ensures.fits)
     c.deref-2.result.now (λ lines at. c.deref-2.ensures.value ∙ c.in_ok-list.ensures.bytes lines (ap (λ (told : Told). told c.args.list.now) c.in_ok-scene.ensures.told_stays ∙ at))
-    (ap (too_large 2) c.deref-2.ensures.value ∙ c.in_ok-list.ensures.fits) c.play_list.ensures.answer
+    (ap (too_large role.List) c.deref-2.ensures.value ∙ c.in_ok-list.ensures.fits) c.play_list.ensures.answer

@@ -1,4 +1,4 @@
-use Rattle.std.proofs.Common.{List, ℕ, Option, sym, ap, ◌∙◌, subst}
+use Rattle.std.proofs.Common.{List, ℕ, Option, refl, sym, ap, ◌∙◌, subst}
 use Rattle.std.specs.Option.{option_copied}
 use Rattle.rail_base.specs.Refusals.{AnswersFirst}
 use Rattle.rail_input.specs.Inputs.{input_in, input_refusal}
@@ -17,18 +17,16 @@ returns-in_err-plant-clause-answer g c =
     (ended_with c.from_residual-in_err-plant.result (status_of c.in_err-plant.field-0.0) c.from_residual-in_err-plant.ensures.1)
     (subst (λ (names : List (List ℕ)). AnswersFirst (refusal names) c.in_err-plant.field-0.0) names_are c.in_err-plant.ensures.refused)
 
-pub begin-requires : goal.begin-requires
-begin-requires g c =
+pub new-requires-clause-accepted : goal.new-requires-clause-accepted
+new-requires-clause-accepted g c =
     let names_are = c.deref-3.ensures.value ∙ c.in_ok-names.ensures ∙ names_shown _ c.deref.result.now c.args.deck.items c.deref.ensures.value in
     let read = c.in_ok-plant.ensures in
-    record {
-      accepted = accepted_read (input_in c.args.scene.now (option_copied c.args.timetable) (option_copied c.args.commands) c.deref-3.result.now)
-          c.in_ok-plant.field-0.plant c.in_ok-plant.field-0.commands.items _ _ c.in_ok-plant.field-0.force c.new-desk.ensures read.plant read.commands read.force names_are c.requires.fine read.fine;
-    }
+    accepted_read (input_in c.args.scene.now (option_copied c.args.timetable) (option_copied c.args.commands) c.deref-3.result.now)
+    c.in_ok-plant.field-0.plant c.in_ok-plant.field-0.commands.items _ _ c.in_ok-plant.field-0.force c.new-desk.ensures read.plant read.commands read.force names_are c.requires.fine read.fine
 
-pub follow-requires-clause-marks : goal.follow-requires-clause-marks
-follow-requires-clause-marks g c =
-    marks_of _ _ _ _ c.in_ok-engine.ensures.desk c.new-desk.ensures (marks_shown _ c.deref-2.result.now c.args.deck.items c.deref-2.ensures.value c.read_marks.ensures)
+pub new-requires-clause-marks : goal.new-requires-clause-marks
+new-requires-clause-marks g c =
+    marks_of _ _ _ _ refl c.new-desk.ensures (marks_shown _ c.deref-2.result.now c.args.deck.items c.deref-2.ensures.value c.read_marks.ensures)
 
 pub returns-clause-answer : goal.returns-clause-answer
 returns-clause-answer g c =
@@ -40,5 +38,5 @@ returns-clause-answer g c =
     (ap (λ (names : List (List ℕ)). input_refusal c.args.scene.now (option_copied c.args.timetable) (option_copied c.args.commands) names) (sym names_are) ∙ read.accepted)
     (answer_same (late_refusal c.args.purpose.now) (whole_of c.args.purpose.now (g.O.Sink.written c.args.out.now) (g.O.Sink.written c.follow.new.out)) (part_of c.args.purpose.now (g.O.Sink.written c.args.out.now) (g.O.Sink.written c.follow.new.out))
     _ _ _ _ _
-    (c.in_ok-engine.ensures.input ∙ input_is ∙ ap (λ (names : List (List ℕ)). input_in c.args.scene.now (option_copied c.args.timetable) (option_copied c.args.commands) names) names_are)
-    (seats_of _ _ _ _ c.in_ok-engine.ensures.desk c.new-desk.ensures) c.follow.ensures.answer)
+    (c.in_ok-begun.ensures.input ∙ input_is ∙ ap (λ (names : List (List ℕ)). input_in c.args.scene.now (option_copied c.args.timetable) (option_copied c.args.commands) names) names_are)
+    (c.in_ok-begun.ensures.seats ∙ seats_of _ _ _ _ refl c.new-desk.ensures) c.follow.ensures.answer)

@@ -1,17 +1,14 @@
-use Rattle.std.proofs.Common.{None, sym, ap, ◌∙◌, subst}
-use Rattle.rail_gen.specs.MadeScenes.{made_scene}
+use Rattle.std.proofs.Common.{None, subst}
 use Rattle.rail_io.specs.Writes.{Adds, AddsPrefix}
 use Rattle.rail_scene.specs.declared.scene.Scene.{Scene}
 use Rattle.rail_forms.specs.Answers.{IsAnswer}
 use Rattle.rail_forms.specs.Promises.{ended}
 use Rattle.rail_forms.specs.SceneTexts.{WritesScene}
-use Rattle.rail_forms.proofs.Numbers.{one_number}
 use Rattle.rail_forms.proofs.scene.answer.Goals as goal
 
 pub returns-clause-answer : goal.returns-clause-answer
-returns-clause-answer g c = λ number is.
+returns-clause-answer g c =
     let before = g.O.Sink.written c.args.out.now in
     let now = g.O.Sink.written c.write_text.new.out in
     subst (λ (scene : Scene). IsAnswer None (WritesScene scene (Adds before now)) (WritesScene scene (AddsPrefix before now)) (ended c.write_text.result))
-    (c.in_ok-scene.ensures.made ∙ ap made_scene (sym (one_number c.args.number.now number c.number_of.result is c.number_of.ensures)))
-    c.write_text.ensures.answer
+    c.in_ok-scene.ensures.made c.write_text.ensures.answer

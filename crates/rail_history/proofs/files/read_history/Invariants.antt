@@ -3,9 +3,9 @@ use Rattle.std.specs.List.{count_by}
 use Rattle.rail_base.specs.declared.limits.TheConstants.{FRESH_LINES}
 use Rattle.rail_rules.specs.Fronts.{Line}
 use Rattle.rail_rules.specs.Plant.{Plant}
+use Rattle.rail_text.specs.Names.{HasNames}
 use Rattle.rail_history.specs.HistoryLines.{is_fresh}
 use Rattle.rail_history.specs.LineReads.{IsPaired, lines_of}
-use Rattle.rail_history.specs.Lines.{HasNames}
 use Rattle.rail_history.proofs.Histories.{IsFront}
 use Rattle.rail_history.proofs.files.read_history.Given as goal
 

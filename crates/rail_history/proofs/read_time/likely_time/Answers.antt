@@ -1,4 +1,6 @@
-use Rattle.std.proofs.Common.{◌≡◌, ◌/◌, ◌%◌, Some, ap, arith}
+use Rattle.std.proofs.Common.{◌≡◌, ◌+◌, ◌*◌, ◌/◌, ◌%◌, Some, ap, ◌∙◌, arith}
+use Rattle.rail_text.specs.Decimals.{value_of}
+use Rattle.rail_text.proofs.CallerLemmas.{hours_value}
 use Rattle.rail_history.proofs.Times.{parts_of}
 use Rattle.rail_history.proofs.read_time.likely_time.Goals as goal
 
@@ -6,11 +8,7 @@ use Rattle.rail_history.proofs.read_time.likely_time.Goals as goal
 pub returns : goal.returns
 returns c = λ time fits spelled.
     let parts = parts_of c.args.text.now time spelled in
-    let hours = c.in_ok-hours.ensures (time / 36000) (omega arith) parts.hours in
-    let is_hours : c.in_ok-hours.hours ≡ time / 36000 = cc hours in
-    let m1 : c.value.result ≡ time / 600 % 60 / 10 = omega (arith, c.value.ensures, parts.m1) in
-    let m0 : c.value-2.result ≡ time / 600 % 60 % 10 = omega (arith, c.value-2.ensures, parts.m0) in
-    let s1 : c.value-3.result ≡ time / 10 % 60 / 10 = omega (arith, c.value-3.ensures, parts.s1) in
-    let s0 : c.value-4.result ≡ time / 10 % 60 % 10 = omega (arith, c.value-4.ensures, parts.s0) in
-    let tenth : c.value-5.result ≡ time % 10 = omega (arith, c.value-5.ensures, parts.tenth) in
+    let digits : c.value_of-digits.result ≡ 1000 * (time / 600 % 60) + 10 * (time / 10 % 60) + time % 10 = omega (arith, c.value_of-digits.ensures, parts.m1, parts.m0, parts.s1, parts.s0, parts.tenth) in
+    let spelled_hours = ap value_of parts.hours ∙ hours_value (time / 36000) (omega arith) in
+    let hours : c.value_of-hours.result ≡ time / 36000 = omega (arith, c.value_of-hours.ensures, spelled_hours) in
     ap Some (omega (arith, c.saturating_mul.ensures, c.saturating_add.ensures))

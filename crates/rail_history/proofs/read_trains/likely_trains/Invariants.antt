@@ -1,7 +1,7 @@
 use Rattle.std.proofs.Common.{◌≡◌, ◌≤◌, List, length, map, true}
 use Rattle.std.specs.List.{list_all}
+use Rattle.rail_text.specs.Names.{HasNames}
 use Rattle.rail_history.specs.HistoryLines.{expanded, is_small_item}
-use Rattle.rail_history.specs.Lines.{HasNames}
 use Rattle.rail_history.specs.ReadWords.{joined}
 use Rattle.rail_rules.specs.Plant.{Plant}
 use Rattle.rail_rules.specs.Texts.{Item, item_word}

@@ -1,6 +1,5 @@
-use Rattle.std.proofs.Common.{◌≡◌, ℕ, ◌+◌, ◌∷◌, ◌++◌, ◌<◌, List, map, drop, length, arith, refl}
+use Rattle.std.proofs.Common.{◌≡◌, ℕ, ◌+◌, ◌∷◌, ◌++◌, List, map, drop, arith, refl}
 use Rattle.std.proofs.lemmas.List.{take_rest}
-use Rattle.std.proofs.lemmas.List.Elements.{All-rest, All-drop}
 use Rattle.rail_io.specs.Writes.{AddsPrefix}
 use Rattle.rail_rules.specs.Texts.{items_of}
 use Rattle.rail_rules.specs.Texts.{behind}
@@ -14,8 +13,7 @@ loop-train-init g c = record {
   said = c.args.line.now;
   so_far = none_handed_on _ c.args.line.now;
   whole = refl;
-  room = c.requires.room;
-  known = c.requires.known;
+  room = c.requires;
   faults = omega arith;
 }
 
@@ -35,12 +33,10 @@ pub loop-train-preserved : goal.loop-train-preserved
 loop-train-preserved g c =
     let inv = c.loop-train.invariant in
     let word : List ℕ = 32 ∷ item_text c.args.names.now (record { train = c.in-Some.train.now; count = c.repeats-more.result + 1 }) in
-    let known : ℕ → Type 0 = λ t. t < length c.args.names.now.trains.keys in
     record {
       said = inv.said ++ word;
       so_far = handed_on_then inv.so_far word c.in_ok-put_item.ensures.adds;
       whole = rw take_rest (one_more_said inv.said word _ _ _ (first_word (item_text c.args.names.now) c.loop-train.left.now c.in-Some.train.now c.in-Some.others.now c.repeats-more.result c.in-Some.ensures.cases.0 c.repeats-more.ensures.count) inv.whole);
       room = c.in_ok-put_item.ensures.room;
-      known = rw take_rest (All-drop known c.repeats-more.result c.in-Some.others.now (All-rest known c.in-Some.train.now c.in-Some.others.now c.loop-train.left.now c.in-Some.ensures.cases.0 inv.known));
       faults = omega (arith, inv.faults, c.in_ok-put_item.ensures.faults_never_fall);
     }

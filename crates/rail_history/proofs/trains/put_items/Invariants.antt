@@ -1,9 +1,9 @@
-use Rattle.std.proofs.Common.{◌≡◌, ◌<◌, ◌≤◌, ◌++◌, List, ℕ, length, map, All}
+use Rattle.std.proofs.Common.{◌≡◌, ◌<◌, ◌≤◌, ◌++◌, List, ℕ, length, map}
 use Rattle.rail_rules.specs.Texts.{items_of}
 use Rattle.rail_rules.specs.Texts.{behind}
 use Rattle.rail_history.specs.Lines.{item_text}
 use Rattle.rail_history.specs.Pieces.{IsHandedOn}
-use Rattle.rail_history.specs.declared.line.TheConstants.{ROOM}
+use Rattle.rail_text.specs.declared.line.TheConstants.{ROOM}
 use Rattle.rail_history.proofs.trains.put_items.Given as goal
 
 abbrev pub invariant-loop-train : goal.invariant-loop-train
@@ -12,7 +12,6 @@ invariant-loop-train g l = record {
   so_far : IsHandedOn (g.O.Sink.written l.initial.out) (g.O.Sink.written l.out) l.line said;
   whole : said ++ behind (map (item_text l.names) (items_of l.left)) ≡ l.initial.line ++ behind (map (item_text l.names) (items_of l.list));
   room : length l.line < ROOM;
-  known : All (λ t. t < length l.names.trains.keys) l.left;
   faults : g.O.Sink.faults l.initial.out ≤ g.O.Sink.faults l.out;
 }
 

@@ -10,8 +10,8 @@ returns-in_err-check_list-clause-refused c =
     let result = c.from_residual.result in
     subst (λ first. IfErr result (AnswersFirst first)) c.loop-part.invariant
     (passed_up result _ (AnswersFirst _) c.from_residual.ensures.1
-    (list_stop _ c.args.parts.now c.loop-part.part-index _ c.loop-part-test.true c.key.result _ c.key.ensures c.elements_at.ensures _ c.in_err-check_list.ensures.refused))
+    (list_stop c.args.version _ c.args.parts.now c.loop-part.part-index _ c.loop-part-test.true c.key.result _ c.key.ensures c.elements_at.ensures _ c.in_err-check_list.ensures.refused))
 
 pub loop-part-preserved : goal.loop-part-preserved
 loop-part-preserved c =
-    sym (list_pass _ c.args.parts.now c.loop-part.part-index _ c.loop-part-test.true c.key.result _ c.key.ensures c.elements_at.ensures c.in_ok-check_list.ensures.accepted) ∙ c.loop-part.invariant
+    sym (list_pass c.args.version _ c.args.parts.now c.loop-part.part-index _ c.loop-part-test.true c.key.result _ c.key.ensures c.elements_at.ensures c.in_ok-check_list.ensures.accepted) ∙ c.loop-part.invariant

@@ -5,4 +5,4 @@ use Rattle.rail_scene.specs.Order.{forms_of}
 use Rattle.rail_scene.proofs.forms.check_lists.Given as goal
 
 abbrev pub invariant-loop-part : goal.invariant-loop-part
-invariant-loop-part l = first_failing (forms_of (view l.root) (drop l.part-index l.parts)) ≡ first_failing (forms_of (view l.root) l.parts)
+invariant-loop-part l = first_failing (forms_of l.version (view l.root) (drop l.part-index l.parts)) ≡ first_failing (forms_of l.version (view l.root) l.parts)

@@ -11,13 +11,13 @@ pub returns-in-Err-clause-refused : goal.returns-in-Err-clause-refused
 unfolding lists_values
 returns-in-Err-clause-refused c =
     let root = view c.args.root.now in
-    subst (λ (draft : SceneItems). AnswersFirst (first_failing (values_of root draft LIST_PARTS)) c.in-Err.fault) c.new-draft.ensures c.in-Err.ensures.refused
+    subst (λ (draft : SceneItems). AnswersFirst (first_failing (values_of c.args.version root draft LIST_PARTS)) c.in-Err.fault) c.new-draft.ensures c.in-Err.ensures.refused
 
 pub returns-in-Ok-clause-accepted : goal.returns-in-Ok-clause-accepted
 unfolding lists_values
 returns-in-Ok-clause-accepted c =
     let root = view c.args.root.now in
-    subst (λ (draft : SceneItems). first_failing (values_of root draft LIST_PARTS) ≡ None) c.new-draft.ensures c.in-Ok.ensures.accepted
+    subst (λ (draft : SceneItems). first_failing (values_of c.args.version root draft LIST_PARTS) ≡ None) c.new-draft.ensures c.in-Ok.ensures.accepted
 
 pub returns-in-Ok-clause-draft : goal.returns-in-Ok-clause-draft
 unfolding listed_items

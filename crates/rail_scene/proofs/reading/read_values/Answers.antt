@@ -6,15 +6,15 @@ use Rattle.rail_scene.proofs.Spelled.{scene_is}
 use Rattle.rail_scene.proofs.reading.read_values.Goals as goal
 
 pub returns-in-Err-clause-refused : goal.returns-in-Err-clause-refused
-returns-in-Err-clause-refused c = rw c.located.ensures (at_root (view c.args.root.now) c.in-Err.fault c.in-Err.ensures.refused)
+returns-in-Err-clause-refused c = rw c.located.ensures (at_root c.args.version (view c.args.root.now) c.in-Err.fault c.in-Err.ensures.refused)
 
 pub returns-in_err-draft-clause-refused : goal.returns-in_err-draft-clause-refused
 returns-in_err-draft-clause-refused c =
     passed_up c.from_residual.result _ _ c.from_residual.ensures.1
-    (at_lists (view c.args.root.now) c.in-Ok.ensures.accepted _ c.in_err-draft.ensures.refused)
+    (at_lists c.args.version (view c.args.root.now) c.in-Ok.ensures.accepted _ c.in_err-draft.ensures.refused)
 
 pub returns-clause-accepted : goal.returns-clause-accepted
-returns-clause-accepted c = values_none (view c.args.root.now) c.in-Ok.ensures.accepted c.in_ok-draft.ensures.accepted
+returns-clause-accepted c = values_none c.args.version (view c.args.root.now) c.in-Ok.ensures.accepted c.in_ok-draft.ensures.accepted
 
 pub returns-clause-spelled : goal.returns-clause-spelled
 returns-clause-spelled c =

@@ -6,4 +6,4 @@ use Rattle.rail_scene_text.proofs.values.put.Goals as goal
 
 pub returns-in-Ok : goal.returns-in-Ok
 returns-in-Ok c =
-    rw c.in-Ok.ensures.entries (members_view-insert c.args.members.now.entries c.in_ok-text.text c.args.value ∙ ap (λ k. put k (view c.args.value) (table_view c.args.members.now)) c.in_ok-text.ensures.ok)
+    rw c.in-Ok.ensures.entries (members_view-insert c.args.members.now.entries c.in_ok-text.text c.args.value ∙ ap (λ k. put k (view c.args.value) (table_view c.args.members.now)) (c.in_ok-text.ensures.ok ∙ c.text.ensures.text))

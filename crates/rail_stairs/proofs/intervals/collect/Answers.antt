@@ -1,9 +1,9 @@
-use Rattle.std.proofs.Common.{◌≡◌, ◌++◌, List, [], map, ap, ◌∙◌}
+use Rattle.std.proofs.Common.{◌≡◌, ◌++◌, List, [], ap, ◌∙◌}
 use Rattle.rail_base.specs.declared.intervals.Interval.{Interval}
 use Rattle.rail_stairs.specs.Noted.{noted_of}
-use Rattle.rail_stairs.specs.Stairways.{ended_by, train_intervals}
+use Rattle.rail_stairs.specs.Stairways.{train_intervals}
 use Rattle.rail_stairs.specs.OfTrains.{of_train}
-use Rattle.rail_stairs.proofs.Gathered.{map_more}
+use Rattle.rail_stairs.proofs.Gathered.{gather_more}
 use Rattle.rail_stairs.proofs.intervals.collect.Goals as goal
 
 pub loop-number-preserved : goal.loop-number-preserved
@@ -14,5 +14,5 @@ loop-number-preserved c =
     let t = c.loop-number.number in
     let train : of_train train_intervals c.new-journey.result ≡ train_intervals plant t (noted_of stairs t) =
     λ k. train_intervals (made.plant k) (made.train k) (noted_of (made.stairs k) (made.train k)) in
-    map_more (ended_by c.args.ended) (λ u. train_intervals plant u (noted_of stairs u)) t [] c.loop-number.intervals.items _ c.loop-number.invariant
-    (c.in_ok-push_journey.ensures ∙ ap (λ (list : List Interval). c.loop-number.intervals.items ++ map (ended_by c.args.ended) list) train)
+    gather_more (λ u. train_intervals plant u (noted_of stairs u)) t [] c.loop-number.intervals.items _ c.loop-number.invariant
+    (c.in_ok-push_journey.ensures ∙ ap (λ (list : List Interval). c.loop-number.intervals.items ++ list) train)

@@ -3,7 +3,7 @@ use Rattle.std.specs.Prelude.{flat_map}
 use Rattle.rail_stairs.specs.Journeys.{before_train}
 use Rattle.rail_stairs.specs.StairsTexts.{stair_line}
 use Rattle.rail_stairs.specs.Tallies.{IsTallied}
-use Rattle.rail_stairs.specs.Writes.{WritesText}
+use Rattle.rail_text.specs.Writes.{WritesText}
 use Rattle.rail_stairs.proofs.writing.write_intervals.Given as goal
 
 abbrev pub invariant-loop-number : goal.invariant-loop-number

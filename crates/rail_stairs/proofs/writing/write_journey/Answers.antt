@@ -9,9 +9,10 @@ use Rattle.rail_stairs.specs.OfTrains.{admissions_in, at_train, of_train}
 use Rattle.rail_stairs.specs.Stairways.{move_intervals}
 use Rattle.rail_stairs.specs.StairsTexts.{stair_line}
 use Rattle.rail_stairs.specs.Tallies.{IsTallied}
-use Rattle.rail_stairs.specs.Writes.{WritesText}
+use Rattle.rail_text.specs.Writes.{WritesText}
 use Rattle.rail_stairs.proofs.Before.{move_more}
-use Rattle.rail_stairs.proofs.Written.{none_written, not_ok, one_more_written, stopped_written}
+use Rattle.rail_stairs.proofs.Written.{not_ok, one_more_written, stopped_written}
+use Rattle.rail_text.proofs.CallerLemmas.{none_written}
 use Rattle.rail_stairs.proofs.writing.write_journey.Goals as goal
 
 pub loop-index-init : goal.loop-index-init

@@ -6,7 +6,7 @@ use Rattle.rail_stairs.specs.OfTrains.{at_train, of_train}
 use Rattle.rail_stairs.specs.StairsTexts.{stair_line}
 use Rattle.rail_stairs.specs.Stairways.{move_intervals}
 use Rattle.rail_stairs.specs.Tallies.{IsTallied}
-use Rattle.rail_stairs.specs.Writes.{WritesText}
+use Rattle.rail_text.specs.Writes.{WritesText}
 use Rattle.rail_stairs.proofs.writing.write_journey.Given as goal
 
 abbrev pub invariant-loop-index : goal.invariant-loop-index

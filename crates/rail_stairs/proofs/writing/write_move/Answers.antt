@@ -10,10 +10,11 @@ use Rattle.rail_stairs.specs.Journeys.{before_move, before_step}
 use Rattle.rail_stairs.specs.OfTrains.{at_train, of_train}
 use Rattle.rail_stairs.specs.StairsTexts.{stair_line}
 use Rattle.rail_stairs.specs.Tallies.{IsTallied}
-use Rattle.rail_stairs.specs.Writes.{WritesText}
+use Rattle.rail_text.specs.Writes.{WritesText}
 use Rattle.rail_stairs.proofs.Before.{step_more}
 use Rattle.rail_stairs.proofs.Counts.{few_before_step}
-use Rattle.rail_stairs.proofs.Written.{none_written, not_ok, one_more_written, one_written, stopped_written}
+use Rattle.rail_stairs.proofs.Written.{not_ok, one_more_written, one_written, stopped_written}
+use Rattle.rail_text.proofs.CallerLemmas.{none_written}
 use Rattle.rail_stairs.proofs.writing.write_move.Goals as goal
 
 pub add-requires-clause-visits : goal.add-requires-clause-visits

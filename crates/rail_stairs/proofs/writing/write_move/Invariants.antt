@@ -6,7 +6,7 @@ use Rattle.rail_stairs.specs.Journeys.{before_step}
 use Rattle.rail_stairs.specs.OfTrains.{at_train, of_train}
 use Rattle.rail_stairs.specs.StairsTexts.{stair_line}
 use Rattle.rail_stairs.specs.Tallies.{IsTallied}
-use Rattle.rail_stairs.specs.Writes.{WritesText}
+use Rattle.rail_text.specs.Writes.{WritesText}
 use Rattle.rail_stairs.proofs.writing.write_move.Given as goal
 
 abbrev pub invariant-loop-step : goal.invariant-loop-step

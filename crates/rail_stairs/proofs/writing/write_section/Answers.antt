@@ -1,5 +1,6 @@
-use Rattle.std.proofs.Common.{◌≡◌, [], ◌∷◌, codes, decimal, sym, ◌∙◌}
+use Rattle.std.proofs.Common.{◌≡◌, [], ◌∷◌, ◌++◌, codes, decimal, sym, ap, ◌∙◌}
 use Rattle.std.proofs.lemmas.List.{append-nil}
+use Rattle.rail_base.specs.declared.plant.SectionRow.{SectionRow}
 use Rattle.rail_rules.specs.Texts.{section_word, spaced}
 use Rattle.rail_stairs.specs.Stairways.{occupation, visits}
 use Rattle.rail_stairs.specs.StairsTexts.{section_line}
@@ -14,10 +15,10 @@ returns g c = λ ended seen h.
     let long : c.occupied.result ≡ occupation ended seen x = c.occupied.ensures ∙ h.occupied x c.requires.few in
     let e : c.as_slice.result.now ≡ section_line plant ended seen x =
     line_is (codes "section") (section_word plant x ∷ decimal c.visits.result ∷ decimal c.occupied.result ∷ []) (c.as_slice.ensures ∙ c.put-2.ensures)
-    (sym (append-nil c.put_sum.new.line)
+    (sym (append-nil c.put_sum.new.self)
     ∙ word_before _ _ c.put_sum.ensures.text _
     ∙ word_before _ _ c.put_number.ensures.text _
-    ∙ word_before _ _ c.put_section.ensures.text _
+    ∙ word_before _ _ (c.put_name.ensures.text ∙ ap (λ (row : SectionRow). c.put.new.self ++ 32 ∷ row.name) c.section.ensures) _
     ∙ word_first (codes "section") c.put.ensures c.new-line.ensures _)
     ∙ (λ k. spaced (codes "section" ∷ section_word plant x ∷ decimal (many k) ∷ decimal (long k) ∷ [])) in
     rw (← e) (record {

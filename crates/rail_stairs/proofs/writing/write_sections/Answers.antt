@@ -3,8 +3,9 @@ use Rattle.std.proofs.lemmas.List.{length-map}
 use Rattle.rail_base.specs.declared.plant.SectionRow.{SectionRow}
 use Rattle.rail_rules.specs.Numbers.{gather}
 use Rattle.rail_stairs.specs.StairsTexts.{section_line}
-use Rattle.rail_stairs.specs.Writes.{WritesText}
-use Rattle.rail_stairs.proofs.Written.{none_written, one_more_written, stopped_written}
+use Rattle.rail_text.specs.Writes.{WritesText}
+use Rattle.rail_stairs.proofs.Written.{one_more_written, stopped_written}
+use Rattle.rail_text.proofs.CallerLemmas.{none_written}
 use Rattle.rail_stairs.proofs.writing.write_sections.Goals as goal
 
 pub loop-number-init : goal.loop-number-init

@@ -3,7 +3,7 @@ use Rattle.rail_base.specs.declared.intervals.Interval.{Interval}
 use Rattle.rail_rules.specs.Numbers.{gather}
 use Rattle.rail_stairs.specs.StairsTexts.{section_line}
 use Rattle.rail_stairs.specs.Tallies.{IsTallied}
-use Rattle.rail_stairs.specs.Writes.{WritesText}
+use Rattle.rail_text.specs.Writes.{WritesText}
 use Rattle.rail_stairs.proofs.writing.write_sections.Given as goal
 
 abbrev pub invariant-loop-number : goal.invariant-loop-number

@@ -5,9 +5,10 @@ use Rattle.rail_rules.specs.Plant.{trains}
 use Rattle.rail_stairs.specs.Journeys.{before_train}
 use Rattle.rail_stairs.specs.Stairways.{ended_at, stairway}
 use Rattle.rail_stairs.specs.StairsTexts.{section_lines, stair_line, stairs_text}
-use Rattle.rail_stairs.specs.Writes.{WritesText}
+use Rattle.rail_text.specs.Writes.{WritesText}
 use Rattle.rail_stairs.proofs.Ready.{noted_admissible, noted_rows, noted_stairway}
-use Rattle.rail_stairs.proofs.Written.{both_written, part_written, same_text}
+use Rattle.rail_stairs.proofs.Written.{same_text}
+use Rattle.rail_text.proofs.CallerLemmas.{both_written, part_written}
 use Rattle.rail_stairs.proofs.writing.write_stairs.Goals as goal
 
 pub write_intervals-requires-clause-noted : goal.write_intervals-requires-clause-noted

@@ -1,7 +1,7 @@
 use Rattle.std.proofs.Common.{◌≡◌, true, ◌++◌, map, length}
 use Rattle.std.specs.List.{list_all}
 use Rattle.rail_base.specs.NameForms.{is_name}
-use Rattle.rail_command.specs.Lines.{words}
+use Rattle.rail_text.specs.Lines.{words}
 use Rattle.rail_words.specs.Lists.{knows, number_of_train}
 use Rattle.rail_words.proofs.list.push_trains.Given as goal
 

@@ -6,12 +6,12 @@ use Rattle.rail_forms.proofs.notes.StairsNotes.note_line.Goals as goal
 
 pub note-requires : goal.note-requires
 note-requires c =
-    let follows = c.requires in
+    let follows = c.requires.1 in
     let next = follows.next in
     record {
       room = subst (λ (entry : Entry). has_room c.args.self.now entry.what ≡ true) next.entry_is
           (room_for follows.input next.accepted follows.line follows.front c.args.self.now next.lawful follows.noted);
     }
 
-pub returns : goal.returns
-returns c = λ input front line next noted. c.note.ensures.noted input.plant front line next.entry_is noted
+pub returns-clause-noted : goal.returns-clause-noted
+returns-clause-noted c = λ input front line first next noted. c.note.ensures.noted input.plant front line next.entry_is noted

@@ -14,7 +14,7 @@ returns-in-Err-clause-refused c =
     let part = c.args.part in
     let i = c.loop-index.index in
     let fault = c.in-Err.fault in
-    let stops = value_stop part c.loop-index.self c.args.tables.now i c.index-tables-index.result c.loop-index-test.true c.index-tables-index.is fault c.in-Err.ensures.refused in
+    let stops = value_stop part c.args.version c.loop-index.self c.args.tables.now i c.index-tables-index.result c.loop-index-test.true c.index-tables-index.is fault c.in-Err.ensures.refused in
     let placed : c.located.result ≡ fault_at (part_of part) (item_number (i + 1)) fault = c.located.ensures ∙ (λ k. fault_at (c.part.ensures k) (c.item_number.ensures k) fault) in
     rw placed (subst (λ first. AnswersFirst first (fault_at (part_of part) (item_number (i + 1)) fault)) c.loop-index.invariant.0 stops)
 
@@ -26,10 +26,10 @@ loop-index-preserved c =
     let table = c.index-tables-index.result in
     let draft = c.loop-index.self in
     let added = c.in-Ok.ensures.added in (
-      ap (λ (next : SceneItems). first_failing (list_values part (i + 1 + 1) next (map view (drop (i + 1) tables)))) added
-          ∙ sym (value_pass part draft tables i table c.loop-index-test.true c.index-tables-index.is c.in-Ok.ensures.accepted)
+      ap (λ (next : SceneItems). first_failing (list_values part c.args.version (i + 1 + 1) next (map view (drop (i + 1) tables)))) added
+          ∙ sym (value_pass part c.args.version draft tables i table c.loop-index-test.true c.index-tables-index.is c.in-Ok.ensures.accepted)
           ∙ c.loop-index.invariant.0,
       ap (λ (next : SceneItems). with_items part (map view (drop (i + 1) tables)) next) added
-          ∙ sym (draft_pass part draft tables i table c.loop-index-test.true c.index-tables-index.is)
+          ∙ sym (draft_pass part c.args.version draft tables i table c.loop-index-test.true c.index-tables-index.is)
           ∙ c.loop-index.invariant.1,
     )

@@ -14,7 +14,7 @@ returns-in_err-add_list-clause-refused c =
     let result = c.from_residual.result in
     subst (λ first. IfErr result (AnswersFirst first)) c.loop-part.invariant.0
     (passed_up result _ (AnswersFirst _) c.from_residual.ensures.1
-    (values_stop (view c.args.root.now) c.loop-part.self c.args.parts.now c.loop-part.part-index _ c.loop-part-test.true c.key.result _ c.key.ensures c.elements_at.ensures _ c.in_err-add_list.ensures.refused))
+    (values_stop c.args.version (view c.args.root.now) c.loop-part.self c.args.parts.now c.loop-part.part-index _ c.loop-part-test.true c.key.result _ c.key.ensures c.elements_at.ensures _ c.in_err-add_list.ensures.refused))
 
 pub loop-part-preserved : goal.loop-part-preserved
 loop-part-preserved c =
@@ -23,10 +23,10 @@ loop-part-preserved c =
     let i = c.loop-part.part-index in
     let draft = c.loop-part.self in
     let added = c.in_ok-add_list.ensures.added in (
-      ap (λ (next : SceneItems). first_failing (values_of root next (drop (i + 1) parts))) added
-          ∙ sym (values_pass root draft parts i _ c.loop-part-test.true c.key.result _ c.key.ensures c.elements_at.ensures c.in_ok-add_list.ensures.accepted)
+      ap (λ (next : SceneItems). first_failing (values_of c.args.version root next (drop (i + 1) parts))) added
+          ∙ sym (values_pass c.args.version root draft parts i _ c.loop-part-test.true c.key.result _ c.key.ensures c.elements_at.ensures c.in_ok-add_list.ensures.accepted)
           ∙ c.loop-part.invariant.0,
       ap (λ (next : SceneItems). with_lists root (drop (i + 1) parts) next) added
-          ∙ sym (lists_pass root draft parts i _ c.loop-part-test.true c.key.result _ c.key.ensures c.elements_at.ensures)
+          ∙ sym (lists_pass c.args.version root draft parts i _ c.loop-part-test.true c.key.result _ c.key.ensures c.elements_at.ensures)
           ∙ c.loop-part.invariant.1,
     )

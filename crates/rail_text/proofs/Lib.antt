@@ -1,0 +1,5 @@
+-- The lemmas of this crate; those for the crates above stand in CallerLemmas.
+pub mod CallerLemmas
+mod Parts
+mod TimeWords
+mod Written

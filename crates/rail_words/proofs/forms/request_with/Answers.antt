@@ -1,0 +1,18 @@
+use Rattle.std.proofs.Common.{◌≡◌, sym, subst}
+use Rattle.std.specs.Prelude.{MatchOption}
+use Rattle.rail_words.specs.declared.forms.Form.{Form}
+use Rattle.rail_words.specs.Forms.{Lacks, Spells, form_in, values_in}
+use Rattle.rail_words.proofs.forms.request_with.Goals as goal
+
+pub returns-in_err-number_in-in-Scene : goal.returns-in_err-number_in-in-Scene
+returns-in_err-number_in-in-Scene c = rw c.from_residual-in_err-number_in-in-Scene.ensures
+    (subst (λ (form : Form). Lacks form c.args.words.now) (sym c.in-Scene.is) c.in_err-number_in-in-Scene.ensures)
+
+pub returns-in_err-number_in-in-Gen : goal.returns-in_err-number_in-in-Gen
+returns-in_err-number_in-in-Gen c = rw c.from_residual-in_err-number_in-in-Gen.ensures
+    (subst (λ (form : Form). Lacks form c.args.words.now) (sym c.in-Gen.is) c.in_err-number_in-in-Gen.ensures)
+
+pub returns-in-Capacity : goal.returns-in-Capacity
+returns-in-Capacity c =
+    subst (λ (form : Form). MatchOption c.study_of.result (Lacks form c.args.words.now) (λ request. (form_in request ≡ form) × Spells (form_in request) (values_in request) c.args.words.now))
+    (sym c.in-Capacity.is) c.study_of.ensures
