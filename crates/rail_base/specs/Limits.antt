@@ -3,10 +3,10 @@ use Rattle.std.specs.Prelude.{ℕ, Bool, ◌&&◌, nat_le}
 
 -- what is limited: numbers of things, sizes of files and texts, lengths and speeds, times
 pub data Limit : Type 0 where
-  Sections Posts Turns Routes RouteSections Kinds Trains ItineraryRoutes Depth Policies Commands Edits FreshTrains FreshLines : Limit
+  Sections Posts Turns Routes RouteSections OverlapSections Kinds Trains ItineraryRoutes Depth Policies Commands Edits FreshTrains FreshLines : Limit
   FileBytes HistoryBytes NameBytes HourDigits : Limit
   SectionLength TrainLength Speed : Limit
-  InputTime SettingTime WatchingTime ApproachTime TurnTime ReleaseTime StartSupplement StopSupplement : Limit
+  InputTime SettingTime WatchingTime ApproachTime TurnTime ReleaseTime OverlapTime StartSupplement StopSupplement : Limit
 
 -- the greatest of each that is accepted
 abbrev pub most : Limit → ℕ
@@ -15,6 +15,7 @@ most Posts = 512  -- portals, signals and boards of a scene together
 most Turns = 512  -- of a scene
 most Routes = 1_024  -- of a scene
 most RouteSections = 32  -- sections of a route
+most OverlapSections = 8  -- sections of the overlap of a route
 most Kinds = 128  -- train kinds of a scene
 most Trains = 128  -- of a scene
 most ItineraryRoutes = 64  -- routes of an itinerary
@@ -37,6 +38,7 @@ most WatchingTime = 6_000  -- tenths of a second, of a portal or signal
 most ApproachTime = 36_000  -- tenths of a second, of a portal or signal
 most TurnTime = 864_000  -- tenths of a second
 most ReleaseTime = 6_000  -- tenths of a second
+most OverlapTime = 6_000  -- tenths of a second, after an arrival
 most StartSupplement = 6_000  -- tenths of a second, of a train kind
 most StopSupplement = 6_000  -- tenths of a second, of a train kind
 

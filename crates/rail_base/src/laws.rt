@@ -2,7 +2,7 @@
 
 ghost use Rattle.std.specs.Prelude.{◌≡◌, ℕ, ◌<◌, ◌+◌, ◌*◌, ◌^◌, List};
 ghost use Rattle.rail_base.specs.declared.limits.TheConstants as limit;
-ghost use Rattle.rail_base.specs.Limits.{most, Sections, Posts, Turns, Routes, RouteSections, Kinds, Trains, ItineraryRoutes, Depth, Policies, Commands, Edits, FreshTrains, FreshLines, FileBytes, HistoryBytes, NameBytes, HourDigits, SectionLength, TrainLength, Speed, InputTime, SettingTime, WatchingTime, ApproachTime, TurnTime, ReleaseTime, StartSupplement, StopSupplement};
+ghost use Rattle.rail_base.specs.Limits.{most, Sections, Posts, Turns, Routes, RouteSections, OverlapSections, Kinds, Trains, ItineraryRoutes, Depth, Policies, Commands, Edits, FreshTrains, FreshLines, FileBytes, HistoryBytes, NameBytes, HourDigits, SectionLength, TrainLength, Speed, InputTime, SettingTime, WatchingTime, ApproachTime, TurnTime, ReleaseTime, OverlapTime, StartSupplement, StopSupplement};
 ghost use Rattle.rail_base.specs.Clock.{IsLenientTime, time_text};
 
 /// A text in an input stands for one time at most. Whoever reads `00:02:00` or `00:02:00.0` in a
@@ -30,6 +30,7 @@ pub fn the_limits_are_those_of_the_formats()
     ensures turns { limit.TURNS ≡ most Turns }
     ensures routes { limit.ROUTES ≡ most Routes }
     ensures route_sections { limit.ROUTE_SECTIONS ≡ most RouteSections }
+    ensures overlap_sections { limit.OVERLAP_SECTIONS ≡ most OverlapSections }
     ensures kinds { limit.KINDS ≡ most Kinds }
     ensures trains { limit.TRAINS ≡ most Trains }
     ensures itinerary_routes { limit.ITINERARY_ROUTES ≡ most ItineraryRoutes }
@@ -50,6 +51,7 @@ pub fn the_limits_are_those_of_the_formats()
     ensures approach { limit.APPROACH ≡ most ApproachTime }
     ensures turn_time { limit.TURN_TIME ≡ most TurnTime }
     ensures release { limit.RELEASE ≡ most ReleaseTime }
+    ensures overlap { limit.OVERLAP ≡ most OverlapTime }
     ensures start { limit.START ≡ most StartSupplement }
     ensures stop { limit.STOP ≡ most StopSupplement }
     ensures move_lines { limit.MOVE_LINES ≡ 2 * most RouteSections + 3 }

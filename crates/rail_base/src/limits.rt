@@ -10,6 +10,8 @@ pub const TURNS: usize = 512;
 pub const ROUTES: usize = 1024;
 /// Sections of a route, of which there is at least one.
 pub const ROUTE_SECTIONS: usize = 32;
+/// Sections of the overlap of a route.
+pub const OVERLAP_SECTIONS: usize = 8;
 /// Train kinds of a scene.
 pub const KINDS: usize = 128;
 /// Trains of a scene.
@@ -62,6 +64,8 @@ pub const APPROACH: u32 = 36_000;
 pub const TURN_TIME: u32 = 864_000;
 /// Release time in tenths of a second.
 pub const RELEASE: u32 = 6_000;
+/// How long after an arrival an overlap is held, in tenths of a second.
+pub const OVERLAP: u32 = 6_000;
 /// Start supplement of a train kind in tenths of a second.
 pub const START: u32 = 6_000;
 /// Stop supplement of a train kind in tenths of a second.

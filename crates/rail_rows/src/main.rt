@@ -1,4 +1,4 @@
-//! The rows: command lines with their files, and what the rules of operation answer to each, by hand.
+//! The rows: command lines with their files, and what the rules of operation answer to each: by hand, or as a row says by another program.
 //!
 //! This program stands on the top call of `rail_cli` and on shelves and sinks in memory. It reads the files of rows that
 //! its words name, asks the top call each row, and prints how many rows of each file are answered as they say;

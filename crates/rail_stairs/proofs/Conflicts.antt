@@ -31,7 +31,8 @@ free_append (x ∷ xs) ys fx fy cross =
     (list_all-append (are_disjoint x) xs ys ∙ and_from (list_all (are_disjoint x) xs) (list_all (are_disjoint x) ys) q.1 c.0))
     (free_append xs ys p.1 fy c.1)
 
-all_gathered : {X : Type 0} (p : X → Bool) (f : ℕ → List X) (n : ℕ) → ((i : ℕ) → i < n → list_all p (f i) ≡ true) → list_all p (gather f n) ≡ true
+-- what holds of each of the lists holds of them gathered
+pub all_gathered : {X : Type 0} (p : X → Bool) (f : ℕ → List X) (n : ℕ) → ((i : ℕ) → i < n → list_all p (f i) ≡ true) → list_all p (gather f n) ≡ true
 all_gathered p f zero each = refl
 all_gathered p f (suc n) each =
     list_all-append p (gather f n) (f n)

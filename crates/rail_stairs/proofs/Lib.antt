@@ -6,6 +6,7 @@ mod Ready
 mod Rooms
 mod Ending
 mod Conflicts
+mod TimelyIntervals
 mod Carried
 -- Lists that are gathered, tables that count them, and texts that are written part by part.
 mod Gathered

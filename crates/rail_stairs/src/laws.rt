@@ -1,7 +1,8 @@
-//! Laws for those who note the lines of a run, and for those who compare its intervals.
+//! Laws for those who note the lines of a run, and for those who compare its intervals or place trains between them.
 
 ghost use Rattle.std.specs.Prelude.{◌≡◌, ◌⊎◌, ◌∷◌, ℕ, IsTrue, map, unwrap_or};
 ghost use Rattle.rail_capacity.specs.BlockingTimes.{are_conflict_free, block_of};
+ghost use Rattle.rail_insert.specs.Timely.{are_timely};
 ghost use Rattle.rail_rules.specs.Accepted.{is_accepted_input};
 ghost use Rattle.rail_rules.specs.Fronts.{Front, Line};
 ghost use Rattle.rail_rules.specs.Lawful.{is_complete, is_lawful};
@@ -40,4 +41,11 @@ pub fn ended_intervals_never_overlap()
 pub fn ended_intervals_are_without_conflict()
     ensures { (input : Input) → IsTrue (is_accepted_input input) → (front : Front) → IsTrue (is_complete input front)
         → IsTrue (are_conflict_free (map block_of (map (ended_by (unwrap_or (ended_at front) 0)) (stairway input.plant front)))) }
+{}
+
+/// In a lawful history of an input that may be run all blocking intervals begin, and those that are not open end, before
+/// 2^50 tenths of a second, so that further trains may be placed between them.
+pub fn intervals_are_timely()
+    ensures { (input : Input) → IsTrue (is_accepted_input input) → (front : Front) → IsTrue (is_complete input front)
+        → IsTrue (are_timely (stairway input.plant front)) }
 {}

@@ -1,7 +1,7 @@
 //! Blocking time stairways: the blocking intervals of a run, as a table and as a text.
 //!
 //! This layer stands on the blocking intervals of `rail_block`, on the laws of lawful histories, on the lines of
-//! `rail_text`, and for one of its laws on what `rail_capacity` calls without conflict. Everything follows
+//! `rail_text`, and for two of its laws on what `rail_capacity` calls without conflict and `rail_insert` calls timely. Everything follows
 //! from the admissions and the time of the end line, so `Stairs` keeps these alone, as the lines of a history
 //! come; the intervals are computed when they are asked for, in one pass over each train.
 //! `specs/Stairways.antt` and `specs/StairsTexts.antt` say what a stairway is and how it is written, from the
@@ -28,7 +28,7 @@ pub use admissions::Admissions;
 pub use intervals::ended_by;
 pub use laws::{
     a_lawful_line_finds_room, ended_intervals_are_positive, ended_intervals_are_without_conflict,
-    ended_intervals_never_overlap,
+    ended_intervals_never_overlap, intervals_are_timely,
 };
 pub use rows::worked_stairways;
 pub use stairs::Stairs;

@@ -1,7 +1,7 @@
 //! The track layer: sections, the passages of a section, and the track as a list of sections.
 //!
-//! It stands on the ground layer. The layers above use three more of its things: rolls of items
-//! that are found by a key, tallies of names, and the definition of a first refusal. The list of
+//! It stands on the ground layer. The layers above use two more of its things: rolls of items
+//! that are found by a key, and tallies of names. The list of
 //! tests in `specs/SectionRules.antt` decides which section is accepted, and with which answer one is
 //! refused: change the rules there. How a roll or a track finds a name may be changed freely.
 #![tactic(auto)]

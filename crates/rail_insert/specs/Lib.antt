@@ -1,0 +1,12 @@
+-- What an insertion is.
+pub mod Copies
+pub mod Bars
+pub mod Insertions
+pub mod Timely
+pub mod Certificates
+-- What the code keeps.
+pub mod Tables
+pub mod NextCopies
+-- How it is written.
+pub mod Texts
+pub mod Rows
