@@ -104,7 +104,8 @@ def wrong_commands(repository):
 
 
 def scene_keys(repository):
-    """The tables of a scene file: the keys of each in order, each with its text and, for a number, with what a page says of it."""
+    """The tables of a scene file in the newest version: the keys of each in order, each with its text and, for a number, with what
+    a page says of it."""
     source = (repository / "crates/rail_scene/src/keys.rt").read_text()
     limits = (repository / "crates/rail_base/src/limits.rt").read_text()
     numbers = {name: int(value) for name, value in re.findall(r"const (\w+): \w+ = ([\d_]+);", limits + source)}
@@ -121,11 +122,11 @@ def scene_keys(repository):
         told = []
         if bounds := re.search(r"low: (.*?),\s*high: (.*?),\s*default: (.*?),", form):
             low, high, default = map(number, bounds.groups())
-            told.append(f"which is {low}" if low == high else f"{low:,} to {high:,}")
+            told.append(f"{low} or {high}" if low + 1 == high else f"{low:,} to {high:,}")
             if required == "false":
                 told.append(f"default {default}")
         keys[name] = texts[key], told
-    tables = re.findall(r"const (\w+)_KEYS: \[Key; \w+\] =\s*\[(.*?)\];", source, re.S)
+    tables = re.findall(r"const (?!FIRST_)(\w+)_KEYS: \[Key; \w+\] =\s*\[(.*?)\];", source, re.S)
     return {name.lower(): [keys[it] for it in re.findall(r"\w+", names)] for name, names in tables}
 
 

@@ -57,6 +57,7 @@ one_value form.Stairs values others words one h g = same_Some values others (sym
 one_value form.Report values others words one h g = same_Some values others (sym h ∙ g)
 one_value form.Capacity values others words one h g = one_study values others words one h g
 one_value form.Edit values others words one h g = one_pair values others words h g
+one_value form.Migrate values others words one h g = ap (λ (ws : List (List ℕ)). get_or ws 0 []) (sym h ∙ g)
 one_value form.Scene values others words one h g = one_number values others words h g
 one_value form.Gen values others words one h g = one_number values others words h g
 
@@ -85,6 +86,7 @@ request_answered (request.Stairs scenario) deck told before now status h = h
 request_answered (request.Report scenario) deck told before now status h = h
 request_answered (request.Capacity line from to scenario) deck told before now status h = h
 request_answered (request.Edit scene edits) deck told before now status h = h
+request_answered (request.Migrate scene) deck told before now status h = h
 request_answered (request.Scene number) deck told before now status h = h
 request_answered (request.Gen number) deck told before now status h = h
 
@@ -97,6 +99,7 @@ request_files (request.Stairs scenario) = refl
 request_files (request.Report scenario) = refl
 request_files (request.Capacity line from to scenario) = refl
 request_files (request.Edit scene edits) = refl
+request_files (request.Migrate scene) = refl
 request_files (request.Scene number) = refl
 request_files (request.Gen number) = refl
 
@@ -109,6 +112,7 @@ request_alone (request.Stairs scenario) h = h
 request_alone (request.Report scenario) h = h
 request_alone (request.Capacity line from to scenario) h = h
 request_alone (request.Edit scene edits) h = h
+request_alone (request.Migrate scene) h = h
 request_alone (request.Scene number) h = h
 request_alone (request.Gen number) h = h
 
@@ -181,5 +185,6 @@ complete_form form.Capacity study deck told before now status answer ok read wri
     complete_scenario _ _ _ study.scenario deck told status (answer.of_run ok.0) ok.1 read write
 complete_form form.Edit files deck told before now status answer ok read write =
     complete_answer _ _ _ status (answer.both ok.bytes ok.others ok.scene_told ok.others_told) ok.fine read write
+complete_form form.Migrate scene deck told before now status answer ok read write = complete_answer _ _ _ status (answer ok.0 ok.1) ok.2 read write
 complete_form form.Scene number deck told before now status answer ok read write = complete_answer _ _ _ status answer refl read write
 complete_form form.Gen number deck told before now status answer ok read write = complete_answer _ _ _ status answer refl read write

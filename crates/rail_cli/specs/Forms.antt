@@ -13,6 +13,7 @@ use Rattle.rail_forms.specs.Capacity.{AnswersCapacity, IsEmptyStudy, study_refus
 use Rattle.rail_forms.specs.Checks.{AnswersCheck, check_refusal, done_with}
 use Rattle.rail_forms.specs.Edits.{AnswersEdit}
 use Rattle.rail_forms.specs.Infra.{AnswersInfra}
+use Rattle.rail_forms.specs.Migration.{AnswersMigrate}
 use Rattle.rail_forms.specs.Plays.{AnswersPlay, play_refusal}
 use Rattle.rail_forms.specs.Reports.{AnswersReport}
 use Rattle.rail_forms.specs.Runs.{AnswersRun}
@@ -50,6 +51,7 @@ AnswersForm form.Report scenario deck told before now status = AnswersReport sce
 AnswersForm form.Capacity study deck told before now status =
     AnswersCapacity study.line (window_of study) study.scenario deck told before now status
 AnswersForm form.Edit files deck told before now status = AnswersEdit files.scene files.other told before now status
+AnswersForm form.Migrate scene deck told before now status = AnswersMigrate scene told before now status
 AnswersForm form.Scene number deck told before now status = AnswersScene number before now status
 AnswersForm form.Gen number deck told before now status = AnswersGen number deck before now status
 
@@ -65,6 +67,7 @@ AnswersRequest (request.Report scenario) deck told before now status = AnswersRe
 AnswersRequest (request.Capacity line from to scenario) deck told before now status =
     AnswersCapacity line.now (record { from = from; to = to }) (scenario_in scenario) deck told before now status
 AnswersRequest (request.Edit scene edits) deck told before now status = AnswersEdit scene.now edits.now told before now status
+AnswersRequest (request.Migrate scene) deck told before now status = AnswersMigrate scene.now told before now status
 AnswersRequest (request.Scene number) deck told before now status = AnswersScene number before now status
 AnswersRequest (request.Gen number) deck told before now status = AnswersGen number deck before now status
 
@@ -78,6 +81,7 @@ IsRefusedAlone (request.Check scenario history) = ⊥
 IsRefusedAlone (request.Stairs scenario) = ⊥
 IsRefusedAlone (request.Report scenario) = ⊥
 IsRefusedAlone (request.Edit scene edits) = ⊥
+IsRefusedAlone (request.Migrate scene) = ⊥
 IsRefusedAlone (request.Scene number) = ⊥
 IsRefusedAlone (request.Gen number) = ⊥
 
@@ -91,6 +95,7 @@ AreRefusedAlone form.Check values = ⊥
 AreRefusedAlone form.Stairs values = ⊥
 AreRefusedAlone form.Report values = ⊥
 AreRefusedAlone form.Edit values = ⊥
+AreRefusedAlone form.Migrate values = ⊥
 AreRefusedAlone form.Scene values = ⊥
 AreRefusedAlone form.Gen values = ⊥
 
@@ -139,6 +144,8 @@ IsAcceptedInput form.Report scenario deck told = IsAcceptedScenario nothing_else
 IsAcceptedInput form.Capacity study deck told = (study_refusal study.line (window_of study) ≡ None)
     × IsAcceptedScenario (with_line study.line) deck told study.scenario
 IsAcceptedInput form.Edit files deck told = AreAccepted role.Edits edited_scene_refusal files told
+IsAcceptedInput form.Migrate scene deck told = (bytes : List ℕ) × (told scene ≡ Some bytes)
+    × (or_else (too_large role.Scene bytes) (plant_refusal bytes) ≡ None)
 IsAcceptedInput form.Scene number deck told = Unit {0}
 IsAcceptedInput form.Gen number deck told = Unit {0}
 

@@ -11,7 +11,7 @@ ghost use Rattle.rail_cli.specs.Forms.{AnswersForm, AnswersRequest, AreRefusedAl
 use rail_base::{Word, a_text_stands_for_one_time};
 use rail_capacity::Window;
 use rail_forms::scenario::Purpose;
-use rail_forms::{Status, capacity, check, edit, infra, play, scenario, scene, summary};
+use rail_forms::{Status, capacity, check, edit, infra, migrate, play, scenario, scene, summary};
 use rail_io::{Shelf, Sink};
 use rail_policy::Policy;
 use rail_words::{Request, request_of};
@@ -111,6 +111,7 @@ fn answer<S: Shelf, O: Sink>(
             check::answer(alloc, scenario, history, shelf, out, &deck)
         }
         Request::Edit { scene, edits } => edit::answer(alloc, scene, edits, shelf, out),
+        Request::Migrate { scene } => migrate::answer(alloc, scene, shelf, out),
         Request::Scene { number } => scene::answer(alloc, *number, out),
         Request::Gen { number } => summary::answer(alloc, *number, out, deck),
     }

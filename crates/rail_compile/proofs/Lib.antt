@@ -1,4 +1,5 @@
 -- Lemmas on what the plant of a scene is, and why a scene is refused when it is compiled.
+pub mod CallerLemmas
 mod Finds
 mod Ways
 mod Places
@@ -7,3 +8,4 @@ mod Names
 mod Trains
 mod Moves
 mod Tables
+mod Overlapping

@@ -8,7 +8,6 @@ use Rattle.rail_base.specs.declared.limits.TheConstants.{ROUTE_SECTIONS}
 use Rattle.rail_track.specs.declared.section.Section.{Section}
 use Rattle.rail_track.specs.Joints.{is_named, section_named}
 use Rattle.rail_track.specs.Passages.{passages, leads, has_passage}
-use Rattle.rail_base.specs.Limits.{is_from_one}
 use Rattle.rail_base.specs.Lists.{are_distinct}
 use Rattle.rail_routes.specs.declared.items.Post.{Post}
 use Rattle.rail_routes.specs.declared.items.Role.{Role}
@@ -18,7 +17,8 @@ use Rattle.rail_routes.specs.declared.items.Route.{Route}
 use Rattle.rail_routes.specs.Net.{Net, post_named}
 use Rattle.rail_routes.specs.PostRules.{has_times}
 use Rattle.rail_routes.specs.RouteRules.{is_ahead_of, begins, ends, goes_on, leads_on}
-use Rattle.rail_routes.specs.Sound.{have_one_section, lead_to, lead_between, is_sound_route}
+use Rattle.rail_routes.specs.Sound.{have_one_section, lead_to, is_sound_path, is_sound_overlap, lead_between, is_sound_route}
+use Rattle.rail_routes.proofs.CallerLemmas.{well_led, distinct_front}
 use Rattle.rail_compile.specs.Itineraries.{no_post}
 use Rattle.rail_compile.proofs.Finds.{is_some-find}
 
@@ -26,17 +26,18 @@ pub record IsRoute (net : Net) (route : Route) : Type 0 where
   pub some_step : 1 ≤ length route.steps
   pub few_steps : length route.steps ≤ ROUTE_SECTIONS
   pub apart : are_distinct have_one_section route.steps ≡ true
-  pub leads : lead_between net.sections (post_named route.from net) (post_named route.to net) route.steps ≡ true
+  pub leads : lead_between net.sections (post_named route.from net) (post_named route.to net) route.steps route.overlap ≡ true
 
 pub sound_route : (net : Net) (route : Route) → is_sound_route net route ≡ true → IsRoute net route
 sound_route net route h =
-    let within : Bool = is_from_one ROUTE_SECTIONS (length route.steps) in
-    let apart : Bool = are_distinct have_one_section route.steps in
-    let leads : Bool = lead_between net.sections (post_named route.from net) (post_named route.to net) route.steps in
-    let two = and_parts (within && apart) leads h in
-    let one = and_parts within apart two.0 in
-    let range = and_parts (leb 1 (length route.steps)) (leb (length route.steps) ROUTE_SECTIONS) one.0 in
-    record { some_step = leb-true 1 (length route.steps) range.0; few_steps = leb-true (length route.steps) ROUTE_SECTIONS range.1; apart = one.1; leads = two.1 }
+    let rule = well_led net route h in
+    let range = and_parts (leb 1 (length route.steps)) (leb (length route.steps) ROUTE_SECTIONS) rule.sized in
+    record {
+      some_step = leb-true 1 (length route.steps) range.0;
+      few_steps = leb-true (length route.steps) ROUTE_SECTIONS range.1;
+      apart = distinct_front have_one_section route.steps route.overlap rule.apart;
+      leads = rule.led;
+    }
 
 pub few_steps : (net : Net) (route : Route) → is_sound_route net route ≡ true → length route.steps ≤ ROUTE_SECTIONS
 few_steps net route h = (sound_route net route h).few_steps
@@ -81,12 +82,13 @@ begins_timed : (post : Post) (sections : List Section) (steps : List Step) → b
 begins_timed post sections [] h = absurd (false≢true h)
 begins_timed post sections (step ∷ rest) h = ahead_timed post.role post sections step.section h
 
-between : (net : Net) (begin end : Option Post) (steps : List Step) → lead_between net.sections begin end steps ≡ true → LeadsFrom net begin steps
-between net None end steps h = absurd (false≢true h)
-between net (Some begin) None steps h = absurd (false≢true h)
-between net (Some begin) (Some end) steps h =
-    let parts = and_parts (begins begin net.sections steps) (lead_to net.sections end begin.joint steps) h in
+between : (net : Net) (begin end : Option Post) (steps overlap : List Step) → lead_between net.sections begin end steps overlap ≡ true → LeadsFrom net begin steps
+between net None end steps overlap h = absurd (false≢true h)
+between net (Some begin) None steps overlap h = absurd (false≢true h)
+between net (Some begin) (Some end) steps overlap h =
+    let (path, over) = and_parts (is_sound_path net.sections begin end steps) (is_sound_overlap net.sections end overlap) h in
+    let parts = and_parts (begins begin net.sections steps) (lead_to net.sections end begin.joint steps) path in
     record { there = refl; no_board = begins_timed begin net.sections steps parts.0; known = leading_known net.sections end begin.joint steps parts.1 }
 
 pub leads_from : (net : Net) (route : Route) → is_sound_route net route ≡ true → LeadsFrom net (post_named route.from net) route.steps
-leads_from net route h = between net (post_named route.from net) (post_named route.to net) route.steps (sound_route net route h).leads
+leads_from net route h = between net (post_named route.from net) (post_named route.to net) route.steps route.overlap (sound_route net route h).leads

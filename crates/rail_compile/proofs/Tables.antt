@@ -28,7 +28,7 @@ use Rattle.rail_scene.specs.declared.scene.Scene.{Scene}
 use Rattle.rail_scene.specs.declared.scene.SceneTrain.{SceneTrain}
 use Rattle.rail_scene.specs.Scenes.{is_fit_kind, is_fit_train, IsScene}
 use Rattle.rail_compile.specs.Itineraries.{no_route, route_of, routes_of, kind_of, section_row, train_row, tables_of}
-use Rattle.rail_compile.specs.Refusals.{is_known, are_known, trains_tests, fault_for, compile_refusal}
+use Rattle.rail_compile.specs.Refusals.{is_known, are_known, trains_tests, fault_for, plan_refusal}
 use Rattle.rail_compile.specs.Typed.{is_named_row, is_typed_row}
 use Rattle.rail_compile.proofs.Finds.{is_some-find, found_passes, all_at, some_unwrapped}
 use Rattle.rail_compile.proofs.Names.{distinct_from_apart}
@@ -144,12 +144,12 @@ module _ (scene : Scene) (h : IsScene scene) (sound : IsSoundNetwork scene.netwo
       no_scene_train = record { name = []; kind = []; entry = 0; priority = 0; routes = [] }
 
 -- where no train is refused, the scene is refused for a fault of its tables
-told_of_plan : (scene : Scene) (first : Option PlanFault) → first_failing (trains_tests scene 1 scene.trains) ≡ None → fault_of (tables_of scene) ≡ first → compile_refusal scene ≡ option_and_then (λ why. refusal_in (fault_for why)) first
+told_of_plan : (scene : Scene) (first : Option PlanFault) → first_failing (trains_tests scene 1 scene.trains) ≡ None → fault_of (tables_of scene) ≡ first → plan_refusal scene ≡ option_and_then (λ why. refusal_in (fault_for why)) first
 told_of_plan scene first none is =
     or-none (first_failing (trains_tests scene 1 scene.trains)) (option_and_then (λ why. refusal_in (fault_for why)) (fault_of (tables_of scene))) (ap is_some none)
     ∙ ap (option_and_then (λ why. refusal_in (fault_for why))) is
 
-pub answers_plan : (scene : Scene) (fault : PlanFault) → first_failing (trains_tests scene 1 scene.trains) ≡ None → IsAnswer (fault_of (tables_of scene)) fault → AnswersFirst (compile_refusal scene) (fault_for fault)
+pub answers_plan : (scene : Scene) (fault : PlanFault) → first_failing (trains_tests scene 1 scene.trains) ≡ None → IsAnswer (fault_of (tables_of scene)) fault → AnswersFirst (plan_refusal scene) (fault_for fault)
 answers_plan scene (TooLong t place) none is = told_of_plan scene (Some (TooLong t place)) none is
 answers_plan scene (SelfBlocked t place section) none is = told_of_plan scene (Some (SelfBlocked t place section)) none is
 answers_plan scene OutOfMemory none is = tt

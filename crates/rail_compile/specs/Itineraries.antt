@@ -25,7 +25,7 @@ use Rattle.rail_scene.specs.declared.scene.SceneTrain.{SceneTrain}
 
 -- what stands for a route that the network doesn't have
 abbrev pub no_route : Route
-no_route = record { name = []; from = []; to = []; steps = [] }
+no_route = record { name = []; from = []; to = []; steps = []; overlap = [] }
 
 -- what stands for a post that the network doesn't have
 abbrev pub no_post : Post
@@ -145,3 +145,7 @@ tables_of scene = record {
 -- the plant of the scene, which has no calls
 abbrev pub plant_of_scene : Scene → Plant
 plant_of_scene scene = bare (tables_of scene)
+
+-- the scene with these trains in place of its own
+abbrev pub with_trains : Scene → List SceneTrain → Scene
+with_trains scene trains = record scene { trains = trains }

@@ -4,6 +4,9 @@ use Rattle.std.specs.List.{list_all, list_any}
 use Rattle.rail_base.specs.NameForms.{same_name}
 use Rattle.rail_routes.specs.declared.items.Route.{Route}
 use Rattle.rail_routes.specs.Net.{Net}
+use Rattle.rail_base.specs.declared.plant.TrainKind.{TrainKind}
+use Rattle.rail_scene.specs.declared.scene.Scene.{Scene}
+use Rattle.rail_compile.specs.declared.compiling.Lookups.{Lookups}
 use Rattle.rail_compile.specs.declared.compiling.ways.Way.{Way}
 use Rattle.rail_compile.specs.declared.compiling.ways.Ways.{Ways}
 use Rattle.rail_compile.specs.Itineraries.{no_route, move_over, is_portal, is_signal}
@@ -42,3 +45,8 @@ way_over net route = record {
 pub record AreWays (net : Net) (ways : Ways) : Type 0 where
   pub names : ways.names.keys ≡ map (λ (route : Route). route.name) net.routes
   pub items : ways.items.items ≡ map (way_over net) net.routes
+
+-- these are the names of the scene's kinds, and what is looked up of its routes
+pub record AreLookups (scene : Scene) (lookups : Lookups) : Type 0 where
+  pub kinds : lookups.kinds.keys ≡ map (λ (kind : TrainKind). kind.name) scene.kinds
+  pub ways : AreWays scene.network lookups.ways

@@ -52,7 +52,7 @@ no_turn = record { arriving = []; leaving = []; time = 0 }
 
 -- stands for a route that is not there
 abbrev pub no_route : Route
-no_route = record { name = []; from = []; to = []; steps = [] }
+no_route = record { name = []; from = []; to = []; steps = []; overlap = [] }
 
 -- the edit, from the network after it and what is kept
 abbrev pub edit_of : Kept → Net → Edit

@@ -1,8 +1,10 @@
 -- Names and steps that are read one by one.
-use Rattle.std.proofs.Common.{◌≡◌, ℕ, ◌&&◌, Bool, true, false, cond, List, ◌∷◌, Some, None, if◌then◌else◌, option_map, refl, sym, ap, ◌∙◌}
+use Rattle.std.proofs.Common.{◌≡◌, ℕ, ◌&&◌, Bool, true, false, cond, List, [], ◌∷◌, ◌++◌, Option, Some, None, if◌then◌else◌, option_map, refl, sym, ap, ◌∙◌, append_assoc}
+use Rattle.std.proofs.lemmas.List.{append-nil}
 use Rattle.rail_base.specs.NameForms.{is_name}
 use Rattle.rail_routes.specs.declared.items.Step.{Step}
-use Rattle.rail_edit_file.specs.EditLines.{steps_from}
+use Rattle.rail_edit_file.specs.declared.lists.Way.{Way}
+use Rattle.rail_edit_file.specs.EditLines.{is_slash, overlap_from, steps_from, way_from}
 
 -- a word that is read as a name is that name
 pub read_as : (word name : List ℕ) → Some name ≡ (if is_name word then Some word else None) → (name ≡ word) × (is_name word ≡ true)
@@ -11,6 +13,40 @@ read_as word name is = by (is_name word) is
     by : (b : Bool) → Some name ≡ (if b then Some word else None) → (name ≡ word) × (b ≡ true)
     by true is = (cc, refl)
     by false is = cc
+
+-- the words of a way behind a `/`
+pub way_slash : (from word : List ℕ) (behind : List (List ℕ)) → is_slash word ≡ true
+    → way_from from (word ∷ behind) ≡ option_map (λ (overlap : List Step). record { steps = []; overlap = overlap }) (overlap_from from behind)
+way_slash from word [] is = refl
+way_slash from word (next ∷ rest) is =
+    ap (λ b. cond b (option_map (λ (overlap : List Step). record { steps = []; overlap = overlap }) (overlap_from from (next ∷ rest)))
+    (cond (is_name word && is_name next) (option_map (λ (way : Way). record way { steps = record { section = word; from = from; to = next } ∷ way.steps }) (way_from next rest)) None)) is
+
+-- an overlap behind steps that were read
+pub with_slash : (steps : List Step) (o : Option (List Step))
+    → option_map (λ (way : Way). record way { steps = steps ++ way.steps }) (option_map (λ (overlap : List Step). record { steps = []; overlap = overlap }) o)
+    ≡ option_map (λ (overlap : List Step). record { steps = steps; overlap = overlap }) o
+with_slash steps None = refl
+with_slash steps (Some overlap) = ap (λ (ss : List Step). Some record { steps = ss; overlap = overlap }) (append-nil steps)
+
+-- one step more before a way
+pub one_more_step : (steps pushed : List Step) (step : Step) (way : Option Way) → pushed ≡ steps ++ step ∷ []
+    → option_map (λ (w : Way). record w { steps = pushed ++ w.steps }) way
+    ≡ option_map (λ (w : Way). record w { steps = steps ++ w.steps }) (option_map (λ (w : Way). record w { steps = step ∷ w.steps }) way)
+one_more_step steps pushed step None is = refl
+one_more_step steps pushed step (Some way) is =
+    ap (λ (ss : List Step). Some record way { steps = ss }) (ap (λ ss. ss ++ way.steps) is ∙ append_assoc steps (step ∷ []) way.steps)
+
+-- the first step of a way, and the way behind it
+pub first_way : (from word section next to : List ℕ) (behind rest : List (List ℕ)) → is_slash word ≡ false → behind ≡ next ∷ rest
+    → Some section ≡ (if is_name word then Some word else None) → Some to ≡ (if is_name next then Some next else None)
+    → way_from from (word ∷ behind) ≡ option_map (λ (way : Way). record way { steps = record { section = section; from = from; to = to } ∷ way.steps }) (way_from to rest)
+first_way from word section next to behind rest other here section_is to_is =
+    let s = read_as word section section_is in
+    let t = read_as next to to_is in
+    ap (λ (ws : List (List ℕ)). way_from from (word ∷ ws)) here
+    ∙ (λ i. cond (other i) (option_map (λ (overlap : List Step). record { steps = []; overlap = overlap }) (overlap_from from (next ∷ rest)))
+    (cond (s.1 i && t.1 i) (option_map (λ (way : Way). record way { steps = record { section = sym s.0 i; from = from; to = sym t.0 i } ∷ way.steps }) (way_from (sym t.0 i) rest)) None))
 
 -- the first of the steps, and those behind it
 pub first_step : (from word section next to : List ℕ) (behind rest : List (List ℕ)) → behind ≡ next ∷ rest → Some section ≡ (if is_name word then Some word else None) → Some to ≡ (if is_name next then Some next else None)

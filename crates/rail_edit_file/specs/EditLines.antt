@@ -14,6 +14,7 @@ use Rattle.rail_text.specs.Decimals.{is_decimal, value_of}
 use Rattle.rail_edit.specs.declared.edit.Edit.{Edit}
 use Rattle.rail_edit.specs.declared.edit.Edit.TheVariants.{AddSection, AddPost, AddTurn, AddRoute, RemoveSection, RemovePost, RemoveTurn, RemoveRoute}
 use Rattle.rail_edit.specs.Edits.{is_formed_edit}
+use Rattle.rail_edit_file.specs.declared.lists.Way.{Way}
 use Rattle.rail_edit_file.specs.declared.spelling.EditLine.{EditLine}
 use Rattle.rail_edit_file.specs.declared.spelling.PostTimes.{PostTimes}
 use Rattle.rail_edit_file.specs.declared.spelling.EditLine.TheVariants.{Change, Undo, Redo}
@@ -73,14 +74,33 @@ steps_from joint (section ∷ []) = None
 steps_from joint (section ∷ to ∷ rest) =
     cond (is_name section && is_name to) (option_map (λ steps. record { section = section; from = joint; to = to } ∷ steps) (steps_from to rest)) None
 
--- a route of this name between these posts, over at least one step
-abbrev pub route_over : List ℕ → List ℕ → List ℕ → List Step → Option Route
-route_over name from to steps = cond (length steps == 0) None (Some record { name = name; from = from; to = to; steps = steps })
+-- the word behind which an overlap stands
+abbrev pub is_slash : List ℕ → Bool
+is_slash word = same_numbers word (codes "/")
 
--- a route: NAME FROM TO JOINT SECTION JOINT [SECTION JOINT ..]
+-- the steps of an overlap from a joint on, at least one: SECTION JOINT [SECTION JOINT ..]
+abbrev pub overlap_from : List ℕ → List (List ℕ) → Option (List Step)
+overlap_from joint [] = None
+overlap_from joint (word ∷ rest) = steps_from joint (word ∷ rest)
+
+-- the steps of a path from a joint on, and behind a `/` those of its overlap: [SECTION JOINT ..] [/ SECTION JOINT ..]
+abbrev pub way_from : List ℕ → List (List ℕ) → Option Way
+way_from joint [] = Some record { steps = []; overlap = [] }
+way_from joint (word ∷ []) = None
+way_from joint (word ∷ to ∷ rest) =
+    cond (is_slash word) (option_map (λ overlap. record { steps = []; overlap = overlap }) (overlap_from joint (to ∷ rest)))
+    (cond (is_name word && is_name to)
+    (option_map (λ (way : Way). record way { steps = record { section = word; from = joint; to = to } ∷ way.steps }) (way_from to rest)) None)
+
+-- a route of this name between these posts, over at least one step
+abbrev pub route_over : List ℕ → List ℕ → List ℕ → Way → Option Route
+route_over name from to way =
+    cond (length way.steps == 0) None (Some record { name = name; from = from; to = to; steps = way.steps; overlap = way.overlap })
+
+-- a route: NAME FROM TO JOINT SECTION JOINT [SECTION JOINT ..] [/ SECTION JOINT [SECTION JOINT ..]]
 abbrev pub route_in : List (List ℕ) → Option Route
 route_in (name ∷ from ∷ to ∷ joint ∷ rest) =
-    cond (is_name name && is_name from && is_name to && is_name joint) (option_and_then (route_over name from to) (steps_from joint rest)) None
+    cond (is_name name && is_name from && is_name to && is_name joint) (option_and_then (route_over name from to) (way_from joint rest)) None
 route_in _ = None
 
 -- an item that is added: its part, and its words

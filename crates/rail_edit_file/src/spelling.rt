@@ -4,9 +4,9 @@ ghost use Rattle.std.specs.Prelude.{◌≡◌, IsTrue, MatchOption, Some, None, 
 ghost use Rattle.rail_text.specs.Lines.{words};
 ghost use Rattle.rail_routes.specs.PostRules.{is_formed};
 ghost use Rattle.rail_edit.specs.Edits.{is_formed_edit};
-ghost use Rattle.rail_edit_file.specs.EditLines.{added, are_joints, asked_alone, board_in, changed, edit_line, is_formed_line, portal_in, removed, removed_between, removed_named, route_in, route_over, section_in, signal_in, steps_from, times_in, turn_in};
+ghost use Rattle.rail_edit_file.specs.EditLines.{added, are_joints, asked_alone, board_in, changed, edit_line, is_formed_line, portal_in, removed, removed_between, removed_named, route_in, route_over, section_in, signal_in, way_from, times_in, turn_in};
 
-use crate::lists::{names, steps};
+use crate::lists::{names, way_from};
 use crate::words::{kind, number};
 use rail_base::{Name, Seq};
 use rail_edit::Edit;
@@ -311,24 +311,25 @@ fn route_in(alloc: Global, args: &[u8]) -> Result<Option<Route>, AllocError>
     let Some((head, rest)) = route_head(args) else {
         return Ok(None);
     };
-    let Some(steps) = steps(alloc, head.joint, rest)? else {
+    let Some(way) = way_from(alloc, head.joint, rest)? else {
         return Ok(None);
     };
-    if steps.is_empty() {
+    if way.steps.as_slice().is_empty() {
         return Ok(None);
     }
     Ok(Some(Route {
         name: head.name,
         from: head.from,
         to: head.to,
-        steps: Seq::from_vec(steps),
+        steps: way.steps,
+        overlap: way.overlap,
     }))
 }
 
 /// What stands before the steps, and the text behind it.
 fn route_head(args: &[u8]) -> Option<(RouteHead, &[u8])>
     ensures { MatchOption result (route_in (words args.now) ≡ None) (λ parts. route_in (words args.now)
-        ≡ option_and_then (route_over parts.0.name parts.0.from parts.0.to) (steps_from parts.0.joint (words parts.1.now))) }
+        ≡ option_and_then (route_over parts.0.name parts.0.from parts.0.to) (way_from parts.0.joint (words parts.1.now))) }
 {
     let (name, rest) = next_word(args)?;
     let (from, rest) = next_word(rest)?;

@@ -3,14 +3,17 @@
 ghost use Rattle.std.specs.Prelude.{◌+◌, ◌≤◌, length};
 ghost use Rattle.rail_text.specs.declared.line.TheConstants.{ROOM};
 
-use rail_base::limits::{INPUT_TIME, ITINERARY_ROUTES, ROUTE_SECTIONS};
+use rail_base::limits::{INPUT_TIME, ITINERARY_ROUTES, OVERLAP_SECTIONS, ROUTE_SECTIONS};
 use rail_scene::keys::{Bounds, Form, KeyName};
 use rail_text::Line;
 
-// The limits that the texts below tell: 240 hours, the names of a path of as many sections, the routes of an itinerary.
+// The limits that the texts below tell: 240 hours, the names of a path and of an overlap of as many sections, the routes of an
+// itinerary.
 const _: () = prove!(INPUT_TIME == 240 * 36_000);
 
 const _: () = prove!(2 * ROUTE_SECTIONS + 1 == 65);
+
+const _: () = prove!(2 * OVERLAP_SECTIONS == 16);
 
 const _: () = prove!(ITINERARY_ROUTES == 64);
 
@@ -29,6 +32,9 @@ pub fn put_range(line: &mut Line, form: Form)
             );
         }
         Form::Path => line.put(b" must have 3 to 65 names, joints and sections in turn"),
+        Form::Overlap => line.put(
+            b" must have at most 16 names, sections and joints in turn, in an even number",
+        ),
         Form::Itinerary => line.put(b" must have 1 to 64 names"),
         Form::Name | Form::Policy | Form::Tables => line.put(b" is out of its range"),
     }
@@ -54,7 +60,8 @@ pub fn kind_text(form: Form) -> &'static [u8]
     match form {
         Form::Name | Form::Policy | Form::Choice | Form::Time => b" must be a string",
         Form::Whole(_) => b" must be a whole number",
-        Form::Joints | Form::Path | Form::Itinerary => b" must be a list of strings",
+        Form::Joints | Form::Path | Form::Overlap | Form::Itinerary =>
+            b" must be a list of strings",
         Form::Tables => b" must be a list of tables, as [[section]] begins one",
     }
 }
@@ -65,7 +72,7 @@ pub fn unknown_text(key: KeyName) -> &'static [u8]
 {
     match key {
         KeyName::Ahead => b" names no section",
-        KeyName::Path => b" names a section that is not there",
+        KeyName::Path | KeyName::Overlap => b" names a section that is not there",
         KeyName::Arriving | KeyName::Leaving | KeyName::From | KeyName::To => {
             b" names no portal, signal or board"
         }

@@ -85,13 +85,18 @@ pub fn put_key(line: &mut Line, refusal: &Refusal)
     }
 }
 
-/// Puts the keys that a table of the part may have in the newest version.
+/// Puts the keys that a table of the part may have in the newest version, and before those that the first version has not
+/// that they are of the second.
 pub fn put_keys(line: &mut Line, part: Part)
-    requires { length line.old + 130 ≤ ROOM }
-    ensures short { length line.new ≤ length line.old + 130 }
+    requires { length line.old + 190 ≤ ROOM }
+    ensures short { length line.new ≤ length line.old + 190 }
 {
+    let first = keys_in(part, Version::One).len();
     line.put(b":");
-    for key in keys_in(part, Version::NEWEST) {
+    for (index, key) in keys_in(part, Version::NEWEST).iter().enumerate() {
+        if index == first {
+            line.put(b", in version 2");
+        }
         line.put_word(key.name.text().as_bytes());
     }
 }

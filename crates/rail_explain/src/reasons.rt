@@ -79,7 +79,7 @@ pub fn meaning(refusal: &Refusal) -> &'static [u8]
         Reason::NoPath => b": no path is free between the paths of the other trains",
         Reason::RerouteForm => b" does not say how a train is rerouted",
         Reason::RerouteName => b" names a train or a route that is not in the scene",
-        Reason::NotYet => b": the command has a form that is not built",
+        Reason::NotYet => b": a run over routes with overlaps is not built",
     }
 }
 

@@ -11,7 +11,7 @@ use rail_base::{Name, Reason, Refusal};
 use rail_text::Line;
 
 /// How many bytes the explanation of a refusal has at most.
-pub const MOST: usize = 340;
+pub const MOST: usize = 400;
 
 /// The explanation of a refusal, which has a name where its item has one: the item, then the key, joint, step or place,
 /// and what was expected there. It stands behind the name of the file and has no line feed.

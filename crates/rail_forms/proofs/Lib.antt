@@ -8,6 +8,7 @@ mod Progress
 mod InfraTexts
 mod Writes
 mod Lists
+mod Migrations
 mod Answers
 mod TwoFiles
 mod CheckAnswers

@@ -13,6 +13,7 @@ pub mod Reports
 pub mod Capacity
 pub mod Purposes
 pub mod Infra
+pub mod Migration
 pub mod TwoFiles
 pub mod Plays
 pub mod Checks

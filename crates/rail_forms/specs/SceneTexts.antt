@@ -2,19 +2,23 @@
 use Rattle.std.specs.Prelude.{◌≡◌, ℕ, List, Option, None}
 use Rattle.rail_gen.specs.MadeScenes.{made_scene}
 use Rattle.rail_io.specs.Writes.{Adds, AddsPrefix}
+use Rattle.rail_scene.specs.Fields.{version_of}
 use Rattle.rail_scene.specs.Order.{scene_refusal}
-use Rattle.rail_scene.specs.SpelledScenes.{spelled_scene}
+use Rattle.rail_scene.specs.SpelledScenes.{root_of, spelled_scene}
+use Rattle.rail_scene.specs.Versions.{newest}
 use Rattle.rail_scene.specs.declared.scene.Scene.{Scene}
 use Rattle.rail_scene_text.specs.Tables.{IsSceneText}
 use Rattle.rail_forms.specs.declared.status.Status.{Status}
 use Rattle.rail_forms.specs.Answers.{IsAnswer}
 
--- the text of this scene was added, or so much of it: it is accepted as a scene file, and read as the same scene
+-- the text of this scene was added, or so much of it: it is accepted as a scene file of the newest version, and read as the
+-- same scene
 pub record WritesScene (scene : Scene) (adds : List ℕ → Type 0) : Type 0 where
   pub text : List ℕ
   pub laid_out : IsSceneText scene text
   pub accepted : scene_refusal text ≡ None
   pub same : spelled_scene text ≡ scene
+  pub version : version_of (root_of text) ≡ newest
   pub added : adds text
 
 -- the made-up scene of the number

@@ -16,6 +16,7 @@ pub mod check;
 pub mod edit;
 mod files;
 pub mod infra;
+pub mod migrate;
 mod notes;
 pub mod play;
 mod report;

@@ -137,6 +137,7 @@ pub is_scene : (count : ℕ) → count ≤ 8 → (trains : List SceneTrain) → 
 is_scene count few trains all many apart = record {
   release = omega arith;
   depth = omega arith;
+  overlap_time = omega arith;
   few_kinds = omega arith;
   few_trains = many;
   kinds = refl;

@@ -79,12 +79,12 @@ line_signals count = flat_map station_signals (stations_of count)
 
 -- a route over one section
 abbrev pub route_over : List ℕ → List ℕ → List ℕ → Step → Route
-route_over name from to step = record { name = name; from = from; to = to; steps = step ∷ [] }
+route_over name from to step = record { name = name; from = from; to = to; steps = step ∷ []; overlap = [] }
 
 -- a route over two sections, which meet at a joint
 abbrev pub route_through : List ℕ → List ℕ → List ℕ → Step → List ℕ → List ℕ → Route
 route_through name from to step section end =
-    record { name = name; from = from; to = to; steps = step ∷ record { section = section; from = step.to; to = end } ∷ [] }
+    record { name = name; from = from; to = to; steps = step ∷ record { section = section; from = step.to; to = end } ∷ []; overlap = [] }
 
 -- a step over a section
 abbrev pub over : List ℕ → List ℕ → List ℕ → Step

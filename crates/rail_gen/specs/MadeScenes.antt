@@ -99,6 +99,7 @@ line_scene count trains = record {
   release = 30;
   depth = 1;
   policy = codes "fcfs";
+  overlap_time = 0;
   network = line_network count;
   kinds = line_kinds;
   trains = trains;

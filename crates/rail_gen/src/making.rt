@@ -40,6 +40,7 @@ pub fn scene_of(alloc: Global, number: u64) -> Result<Scene, OutOfMemory>
         release: 30,
         depth: 1,
         policy: name(b"fcfs"),
+        overlap_time: 0,
         network,
         kinds: Seq::from_vec(kinds),
         trains: Seq::from_vec(trains),

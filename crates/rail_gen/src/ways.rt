@@ -95,6 +95,7 @@ fn route_over(
         from,
         to,
         steps,
+        overlap: Seq::from_vec(Vec::new(alloc)),
     })
 }
 
@@ -121,6 +122,7 @@ fn route_through(
         from,
         to,
         steps,
+        overlap: Seq::from_vec(Vec::new(alloc)),
     })
 }
 

@@ -6,7 +6,7 @@ use rail_words::{Form, request_of};
 use std::alloc::{AllocError, Global};
 
 /// What is said of item 2 of the part, at this step.
-const TOLD: [(Reason, Part, u32, &str); 44] = [
+const TOLD: [(Reason, Part, u32, &str); 46] = [
     (
         Reason::NotToml,
         Part::Bytes,
@@ -54,6 +54,18 @@ const TOLD: [(Reason, Part, u32, &str); 44] = [
         Part::Section,
         3,
         "section 2: key 3 \"length\" must be 1 to 100000",
+    ),
+    (
+        Reason::Range,
+        Part::Route,
+        5,
+        "route 2: key 5 \"overlap\" must have at most 16 names, sections and joints in turn, in an even number",
+    ),
+    (
+        Reason::KeyUnknown,
+        Part::Route,
+        0,
+        "route 2 has a key that is none of its keys: name from to path, in version 2 overlap",
     ),
     (
         Reason::Range,
@@ -245,7 +257,7 @@ const TOLD: [(Reason, Part, u32, &str); 44] = [
         Reason::NotYet,
         Part::Root,
         0,
-        "the root: the command has a form that is not built",
+        "the root: a run over routes with overlaps is not built",
     ),
     (
         Reason::Range,

@@ -11,7 +11,7 @@ fn words_of(alloc: Global, line: &str) -> Result<Vec<Word>, AllocError> {
 }
 
 // Each line, and its form, if it has one.
-const LINES: [(&str, Option<Form>); 22] = [
+const LINES: [(&str, Option<Form>); 23] = [
     ("", None),
     ("run", None),
     ("run S", Some(Form::Run)),
@@ -29,6 +29,7 @@ const LINES: [(&str, Option<Form>); 22] = [
     ("capacity X1 00:01:00 0:11:00 S", None),
     ("capacity X1 00:01:00 00:11:00", None),
     ("edit S E", Some(Form::Edit)),
+    ("migrate S", Some(Form::Migrate)),
     ("gen 18446744073709551615", Some(Form::Gen)),
     ("gen 18446744073709551616", None),
     ("gen 01", None),

@@ -199,7 +199,7 @@ pub distinct_route : (net : Net) (route : Route) → IsDistinctNetwork net → r
 distinct_route net route is none =
     let a = all_passed (route_tests net route) none in
     let fits = route_fits net route none in
-    let zero : count_by (is_route route.name) net.routes ≡ 0 = count_by_none (is_route route.name) net.routes a.1.1.0 in
+    let zero : count_by (is_route route.name) net.routes ≡ 0 = count_by_none (is_route route.name) net.routes a.1.1.1.0 in
     record {
       track = is.track;
       few_posts = is.few_posts;

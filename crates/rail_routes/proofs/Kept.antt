@@ -1,5 +1,5 @@
 -- What holds on some sections holds on others that have those in question.
-use Rattle.std.proofs.Common.{◌≡◌, ℕ, Bool, true, false, ◌&&◌, ◌||◌, ◌==◌, List, [], ◌∷◌, Option, Some, None, refl, ap, ◌∙◌}
+use Rattle.std.proofs.Common.{◌≡◌, ℕ, Bool, true, false, not, ◌&&◌, ◌||◌, ◌==◌, List, [], ◌∷◌, Option, Some, None, refl, ap, ◌∙◌}
 use Rattle.std.specs.List.{list_any}
 use Rattle.std.specs.Option.{option_map_or}
 use Rattle.rail_base.specs.NameForms.{same_name}
@@ -11,9 +11,9 @@ use Rattle.rail_routes.specs.declared.items.Role.{Role}
 use Rattle.rail_routes.specs.declared.items.Role.TheVariants.{Portal, Signal, Board}
 use Rattle.rail_routes.specs.declared.items.Step.{Step}
 use Rattle.rail_routes.specs.PostRules.{stands_as, has_joint_ahead}
-use Rattle.rail_routes.specs.RouteRules.{is_ahead_of, begins, goes_on, ends, leads_on}
-use Rattle.rail_routes.specs.Sound.{lead_to, lead_between}
-use Rattle.rail_routes.proofs.Lists.{both_false}
+use Rattle.rail_routes.specs.RouteRules.{is_ahead_of, begins, goes_on, ends, leads_on, leads_from, is_beyond}
+use Rattle.rail_routes.specs.Sound.{lead_to, lead_on, is_sound_path, is_sound_overlap, lead_between}
+use Rattle.rail_routes.proofs.Lists.{both_false, last_kept}
 
 -- a section of this name is still there
 abbrev pub Keeps : List Section → List Section → List ℕ → Type 0
@@ -58,13 +58,24 @@ module _ (sections others : List Section) where
     begins_kept post [] none begin = cc
     begins_kept post (step ∷ rest) none begin = ahead_kept post.role post step (both_false (gone step) (list_any gone rest) none).0 begin
 
+    lead_on_kept : (joint : List ℕ) (steps : List Step) → list_any gone steps ≡ false → lead_on sections joint steps ≡ true → lead_on others joint steps ≡ true
+    lead_on_kept joint [] none leads = refl
+    lead_on_kept joint (step ∷ rest) none leads =
+        let n = both_false (gone step) (list_any gone rest) none in
+        both_kept (leads_from sections joint step) (lead_on sections step.to rest) (leads_from others joint step) (lead_on others step.to rest)
+        (last_kept (same_name joint step.from) (has_passage sections step.section step.from step.to) (has_passage others step.section step.from step.to) (passage_kept step.section step.from step.to (keeps step n.0)))
+        (lead_on_kept step.to rest n.1) leads
+
     -- a way over sections that are still there
-    pub way_kept : (begin end : Option Post) (steps : List Step) → list_any gone steps ≡ false → lead_between sections begin end steps ≡ true → lead_between others begin end steps ≡ true
-    way_kept (Some begin) (Some end) steps none leads =
-        both_kept (begins begin sections steps) (lead_to sections end begin.joint steps) (begins begin others steps) (lead_to others end begin.joint steps)
-        (begins_kept begin steps none) (lead_to_kept end begin.joint steps none) leads
-    way_kept (Some begin) None steps none leads = cc
-    way_kept None end steps none leads = cc
+    pub way_kept : (begin end : Option Post) (steps overlap : List Step) → list_any gone steps ≡ false → list_any gone overlap ≡ false → lead_between sections begin end steps overlap ≡ true → lead_between others begin end steps overlap ≡ true
+    way_kept (Some begin) (Some end) steps overlap none beyond leads =
+        both_kept (is_sound_path sections begin end steps) (is_sound_overlap sections end overlap) (is_sound_path others begin end steps) (is_sound_overlap others end overlap)
+        (both_kept (begins begin sections steps) (lead_to sections end begin.joint steps) (begins begin others steps) (lead_to others end begin.joint steps)
+        (begins_kept begin steps none) (lead_to_kept end begin.joint steps none))
+        (last_kept (not (is_beyond end.role overlap)) (lead_on sections end.joint overlap) (lead_on others end.joint overlap) (lead_on_kept end.joint overlap beyond))
+        leads
+    way_kept (Some begin) None steps overlap none beyond leads = cc
+    way_kept None end steps overlap none beyond leads = cc
 
   ahead_has : (post : Post) → ((ahead : List ℕ) → section_has sections ahead post.joint ≡ true → section_has others ahead post.joint ≡ true) → has_joint_ahead sections post ≡ true → has_joint_ahead others post ≡ true
   ahead_has post has = by post.ahead

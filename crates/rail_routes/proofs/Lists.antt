@@ -2,7 +2,8 @@
 use Rattle.std.proofs.Common.{◌≡◌, Bool, true, false, cond, not, ◌&&◌, ◌||◌, List, [], ◌∷◌, ◌++◌, Option, Some, None, is_some, refl, sym, ap, ◌∙◌}
 use Rattle.std.specs.List.{find, list_any, list_all}
 use Rattle.std.specs.Option.{option_or}
-use Rattle.std.proofs.lemmas.List.Folds.{find-append, list_all-append}
+use Rattle.std.proofs.lemmas.List.Folds.{find-append, list_all-append, list_any-append}
+use Rattle.rail_base.specs.Lists.{are_distinct}
 use Rattle.rail_track.specs.Lists.{without}
 use Rattle.rail_routes.proofs.Uses.{list_any-find}
 
@@ -22,6 +23,18 @@ not_false false h = cc
 pub last_kept : (b c d : Bool) → (c ≡ true → d ≡ true) → (b && c) ≡ true → (b && d) ≡ true
 last_kept true c d keeps h = keeps h
 last_kept false c d keeps h = cc
+
+-- the first items of a list whose items are apart are apart
+pub distinct_front : {X : Type 0} (alike : X → X → Bool) (xs ys : List X) → are_distinct alike (xs ++ ys) ≡ true → are_distinct alike xs ≡ true
+distinct_front alike [] ys apart = refl
+distinct_front alike (x ∷ xs) ys apart =
+    let (other, rest) = both_true (not (list_any (alike x) (xs ++ ys))) (are_distinct alike (xs ++ ys)) apart in
+    let (none, _) = both_false (list_any (alike x) xs) (list_any (alike x) ys) (sym (list_any-append (alike x) xs ys) ∙ not_true (list_any (alike x) (xs ++ ys)) other) in
+    λ i. not (none i) && distinct_front alike xs ys rest i
+  where
+    not_true : (b : Bool) → not b ≡ true → b ≡ false
+    not_true true h = cc
+    not_true false h = refl
 
 or_none : {X : Type 0} (o : Option X) → option_or o None ≡ o
 or_none (Some x) = refl

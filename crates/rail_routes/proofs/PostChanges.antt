@@ -4,7 +4,7 @@ use Rattle.std.specs.List.{list_any, list_all, find}
 use Rattle.std.specs.Option.{option_or}
 use Rattle.std.proofs.lemmas.List.Folds.{find-append, list_any-append}
 use Rattle.rail_base.specs.NameForms.{same_name}
-use Rattle.rail_base.specs.declared.limits.TheConstants.{SETTING, WATCHING, APPROACH, TURN_TIME, ROUTE_SECTIONS}
+use Rattle.rail_base.specs.declared.limits.TheConstants.{SETTING, WATCHING, APPROACH, TURN_TIME, ROUTE_SECTIONS, OVERLAP_SECTIONS}
 use Rattle.rail_track.specs.declared.section.Section.{Section}
 use Rattle.rail_base.specs.Limits.{is_from_one}
 use Rattle.rail_base.specs.Lists.{are_distinct}
@@ -54,7 +54,7 @@ module _ (net other : Net) where
 
   route_same : (route : Route) → other.sections ≡ net.sections → IsSameNamed net other route.from → IsSameNamed net other route.to → is_sound_route other route ≡ is_sound_route net route
   route_same route sections from to =
-      λ i. is_from_one ROUTE_SECTIONS (length route.steps) && are_distinct have_one_section route.steps && lead_between (sections i) (post_same route.from from i) (post_same route.to to i) route.steps
+      λ i. is_from_one ROUTE_SECTIONS (length route.steps) && nat_le (length route.overlap) OVERLAP_SECTIONS && are_distinct have_one_section (route.steps ++ route.overlap) && lead_between (sections i) (post_same route.from from i) (post_same route.to to i) route.steps route.overlap
 
 -- a name that is there is another than one that is not
 other_name : (net : Net) (known fresh : List ℕ) → list_any (is_post known) (posts net) ≡ true → list_any (is_post fresh) (posts net) ≡ false → same_name known fresh ≡ false
@@ -82,15 +82,15 @@ module _ (net : Net) where
         any_in_signals (is_post turn.leaving) net (both_true (not (list_any (is_post turn.arriving) net.portals)) (list_any (is_post turn.leaving) net.signals) b.0).1,
       )
 
-  ends_known : (sections : List Section) (steps : List Step) (begin end : Option Post) → lead_between sections begin end steps ≡ true → (is_some begin ≡ true) × (is_some end ≡ true)
-  ends_known sections steps (Some begin) (Some end) h = (refl, refl)
-  ends_known sections steps (Some begin) None h = cc
-  ends_known sections steps None end h = cc
+  ends_known : (sections : List Section) (steps overlap : List Step) (begin end : Option Post) → lead_between sections begin end steps overlap ≡ true → (is_some begin ≡ true) × (is_some end ≡ true)
+  ends_known sections steps overlap (Some begin) (Some end) h = (refl, refl)
+  ends_known sections steps overlap (Some begin) None h = cc
+  ends_known sections steps overlap None end h = cc
 
   route_known : (route : Route) → is_sound_route net route ≡ true → (list_any (is_post route.from) (posts net) ≡ true) × (list_any (is_post route.to) (posts net) ≡ true)
   route_known route h =
-      let way = (both_true _ (lead_between net.sections (post_named route.from net) (post_named route.to net) route.steps) h).1 in
-      let ends = ends_known net.sections route.steps (post_named route.from net) (post_named route.to net) way in
+      let way = (both_true _ (lead_between net.sections (post_named route.from net) (post_named route.to net) route.steps route.overlap) h).1 in
+      let ends = ends_known net.sections route.steps route.overlap (post_named route.from net) (post_named route.to net) way in
       (list_any-find (is_post route.from) (posts net) ∙ ends.0, list_any-find (is_post route.to) (posts net) ∙ ends.1)
 
 module _ (net : Net) (post : Post) (is : IsSoundNetwork net) (formed : is_formed post ≡ true) (none : post_refusal net post ≡ None) where

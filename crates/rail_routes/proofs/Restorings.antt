@@ -192,7 +192,7 @@ own_turn turn = λ i. same_name-self turn.arriving i && same_name-self turn.leav
 
 -- a route that passed its tests has a new name
 pub fresh_route : (net : Net) (route : Route) → route_refusal net route ≡ None → list_any (is_route route.name) net.routes ≡ false
-fresh_route net route none = (all_passed (route_tests net route) none).1.1.0
+fresh_route net route none = (all_passed (route_tests net route) none).1.1.1.0
 
 -- a post that passed its tests has a new name
 pub new_by_tests : (net : Net) (post : Post) → post_refusal net post ≡ None → IsNewName post.name net

@@ -19,7 +19,7 @@ use Rattle.rail_routes.specs.declared.items.Route.{Route}
 use Rattle.rail_routes.specs.Net.{Net, posts, post_named, stands_at}
 use Rattle.rail_routes.specs.PostRules.{stands_as, stands_well, is_formed, has_joint_ahead}
 use Rattle.rail_routes.specs.SectionRules.{is_closed_by, net_section_refusal}
-use Rattle.rail_routes.specs.Uses.{is_section_used, runs_over, section_removal}
+use Rattle.rail_routes.specs.Uses.{sections_in, is_section_used, claims, section_removal}
 use Rattle.rail_routes.specs.Sound.{IsSoundNetwork, same_role, is_timed, is_sound_post, is_sound_route, lead_between}
 use Rattle.rail_routes.proofs.Uses.{any_swap, any_agree, any_or, any_false}
 use Rattle.rail_routes.proofs.Lists.{both_true, both_false, last_kept, find-more, find-without_other, find_true, all_kept, all_more}
@@ -40,11 +40,11 @@ same_from_role Board Board h = refl
 
 -- a route over sections that are still there
 route_kept : (net : Net) (others : List Section) (gone : Step → Bool) → ((step : Step) → gone step ≡ false → Keeps net.sections others step.section)
-    → (route : Route) → list_any gone route.steps ≡ false → is_sound_route net route ≡ true → is_sound_route (record net { sections = others }) route ≡ true
-route_kept net others gone keeps route none =
+    → (route : Route) → list_any gone route.steps ≡ false → list_any gone route.overlap ≡ false → is_sound_route net route ≡ true → is_sound_route (record net { sections = others }) route ≡ true
+route_kept net others gone keeps route none beyond =
     let begin = post_named route.from net in
     let end = post_named route.to net in
-    last_kept _ (lead_between net.sections begin end route.steps) (lead_between others begin end route.steps) (way_kept net.sections others gone keeps begin end route.steps none)
+    last_kept _ (lead_between net.sections begin end route.steps route.overlap) (lead_between others begin end route.steps route.overlap) (way_kept net.sections others gone keeps begin end route.steps route.overlap none beyond)
 
 not_two : (n : ℕ) → n ≤ 1 → (n == 2) ≡ true → ⊥
 not_two n few two = grind (arith, nat_tests)
@@ -91,7 +91,7 @@ module _ (net : Net) (section : Section) (is : IsSoundNetwork net) (accepted : I
     signals = all_more (is_sound_post Signal more) (is_sound_post Signal net.sections) (λ post h. post_more Signal post (λ never. cc) h) net.signals is.signals;
     boards = all_more (is_sound_post Board more) (is_sound_post Board net.sections) (λ post h. post_more Board post (λ never. cc) h) net.boards is.boards;
     turns = is.turns;
-    routes = all_more (is_sound_route (record net { sections = more })) (is_sound_route net) (λ route h. route_kept net more (λ _. false) (λ step _. keeps step.section) route (any_false route.steps) h) net.routes is.routes;
+    routes = all_more (is_sound_route (record net { sections = more })) (is_sound_route net) (λ route h. route_kept net more (λ _. false) (λ step _. keeps step.section) route (any_false route.steps) (any_false route.overlap) h) net.routes is.routes;
   }
 
 module _ (net : Net) (name : List ℕ) (section : Section) (is : IsSoundNetwork net) (found : section_named name net.sections ≡ Some section) (unused : is_section_used net section ≡ false) where
@@ -105,8 +105,8 @@ module _ (net : Net) (name : List ℕ) (section : Section) (is : IsSoundNetwork 
   keeps_other other differs known there =
       find-without_other (is_named other) (is_named name) (λ (s : Section) same. ap (same_name other) (sym (same_from_name name s.name same)) ∙ same_name-comm other name ∙ differs) net.sections ∙ there
 
-  free : (list_any (λ (post : Post). has_joint post.joint section) (posts net) ≡ false) × (list_any (runs_over section.name) net.routes ≡ false)
-  free = both_false (list_any (λ (post : Post). has_joint post.joint section) (posts net)) (list_any (runs_over section.name) net.routes) unused
+  free : (list_any (λ (post : Post). has_joint post.joint section) (posts net) ≡ false) × (list_any (claims section.name) net.routes ≡ false)
+  free = both_false (list_any (λ (post : Post). has_joint post.joint section) (posts net)) (list_any (claims section.name) net.routes) unused
 
   has_less : (ahead joint : List ℕ) → has_joint joint section ≡ false → section_has net.sections ahead joint ≡ true → section_has less ahead joint ≡ true
   has_less ahead joint free h = by (same_name name ahead) refl
@@ -133,11 +133,13 @@ module _ (net : Net) (name : List ℕ) (section : Section) (is : IsSoundNetwork 
       let two = both_false (list_any test (net.portals ++ net.signals)) (list_any test net.boards) (sym (list_any-append test (net.portals ++ net.signals) net.boards) ∙ free.0) in
       (both_false (list_any test net.portals) (list_any test net.signals) (sym (list_any-append test net.portals net.signals) ∙ two.0), two.1)
 
-  route_less : (route : Route) → is_sound_route net route ≡ true → runs_over section.name route ≡ false → is_sound_route (record net { sections = less }) route ≡ true
+  route_less : (route : Route) → is_sound_route net route ≡ true → claims section.name route ≡ false → is_sound_route (record net { sections = less }) route ≡ true
   route_less route h free =
       let gone = λ (step : Step). same_name name step.section in
-      let none : list_any gone route.steps ≡ false = sym (list_any-map (same_name name) (λ (step : Step). step.section) route.steps) ∙ ap (λ n. runs_over n route) own_name ∙ free in
-      route_kept net less gone (λ step differs. keeps_other step.section differs) route none h
+      let split = both_false (list_any (same_name name) (sections_in route.steps)) (list_any (same_name name) (sections_in route.overlap)) (sym (list_any-append (same_name name) (sections_in route.steps) (sections_in route.overlap)) ∙ ap (λ n. claims n route) own_name ∙ free) in
+      let none : list_any gone route.steps ≡ false = sym (list_any-map (same_name name) (λ (step : Step). step.section) route.steps) ∙ split.0 in
+      let beyond : list_any gone route.overlap ≡ false = sym (list_any-map (same_name name) (λ (step : Step). step.section) route.overlap) ∙ split.1 in
+      route_kept net less gone (λ step differs. keeps_other step.section differs) route none beyond h
 
   pub sound_without_section : IsSoundTrack less → IsSoundNetwork (record net { sections = less })
   sound_without_section track = record {
@@ -146,7 +148,7 @@ module _ (net : Net) (name : List ℕ) (section : Section) (is : IsSoundNetwork 
     signals = all_kept (is_sound_post Signal less) (is_sound_post Signal net.sections) (λ (post : Post). has_joint post.joint section) (post_less Signal) net.signals is.signals free_parts.0.1;
     boards = all_kept (is_sound_post Board less) (is_sound_post Board net.sections) (λ (post : Post). has_joint post.joint section) (post_less Board) net.boards is.boards free_parts.1;
     turns = is.turns;
-    routes = all_kept (is_sound_route (record net { sections = less })) (is_sound_route net) (runs_over section.name) route_less net.routes is.routes free.1;
+    routes = all_kept (is_sound_route (record net { sections = less })) (is_sound_route net) (claims section.name) route_less net.routes is.routes free.1;
   }
 
 -- whether the track took the section or not

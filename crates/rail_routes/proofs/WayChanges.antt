@@ -1,8 +1,8 @@
 -- A sound network stays sound with a turn or route more or less.
-use Rattle.std.proofs.Common.{◌≡◌, ℕ, ◌+◌, ◌-◌, Bool, true, false, ◌&&◌, List, [], ◌∷◌, ◌++◌, Option, Some, None, is_some, length, take, nat_le, refl, sym, ap, ◌∙◌, arith, append_assoc}
+use Rattle.std.proofs.Common.{◌≡◌, ℕ, ◌+◌, ◌-◌, Bool, true, false, not, ◌&&◌, List, [], ◌∷◌, ◌++◌, Option, Some, None, is_some, length, take, nat_le, refl, sym, ap, ◌∙◌, arith, append_assoc}
 use Rattle.std.specs.List.{list_any, list_all}
 use Rattle.std.proofs.lemmas.List.{length_push}
-use Rattle.rail_base.specs.declared.limits.TheConstants.{TURN_TIME, ROUTE_SECTIONS}
+use Rattle.rail_base.specs.declared.limits.TheConstants.{TURN_TIME, ROUTE_SECTIONS, OVERLAP_SECTIONS}
 use Rattle.rail_base.specs.declared.refusals.Reason.TheVariants.{RouteRepeat}
 use Rattle.rail_track.specs.declared.section.Section.{Section}
 use Rattle.rail_base.specs.Limits.{is_from_one}
@@ -20,8 +20,8 @@ use Rattle.rail_routes.specs.declared.items.Turn.{Turn}
 use Rattle.rail_routes.specs.declared.items.Route.{Route}
 use Rattle.rail_routes.specs.Net.{Net, posts, is_post, post_named}
 use Rattle.rail_routes.specs.TurnRules.{turn_tests, turn_refusal, turns_well}
-use Rattle.rail_routes.specs.RouteRules.{occurred, repeat_tests, begins, step_tests, leads_on, way_tests, route_tests, route_refusal}
-use Rattle.rail_routes.specs.Sound.{IsSoundNetwork, is_sound_post, is_sound_turn, is_sound_route, have_one_section, lead_to, lead_between}
+use Rattle.rail_routes.specs.RouteRules.{occurred, repeats_behind, repeat_tests, begins, step_tests, leads_on, leads_from, lead_tests, path_from, overlap_from, way_tests, route_tests, route_refusal}
+use Rattle.rail_routes.specs.Sound.{IsSoundNetwork, is_sound_post, is_sound_turn, is_sound_route, have_one_section, lead_to, lead_on, is_sound_path, is_sound_overlap, lead_between}
 use Rattle.rail_routes.proofs.Uses.{list_any-find}
 use Rattle.rail_routes.proofs.Lists.{both_true, not_false, all_more, all_push}
 use Rattle.rail_routes.proofs.Tables.{is_short}
@@ -92,23 +92,34 @@ steps_lead sections end n joint [] passed = refl
 steps_lead sections end n joint (step ∷ rest) passed =
     λ i. not_false (leads_on sections end joint step rest) passed.0 i && steps_lead sections end (n + 1) step.to rest passed.1 i
 
-way_leads : (sections : List Section) (begin end : Option Post) (steps : List Step) → is_some begin ≡ true → is_some end ≡ true → AllPassed (way_tests begin end sections steps) → lead_between sections begin end steps ≡ true
-way_leads sections (Some begin) (Some end) steps first last passed =
-    λ i. not_false (begins begin sections steps) passed.0 i && steps_lead sections end 1 begin.joint steps passed.1 i
-way_leads sections (Some begin) None steps first last passed = cc
-way_leads sections None end steps first last passed = cc
+goes_on_from : (sections : List Section) (n : ℕ) (joint : List ℕ) (steps : List Step) → AllPassed (lead_tests sections n joint steps) → lead_on sections joint steps ≡ true
+goes_on_from sections n joint [] passed = refl
+goes_on_from sections n joint (step ∷ rest) passed =
+    λ i. not_false (leads_from sections joint step) passed.0 i && goes_on_from sections (n + 1) step.to rest passed.1 i
+
+way_leads : (sections : List Section) (begin end : Option Post) (steps overlap : List Step) → is_some begin ≡ true → is_some end ≡ true → AllPassed (way_tests begin end sections steps overlap) → lead_between sections begin end steps overlap ≡ true
+way_leads sections (Some begin) (Some end) steps overlap first last passed =
+    let parts = passed_parts (path_from begin end sections steps) (overlap_from end sections (length steps + 1) overlap) passed in
+    let path : is_sound_path sections begin end steps ≡ true = λ i. not_false (begins begin sections steps) parts.0.0 i && steps_lead sections end 1 begin.joint steps parts.0.1 i in
+    let over : is_sound_overlap sections end overlap ≡ true = λ i. not (parts.1.0 i) && goes_on_from sections (length steps + 1) end.joint overlap parts.1.1 i in
+    λ i. path i && over i
+way_leads sections (Some begin) None steps overlap first last passed = cc
+way_leads sections None end steps overlap first last passed = cc
 
 new_route : (net : Net) (route : Route) → route_refusal net route ≡ None → is_sound_route net route ≡ true
 new_route net route none =
     let a = all_passed (route_tests net route) none in
     let within : is_from_one ROUTE_SECTIONS (length route.steps) ≡ true = not_false (is_from_one ROUTE_SECTIONS (length route.steps)) a.1.0 in
-    let rules = a.1.1.1 in
+    let few : nat_le (length route.overlap) OVERLAP_SECTIONS ≡ true = not_false (nat_le (length route.overlap) OVERLAP_SECTIONS) a.1.1.0 in
+    let rules = a.1.1.1.1 in
     let from = sym (list_any-find (is_post route.from) (posts net)) ∙ not_false (list_any (is_post route.from) (posts net)) rules.0 in
     let to = sym (list_any-find (is_post route.to) (posts net)) ∙ not_false (list_any (is_post route.to) (posts net)) rules.1.0 in
-    let parts = passed_parts (repeat_tests route.steps) (way_tests (post_named route.from net) (post_named route.to net) net.sections route.steps) rules.1.1.1 in
-    let apart = apart_from route.steps [] route.steps 1 refl refl refl parts.0 in
-    let leads = way_leads net.sections (post_named route.from net) (post_named route.to net) route.steps from to parts.1 in
-    λ i. within i && apart i && leads i
+    let parts = passed_parts (repeat_tests route.steps route.overlap) (way_tests (post_named route.from net) (post_named route.to net) net.sections route.steps route.overlap) rules.1.1.1.1 in
+    let fresh = passed_parts (repeats_behind [] route.steps) (repeats_behind route.steps route.overlap) parts.0 in
+    let path_apart = apart_from route.steps [] route.steps 1 refl refl refl fresh.0 in
+    let apart = apart_from (route.steps ++ route.overlap) route.steps route.overlap (length route.steps + 1) refl refl path_apart fresh.1 in
+    let leads = way_leads net.sections (post_named route.from net) (post_named route.to net) route.steps route.overlap from to parts.1 in
+    λ i. within i && few i && apart i && leads i
 
 pub sound_with_route : (net : Net) (route : Route) → IsSoundNetwork net → route_refusal net route ≡ None → IsSoundNetwork (record net { routes = net.routes ++ route ∷ [] })
 sound_with_route net route is none = record {
@@ -130,10 +141,29 @@ sound_empty net sound p s b t r = record {
   routes = ap (list_all (is_sound_route net)) r;
 }
 
+-- what the rule of a sound route says of it
+pub record IsWellLed (net : Net) (route : Route) : Type 0 where
+  pub sized : is_from_one ROUTE_SECTIONS (length route.steps) ≡ true
+  pub few : nat_le (length route.overlap) OVERLAP_SECTIONS ≡ true
+  pub apart : are_distinct have_one_section (route.steps ++ route.overlap) ≡ true
+  pub led : lead_between net.sections (post_named route.from net) (post_named route.to net) route.steps route.overlap ≡ true
+
+pub well_led : (net : Net) (route : Route) → is_sound_route net route ≡ true → IsWellLed net route
+well_led net route is =
+    let sized : Bool = is_from_one ROUTE_SECTIONS (length route.steps) in
+    let few : Bool = nat_le (length route.overlap) OVERLAP_SECTIONS in
+    let apart : Bool = are_distinct have_one_section (route.steps ++ route.overlap) in
+    let led : Bool = lead_between net.sections (post_named route.from net) (post_named route.to net) route.steps route.overlap in
+    let three = both_true (sized && few && apart) led is in
+    let two = both_true (sized && few) apart three.0 in
+    let one = both_true sized few two.0 in
+    record { sized = one.0; few = one.1; apart = two.1; led = three.1 }
+
 -- the routes of a sound network are short
 pub sound_short : (net : Net) → IsSoundNetwork net → list_all is_short net.routes ≡ true
 sound_short net is =
     all_more is_short (is_sound_route net)
-    (λ route h. (both_true (nat_le 1 (length route.steps)) (is_short route)
-    (both_true (is_from_one ROUTE_SECTIONS (length route.steps)) (are_distinct have_one_section route.steps)
-    (both_true (is_from_one ROUTE_SECTIONS (length route.steps) && are_distinct have_one_section route.steps) (lead_between net.sections (post_named route.from net) (post_named route.to net) route.steps) h).0).0).1) net.routes is.routes
+    (λ route h.
+    let led = well_led net route h in
+    let path = both_true (nat_le 1 (length route.steps)) (nat_le (length route.steps) ROUTE_SECTIONS) led.sized in
+    λ i. path.1 i && led.few i) net.routes is.routes

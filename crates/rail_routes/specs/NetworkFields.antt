@@ -1,4 +1,4 @@
--- How a network is stored: its six lists, and how often a route runs over a section and a turn or route
+-- How a network is stored: its six lists, and how often a route claims a section and a turn or route
 -- names a post.
 use Rattle.std.specs.Prelude.{◌≡◌, ℕ, List, [], ◌∷◌, count_by}
 use Rattle.std.specs.List.{sum_by}
@@ -22,9 +22,9 @@ lists_of a = record {
   routes = a.routes;
 }
 
--- how often the routes run over a section
-abbrev pub runs_of : List Route → List ℕ → ℕ
-runs_of routes name = sum_by (λ route. count_by (same_name name) (sections_of route)) routes
+-- how often the routes claim a section
+abbrev pub claims_of : List Route → List ℕ → ℕ
+claims_of routes name = sum_by (λ route. count_by (same_name name) (sections_of route)) routes
 
 -- how often the turns name a post
 abbrev pub turn_uses : List Turn → List ℕ → ℕ
@@ -37,6 +37,6 @@ route_uses routes name = sum_by (λ (route : Route). count_by (same_name name) (
 -- the network is sound, and each use of a section or post by a route or turn is counted
 pub record IsNetworkInside (a : Inside) : Type 0 where
   pub sound : IsSoundNetwork (lists_of a)
-  pub run : (name : List ℕ) → times same_name a.runs name ≡ runs_of a.routes name
+  pub claimed : (name : List ℕ) → times same_name a.claimed name ≡ claims_of a.routes name
   pub turned : (name : List ℕ) → times same_name a.turned name ≡ turn_uses a.turns name
   pub routed : (name : List ℕ) → times same_name a.routed name ≡ route_uses a.routes name

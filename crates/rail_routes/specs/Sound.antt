@@ -1,8 +1,8 @@
 -- Sound networks: each post, turn and route keeps its rule.
-use Rattle.std.specs.Prelude.{ℕ, Bool, true, false, not, ◌&&◌, ◌||◌, List, [], ◌∷◌, Option, Some, length, nat_le, IsTrue}
+use Rattle.std.specs.Prelude.{ℕ, Bool, true, false, not, ◌&&◌, ◌||◌, List, [], ◌∷◌, ◌++◌, Option, Some, length, nat_le, IsTrue}
 use Rattle.std.specs.List.{list_any, list_all}
 use Rattle.rail_base.specs.NameForms.{same_name}
-use Rattle.rail_base.specs.Limits.{is_from_one, most, SettingTime, WatchingTime, ApproachTime, TurnTime, RouteSections}
+use Rattle.rail_base.specs.Limits.{is_from_one, most, SettingTime, WatchingTime, ApproachTime, TurnTime, RouteSections, OverlapSections}
 use Rattle.rail_track.specs.declared.section.Section.{Section}
 use Rattle.rail_base.specs.Lists.{are_distinct}
 use Rattle.rail_routes.specs.declared.items.Post.{Post}
@@ -14,7 +14,7 @@ use Rattle.rail_routes.specs.declared.items.Route.{Route}
 use Rattle.rail_routes.specs.Net.{Net, posts, is_post, post_named}
 use Rattle.rail_routes.specs.PostRules.{is_formed, has_times, stands_well}
 use Rattle.rail_routes.specs.TurnRules.{turns_well}
-use Rattle.rail_routes.specs.RouteRules.{begins, leads_on}
+use Rattle.rail_routes.specs.RouteRules.{begins, leads_on, leads_from, is_beyond}
 use Rattle.rail_routes.specs.Distinct.{IsDistinctNetwork}
 
 -- the roles are the same
@@ -48,16 +48,32 @@ abbrev pub lead_to : List Section → Post → List ℕ → List Step → Bool
 lead_to sections end joint [] = true
 lead_to sections end joint (step ∷ rest) = leads_on sections end joint step rest && lead_to sections end step.to rest
 
--- both posts are there, and the steps lead from the section ahead of the first to the second
-abbrev pub lead_between : List Section → Option Post → Option Post → List Step → Bool
-lead_between sections (Some begin) (Some end) steps = begins begin sections steps && lead_to sections end begin.joint steps
-lead_between sections begin end steps = false
+-- each step leads on from the joint where the one before ended
+abbrev pub lead_on : List Section → List ℕ → List Step → Bool
+lead_on sections joint [] = true
+lead_on sections joint (step ∷ rest) = leads_from sections joint step && lead_on sections step.to rest
 
--- the route has few enough steps, over different sections, which lead from its first post to its last
+-- the steps lead from the section ahead of the one post to the other
+abbrev pub is_sound_path : List Section → Post → Post → List Step → Bool
+is_sound_path sections begin end steps = begins begin sections steps && lead_to sections end begin.joint steps
+
+-- the overlap leads on from the post, and there is none behind a portal
+abbrev pub is_sound_overlap : List Section → Post → List Step → Bool
+is_sound_overlap sections end overlap = not (is_beyond end.role overlap) && lead_on sections end.joint overlap
+
+-- both posts are there, the steps lead from the one to the other, and the overlap on from there
+abbrev pub lead_between : List Section → Option Post → Option Post → List Step → List Step → Bool
+lead_between sections (Some begin) (Some end) steps overlap =
+    is_sound_path sections begin end steps && is_sound_overlap sections end overlap
+lead_between sections begin end steps overlap = false
+
+-- path and overlap of the route have few enough steps, all over different sections, and lead from its first post to its
+-- last, and on from there
 abbrev pub is_sound_route : Net → Route → Bool
 is_sound_route net route =
-    is_from_one (most RouteSections) (length route.steps) && are_distinct have_one_section route.steps
-    && lead_between net.sections (post_named route.from net) (post_named route.to net) route.steps
+    is_from_one (most RouteSections) (length route.steps) && nat_le (length route.overlap) (most OverlapSections)
+    && are_distinct have_one_section (route.steps ++ route.overlap)
+    && lead_between net.sections (post_named route.from net) (post_named route.to net) route.steps route.overlap
 
 -- a sound network is distinct, and each of its posts, turns and routes is sound in it
 pub record IsSoundNetwork (net : Net) : Type 0 where

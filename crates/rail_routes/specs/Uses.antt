@@ -1,5 +1,5 @@
 -- What is in use, and so may not be taken out.
-use Rattle.std.specs.Prelude.{ℕ, Bool, false, not, ◌||◌, List, [], ◌∷◌, map, Option, is_none}
+use Rattle.std.specs.Prelude.{ℕ, Bool, false, not, ◌||◌, List, [], ◌∷◌, ◌++◌, map, Option, is_none}
 use Rattle.std.specs.List.{find, list_any}
 use Rattle.std.specs.Option.{option_map_or}
 use Rattle.rail_base.specs.NameForms.{same_name}
@@ -14,19 +14,23 @@ use Rattle.rail_routes.specs.declared.items.Turn.{Turn}
 use Rattle.rail_routes.specs.declared.items.Route.{Route}
 use Rattle.rail_routes.specs.Net.{Net, posts, is_post, is_turn, is_route}
 
--- the sections that the route runs over, in order
+-- the sections of the steps, in order
+abbrev pub sections_in : List Step → List (List ℕ)
+sections_in steps = map (λ (step : Step). step.section) steps
+
+-- the sections that the route claims, in order: those of its path, and then those of its overlap
 abbrev pub sections_of : Route → List (List ℕ)
-sections_of route = map (λ (step : Step). step.section) route.steps
+sections_of route = sections_in route.steps ++ sections_in route.overlap
 
--- the route runs over the section
-abbrev pub runs_over : List ℕ → Route → Bool
-runs_over section route = list_any (same_name section) (sections_of route)
+-- the route claims the section
+abbrev pub claims : List ℕ → Route → Bool
+claims section route = list_any (same_name section) (sections_of route)
 
--- a section is in use where a post stands at one of its joints or a route runs over it
+-- a section is in use where a post stands at one of its joints or a route claims it
 abbrev pub is_section_used : Net → Section → Bool
 is_section_used net section =
     list_any (λ post. has_joint post.joint section) (posts net)
-    || list_any (runs_over section.name) net.routes
+    || list_any (claims section.name) net.routes
 
 -- the turn names the post
 abbrev pub turns_at : List ℕ → Turn → Bool

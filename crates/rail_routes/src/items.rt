@@ -45,13 +45,16 @@ pub struct Step {
     pub to: Name,
 }
 
-/// A way from a portal or signal to a post, over its steps in order.
+/// A way from a portal or signal to a post, over its steps in order, which are its path.
 #[derive(Debug)]
 pub struct Route {
     pub name: Name,
     pub from: Name,
     pub to: Name,
     pub steps: Seq<Step>,
+    /// The steps beyond the last post that are held together with the path, as a safety distance. They go on where the path
+    /// ends, and a route to a portal has none.
+    pub overlap: Seq<Step>,
 }
 
 impl Drop for Route {
@@ -61,6 +64,7 @@ impl Drop for Route {
             from: _from,
             to: _to,
             steps: _steps,
+            overlap: _overlap,
         } = self;
     }
 }

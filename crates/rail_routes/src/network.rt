@@ -2,6 +2,7 @@ ghost use Rattle.std.specs.Prelude.{◌≡◌, [], ◌∷◌, ◌++◌, Some, No
 ghost use Rattle.std.specs.List.{find, list_any};
 ghost use Rattle.std.specs.Option.{option_copied};
 
+use self::claiming::{count_of_sections, count_sections, discount_sections};
 use crate::items::{Post, Role, Route, Turn};
 use crate::post_list::PostList;
 use indexmap::IndexMap;
@@ -13,6 +14,7 @@ use std::alloc::Global;
 use std::marker::Model;
 
 mod accepting;
+mod claiming;
 mod leading;
 mod restoring;
 
@@ -28,8 +30,8 @@ pub struct Network {
     boards: PostList,
     turns: Roll<(Name, Name), Turn>,
     routes: Roll<Name, Route>,
-    /// How often the routes run over a section.
-    runs: Tally<Name>,
+    /// How often the routes have a section in path or overlap.
+    claimed: Tally<Name>,
     /// How often the turns name a post.
     turned: Tally<Name>,
     /// How often the routes name a post.
@@ -46,7 +48,7 @@ impl Drop for Network {
             boards: _,
             turns: _,
             routes: _,
-            runs: _,
+            claimed: _,
             turned: _,
             routed: _,
         } = self;
@@ -90,7 +92,7 @@ impl Network {
             boards: PostList::new(alloc),
             turns: Roll::new(alloc),
             routes: Roll::new(alloc),
-            runs: IndexMap::new(alloc),
+            claimed: IndexMap::new(alloc),
             turned: IndexMap::new(alloc),
             routed: IndexMap::new(alloc),
         }
@@ -259,14 +261,16 @@ impl Network {
 
     /// Adds a route last.
     ///
-    /// It is refused, by the first of these that holds, as too many, at step 0; as out of range, where it
-    /// has no step or too many, at step 4; as repeated, where a route has the name, at step 1; as
-    /// unknown, where no post has the name of its first post, at step 2, or of its last, at step 3, or no
-    /// section that of one of its steps, at step 4; as repeating a section, at the number of the first
-    /// step whose section occurred before; as broken, at the number of the first step that does not lead
-    /// on: from a board or over a section that is not ahead of the first post, from a joint that is not
-    /// where the step before ended, over no passage, or, for the last, not to the joint of the last
-    /// post, or in the section ahead of it.
+    /// It is refused, by the first of these that holds, as too many, at step 0; as out of range, where its
+    /// path has no step or too many, at step 4, or its overlap too many, at step 5; as repeated, where a
+    /// route has the name, at step 1; as unknown, where no post has the name of its first post, at step 2,
+    /// or of its last, at step 3, or no section that of a step of the path, at step 4, or of the overlap,
+    /// at step 5; as repeating a section, at the number of the first step whose section occurred before,
+    /// where the steps of the overlap go on behind those of the path; as broken, at the number of the
+    /// first step that does not lead on: from a board or over a section that is not ahead of the first
+    /// post, from a joint that is not where the step before ended, over no passage, or, for the last of the
+    /// path, not to the joint of the last post, or in the section ahead of it, and the first of an overlap
+    /// also behind a portal.
     pub fn add_route(&mut self, _alloc: Global, route: Route) -> Result<(), NetFault>
         ensures accepted { OnOk result (route_refusal self.old route ≡ None) }
         ensures added { OnOk result (self.new ≡ record self.old { routes = self.old.routes ++ route ∷ [] }) }
@@ -282,19 +286,16 @@ impl Network {
         let index = self.routes.as_slice().len();
         let ends = [route.from, route.to];
         self.routed.reserve(2)?;
-        self.runs.reserve(route.steps.as_slice().len())?;
+        self.claimed.reserve(count_of_sections(&route))?;
         self.routes.push(route)?;
         count_each(&mut self.routed, &ends);
-        count_each(
-            &mut self.runs,
-            self.routes.as_slice()[index].steps.as_slice(),
-        );
+        count_sections(&mut self.claimed, &self.routes.as_slice()[index]);
         Ok(())
     }
 
     /// Takes the section of this name out. The others keep their order. It takes no memory. It is refused
     /// at step 0 as unknown, where no section has the name, and else as in use, where a post stands at
-    /// one of its joints or a route runs over it.
+    /// one of its joints or a route has it in its path or overlap.
     pub fn remove_section(&mut self, name: Name) -> Result<Section, NetFault>
         ensures accepted { OnOk result (section_removal self.old name ≡ None) }
         ensures removed { IfOk result (λ section. section_named name self.old.sections ≡ Some section) }
@@ -384,7 +385,7 @@ impl Network {
                 step: 0,
             });
         };
-        discount_each(&mut self.runs, route.steps.as_slice());
+        discount_sections(&mut self.claimed, &route);
         discount_each(&mut self.routed, &[route.from, route.to]);
         Ok(route)
     }

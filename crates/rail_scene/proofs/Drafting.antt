@@ -25,33 +25,33 @@ use Rattle.rail_scene.proofs.Locating.{located_none, answers_located}
 use Rattle.rail_scene.proofs.Views.{view_more}
 
 -- a table, then the others, are all of them
-pub with_more : (part : ListPart) (node : Data) (nodes : List Data) (draft : SceneItems) → with_items part nodes (with_items part (node ∷ []) draft) ≡ with_items part (node ∷ nodes) draft
-with_more Section node nodes draft = ap (λ xs. record draft { network = record draft.network { sections = xs } }) (append_assoc draft.network.sections (section_of node ∷ []) (map section_of nodes))
-with_more Portal node nodes draft = ap (λ xs. record draft { network = record draft.network { portals = xs } }) (append_assoc draft.network.portals (portal_of node ∷ []) (map portal_of nodes))
-with_more Signal node nodes draft = ap (λ xs. record draft { network = record draft.network { signals = xs } }) (append_assoc draft.network.signals (signal_of node ∷ []) (map signal_of nodes))
-with_more Board node nodes draft = ap (λ xs. record draft { network = record draft.network { boards = xs } }) (append_assoc draft.network.boards (board_of node ∷ []) (map board_of nodes))
-with_more Turn node nodes draft = ap (λ xs. record draft { network = record draft.network { turns = xs } }) (append_assoc draft.network.turns (turn_of node ∷ []) (map turn_of nodes))
-with_more Route node nodes draft = ap (λ xs. record draft { network = record draft.network { routes = xs } }) (append_assoc draft.network.routes (route_of node ∷ []) (map route_of nodes))
-with_more Kind node nodes draft = ap (λ xs. record draft { kinds = xs }) (append_assoc draft.kinds (kind_of node ∷ []) (map kind_of nodes))
-with_more Train node nodes draft = ap (λ xs. record draft { trains = xs }) (append_assoc draft.trains (train_of node ∷ []) (map train_of nodes))
+pub with_more : (part : ListPart) (version : Version) (node : Data) (nodes : List Data) (draft : SceneItems) → with_items part version nodes (with_items part version (node ∷ []) draft) ≡ with_items part version (node ∷ nodes) draft
+with_more Section version node nodes draft = ap (λ xs. record draft { network = record draft.network { sections = xs } }) (append_assoc draft.network.sections (section_of node ∷ []) (map section_of nodes))
+with_more Portal version node nodes draft = ap (λ xs. record draft { network = record draft.network { portals = xs } }) (append_assoc draft.network.portals (portal_of node ∷ []) (map portal_of nodes))
+with_more Signal version node nodes draft = ap (λ xs. record draft { network = record draft.network { signals = xs } }) (append_assoc draft.network.signals (signal_of node ∷ []) (map signal_of nodes))
+with_more Board version node nodes draft = ap (λ xs. record draft { network = record draft.network { boards = xs } }) (append_assoc draft.network.boards (board_of node ∷ []) (map board_of nodes))
+with_more Turn version node nodes draft = ap (λ xs. record draft { network = record draft.network { turns = xs } }) (append_assoc draft.network.turns (turn_of node ∷ []) (map turn_of nodes))
+with_more Route version node nodes draft = ap (λ xs. record draft { network = record draft.network { routes = xs } }) (append_assoc draft.network.routes (route_of version node ∷ []) (map (route_of version) nodes))
+with_more Kind version node nodes draft = ap (λ xs. record draft { kinds = xs }) (append_assoc draft.kinds (kind_of node ∷ []) (map kind_of nodes))
+with_more Train version node nodes draft = ap (λ xs. record draft { trains = xs }) (append_assoc draft.trains (train_of node ∷ []) (map train_of nodes))
 
 -- no tables add nothing
-pub with_none : (part : ListPart) (draft : SceneItems) → with_items part [] draft ≡ draft
-with_none Section draft = ap (λ xs. record draft { network = record draft.network { sections = xs } }) (append-nil draft.network.sections)
-with_none Portal draft = ap (λ xs. record draft { network = record draft.network { portals = xs } }) (append-nil draft.network.portals)
-with_none Signal draft = ap (λ xs. record draft { network = record draft.network { signals = xs } }) (append-nil draft.network.signals)
-with_none Board draft = ap (λ xs. record draft { network = record draft.network { boards = xs } }) (append-nil draft.network.boards)
-with_none Turn draft = ap (λ xs. record draft { network = record draft.network { turns = xs } }) (append-nil draft.network.turns)
-with_none Route draft = ap (λ xs. record draft { network = record draft.network { routes = xs } }) (append-nil draft.network.routes)
-with_none Kind draft = ap (λ xs. record draft { kinds = xs }) (append-nil draft.kinds)
-with_none Train draft = ap (λ xs. record draft { trains = xs }) (append-nil draft.trains)
+pub with_none : (part : ListPart) (version : Version) (draft : SceneItems) → with_items part version [] draft ≡ draft
+with_none Section version draft = ap (λ xs. record draft { network = record draft.network { sections = xs } }) (append-nil draft.network.sections)
+with_none Portal version draft = ap (λ xs. record draft { network = record draft.network { portals = xs } }) (append-nil draft.network.portals)
+with_none Signal version draft = ap (λ xs. record draft { network = record draft.network { signals = xs } }) (append-nil draft.network.signals)
+with_none Board version draft = ap (λ xs. record draft { network = record draft.network { boards = xs } }) (append-nil draft.network.boards)
+with_none Turn version draft = ap (λ xs. record draft { network = record draft.network { turns = xs } }) (append-nil draft.network.turns)
+with_none Route version draft = ap (λ xs. record draft { network = record draft.network { routes = xs } }) (append-nil draft.network.routes)
+with_none Kind version draft = ap (λ xs. record draft { kinds = xs }) (append-nil draft.kinds)
+with_none Train version draft = ap (λ xs. record draft { trains = xs }) (append-nil draft.trains)
 
 module _ (part : ListPart) (version : Version) (draft : SceneItems) (tables : List Value) (i : ℕ) (table : Value) (within : i < length tables) (is : table ≡ get_or tables i table) where
   abbrev own : List (Test NetFault)
   own = item_tests part version draft (view table)
 
   abbrev next : SceneItems
-  next = with_items part (view table ∷ []) draft
+  next = with_items part version (view table ∷ []) draft
 
   abbrev rest : List (Test Refusal)
   rest = list_values part version (i + 1 + 1) next (map view (drop (i + 1) tables))
@@ -67,8 +67,8 @@ module _ (part : ListPart) (version : Version) (draft : SceneItems) (tables : Li
   pub value_pass : first_failing own ≡ None → first_failing (list_values part version (i + 1) draft (map view (drop i tables))) ≡ first_failing rest
   value_pass none = more ∙ passed_on (located (part_of part) (i + 1) own) rest (located_none (part_of part) (i + 1) own none)
 
-  pub draft_pass : with_items part (map view (drop i tables)) draft ≡ with_items part (map view (drop (i + 1) tables)) next
-  draft_pass = view_more (λ ys. with_items part ys draft) tables i table within is ∙ sym (with_more part (view table) (map view (drop (i + 1) tables)) draft)
+  pub draft_pass : with_items part version (map view (drop i tables)) draft ≡ with_items part version (map view (drop (i + 1) tables)) next
+  draft_pass = view_more (λ ys. with_items part version ys draft) tables i table within is ∙ sym (with_more part version (view table) (map view (drop (i + 1) tables)) draft)
 
 module _ (version : Version) (root : Data) (draft : SceneItems) (parts : List ListPart) (i : ℕ) (d : ListPart) (within : i < length parts) where
   abbrev part : ListPart
@@ -79,12 +79,12 @@ module _ (version : Version) (root : Data) (draft : SceneItems) (parts : List Li
     stand = are ∙ ap (λ k. elements_at k root) has
 
     abbrev later : List (Test Refusal)
-    later = values_of version root (with_items part nodes draft) (drop (i + 1) parts)
+    later = values_of version root (with_items part version nodes draft) (drop (i + 1) parts)
 
     unfolded : first_failing (values_of version root draft (drop i parts)) ≡ first_failing (list_values part version 1 draft nodes ++ later)
     unfolded =
         at_drop_more (λ ys. first_failing (values_of version root draft ys)) parts i d within
-        ∙ ap (λ ys. first_failing (list_values part version 1 draft ys ++ values_of version root (with_items part ys draft) (drop (i + 1) parts))) (sym stand)
+        ∙ ap (λ ys. first_failing (list_values part version 1 draft ys ++ values_of version root (with_items part version ys draft) (drop (i + 1) parts))) (sym stand)
 
     pub values_stop : (fault : Fault) → AnswersFirst (first_failing (list_values part version 1 draft nodes)) fault → AnswersFirst (first_failing (values_of version root draft (drop i parts))) fault
     values_stop fault answers = subst (λ first. AnswersFirst first fault) (sym unfolded) (scene_before (list_values part version 1 draft nodes) later fault answers)
@@ -92,7 +92,7 @@ module _ (version : Version) (root : Data) (draft : SceneItems) (parts : List Li
     pub values_pass : first_failing (list_values part version 1 draft nodes) ≡ None → first_failing (values_of version root draft (drop i parts)) ≡ first_failing later
     values_pass none = unfolded ∙ passed_on (list_values part version 1 draft nodes) later none
 
-    pub lists_pass : with_lists root (drop i parts) draft ≡ with_lists root (drop (i + 1) parts) (with_items part nodes draft)
+    pub lists_pass : with_lists version root (drop i parts) draft ≡ with_lists version root (drop (i + 1) parts) (with_items part version nodes draft)
     lists_pass =
-        at_drop_more (λ ys. with_lists root ys draft) parts i d within
-        ∙ ap (λ ys. with_lists root (drop (i + 1) parts) (with_items part ys draft)) (sym stand)
+        at_drop_more (λ ys. with_lists version root ys draft) parts i d within
+        ∙ ap (λ ys. with_lists version root (drop (i + 1) parts) (with_items part version ys draft)) (sym stand)

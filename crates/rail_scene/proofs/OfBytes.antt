@@ -52,13 +52,13 @@ of_all_forms version root (part ∷ parts) = of_both (list_forms part version 1 
 
 of_values : (part : ListPart) (version : Version) (n : ℕ) (items : SceneItems) (nodes : List Data) → AreOfBytes (list_values part version n items nodes)
 of_values part version n items [] = tt
-of_values part version n items (node ∷ nodes) = of_both (located (part_of part) n (item_tests part version items node)) (list_values part version (n + 1) (with_items part (node ∷ []) items) nodes)
-    (of_table (part_of part) (no_file part) n (item_tests part version items node)) (of_values part version (n + 1) (with_items part (node ∷ []) items) nodes)
+of_values part version n items (node ∷ nodes) = of_both (located (part_of part) n (item_tests part version items node)) (list_values part version (n + 1) (with_items part version (node ∷ []) items) nodes)
+    (of_table (part_of part) (no_file part) n (item_tests part version items node)) (of_values part version (n + 1) (with_items part version (node ∷ []) items) nodes)
 
 of_all_values : (version : Version) (root : Data) (items : SceneItems) (parts : List ListPart) → AreOfBytes (values_of version root items parts)
 of_all_values version root items [] = tt
-of_all_values version root items (part ∷ parts) = of_both (list_values part version 1 items (elements_at (list_key part) root)) (values_of version root (with_items part (elements_at (list_key part) root) items) parts)
-    (of_values part version 1 items (elements_at (list_key part) root)) (of_all_values version root (with_items part (elements_at (list_key part) root) items) parts)
+of_all_values version root items (part ∷ parts) = of_both (list_values part version 1 items (elements_at (list_key part) root)) (values_of version root (with_items part version (elements_at (list_key part) root) items) parts)
+    (of_values part version 1 items (elements_at (list_key part) root)) (of_all_values version root (with_items part version (elements_at (list_key part) root) items) parts)
 
 -- the tests of the tables of a scene
 of_root : (version : Version) (root : Data) → AreOfBytes (scene_forms version root ++ scene_values version root)

@@ -12,6 +12,8 @@ use Rattle.rail_routes.specs.declared.items.Step.{Step}
 use Rattle.rail_scene.specs.declared.keys.Key.{Key}
 use Rattle.rail_scene.specs.declared.keys.KeyName.TheVariants as word
 use Rattle.rail_scene.specs.declared.scene.SceneTrain.{SceneTrain}
+use Rattle.rail_scene.specs.declared.versions.Version.{Version}
+use Rattle.rail_scene.specs.declared.versions.Version.TheVariants.{One, Two}
 use Rattle.rail_scene.specs.Keys.{key_of}
 use Rattle.rail_scene.specs.Fields.{name_at, number_at, kind_at, time_at, elements_at, names_in}
 
@@ -76,13 +78,29 @@ abbrev pub steps_of : List (List ℕ) → List Step
 steps_of [] = []
 steps_of (joint ∷ names) = steps_from joint names
 
--- the route of a table
-abbrev pub route_of : Data → Route
-route_of node = record {
+-- the steps that go on where others end, over sections and joints in turn; behind no step there is none
+abbrev pub steps_behind : List Step → List (List ℕ) → List Step
+steps_behind [] names = []
+steps_behind (step ∷ []) names = steps_from step.to names
+steps_behind (step ∷ next ∷ steps) names = steps_behind (next ∷ steps) names
+
+-- the path of a table
+abbrev pub path_in : Data → List Step
+path_in node = steps_of (spelled_names (key_of word.Path) node)
+
+-- the overlap of a table, behind its path; the first version has none
+abbrev pub overlap_in : Version → Data → List Step
+overlap_in One node = []
+overlap_in Two node = steps_behind (path_in node) (spelled_names (key_of word.Overlap) node)
+
+-- the route of a table, by the version of its file
+abbrev pub route_of : Version → Data → Route
+route_of version node = record {
   name = spelled_name (key_of word.Name) node;
   from = spelled_name (key_of word.From) node;
   to = spelled_name (key_of word.To) node;
-  steps = steps_of (spelled_names (key_of word.Path) node);
+  steps = path_in node;
+  overlap = overlap_in version node;
 }
 
 -- the train kind of a table

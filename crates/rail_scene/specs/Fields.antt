@@ -5,7 +5,7 @@ use Rattle.std.specs.Option.{option_map_or}
 use Rattle.toml.specs.Data.{Data, Items, no_items, item, get, as_str, as_integer, as_array}
 use Rattle.rail_base.specs.NameForms.{is_name, same_name}
 use Rattle.rail_base.specs.Clock.{time_text}
-use Rattle.rail_base.specs.Limits.{is_from_one, most, InputTime, RouteSections}
+use Rattle.rail_base.specs.Limits.{is_from_one, most, InputTime, RouteSections, OverlapSections}
 use Rattle.rail_track.specs.SectionRules.{joint_count}
 use Rattle.rail_track.specs.declared.section.SectionKind.{SectionKind}
 use Rattle.rail_track.specs.declared.section.SectionKind.TheVariants.{Plain, Points, Crossing, Slip}
@@ -119,3 +119,7 @@ is_joint_count node n = option_map_or (λ kind. n == joint_count kind) (kind_at 
 -- so many joints and sections in turn are a path: an odd number, with at least one section and not too many
 abbrev pub is_path_count : ℕ → Bool
 is_path_count n = is_from_one (most RouteSections) (n / 2) && n % 2 == 1
+
+-- so many sections and joints in turn are an overlap: an even number, with not too many sections
+abbrev pub is_overlap_count : ℕ → Bool
+is_overlap_count n = nat_le (n / 2) (most OverlapSections) && n % 2 == 0

@@ -9,7 +9,7 @@ use Rattle.rail_track.specs.declared.section.NetFault.{NetFault}
 use Rattle.rail_base.specs.FirstRefusals.{Test}
 use Rattle.rail_track.specs.NetFaults.{refused_where}
 use Rattle.rail_scene.specs.declared.keys.Form.{Form}
-use Rattle.rail_scene.specs.declared.keys.Form.TheVariants.{Name, Policy, Choice, Time, Whole, Joints, Path, Itinerary, Tables}
+use Rattle.rail_scene.specs.declared.keys.Form.TheVariants.{Name, Policy, Choice, Time, Whole, Joints, Path, Overlap, Itinerary, Tables}
 use Rattle.rail_scene.specs.declared.keys.Key.{Key}
 use Rattle.rail_scene.specs.Keys.{text_of}
 use Rattle.rail_scene.specs.Fields.{value_at, listed}
@@ -39,6 +39,7 @@ is_of Time value = is_string value
 is_of (Whole bounds) value = is_whole value
 is_of Joints value = is_list_of is_string value
 is_of Path value = is_list_of is_string value
+is_of Overlap value = is_list_of is_string value
 is_of Itinerary value = is_list_of is_string value
 is_of Tables value = is_list_of is_table value
 

@@ -1,6 +1,6 @@
 -- The keys of the tables of a scene file.
-use Rattle.std.specs.Prelude.{ℕ, Bool, true, false, List, [], ◌∷◌, map, codes, Option, Some, None}
-use Rattle.rail_base.specs.Limits.{most, SectionLength, TrainLength, Speed, SettingTime, WatchingTime, ApproachTime, TurnTime, ReleaseTime, StartSupplement, StopSupplement, Depth}
+use Rattle.std.specs.Prelude.{ℕ, Bool, true, false, List, [], ◌∷◌, ◌++◌, map, codes, Option, Some, None}
+use Rattle.rail_base.specs.Limits.{most, SectionLength, TrainLength, Speed, SettingTime, WatchingTime, ApproachTime, TurnTime, ReleaseTime, OverlapTime, StartSupplement, StopSupplement, Depth}
 use Rattle.rail_base.specs.declared.refusals.Part.{Part}
 use Rattle.rail_base.specs.declared.refusals.Part.TheVariants as part
 use Rattle.rail_scene.specs.declared.keys.Form.{Form}
@@ -11,7 +11,7 @@ use Rattle.rail_scene.specs.declared.keys.KeyName.TheVariants as word
 use Rattle.rail_scene.specs.declared.keys.ListPart.{ListPart}
 use Rattle.rail_scene.specs.declared.keys.ListPart.TheVariants.{Section, Portal, Signal, Board, Turn, Route, Kind, Train}
 use Rattle.rail_scene.specs.declared.versions.Version.{Version}
-use Rattle.rail_scene.specs.declared.versions.Version.TheVariants.{One}
+use Rattle.rail_scene.specs.declared.versions.Version.TheVariants.{One, Two}
 use Rattle.rail_scene.specs.Versions.{newest, version_number}
 
 -- a whole number from the one to the other, and the first where the key is absent
@@ -21,7 +21,7 @@ whole low high = form.Whole (record { low = low; high = high; default = low })
 -- the table of the keys of all versions: how a key is written, what its value has to be, and whether it has to be there;
 -- lengths in metres, speeds in km/h, times in tenths of a second
 abbrev pub key_row : KeyName → List ℕ × Form × Bool
-key_row word.Version = (codes "version", whole 1 (version_number newest), true)
+key_row word.Version = (codes "version", form.Whole (record { low = 1; high = version_number newest; default = version_number newest }), true)
 key_row word.Release = (codes "release", whole 0 (most ReleaseTime), true)
 key_row word.Depth = (codes "depth", form.Whole (record { low = 0; high = most Depth; default = 1 }), false)
 key_row word.Policy = (codes "policy", form.Policy, false)
@@ -33,6 +33,7 @@ key_row word.Turn = (codes "turn", form.Tables, false)
 key_row word.Route = (codes "route", form.Tables, false)
 key_row word.Kind = (codes "kind", form.Tables, false)
 key_row word.Train = (codes "train", form.Tables, false)
+key_row word.OverlapTime = (codes "overlap_time", whole 0 (most OverlapTime), false)
 key_row word.Name = (codes "name", form.Name, true)
 key_row word.SectionKind = (codes "kind", form.Choice, true)
 key_row word.SectionLength = (codes "length", whole 1 (most SectionLength), true)
@@ -49,6 +50,7 @@ key_row word.Time = (codes "time", whole 0 (most TurnTime), true)
 key_row word.From = (codes "from", form.Name, true)
 key_row word.To = (codes "to", form.Name, true)
 key_row word.Path = (codes "path", form.Path, true)
+key_row word.Overlap = (codes "overlap", form.Overlap, false)
 key_row word.TrainLength = (codes "length", whole 1 (most TrainLength), true)
 key_row word.Start = (codes "start", whole 0 (most StartSupplement), true)
 key_row word.Stop = (codes "stop", whole 0 (most StopSupplement), true)
@@ -80,9 +82,14 @@ list_key Route = key_of word.Route
 list_key Kind = key_of word.Kind
 list_key Train = key_of word.Train
 
+-- the keys that the root has in each version
+abbrev pub first_root_keys : List Key
+first_root_keys = key_of word.Version ∷ key_of word.Release ∷ key_of word.Depth ∷ key_of word.Policy ∷ map list_key list_parts
+
 -- the keys of the root by the version of the file
 abbrev pub root_keys : Version → List Key
-root_keys One = key_of word.Version ∷ key_of word.Release ∷ key_of word.Depth ∷ key_of word.Policy ∷ map list_key list_parts
+root_keys One = first_root_keys
+root_keys Two = first_root_keys ++ key_of word.OverlapTime ∷ []
 
 -- the keys of a section in each version
 abbrev pub section_keys : List Key
@@ -104,9 +111,14 @@ board_keys = map key_of (word.Name ∷ word.Joint ∷ [])
 abbrev pub turn_keys : List Key
 turn_keys = map key_of (word.Arriving ∷ word.Leaving ∷ word.Time ∷ [])
 
+-- the keys that a route has in each version
+abbrev pub first_route_keys : List Key
+first_route_keys = map key_of (word.Name ∷ word.From ∷ word.To ∷ word.Path ∷ [])
+
 -- the keys of a route by the version of the file
 abbrev pub route_keys : Version → List Key
-route_keys One = map key_of (word.Name ∷ word.From ∷ word.To ∷ word.Path ∷ [])
+route_keys One = first_route_keys
+route_keys Two = first_route_keys ++ key_of word.Overlap ∷ []
 
 -- the keys of a train kind in each version
 abbrev pub kind_keys : List Key

@@ -60,27 +60,27 @@ abbrev pub list_values : ListPart → Version → ℕ → SceneItems → List Da
 list_values part version n items [] = []
 list_values part version n items (node ∷ nodes) =
     located (part_of part) n (item_tests part version items node)
-    ++ list_values part version (n + 1) (with_items part (node ∷ []) items) nodes
+    ++ list_values part version (n + 1) (with_items part version (node ∷ []) items) nodes
 
 -- the values of the lists in turn
 abbrev pub values_of : Version → Data → SceneItems → List ListPart → List (Test Refusal)
 values_of version root items [] = []
 values_of version root items (part ∷ parts) =
     list_values part version 1 items (elements_at (list_key part) root)
-    ++ values_of version root (with_items part (elements_at (list_key part) root) items) parts
+    ++ values_of version root (with_items part version (elements_at (list_key part) root) items) parts
 
 -- the items with those of the lists of these parts
-abbrev pub with_lists : Data → List ListPart → SceneItems → SceneItems
-with_lists root [] items = items
-with_lists root (part ∷ parts) items = with_lists root parts (with_items part (elements_at (list_key part) root) items)
+abbrev pub with_lists : Version → Data → List ListPart → SceneItems → SceneItems
+with_lists version root [] items = items
+with_lists version root (part ∷ parts) items = with_lists version root parts (with_items part version (elements_at (list_key part) root) items)
 
 -- the values of all lists of a root by the keys of a version
 unfoldable pub lists_values : Version → Data → List (Test Refusal)
 lists_values version root = values_of version root no_items list_parts
 
--- the items that all lists of a root fill
-unfoldable pub listed_items : Data → SceneItems
-listed_items root = with_lists root list_parts no_items
+-- the items that all lists of a root fill, by the version of the file
+unfoldable pub listed_items : Version → Data → SceneItems
+listed_items version root = with_lists version root list_parts no_items
 
 -- the values of all tables by the keys of a version: the root, then its lists
 unfoldable pub scene_values : Version → Data → List (Test Refusal)

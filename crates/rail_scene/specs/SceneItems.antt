@@ -52,33 +52,33 @@ is_full Kind items = nat_le (most Kinds) (length items.kinds)
 is_full Train items = nat_le (most Trains) (length items.trains)
 
 -- the tests of the item of a table beside those that stand already
-abbrev pub place_tests : ListPart → SceneItems → Data → List (Test NetFault)
-place_tests Section items node =
+abbrev pub place_tests : ListPart → Version → SceneItems → Data → List (Test NetFault)
+place_tests Section version items node =
     section_tests items.network.sections (is_closed_by items.network.sections items.network.portals) (section_of node)
-place_tests Portal items node = post_tests items.network (portal_of node)
-place_tests Signal items node = post_tests items.network (signal_of node)
-place_tests Board items node = post_tests items.network (board_of node)
-place_tests Turn items node = turn_tests items.network (turn_of node)
-place_tests Route items node = route_tests items.network (route_of node)
-place_tests Kind items node = kind_tests items.kinds (kind_of node)
-place_tests Train items node = train_tests items.trains (train_of node)
+place_tests Portal version items node = post_tests items.network (portal_of node)
+place_tests Signal version items node = post_tests items.network (signal_of node)
+place_tests Board version items node = post_tests items.network (board_of node)
+place_tests Turn version items node = turn_tests items.network (turn_of node)
+place_tests Route version items node = route_tests items.network (route_of version node)
+place_tests Kind version items node = kind_tests items.kinds (kind_of node)
+place_tests Train version items node = train_tests items.trains (train_of node)
 
 -- the tests of the item of a table: its own values key by key, then those beside the items that stand
 abbrev pub own_tests : ListPart → Version → SceneItems → Data → List (Test NetFault)
-own_tests part version items node = value_tests 1 (keys_of part version) node ++ place_tests part items node
+own_tests part version items node = value_tests 1 (keys_of part version) node ++ place_tests part version items node
 
 -- the tests of an item: one too many, then its own
 abbrev pub item_tests : ListPart → Version → SceneItems → Data → List (Test NetFault)
 item_tests part version items node = refused_where TooMany 0 (is_full part items) ∷ own_tests part version items node
 
--- the items with those of these tables last in their list
-abbrev pub with_items : ListPart → List Data → SceneItems → SceneItems
-with_items Section nodes items =
+-- the items with those of these tables last in their list, by the version of the file
+abbrev pub with_items : ListPart → Version → List Data → SceneItems → SceneItems
+with_items Section version nodes items =
     record items { network = record items.network { sections = items.network.sections ++ map section_of nodes } }
-with_items Portal nodes items = record items { network = record items.network { portals = items.network.portals ++ map portal_of nodes } }
-with_items Signal nodes items = record items { network = record items.network { signals = items.network.signals ++ map signal_of nodes } }
-with_items Board nodes items = record items { network = record items.network { boards = items.network.boards ++ map board_of nodes } }
-with_items Turn nodes items = record items { network = record items.network { turns = items.network.turns ++ map turn_of nodes } }
-with_items Route nodes items = record items { network = record items.network { routes = items.network.routes ++ map route_of nodes } }
-with_items Kind nodes items = record items { kinds = items.kinds ++ map kind_of nodes }
-with_items Train nodes items = record items { trains = items.trains ++ map train_of nodes }
+with_items Portal version nodes items = record items { network = record items.network { portals = items.network.portals ++ map portal_of nodes } }
+with_items Signal version nodes items = record items { network = record items.network { signals = items.network.signals ++ map signal_of nodes } }
+with_items Board version nodes items = record items { network = record items.network { boards = items.network.boards ++ map board_of nodes } }
+with_items Turn version nodes items = record items { network = record items.network { turns = items.network.turns ++ map turn_of nodes } }
+with_items Route version nodes items = record items { network = record items.network { routes = items.network.routes ++ map (route_of version) nodes } }
+with_items Kind version nodes items = record items { kinds = items.kinds ++ map kind_of nodes }
+with_items Train version nodes items = record items { trains = items.trains ++ map train_of nodes }

@@ -2,7 +2,7 @@
 use Rattle.std.specs.Prelude.{◌≤◌, ◌&&◌, Bool, length, IsTrue, nat_le}
 use Rattle.std.specs.List.{list_all}
 use Rattle.rail_base.specs.NameForms.{same_name}
-use Rattle.rail_base.specs.Limits.{is_from_one, most, ReleaseTime, Depth, Kinds, Trains, TrainLength, Speed, StartSupplement, StopSupplement, InputTime, ItineraryRoutes}
+use Rattle.rail_base.specs.Limits.{is_from_one, most, ReleaseTime, OverlapTime, Depth, Kinds, Trains, TrainLength, Speed, StartSupplement, StopSupplement, InputTime, ItineraryRoutes}
 use Rattle.rail_base.specs.declared.plant.TrainKind.{TrainKind}
 use Rattle.rail_base.specs.Lists.{are_distinct}
 use Rattle.rail_scene.specs.declared.scene.Scene.{Scene}
@@ -30,6 +30,7 @@ is_one_train train other = same_name train.name other.name
 pub record IsScene (scene : Scene) : Type 0 where
   pub release : scene.release ≤ most ReleaseTime
   pub depth : scene.depth ≤ most Depth
+  pub overlap_time : scene.overlap_time ≤ most OverlapTime
   pub few_kinds : length scene.kinds ≤ most Kinds
   pub few_trains : length scene.trains ≤ most Trains
   pub kinds : IsTrue (list_all is_fit_kind scene.kinds)

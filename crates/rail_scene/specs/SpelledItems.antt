@@ -41,7 +41,7 @@ spelled_turn_refusal net node = first_failing (value_tests 1 turn_keys node ++ t
 
 -- why the route of a table is refused beside a network
 abbrev pub spelled_route_refusal : Version → Net → Data → Option NetFault
-spelled_route_refusal version net node = first_failing (value_tests 1 (route_keys version) node ++ route_tests net (route_of node))
+spelled_route_refusal version net node = first_failing (value_tests 1 (route_keys version) node ++ route_tests net (route_of version node))
 
 -- why the train kind of a table is refused beside other kinds
 abbrev pub spelled_kind_refusal : List TrainKind → Data → Option NetFault

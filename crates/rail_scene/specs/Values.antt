@@ -7,9 +7,9 @@ use Rattle.rail_track.specs.declared.section.NetFault.{NetFault}
 use Rattle.rail_base.specs.FirstRefusals.{Test}
 use Rattle.rail_track.specs.NetFaults.{refused_where}
 use Rattle.rail_scene.specs.declared.keys.Form.{Form}
-use Rattle.rail_scene.specs.declared.keys.Form.TheVariants.{Name, Policy, Choice, Time, Whole, Joints, Path, Itinerary, Tables}
+use Rattle.rail_scene.specs.declared.keys.Form.TheVariants.{Name, Policy, Choice, Time, Whole, Joints, Path, Overlap, Itinerary, Tables}
 use Rattle.rail_scene.specs.declared.keys.Key.{Key}
-use Rattle.rail_scene.specs.Fields.{name_at, policy_at, number_at, kind_at, time_at, elements_at, are_names, is_joint_count, is_path_count}
+use Rattle.rail_scene.specs.Fields.{name_at, policy_at, number_at, kind_at, time_at, elements_at, are_names, is_joint_count, is_path_count, is_overlap_count}
 
 -- the tests of the names of key n: their number comes before them
 abbrev pub list_tests : ℕ → Bool → List Data → List (Test NetFault)
@@ -24,6 +24,7 @@ tests_by Time n key node = refused_where Range n (not (is_some (time_at key node
 tests_by (Whole bounds) n key node = refused_where Range n (not (is_some (number_at key node))) ∷ []
 tests_by Joints n key node = list_tests n (is_joint_count node (length (elements_at key node))) (elements_at key node)
 tests_by Path n key node = list_tests n (is_path_count (length (elements_at key node))) (elements_at key node)
+tests_by Overlap n key node = list_tests n (is_overlap_count (length (elements_at key node))) (elements_at key node)
 tests_by Itinerary n key node = list_tests n (is_from_one (most ItineraryRoutes) (length (elements_at key node))) (elements_at key node)
 tests_by Tables n key node = []
 

@@ -65,7 +65,7 @@ impl Draft {
         parts: &[ListPart],
     ) -> Result<(), Fault>
         ensures accepted { OnOk result (first_failing (values_of version (view root.now) self.old parts.now) ≡ None) }
-        ensures added { OnOk result (self.new ≡ with_lists (view root.now) parts.now self.old) }
+        ensures added { OnOk result (self.new ≡ with_lists version (view root.now) parts.now self.old) }
         ensures refused { IfErr result (AnswersFirst (first_failing (values_of version (view root.now) self.old parts.now))) }
     {
         for part in parts {
@@ -83,7 +83,7 @@ impl Draft {
         tables: &[Value],
     ) -> Result<(), Fault>
         ensures accepted { OnOk result (first_failing (list_values part version 1 self.old (map view tables.now)) ≡ None) }
-        ensures added { OnOk result (self.new ≡ with_items part (map view tables.now) self.old) }
+        ensures added { OnOk result (self.new ≡ with_items part version (map view tables.now) self.old) }
         ensures refused { IfErr result (AnswersFirst (first_failing (list_values part version 1 self.old (map view tables.now)))) }
     {
         for (index, table) in tables.iter().enumerate() {
@@ -105,7 +105,7 @@ impl Draft {
         table: &Value,
     ) -> Result<(), NetFault>
         ensures accepted { OnOk result (first_failing (item_tests part version self.old (view table.now)) ≡ None) }
-        ensures added { OnOk result (self.new ≡ with_items part (view table.now ∷ []) self.old) }
+        ensures added { OnOk result (self.new ≡ with_items part version (view table.now ∷ []) self.old) }
         ensures refused { IfErr result (Answers (first_failing (item_tests part version self.old (view table.now)))) }
     {
         if self.is_full(part) {
@@ -149,7 +149,7 @@ impl Draft {
     ) -> Result<(), NetFault>
         requires { is_full part self.old ≡ false }
         ensures accepted { OnOk result (first_failing (own_tests part version self.old (view table.now)) ≡ None) }
-        ensures added { OnOk result (self.new ≡ with_items part (view table.now ∷ []) self.old) }
+        ensures added { OnOk result (self.new ≡ with_items part version (view table.now ∷ []) self.old) }
         ensures refused { IfErr result (Answers (first_failing (own_tests part version self.old (view table.now)))) }
     {
         let network = &mut self.network;
@@ -236,7 +236,7 @@ fn add_route(
     table: &Value,
 ) -> Result<(), NetFault>
     ensures accepted { OnOk result (spelled_route_refusal version network.old (view table.now) ≡ None) }
-    ensures added { OnOk result (network.new ≡ record network.old { routes = network.old.routes ++ route_of (view table.now) ∷ [] }) }
+    ensures added { OnOk result (network.new ≡ record network.old { routes = network.old.routes ++ route_of version (view table.now) ∷ [] }) }
     ensures refused { IfErr result (Answers (spelled_route_refusal version network.old (view table.now))) }
 {
     let item = entries::route(alloc, version, table)?;

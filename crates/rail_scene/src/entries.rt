@@ -9,22 +9,23 @@ ghost use Rattle.rail_track.specs.SectionRules.{joint_count};
 ghost use Rattle.rail_base.specs.FirstRefusals.{first_failing};
 ghost use Rattle.rail_track.specs.NetFaults.{Answers};
 ghost use Rattle.rail_scene.specs.declared.keys.TheConstants.{SECTION_KEYS, PORTAL_KEYS, SIGNAL_KEYS, BOARD_KEYS, TURN_KEYS, KIND_KEYS, TRAIN_KEYS};
-ghost use Rattle.rail_scene.specs.Fields.{name_in, name_at, number_at, kind_at, time_at, elements_at, are_names, names_in, is_path_count};
-ghost use Rattle.rail_scene.specs.Entries.{section_of, portal_of, signal_of, board_of, turn_of, route_of, kind_of, train_of, steps_of, spelled_names};
-ghost use Rattle.rail_scene.specs.Keys.{route_keys};
+ghost use Rattle.rail_scene.specs.Fields.{name_in, name_at, number_at, kind_at, time_at, elements_at, are_names, names_in, is_path_count, is_overlap_count};
+ghost use Rattle.rail_scene.specs.Entries.{section_of, portal_of, signal_of, board_of, turn_of, route_of, kind_of, train_of, steps_of, steps_from, steps_behind, spelled_names};
+ghost use Rattle.rail_scene.specs.Keys.{first_route_keys, route_keys};
 ghost use Rattle.rail_scene.specs.Values.{value_tests, tests_by, list_tests};
 ghost use Rattle.rail_scene.specs.Scenes.{is_fit_kind, is_fit_train};
 ghost use Rattle.rail_scene.specs.declared.keys.Form.TheVariants as Form;
+ghost use Rattle.rail_scene.specs.declared.versions.Version.TheVariants as version;
 
 use crate::fields::{elements_at, kind_at, name_at, name_in, number_at, time_at};
 use crate::keys::{
-    AHEAD, APPROACH, ARRIVING, ENTRY, FROM, JOINT, JOINTS, Key, LEAVING, NAME, PATH, PRIORITY,
-    ROUTES, SECTION_KIND, SECTION_LENGTH, SETTING, SPEED, START, STOP, TO, TRAIN_KIND,
+    AHEAD, APPROACH, ARRIVING, ENTRY, FROM, JOINT, JOINTS, Key, LEAVING, NAME, OVERLAP, PATH,
+    PRIORITY, ROUTES, SECTION_KIND, SECTION_LENGTH, SETTING, SPEED, START, STOP, TO, TRAIN_KIND,
     TRAIN_LENGTH, TURN_TIME, WATCHING,
 };
 use crate::scene::SceneTrain;
 use crate::versions::Version;
-use rail_base::limits::{ITINERARY_ROUTES, ROUTE_SECTIONS};
+use rail_base::limits::{ITINERARY_ROUTES, OVERLAP_SECTIONS, ROUTE_SECTIONS};
 use rail_base::{Name, Reason, Seq, Time, TrainKind};
 use rail_routes::{Post, Role, Route, Step, Turn};
 use rail_track::{NetFault, Section, SectionKind};
@@ -240,10 +241,27 @@ pub(crate) fn turn(table: &Value) -> Result<Turn, NetFault>
 /// The route of a table, by the keys of a version.
 pub(crate) fn route(alloc: Global, version: Version, table: &Value) -> Result<Route, NetFault>
     ensures accepted { OnOk result (first_failing (value_tests 1 (route_keys version) (view table.now)) ≡ None) }
-    ensures spelled { IfOk result (λ route. route ≡ route_of (view table.now)) }
+    ensures spelled { IfOk result (λ route. route ≡ route_of version (view table.now)) }
     ensures refused { IfErr result (Answers (first_failing (value_tests 1 (route_keys version) (view table.now)))) }
 {
-    let Version::One = version;
+    match version {
+        Version::One => route_without_overlap(alloc, table),
+        Version::Two => {
+            let mut route = route_without_overlap(alloc, table)?;
+            let names = read_overlap(alloc, table, 5)?;
+            let overlap = steps_behind(alloc, route.steps.as_slice(), names.as_slice())?;
+            route.overlap = Seq::from_vec(overlap);
+            Ok(route)
+        }
+    }
+}
+
+/// The route of a table by the keys that it has in each version, which have no overlap.
+fn route_without_overlap(alloc: Global, table: &Value) -> Result<Route, NetFault>
+    ensures accepted { OnOk result (first_failing (value_tests 1 first_route_keys (view table.now)) ≡ None) }
+    ensures spelled { IfOk result (λ route. route ≡ route_of version.One (view table.now)) }
+    ensures refused { IfErr result (Answers (first_failing (value_tests 1 first_route_keys (view table.now)))) }
+{
     let name = read_name(table, NAME, 1)?;
     let from = read_name(table, FROM, 2)?;
     let to = read_name(table, TO, 3)?;
@@ -253,7 +271,25 @@ pub(crate) fn route(alloc: Global, version: Version, table: &Value) -> Result<Ro
         from,
         to,
         steps: Seq::from_vec(steps_of(alloc, path.as_slice())?),
+        overlap: Seq::from_vec(Vec::new(alloc)),
     })
+}
+
+/// The sections and joints of an overlap in turn.
+fn read_overlap(alloc: Global, table: &Value, step: u32) -> Result<Vec<Name>, NetFault>
+    ensures names { IfOk result (λ names. names.items ≡ spelled_names OVERLAP (view table.now)) }
+    ensures accepted { OnOk result (first_failing (tests_by Form.Overlap step OVERLAP (view table.now)) ≡ None) }
+    ensures refused { IfErr result (Answers (first_failing (tests_by Form.Overlap step OVERLAP (view table.now)))) }
+{
+    let values = elements_at(table, OVERLAP);
+    read_list(alloc, values, is_overlap_count(values.len()), step)
+}
+
+/// Whether so many sections and joints in turn are an overlap.
+fn is_overlap_count(names: usize) -> bool
+    ensures { result ≡ is_overlap_count names }
+{
+    names / 2 <= OVERLAP_SECTIONS && names % 2 == 0
 }
 
 /// The joints and sections of a path in turn.
@@ -278,13 +314,32 @@ fn steps_of(alloc: Global, path: &[Name]) -> Result<Vec<Step>, NetFault>
     ensures steps { IfOk result (λ steps. steps.items ≡ steps_of path.now) }
     ensures memory { IfErr result (λ fault. fault ≡ OutOfMemory) }
 {
+    match path {
+        [start, rest @ ..] => steps_from(alloc, *start, rest),
+        [] => Ok(Vec::new(alloc)),
+    }
+}
+
+/// The steps that go on where others end, over sections and joints in turn.
+fn steps_behind(alloc: Global, steps: &[Step], names: &[Name]) -> Result<Vec<Step>, NetFault>
+    ensures steps { IfOk result (λ behind. behind.items ≡ steps_behind steps.now names.now) }
+    ensures memory { IfErr result (λ fault. fault ≡ OutOfMemory) }
+{
+    match steps.last() {
+        Some(step) => steps_from(alloc, step.to, names),
+        None => Ok(Vec::new(alloc)),
+    }
+}
+
+/// The steps from a joint on, over sections and joints in turn.
+fn steps_from(alloc: Global, start: Name, names: &[Name]) -> Result<Vec<Step>, NetFault>
+    ensures steps { IfOk result (λ steps. steps.items ≡ steps_from start names.now) }
+    ensures memory { IfErr result (λ fault. fault ≡ OutOfMemory) }
+{
     let mut steps = Vec::new(alloc);
-    let [start, rest @ ..] = path else {
-        return Ok(steps);
-    };
-    steps.reserve(rest.len() / 2)?;
-    let mut joint = *start;
-    let mut rest = rest;
+    steps.reserve(names.len() / 2)?;
+    let mut joint = start;
+    let mut rest = names;
     while let [section, next, more @ ..] = rest {
         let step = Step {
             section: *section,

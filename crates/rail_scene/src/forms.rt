@@ -188,7 +188,7 @@ fn is_of(value: &Value, form: Form) -> bool
     match form {
         Form::Name | Form::Policy | Form::Choice | Form::Time => value.is_str(),
         Form::Whole(_) => value.is_integer(),
-        Form::Joints | Form::Path | Form::Itinerary => is_list_of_strings(value),
+        Form::Joints | Form::Path | Form::Overlap | Form::Itinerary => { is_list_of_strings(value) }
         Form::Tables => is_list_of_tables(value),
     }
 }

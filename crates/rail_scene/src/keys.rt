@@ -26,6 +26,7 @@ pub enum KeyName {
     Route,
     Kind,
     Train,
+    OverlapTime,
     Name,
     SectionKind,
     SectionLength,
@@ -42,6 +43,7 @@ pub enum KeyName {
     From,
     To,
     Path,
+    Overlap,
     TrainLength,
     Start,
     Stop,
@@ -55,7 +57,7 @@ impl KeyName {
     /// The text of the key.
     pub fn text(self) -> &'static str
         ensures text { result.now ≡ text_of self }
-        ensures short { length result.now ≤ 8 }
+        ensures short { length result.now ≤ 12 }
     {
         match self {
             KeyName::Version => "version",
@@ -70,6 +72,7 @@ impl KeyName {
             KeyName::Route => "route",
             KeyName::Kind => "kind",
             KeyName::Train => "train",
+            KeyName::OverlapTime => "overlap_time",
             KeyName::Name => "name",
             KeyName::SectionKind => "kind",
             KeyName::SectionLength => "length",
@@ -86,6 +89,7 @@ impl KeyName {
             KeyName::From => "from",
             KeyName::To => "to",
             KeyName::Path => "path",
+            KeyName::Overlap => "overlap",
             KeyName::TrainLength => "length",
             KeyName::Start => "start",
             KeyName::Stop => "stop",
@@ -122,6 +126,8 @@ pub enum Form {
     Joints,
     /// A list of strings that are names: joints and sections in turn.
     Path,
+    /// A list of strings that are names: sections and joints in turn, beyond a path.
+    Overlap,
     /// A list of strings that are names: the routes of an itinerary.
     Itinerary,
     /// A list of tables.
@@ -219,7 +225,8 @@ pub(crate) fn root_keys(version: Version) -> &'static [Key]
     ensures few { length result.now ≤ MOST_KEYS }
 {
     match version {
-        Version::One => &ROOT_KEYS,
+        Version::One => &FIRST_ROOT_KEYS,
+        Version::Two => &ROOT_KEYS,
     }
 }
 
@@ -230,7 +237,8 @@ fn route_keys(version: Version) -> &'static [Key]
     ensures distinct { IsTrue (are_distinct have_one_text result.now) }
 {
     match version {
-        Version::One => &ROUTE_KEYS,
+        Version::One => &FIRST_ROUTE_KEYS,
+        Version::Two => &ROUTE_KEYS,
     }
 }
 
@@ -275,8 +283,8 @@ pub(crate) const VERSION: Key = Key {
     name: KeyName::Version,
     form: Form::Whole(Bounds {
         low: 1,
-        high: 1,
-        default: 1,
+        high: 2,
+        default: 2,
     }),
     required: true,
 };
@@ -358,10 +366,36 @@ pub(crate) const TRAIN_LIST: Key = Key {
     required: false,
 };
 
+pub(crate) const OVERLAP_TIME: Key = Key {
+    name: KeyName::OverlapTime,
+    form: Form::Whole(Bounds {
+        low: 0,
+        high: limits::OVERLAP,
+        default: 0,
+    }),
+    required: false,
+};
+
 /// The most keys of a table.
-pub const MOST_KEYS: usize = 12;
+pub const MOST_KEYS: usize = 13;
 
 /// The keys of the root in the first version.
+const FIRST_ROOT_KEYS: [Key; 12] = [
+    VERSION,
+    RELEASE,
+    DEPTH,
+    POLICY,
+    SECTION_LIST,
+    PORTAL_LIST,
+    SIGNAL_LIST,
+    BOARD_LIST,
+    TURN_LIST,
+    ROUTE_LIST,
+    KIND_LIST,
+    TRAIN_LIST,
+];
+
+/// The keys of the root in the second version.
 const ROOT_KEYS: [Key; MOST_KEYS] = [
     VERSION,
     RELEASE,
@@ -375,6 +409,7 @@ const ROOT_KEYS: [Key; MOST_KEYS] = [
     ROUTE_LIST,
     KIND_LIST,
     TRAIN_LIST,
+    OVERLAP_TIME,
 ];
 
 pub(crate) const NAME: Key = Key {
@@ -512,8 +547,17 @@ pub(crate) const PATH: Key = Key {
     required: true,
 };
 
+pub(crate) const OVERLAP: Key = Key {
+    name: KeyName::Overlap,
+    form: Form::Overlap,
+    required: false,
+};
+
 /// The keys of a route in the first version.
-const ROUTE_KEYS: [Key; 4] = [NAME, FROM, TO, PATH];
+const FIRST_ROUTE_KEYS: [Key; 4] = [NAME, FROM, TO, PATH];
+
+/// The keys of a route in the second version.
+const ROUTE_KEYS: [Key; 5] = [NAME, FROM, TO, PATH, OVERLAP];
 
 pub(crate) const TRAIN_LENGTH: Key = Key {
     name: KeyName::TrainLength,

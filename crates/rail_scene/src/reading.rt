@@ -5,20 +5,20 @@ ghost use Rattle.rail_base.specs.declared.limits.TheConstants as limit;
 ghost use Rattle.rail_base.specs.FirstRefusals.{first_failing};
 ghost use Rattle.rail_track.specs.NetFaults.{Answers};
 ghost use Rattle.rail_scene.specs.declared.keys.KeyName.TheVariants as word;
-ghost use Rattle.rail_scene.specs.Keys.{key_of, root_keys};
+ghost use Rattle.rail_scene.specs.Keys.{key_of, first_root_keys, root_keys};
 ghost use Rattle.rail_scene.specs.Scenes.{IsScene};
 ghost use Rattle.rail_scene.specs.Fields.{policy_at};
 ghost use Rattle.rail_scene.specs.Entries.{spelled_number};
 ghost use Rattle.rail_scene.specs.Values.{value_tests};
 ghost use Rattle.rail_base.specs.Refusals.{AnswersFirst};
 ghost use Rattle.rail_scene.specs.Order.{scene_refusal, scene_values, lists_values, listed_items, toml_test};
-ghost use Rattle.rail_scene.specs.SpelledScenes.{spelled_scene, scene_of, root_of};
+ghost use Rattle.rail_scene.specs.SpelledScenes.{spelled_scene, scene_of, root_of, overlap_time_in};
 
 use crate::draft::Draft;
 use crate::entries::read_number;
 use crate::fields::{policy_at, version_of};
 use crate::forms::check_forms;
-use crate::keys::{DEPTH, LIST_PARTS, POLICY, RELEASE, VERSION};
+use crate::keys::{DEPTH, LIST_PARTS, OVERLAP_TIME, POLICY, RELEASE, VERSION};
 use crate::places::located;
 use crate::scene::Scene;
 use crate::versions::Version;
@@ -29,9 +29,10 @@ use toml::Value;
 
 /// The scene that the bytes of a scene file spell.
 ///
-/// The file is TOML in UTF-8. Its root has `version`, which is 1, `release`, `depth`, `policy`, and a
+/// The file is TOML in UTF-8. Its root has `version`, which is 1 or 2, `release`, `depth`, `policy`, and a
 /// list of tables for each part: `section`, `portal`, `signal`, `board`, `turn`, `route`, `kind` and
-/// `train`. The version says which keys a table has. Times that are whole numbers are tenths of a second,
+/// `train`. The version says which keys a table has: the second one adds `overlap_time` in the root and
+/// `overlap` in a route. A version that is none has the keys of the second. Times that are whole numbers are tenths of a second,
 /// lengths metres, speeds km/h.
 ///
 /// It is refused with the first reason that holds: bytes that are no TOML; then the forms of all tables,
@@ -82,7 +83,7 @@ pub(crate) fn read_root(alloc: Global, bytes: &[u8]) -> Result<Value, Fault>
 /// The scene of a root by the keys of a version, whether or not its tables are of their form.
 fn read_values(alloc: Global, root: &Value, version: Version) -> Result<Scene, Fault>
     ensures accepted { OnOk result (first_failing (scene_values version (view root.now)) ≡ None) }
-    ensures spelled { IfOk result (λ scene. scene ≡ scene_of (view root.now)) }
+    ensures spelled { IfOk result (λ scene. scene ≡ scene_of version (view root.now)) }
     ensures kept { IfOk result IsScene }
     ensures refused { IfErr result (AnswersFirst (first_failing (scene_values version (view root.now)))) }
 {
@@ -97,7 +98,7 @@ fn read_values(alloc: Global, root: &Value, version: Version) -> Result<Scene, F
 /// The items of the lists of a root, by the keys of a version.
 fn read_lists(alloc: Global, root: &Value, version: Version) -> Result<Draft, Fault>
     ensures accepted { OnOk result (first_failing (lists_values version (view root.now)) ≡ None) }
-    ensures draft { IfOk result (λ draft. draft ≡ listed_items (view root.now)) }
+    ensures draft { IfOk result (λ draft. draft ≡ listed_items version (view root.now)) }
     ensures refused { IfErr result (AnswersFirst (first_failing (lists_values version (view root.now)))) }
 {
     let mut draft = Draft::new(alloc);
@@ -115,10 +116,12 @@ fn read_lists(alloc: Global, root: &Value, version: Version) -> Result<Draft, Fa
 fn finished(header: Header, draft: Draft) -> Scene
     requires release { header.release ≤ limit.RELEASE }
     requires depth { header.depth ≤ limit.DEPTH }
+    requires overlap_time { header.overlap_time ≤ limit.OVERLAP }
     ensures scene { result ≡ record {
       release = header.release;
       depth = header.depth;
       policy = header.policy;
+      overlap_time = header.overlap_time;
       network = draft.network;
       kinds = draft.kinds;
       trains = draft.trains;
@@ -134,6 +137,7 @@ fn finished(header: Header, draft: Draft) -> Scene
         release: header.release,
         depth: header.depth,
         policy: header.policy,
+        overlap_time: header.overlap_time,
         network,
         kinds: kinds.into_seq(),
         trains: trains.into_seq(),
@@ -146,6 +150,7 @@ struct Header {
     release: u32,
     depth: u8,
     policy: Name,
+    overlap_time: u32,
 }
 
 /// What the root says beside its lists, by the keys of a version.
@@ -155,10 +160,32 @@ fn read_header(root: &Value, version: Version) -> Result<Header, NetFault>
     ensures depth { IfOk result (λ header. header.depth ≡ spelled_number (key_of word.Depth) (view root.now)) }
     ensures policy { IfOk result (λ header. header.policy ≡ unwrap_or (policy_at (key_of word.Policy) (view root.now)) []) }
     ensures release_fits { IfOk result (λ header. header.release ≤ limit.RELEASE) }
+    ensures overlap_time { IfOk result (λ header. header.overlap_time ≡ overlap_time_in version (view root.now)) }
     ensures depth_fits { IfOk result (λ header. header.depth ≤ limit.DEPTH) }
+    ensures overlap_time_fits { IfOk result (λ header. header.overlap_time ≤ limit.OVERLAP) }
     ensures refused { IfErr result (Answers (first_failing (value_tests 1 (root_keys version) (view root.now)))) }
 {
-    let Version::One = version;
+    match version {
+        Version::One => read_first_header(root),
+        Version::Two => {
+            let mut header = read_first_header(root)?;
+            header.overlap_time = read_number(root, OVERLAP_TIME, 13)?;
+            Ok(header)
+        }
+    }
+}
+
+/// What the root says beside its lists by the keys that it has in each version.
+fn read_first_header(root: &Value) -> Result<Header, NetFault>
+    ensures accepted { OnOk result (first_failing (value_tests 1 first_root_keys (view root.now)) ≡ None) }
+    ensures release { IfOk result (λ header. header.release ≡ spelled_number (key_of word.Release) (view root.now)) }
+    ensures depth { IfOk result (λ header. header.depth ≡ spelled_number (key_of word.Depth) (view root.now)) }
+    ensures policy { IfOk result (λ header. header.policy ≡ unwrap_or (policy_at (key_of word.Policy) (view root.now)) []) }
+    ensures overlap_time { IfOk result (λ header. header.overlap_time ≡ 0) }
+    ensures release_fits { IfOk result (λ header. header.release ≤ limit.RELEASE) }
+    ensures depth_fits { IfOk result (λ header. header.depth ≤ limit.DEPTH) }
+    ensures refused { IfErr result (Answers (first_failing (value_tests 1 first_root_keys (view root.now)))) }
+{
     let _number = read_number(root, VERSION, 1)?;
     let release = read_number(root, RELEASE, 2)?;
     let depth = read_number(root, DEPTH, 3)?;
@@ -167,6 +194,7 @@ fn read_header(root: &Value, version: Version) -> Result<Header, NetFault>
             release,
             depth: depth as u8,
             policy,
+            overlap_time: 0,
         }),
         None => Err(NetFault::Refused {
             reason: Reason::BadName,

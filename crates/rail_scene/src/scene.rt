@@ -9,6 +9,8 @@ pub struct Scene {
     pub depth: u8,
     /// The dispatching policy that is in force first.
     pub policy: Name,
+    /// How long the overlap of a route is held after the arrival at its end, in tenths of a second.
+    pub overlap_time: u32,
     pub network: Network,
     pub kinds: Seq<TrainKind>,
     pub trains: Seq<SceneTrain>,
@@ -20,6 +22,7 @@ impl Drop for Scene {
             release: _release,
             depth: _depth,
             policy: _policy,
+            overlap_time: _overlap_time,
             network: _network,
             kinds: _kinds,
             trains: _trains,

@@ -7,12 +7,14 @@ ghost use Rattle.rail_scene.specs.Versions.{version_number, version_named};
 pub enum Version {
     /// The first, with twelve keys in the root and four in a route.
     One,
+    /// The second, which has overlaps: one key more in the root and in a route.
+    Two,
 }
 
 impl Version {
     /// The newest version. A file that names no version is read by its keys, and a refusal, which does not tell the
     /// version of its file, is explained by them.
-    pub const NEWEST: Version = Version::One;
+    pub const NEWEST: Version = Version::Two;
 
     /// The number by which the root of a scene file names the version.
     pub fn number(self) -> u32
@@ -20,6 +22,7 @@ impl Version {
     {
         match self {
             Version::One => 1,
+            Version::Two => 2,
         }
     }
 
@@ -29,6 +32,7 @@ impl Version {
     {
         match number {
             1 => Some(Version::One),
+            2 => Some(Version::Two),
             _ => None,
         }
     }

@@ -205,6 +205,7 @@ fn route(alloc: Global, words: &str) -> Option<Route> {
         from: name(*from)?,
         to: name(*to)?,
         steps: steps(alloc, path)?,
+        overlap: Seq::from_vec(Vec::new(alloc)),
     })
 }
 

@@ -11,7 +11,7 @@ use Rattle.rail_routes.specs.declared.items.Route.{Route}
 use Rattle.rail_routes.specs.declared.items.Turn.{Turn}
 use Rattle.rail_scene.specs.declared.scene.Scene.{Scene}
 use Rattle.rail_scene.specs.declared.scene.SceneTrain.{SceneTrain}
-use Rattle.rail_scene_text.specs.Tables.{section_data, post_data, post_members, with_ahead, turn_data, route_data, path_of, kind_data, train_data, scene_members}
+use Rattle.rail_scene_text.specs.Tables.{section_data, post_data, post_members, with_ahead, turn_data, route_data, path_of, overlap_of, kind_data, train_data, scene_members}
 
 deeper : (n a b : ℕ) → a ≤ n → b ≤ n → max a b ≤ n
 deeper n a b h k = omega arith
@@ -50,7 +50,7 @@ turn_flat : (turn : Turn) → depth (turn_data turn) ≤ 2
 turn_flat turn = table_flat 1 0 (least 1)
 
 route_flat : (route : Route) → depth (route_data route) ≤ 2
-route_flat route = table_flat 1 _ (deeper 1 _ _ (least 1) (deeper 1 _ _ (least 1) (deeper 1 _ _ (names_flat (path_of route.steps)) (least 1))))
+route_flat route = table_flat 1 _ (deeper 1 _ _ (least 1) (deeper 1 _ _ (least 1) (deeper 1 _ _ (names_flat (overlap_of route.overlap)) (deeper 1 _ _ (names_flat (path_of route.steps)) (least 1)))))
 
 kind_flat : (kind : TrainKind) → depth (kind_data kind) ≤ 2
 kind_flat kind = table_flat 1 0 (least 1)
@@ -73,6 +73,6 @@ shallow scene =
     let trains = array_flat train_data 2 train_flat scene.trains in
     let turns = array_flat turn_data 2 turn_flat net.turns in
     let flat : members_depth (scene_members scene) ≤ 3 =
-    deeper 3 _ _ boards (deeper 3 _ _ (least 3) (deeper 3 _ _ kinds (deeper 3 _ _ (least 3) (deeper 3 _ _ portals (deeper 3 _ _ (least 3)
-    (deeper 3 _ _ routes (deeper 3 _ _ sections (deeper 3 _ _ signals (deeper 3 _ _ trains (deeper 3 _ _ turns (least 3))))))))))) in
+    deeper 3 _ _ boards (deeper 3 _ _ (least 3) (deeper 3 _ _ kinds (deeper 3 _ _ (least 3) (deeper 3 _ _ (least 3) (deeper 3 _ _ portals (deeper 3 _ _ (least 3)
+    (deeper 3 _ _ routes (deeper 3 _ _ sections (deeper 3 _ _ signals (deeper 3 _ _ trains (deeper 3 _ _ turns (least 3)))))))))))) in
     omega arith

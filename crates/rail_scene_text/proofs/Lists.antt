@@ -30,10 +30,10 @@ each_both p q (x ∷ xs) a b =
 
 -- an item passes after those before it: the list is not full, its values pass, and it is accepted
 pub item_none : (p : ListPart) (version : Version) (items : SceneItems) (d : Data) → is_full p items ≡ false → first_failing (value_tests 1 (keys_of p version) d) ≡ None
-    → first_failing (place_tests p items d) ≡ None → first_failing (item_tests p version items d) ≡ None
+    → first_failing (place_tests p version items d) ≡ None → first_failing (item_tests p version items d) ≡ None
 item_none p version items d room values place =
     ap (λ b. cond b (Some (Refused TooMany 0)) (first_failing (own_tests p version items d))) room
-    ∙ both_passed (value_tests 1 (keys_of p version) d) (place_tests p items d) values place
+    ∙ both_passed (value_tests 1 (keys_of p version) d) (place_tests p version items d) values place
 
 module _ (p : ListPart) (version : Version) {X : Type 0} (f : X → Data) (G : X → Type 0) where
   pub are_tables : ((x : X) → is_table (f x) ≡ true) → (xs : List X) → list_all is_table (map f xs) ≡ true
@@ -54,11 +54,11 @@ module _ (p : ListPart) (version : Version) {X : Type 0} (f : X → Data) (G : X
   -- D has the items so far
   module _ (D : List X → SceneItems) (xs : List X)
       (passes : (before : List X) (x : X) (after : List X) → xs ≡ before ++ x ∷ after → G x → first_failing (item_tests p version (D before) (f x)) ≡ None)
-      (next : (before : List X) (x : X) → G x → with_items p (f x ∷ []) (D before) ≡ D (before ++ x ∷ [])) where
+      (next : (before : List X) (x : X) → G x → with_items p version (f x ∷ []) (D before) ≡ D (before ++ x ∷ [])) where
     pub values_pass : (n : ℕ) (before rest : List X) → xs ≡ before ++ rest → Each G rest → first_failing (list_values p version n (D before) (map f rest)) ≡ None
     values_pass n before [] is all = refl
     values_pass n before (x ∷ rest) is all =
-        both_passed (located (part_of p) n (item_tests p version (D before) (f x))) (list_values p version (n + 1) (with_items p (f x ∷ []) (D before)) (map f rest))
+        both_passed (located (part_of p) n (item_tests p version (D before) (f x))) (list_values p version (n + 1) (with_items p version (f x ∷ []) (D before)) (map f rest))
         (located_none (part_of p) n (item_tests p version (D before) (f x)) (passes before x rest is all.0))
         (ap (λ items. first_failing (list_values p version (n + 1) items (map f rest))) (next before x all.0)
         ∙ values_pass (n + 1) (before ++ x ∷ []) rest (is ∙ sym (append_assoc before (x ∷ []) rest)) all.1)

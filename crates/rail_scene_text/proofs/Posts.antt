@@ -18,7 +18,7 @@ use Rattle.rail_routes.specs.Sound.{IsSoundNetwork, same_role, is_timed, is_soun
 use Rattle.rail_routes.proofs.CallerLemmas.{same_from_role, portal_after, signal_after, board_after}
 use Rattle.rail_scene.specs.declared.keys.KeyName.TheVariants as word
 use Rattle.rail_scene.specs.declared.keys.ListPart.TheVariants as part
-use Rattle.rail_scene.specs.declared.versions.Version.TheVariants.{One}
+use Rattle.rail_scene.specs.declared.versions.Version.TheVariants.{Two}
 use Rattle.rail_scene.specs.Entries.{portal_of, signal_of, board_of}
 use Rattle.rail_scene.specs.Fields.{name_at, number_at}
 use Rattle.rail_scene.specs.Forms.{form_tests}
@@ -120,14 +120,14 @@ module _ (post : Post) (sections : List Section) (good : Good Portal sections po
     approach = unwrap_or (number_is 0 (most ApproachTime) 0 post.approach (from_zero (most ApproachTime) post.approach pt.approach) i) 0;
   })
 
-  pub portal_form : first_failing (form_tests (keys_of part.Portal One) (post_data post)) ≡ None
-  portal_form = ap (λ d. first_failing (form_tests (keys_of part.Portal One) d)) portal_is
+  pub portal_form : first_failing (form_tests (keys_of part.Portal Two) (post_data post)) ≡ None
+  portal_form = ap (λ d. first_failing (form_tests (keys_of part.Portal Two) d)) portal_is
 
-  pub portal_values : first_failing (value_tests 1 (keys_of part.Portal One) (post_data post)) ≡ None
+  pub portal_values : first_failing (value_tests 1 (keys_of part.Portal Two) (post_data post)) ≡ None
   portal_values =
       let d = portal_data post in
-      ap (λ d. first_failing (value_tests 1 (keys_of part.Portal One) d)) portal_is
-      ∙ none_failing (value_tests 1 (keys_of part.Portal One) d) (
+      ap (λ d. first_failing (value_tests 1 (keys_of part.Portal Two) d)) portal_is
+      ∙ none_failing (value_tests 1 (keys_of part.Portal Two) d) (
         found (name_at (key_of word.Name) d) post.name (name_is post.name pn.name),
         (
           found (name_at (key_of word.Joint) d) post.joint (name_is post.joint pn.joint),
@@ -183,14 +183,14 @@ module _ (post : Post) (sections : List Section) (good : Good Signal sections po
     approach = unwrap_or (number_is 0 (most ApproachTime) 0 post.approach (from_zero (most ApproachTime) post.approach st.approach) i) 0;
   })
 
-  pub signal_form : first_failing (form_tests (keys_of part.Signal One) (post_data post)) ≡ None
-  signal_form = ap (λ d. first_failing (form_tests (keys_of part.Signal One) d)) signal_is
+  pub signal_form : first_failing (form_tests (keys_of part.Signal Two) (post_data post)) ≡ None
+  signal_form = ap (λ d. first_failing (form_tests (keys_of part.Signal Two) d)) signal_is
 
-  pub signal_values : first_failing (value_tests 1 (keys_of part.Signal One) (post_data post)) ≡ None
+  pub signal_values : first_failing (value_tests 1 (keys_of part.Signal Two) (post_data post)) ≡ None
   signal_values =
       let d = signal_data ahead post in
-      ap (λ d. first_failing (value_tests 1 (keys_of part.Signal One) d)) signal_is
-      ∙ none_failing (value_tests 1 (keys_of part.Signal One) d) (
+      ap (λ d. first_failing (value_tests 1 (keys_of part.Signal Two) d)) signal_is
+      ∙ none_failing (value_tests 1 (keys_of part.Signal Two) d) (
         found (name_at (key_of word.Name) d) post.name (name_is post.name sn.name),
         (
           found (name_at (key_of word.Joint) d) post.joint (name_is post.joint sn.joint),
@@ -246,14 +246,14 @@ module _ (post : Post) (sections : List Section) (good : Good Board sections pos
     approach = sym bare.approach i;
   })
 
-  pub board_form : first_failing (form_tests (keys_of part.Board One) (post_data post)) ≡ None
-  board_form = ap (λ d. first_failing (form_tests (keys_of part.Board One) d)) board_is
+  pub board_form : first_failing (form_tests (keys_of part.Board Two) (post_data post)) ≡ None
+  board_form = ap (λ d. first_failing (form_tests (keys_of part.Board Two) d)) board_is
 
-  pub board_values : first_failing (value_tests 1 (keys_of part.Board One) (post_data post)) ≡ None
+  pub board_values : first_failing (value_tests 1 (keys_of part.Board Two) (post_data post)) ≡ None
   board_values =
       let d = board_data post in
-      ap (λ d. first_failing (value_tests 1 (keys_of part.Board One) d)) board_is
-      ∙ none_failing (value_tests 1 (keys_of part.Board One) d) (
+      ap (λ d. first_failing (value_tests 1 (keys_of part.Board Two) d)) board_is
+      ∙ none_failing (value_tests 1 (keys_of part.Board Two) d) (
         found (name_at (key_of word.Name) d) post.name (name_is post.name bn.name),
         (found (name_at (key_of word.Joint) d) post.joint (name_is post.joint bn.joint), tt),
       )
@@ -277,37 +277,37 @@ module _ (net : Net) (sound : IsSoundNetwork net) where
   with_boards boards = record { network = record net { boards = boards; turns = []; routes = [] }; kinds = []; trains = [] }
 
   pub portal_passes : (before : List Post) (post : Post) (after : List Post) → net.portals ≡ before ++ post ∷ after → Good Portal net.sections post
-      → first_failing (item_tests part.Portal One (with_portals before) (post_data post)) ≡ None
+      → first_failing (item_tests part.Portal Two (with_portals before) (post_data post)) ≡ None
   portal_passes before post after is good =
       let accepted = portal_after net sound before post after is in
       let so_far = (with_portals before).network in
       let room = all_passed (post_tests so_far post) accepted in
-      item_none part.Portal One (with_portals before) (post_data post) room.0 (portal_values post net.sections good)
+      item_none part.Portal Two (with_portals before) (post_data post) room.0 (portal_values post net.sections good)
       (ap (λ p. first_failing (post_tests so_far p)) (portal_read post net.sections good) ∙ accepted)
 
-  pub portal_next : (before : List Post) (post : Post) → Good Portal net.sections post → with_items part.Portal (post_data post ∷ []) (with_portals before) ≡ with_portals (before ++ post ∷ [])
+  pub portal_next : (before : List Post) (post : Post) → Good Portal net.sections post → with_items part.Portal Two (post_data post ∷ []) (with_portals before) ≡ with_portals (before ++ post ∷ [])
   portal_next before post good = ap (λ p. with_portals (before ++ p ∷ [])) (portal_read post net.sections good)
 
   pub signal_passes : (before : List Post) (post : Post) (after : List Post) → net.signals ≡ before ++ post ∷ after → Good Signal net.sections post
-      → first_failing (item_tests part.Signal One (with_signals before) (post_data post)) ≡ None
+      → first_failing (item_tests part.Signal Two (with_signals before) (post_data post)) ≡ None
   signal_passes before post after is good =
       let accepted = signal_after net sound before post after is in
       let so_far = (with_signals before).network in
       let room = all_passed (post_tests so_far post) accepted in
-      item_none part.Signal One (with_signals before) (post_data post) room.0 (signal_values post net.sections good)
+      item_none part.Signal Two (with_signals before) (post_data post) room.0 (signal_values post net.sections good)
       (ap (λ p. first_failing (post_tests so_far p)) (signal_read post net.sections good) ∙ accepted)
 
-  pub signal_next : (before : List Post) (post : Post) → Good Signal net.sections post → with_items part.Signal (post_data post ∷ []) (with_signals before) ≡ with_signals (before ++ post ∷ [])
+  pub signal_next : (before : List Post) (post : Post) → Good Signal net.sections post → with_items part.Signal Two (post_data post ∷ []) (with_signals before) ≡ with_signals (before ++ post ∷ [])
   signal_next before post good = ap (λ p. with_signals (before ++ p ∷ [])) (signal_read post net.sections good)
 
   pub board_passes : (before : List Post) (post : Post) (after : List Post) → net.boards ≡ before ++ post ∷ after → Good Board net.sections post
-      → first_failing (item_tests part.Board One (with_boards before) (post_data post)) ≡ None
+      → first_failing (item_tests part.Board Two (with_boards before) (post_data post)) ≡ None
   board_passes before post after is good =
       let accepted = board_after net sound before post after is in
       let so_far = (with_boards before).network in
       let room = all_passed (post_tests so_far post) accepted in
-      item_none part.Board One (with_boards before) (post_data post) room.0 (board_values post net.sections good)
+      item_none part.Board Two (with_boards before) (post_data post) room.0 (board_values post net.sections good)
       (ap (λ p. first_failing (post_tests so_far p)) (board_read post net.sections good) ∙ accepted)
 
-  pub board_next : (before : List Post) (post : Post) → Good Board net.sections post → with_items part.Board (post_data post ∷ []) (with_boards before) ≡ with_boards (before ++ post ∷ [])
+  pub board_next : (before : List Post) (post : Post) → Good Board net.sections post → with_items part.Board Two (post_data post ∷ []) (with_boards before) ≡ with_boards (before ++ post ∷ [])
   board_next before post good = ap (λ p. with_boards (before ++ p ∷ [])) (board_read post net.sections good)

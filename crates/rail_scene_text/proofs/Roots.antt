@@ -4,7 +4,7 @@ use Rattle.std.specs.List.{list_all}
 use Rattle.toml.specs.Data.{Data, table}
 use Rattle.toml.specs.View.{items_of}
 use Rattle.rail_base.specs.FirstRefusals.{first_failing}
-use Rattle.rail_base.specs.Limits.{most, ReleaseTime, Depth}
+use Rattle.rail_base.specs.Limits.{most, ReleaseTime, Depth, OverlapTime}
 use Rattle.rail_base.specs.declared.refusals.Part.TheVariants.{Root}
 use Rattle.rail_base.proofs.CallerLemmas.{none_failing}
 use Rattle.rail_track.specs.Sound.{is_fit}
@@ -15,7 +15,7 @@ use Rattle.rail_scene.specs.declared.keys.KeyName.TheVariants as word
 use Rattle.rail_scene.specs.declared.keys.ListPart.{ListPart}
 use Rattle.rail_scene.specs.declared.keys.ListPart.TheVariants as part
 use Rattle.rail_scene.specs.declared.scene.Scene.{Scene}
-use Rattle.rail_scene.specs.declared.versions.Version.TheVariants.{One}
+use Rattle.rail_scene.specs.declared.versions.Version.TheVariants.{Two}
 use Rattle.rail_scene.specs.Entries.{section_of, portal_of, signal_of, board_of, turn_of, route_of, kind_of, train_of}
 use Rattle.rail_scene.specs.Fields.{listed, elements_at, number_at, policy_at, bounded}
 use Rattle.rail_scene.specs.Forms.{form_tests, is_table}
@@ -40,13 +40,13 @@ use Rattle.rail_scene_text.proofs.Trains.{OneTime}
 -- the list of a part in a root: what holds of its items
 module _ (p : ListPart) {X : Type 0} (f : X → Data) (G : X → Type 0) (xs : List X) (all : Each G xs) where
   pub tables : ((x : X) → is_table (f x) ≡ true) → list_all is_table (listed (items_of (map f xs))) ≡ true
-  tables each = ap (list_all is_table) (listed_items (map f xs)) ∙ lists.are_tables p One f G each xs
+  tables each = ap (list_all is_table) (listed_items (map f xs)) ∙ lists.are_tables p Two f G each xs
 
-  pub formed : ((x : X) → G x → first_failing (form_tests (keys_of p One) (f x)) ≡ None) → first_failing (list_forms p One 1 (listed (items_of (map f xs)))) ≡ None
-  formed each = ap (λ ds. first_failing (list_forms p One 1 ds)) (listed_items (map f xs)) ∙ lists.forms_pass p One f G each 1 xs all
+  pub formed : ((x : X) → G x → first_failing (form_tests (keys_of p Two) (f x)) ≡ None) → first_failing (list_forms p Two 1 (listed (items_of (map f xs)))) ≡ None
+  formed each = ap (λ ds. first_failing (list_forms p Two 1 ds)) (listed_items (map f xs)) ∙ lists.forms_pass p Two f G each 1 xs all
 
   pub spelled : (read : Data → X) → ((x : X) → G x → read (f x) ≡ x) → map read (listed (items_of (map f xs))) ≡ xs
-  spelled read each = ap (map read) (listed_items (map f xs)) ∙ lists.spelled p One f G read each xs all
+  spelled read each = ap (map read) (listed_items (map f xs)) ∙ lists.spelled p Two f G read each xs all
 
 -- the lists that come behind one
 abbrev after_kind : List ListPart
@@ -71,15 +71,15 @@ abbrev after_section : List ListPart
 after_section = part.Portal ∷ after_portal
 
 -- the values of one list, and then those of the others
-next_list : (root : Data) (p : ListPart) (parts : List ListPart) (items with : SceneItems) → first_failing (list_values p One 1 items (elements_at (list_key p) root)) ≡ None
-    → with_items p (elements_at (list_key p) root) items ≡ with → first_failing (values_of One root with parts) ≡ None → first_failing (values_of One root items (p ∷ parts)) ≡ None
+next_list : (root : Data) (p : ListPart) (parts : List ListPart) (items with : SceneItems) → first_failing (list_values p Two 1 items (elements_at (list_key p) root)) ≡ None
+    → with_items p Two (elements_at (list_key p) root) items ≡ with → first_failing (values_of Two root with parts) ≡ None → first_failing (values_of Two root items (p ∷ parts)) ≡ None
 next_list root p parts items with here is rest =
-    both_passed (list_values p One 1 items (elements_at (list_key p) root)) (values_of One root (with_items p (elements_at (list_key p) root) items) parts)
-    here (ap (λ items. first_failing (values_of One root items parts)) is ∙ rest)
+    both_passed (list_values p Two 1 items (elements_at (list_key p) root)) (values_of Two root (with_items p Two (elements_at (list_key p) root) items) parts)
+    here (ap (λ items. first_failing (values_of Two root items parts)) is ∙ rest)
 
-next_forms : (root : Data) (p : ListPart) (parts : List ListPart) → first_failing (list_forms p One 1 (elements_at (list_key p) root)) ≡ None
-    → first_failing (forms_of One root parts) ≡ None → first_failing (forms_of One root (p ∷ parts)) ≡ None
-next_forms root p parts here rest = both_passed (list_forms p One 1 (elements_at (list_key p) root)) (forms_of One root parts) here rest
+next_forms : (root : Data) (p : ListPart) (parts : List ListPart) → first_failing (list_forms p Two 1 (elements_at (list_key p) root)) ≡ None
+    → first_failing (forms_of Two root parts) ≡ None → first_failing (forms_of Two root (p ∷ parts)) ≡ None
+next_forms root p parts here rest = both_passed (list_forms p Two 1 (elements_at (list_key p) root)) (forms_of Two root parts) here rest
 
 module _ (scene : Scene) (one : OneTime) (kept : IsScene scene) (typed : IsTyped scene) (sound : IsSoundNetwork scene.network) where
   abbrev net : Net
@@ -112,8 +112,8 @@ module _ (scene : Scene) (one : OneTime) (kept : IsScene scene) (typed : IsTyped
   trains : Each train.GoodTrain scene.trains
   trains = each_both is_typed_train is_fit_train scene.trains typed.trains kept.trains
 
-  own_form : first_failing (form_tests (root_keys One) root) ≡ None
-  own_form = none_failing (form_tests (root_keys One) root) (
+  own_form : first_failing (form_tests (root_keys Two) root) ≡ None
+  own_form = none_failing (form_tests (root_keys Two) root) (
     refl,
     (
       refl,
@@ -161,7 +161,7 @@ module _ (scene : Scene) (one : OneTime) (kept : IsScene scene) (typed : IsTyped
                                                 refl,
                                                 (
                                                   ap not (tables part.Train train_data train.GoodTrain scene.trains trains (λ x. refl)),
-                                                  (refl, tt),
+                                                  (refl, (refl, (refl, tt))),
                                                 ),
                                               ),
                                             ),
@@ -187,9 +187,9 @@ module _ (scene : Scene) (one : OneTime) (kept : IsScene scene) (typed : IsTyped
     ),
   )
 
-  pub forms : first_failing (scene_forms One root) ≡ None
+  pub forms : first_failing (scene_forms Two root) ≡ None
   unfolding scene_forms
-  forms = both_passed (located Root 0 (form_tests (root_keys One) root)) (forms_of One root list_parts) (located_none Root 0 (form_tests (root_keys One) root) own_form)
+  forms = both_passed (located Root 0 (form_tests (root_keys Two) root)) (forms_of Two root list_parts) (located_none Root 0 (form_tests (root_keys Two) root) own_form)
       (next_forms root part.Section after_section (formed part.Section section_data section.Good net.sections sections section.section_form)
       (next_forms root part.Portal after_portal (formed part.Portal post_data (post.Good role.Portal net.sections) net.portals portals (λ x g. post.portal_form x net.sections g))
       (next_forms root part.Signal after_signal (formed part.Signal post_data (post.Good role.Signal net.sections) net.signals signals (λ x g. post.signal_form x net.sections g))
@@ -215,8 +215,8 @@ module _ (scene : Scene) (one : OneTime) (kept : IsScene scene) (typed : IsTyped
   turns_read : map turn_of (elements_at (list_key part.Turn) root) ≡ net.turns
   turns_read = spelled part.Turn turn_data (way.GoodTurn net) net.turns turns turn_of (λ x g. way.turn_read net x g)
 
-  routes_read : map route_of (elements_at (list_key part.Route) root) ≡ net.routes
-  routes_read = spelled part.Route route_data (way.GoodRoute net) net.routes routes route_of (λ x g. way.route_read net x g)
+  routes_read : map (route_of Two) (elements_at (list_key part.Route) root) ≡ net.routes
+  routes_read = spelled part.Route route_data (way.GoodRoute net) net.routes routes (route_of Two) (λ x g. way.route_read net x g)
 
   kinds_read : map kind_of (elements_at (list_key part.Kind) root) ≡ scene.kinds
   kinds_read = spelled part.Kind kind_data train.GoodKind scene.kinds kinds kind_of train.kind_read
@@ -230,19 +230,25 @@ module _ (scene : Scene) (one : OneTime) (kept : IsScene scene) (typed : IsTyped
   depth_is : bounded (record { low = 0; high = most Depth; default = 1 }) scene.depth ≡ Some scene.depth
   depth_is = number_is 0 (most Depth) 1 scene.depth (from_zero (most Depth) scene.depth (up_to (most Depth) scene.depth kept.depth))
 
-  own_values : first_failing (value_tests 1 (root_keys One) root) ≡ None
-  own_values = none_failing (value_tests 1 (root_keys One) root) (
+  overlap_time_is : bounded (record { low = 0; high = most OverlapTime; default = 0 }) scene.overlap_time ≡ Some scene.overlap_time
+  overlap_time_is = number_is 0 (most OverlapTime) 0 scene.overlap_time (from_zero (most OverlapTime) scene.overlap_time (up_to (most OverlapTime) scene.overlap_time kept.overlap_time))
+
+  own_values : first_failing (value_tests 1 (root_keys Two) root) ≡ None
+  own_values = none_failing (value_tests 1 (root_keys Two) root) (
     refl,
     (
       found (number_at (key_of word.Release) root) scene.release release_is,
       (
         found (number_at (key_of word.Depth) root) scene.depth depth_is,
-        (found (policy_at (key_of word.Policy) root) scene.policy (name_is scene.policy typed.policy), tt),
+        (
+          found (policy_at (key_of word.Policy) root) scene.policy (name_is scene.policy typed.policy),
+          (found (number_at (key_of word.OverlapTime) root) scene.overlap_time overlap_time_is, tt),
+        ),
       ),
     ),
   )
 
-  lists_pass : first_failing (lists_values One root) ≡ None
+  lists_pass : first_failing (lists_values Two root) ≡ None
   unfolding lists_values
   lists_pass =
       next_list root part.Section after_section (section.with_sections []) (section.with_sections net.sections)
@@ -271,20 +277,21 @@ module _ (scene : Scene) (one : OneTime) (kept : IsScene scene) (typed : IsTyped
       (ap (train.with_trains net scene.kinds one) trains_read) refl)))))))
     where
       listed_pass : (p : ListPart) {X : Type 0} (f : X → Data) (G : X → Type 0) (D : List X → SceneItems) (xs : List X) → Each G xs
-          → ((before : List X) (x : X) (after : List X) → xs ≡ before ++ x ∷ after → G x → first_failing (item_tests p One (D before) (f x)) ≡ None)
-          → ((before : List X) (x : X) → G x → with_items p (f x ∷ []) (D before) ≡ D (before ++ x ∷ []))
-          → first_failing (list_values p One 1 (D []) (listed (items_of (map f xs)))) ≡ None
+          → ((before : List X) (x : X) (after : List X) → xs ≡ before ++ x ∷ after → G x → first_failing (item_tests p Two (D before) (f x)) ≡ None)
+          → ((before : List X) (x : X) → G x → with_items p Two (f x ∷ []) (D before) ≡ D (before ++ x ∷ []))
+          → first_failing (list_values p Two 1 (D []) (listed (items_of (map f xs)))) ≡ None
       listed_pass p f G D xs all passes next =
-          ap (λ ds. first_failing (list_values p One 1 (D []) ds)) (listed_items (map f xs)) ∙ lists.values_pass p One f G D xs passes next 1 [] xs refl all
+          ap (λ ds. first_failing (list_values p Two 1 (D []) ds)) (listed_items (map f xs)) ∙ lists.values_pass p Two f G D xs passes next 1 [] xs refl all
 
-  pub values : first_failing (scene_values One root) ≡ None
-  values = values_none One root own_values lists_pass
+  pub values : first_failing (scene_values Two root) ≡ None
+  values = values_none Two root own_values lists_pass
 
-  pub spelled_is : scene_of root ≡ scene
+  pub spelled_is : scene_of Two root ≡ scene
   spelled_is = λ i. record {
     release = unwrap_or (release_is i) 0;
     depth = unwrap_or (depth_is i) 0;
     policy = unwrap_or (name_is scene.policy typed.policy i) [];
+    overlap_time = unwrap_or (overlap_time_is i) 0;
     network = record {
       sections = sections_read i;
       portals = portals_read i;

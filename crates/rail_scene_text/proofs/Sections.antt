@@ -20,7 +20,7 @@ use Rattle.rail_routes.specs.Sound.{IsSoundNetwork}
 use Rattle.rail_routes.proofs.CallerLemmas.{section_after}
 use Rattle.rail_scene.specs.declared.keys.KeyName.TheVariants as word
 use Rattle.rail_scene.specs.declared.keys.ListPart.TheVariants as part
-use Rattle.rail_scene.specs.declared.versions.Version.TheVariants.{One}
+use Rattle.rail_scene.specs.declared.versions.Version.TheVariants.{Two}
 use Rattle.rail_scene.specs.Entries.{section_of}
 use Rattle.rail_scene.specs.Fields.{name_at, number_at, kind_at, elements_at, is_joint_count}
 use Rattle.rail_scene.specs.Forms.{form_tests}
@@ -72,16 +72,16 @@ section_read s good =
       joints = names_listed s.joints p.joints i;
     }
 
-pub section_form : (s : Section) → Good s → first_failing (form_tests (keys_of part.Section One) (section_data s)) ≡ None
+pub section_form : (s : Section) → Good s → first_failing (form_tests (keys_of part.Section Two) (section_data s)) ≡ None
 section_form s good = ap (λ b. cond (not b) (Some (Refused WrongKind 5)) None) (strings s.joints)
 
-pub section_values : (s : Section) → Good s → first_failing (value_tests 1 (keys_of part.Section One) (section_data s)) ≡ None
+pub section_values : (s : Section) → Good s → first_failing (value_tests 1 (keys_of part.Section Two) (section_data s)) ≡ None
 section_values s good =
     let p = parts s good in
     let d = section_data s in
     let counted : not (is_joint_count d (length (elements_at (key_of word.Joints) d))) ≡ false =
     (λ i. not (option_map_or (λ kind. names_count s.joints i == joint_count kind) (kind_read s i) true)) ∙ ap not p.many in
-    none_failing (value_tests 1 (keys_of part.Section One) d) (
+    none_failing (value_tests 1 (keys_of part.Section Two) d) (
       found (name_at (key_of word.Name) d) s.name (name_is s.name p.name),
       (
         found (kind_at (key_of word.SectionKind) d) s.kind (kind_read s),
@@ -105,12 +105,12 @@ with_sections sections = record {
 
 module _ (net : Net) (sound : IsSoundNetwork net) where
   pub section_passes : (before : List Section) (s : Section) (after : List Section) → net.sections ≡ before ++ s ∷ after → Good s
-      → first_failing (item_tests part.Section One (with_sections before) (section_data s)) ≡ None
+      → first_failing (item_tests part.Section Two (with_sections before) (section_data s)) ≡ None
   section_passes before s after is good =
       let accepted = section_after net before s after sound is in
       let room = all_passed (section_tests before (is_closed_by before []) s) accepted in
-      item_none part.Section One (with_sections before) (section_data s) room.0 (section_values s good)
+      item_none part.Section Two (with_sections before) (section_data s) room.0 (section_values s good)
       (ap (λ t. first_failing (section_tests before (is_closed_by before []) t)) (section_read s good) ∙ accepted)
 
-pub section_next : (before : List Section) (s : Section) → Good s → with_items part.Section (section_data s ∷ []) (with_sections before) ≡ with_sections (before ++ s ∷ [])
+pub section_next : (before : List Section) (s : Section) → Good s → with_items part.Section Two (section_data s ∷ []) (with_sections before) ≡ with_sections (before ++ s ∷ [])
 section_next before s good = ap (λ t. with_sections (before ++ t ∷ [])) (section_read s good)

@@ -17,7 +17,7 @@ use Rattle.rail_routes.specs.Net.{Net}
 use Rattle.rail_scene.specs.declared.keys.KeyName.TheVariants as word
 use Rattle.rail_scene.specs.declared.keys.ListPart.TheVariants as part
 use Rattle.rail_scene.specs.declared.scene.SceneTrain.{SceneTrain}
-use Rattle.rail_scene.specs.declared.versions.Version.TheVariants.{One}
+use Rattle.rail_scene.specs.declared.versions.Version.TheVariants.{Two}
 use Rattle.rail_scene.specs.Entries.{kind_of, train_of}
 use Rattle.rail_scene.specs.Fields.{name_at, number_at, time_at, time_up_to, elements_at}
 use Rattle.rail_scene.specs.Forms.{form_tests}
@@ -59,13 +59,13 @@ module _ (kind : TrainKind) (good : GoodKind kind) where
     stop = unwrap_or (number_is 0 (most StopSupplement) 0 kind.stop (from_zero (most StopSupplement) kind.stop kind_parts.stop) i) 0;
   }
 
-  pub kind_form : first_failing (form_tests (keys_of part.Kind One) (kind_data kind)) ≡ None
+  pub kind_form : first_failing (form_tests (keys_of part.Kind Two) (kind_data kind)) ≡ None
   kind_form = refl
 
-  pub kind_values : first_failing (value_tests 1 (keys_of part.Kind One) (kind_data kind)) ≡ None
+  pub kind_values : first_failing (value_tests 1 (keys_of part.Kind Two) (kind_data kind)) ≡ None
   kind_values =
       let d = kind_data kind in
-      none_failing (value_tests 1 (keys_of part.Kind One) d) (
+      none_failing (value_tests 1 (keys_of part.Kind Two) d) (
         found (name_at (key_of word.Name) d) kind.name (name_is kind.name good.0),
         (
           found (number_at (key_of word.TrainLength) d) kind.length (number_is 1 (most TrainLength) 1 kind.length kind_parts.long),
@@ -118,15 +118,15 @@ module _ (one : OneTime) (train : SceneTrain) (good : GoodTrain train) where
     routes = names_listed train.routes train_parts.routes i;
   }
 
-  pub train_form : first_failing (form_tests (keys_of part.Train One) (train_data train)) ≡ None
+  pub train_form : first_failing (form_tests (keys_of part.Train Two) (train_data train)) ≡ None
   train_form = ap (λ b. cond (not b) (Some (Refused WrongKind 5)) None) (strings train.routes)
 
-  pub train_values : first_failing (value_tests 1 (keys_of part.Train One) (train_data train)) ≡ None
+  pub train_values : first_failing (value_tests 1 (keys_of part.Train Two) (train_data train)) ≡ None
   train_values =
       let d = train_data train in
       let counted : not (is_from_one (most ItineraryRoutes) (length (elements_at (key_of word.Routes) d))) ≡ false =
       ap (λ n. not (is_from_one (most ItineraryRoutes) n)) (names_count train.routes) ∙ ap not train_parts.many in
-      none_failing (value_tests 1 (keys_of part.Train One) d) (
+      none_failing (value_tests 1 (keys_of part.Train Two) d) (
         found (name_at (key_of word.Name) d) train.name (name_is train.name train_parts.name),
         (
           found (name_at (key_of word.TrainKind) d) train.kind (name_is train.kind train_parts.kind),
@@ -154,15 +154,15 @@ module _ (net : Net) where
 
   pub kind_passes : (kinds : List TrainKind) → length kinds ≤ most Kinds → are_distinct is_one_kind kinds ≡ true
       → (before : List TrainKind) (kind : TrainKind) (after : List TrainKind) → kinds ≡ before ++ kind ∷ after → GoodKind kind
-      → first_failing (item_tests part.Kind One (with_kinds before) (kind_data kind)) ≡ None
+      → first_failing (item_tests part.Kind Two (with_kinds before) (kind_data kind)) ≡ None
   kind_passes kinds few apart before kind after is good =
       let room = room_before (most Kinds) before kind after (subst (λ (ks : List TrainKind). length ks ≤ most Kinds) is few) in
       let fresh : list_any (is_one_kind kind) before ≡ false =
       distinct_before is_one_kind (λ (x y : TrainKind). same_name-comm x.name y.name) before kind after (ap (are_distinct is_one_kind) (sym is) ∙ apart) in
-      item_none part.Kind One (with_kinds before) (kind_data kind) room (kind_values kind good)
+      item_none part.Kind Two (with_kinds before) (kind_data kind) room (kind_values kind good)
       (ap (λ k. first_failing (kind_tests before k)) (kind_read kind good) ∙ none_failing (kind_tests before kind) (fresh, tt))
 
-  pub kind_next : (before : List TrainKind) (kind : TrainKind) → GoodKind kind → with_items part.Kind (kind_data kind ∷ []) (with_kinds before) ≡ with_kinds (before ++ kind ∷ [])
+  pub kind_next : (before : List TrainKind) (kind : TrainKind) → GoodKind kind → with_items part.Kind Two (kind_data kind ∷ []) (with_kinds before) ≡ with_kinds (before ++ kind ∷ [])
   kind_next before kind good = ap (λ k. with_kinds (before ++ k ∷ [])) (kind_read kind good)
 
   module _ (kinds : List TrainKind) (one : OneTime) where
@@ -172,13 +172,13 @@ module _ (net : Net) where
 
     pub train_passes : (trains : List SceneTrain) → length trains ≤ most Trains → are_distinct is_one_train trains ≡ true
         → (before : List SceneTrain) (train : SceneTrain) (after : List SceneTrain) → trains ≡ before ++ train ∷ after → GoodTrain train
-        → first_failing (item_tests part.Train One (with_trains before) (train_data train)) ≡ None
+        → first_failing (item_tests part.Train Two (with_trains before) (train_data train)) ≡ None
     train_passes trains few apart before train after is good =
         let room = room_before (most Trains) before train after (subst (λ (ts : List SceneTrain). length ts ≤ most Trains) is few) in
         let fresh : list_any (is_one_train train) before ≡ false =
         distinct_before is_one_train (λ (x y : SceneTrain). same_name-comm x.name y.name) before train after (ap (are_distinct is_one_train) (sym is) ∙ apart) in
-        item_none part.Train One (with_trains before) (train_data train) room (train_values one train good)
+        item_none part.Train Two (with_trains before) (train_data train) room (train_values one train good)
         (ap (λ t. first_failing (train_tests before t)) (train_read one train good) ∙ none_failing (train_tests before train) (fresh, tt))
 
-    pub train_next : (before : List SceneTrain) (train : SceneTrain) → GoodTrain train → with_items part.Train (train_data train ∷ []) (with_trains before) ≡ with_trains (before ++ train ∷ [])
+    pub train_next : (before : List SceneTrain) (train : SceneTrain) → GoodTrain train → with_items part.Train Two (train_data train ∷ []) (with_trains before) ≡ with_trains (before ++ train ∷ [])
     train_next before train good = ap (λ t. with_trains (before ++ t ∷ [])) (train_read one train good)

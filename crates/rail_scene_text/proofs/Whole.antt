@@ -12,6 +12,7 @@ use Rattle.rail_scene.specs.Fields.{version_of}
 use Rattle.rail_scene.specs.Order.{scene_refusal, scene_forms, scene_values, toml_test}
 use Rattle.rail_scene.specs.Scenes.{IsScene}
 use Rattle.rail_scene.specs.SpelledScenes.{document, root_of, scene_of, spelled_scene}
+use Rattle.rail_scene.specs.Versions.{newest}
 use Rattle.rail_scene.proofs.CallerLemmas.{document_some, root_is, none_refused}
 use Rattle.rail_scene_text.specs.Tables.{scene_members}
 use Rattle.rail_scene_text.specs.Typed.{IsTyped}
@@ -36,4 +37,7 @@ module _ (scene : Scene) (one : OneTime) (kept : IsScene scene) (typed : IsTyped
 
   pub same : spelled_scene text ≡ scene
   unfolding spelled_scene
-  same = ap scene_of is_root ∙ of_root.spelled_is scene one kept typed sound
+  same = ap (λ r. scene_of (version_of r) r) is_root ∙ of_root.spelled_is scene one kept typed sound
+
+  pub versioned : version_of (root_of text) ≡ newest
+  versioned = ap version_of is_root

@@ -3,6 +3,7 @@ use Rattle.std.specs.Prelude.{ℕ, cond, List, [], ◌∷◌, codes, Some, None}
 use Rattle.toml.specs.Data.{Data, table, Members, no_members, member, same_key}
 use Rattle.rail_routes.specs.declared.items.Post.{Post}
 use Rattle.rail_routes.specs.declared.items.Role.TheVariants as role
+use Rattle.rail_routes.specs.declared.items.Route.{Route}
 use Rattle.rail_track.specs.declared.section.SectionKind.TheVariants.{Plain}
 use Rattle.rail_scene.specs.declared.scene.Scene.{Scene}
 use Rattle.rail_scene.specs.declared.scene.SceneTrain.{SceneTrain}
@@ -23,12 +24,24 @@ without key value = value
 abbrev pub signal : Post
 signal = record { name = codes "S"; role = role.Signal; joint = codes "b"; ahead = Some (codes "X2"); setting = 10; watching = 10; approach = 100 }
 
--- two sections with a portal at each end, a signal between them and a route over each, and a depth that is not the default
+-- a route to the signal, with the section behind it as its overlap
+abbrev pub route : Route
+route = record {
+  name = codes "r1";
+  from = codes "West";
+  to = codes "S";
+  steps = record { section = codes "X1"; from = codes "a"; to = codes "b" } ∷ [];
+  overlap = record { section = codes "X2"; from = codes "b"; to = codes "c" } ∷ [];
+}
+
+-- two sections with a portal at each end, a signal between them and a route over each, and a depth and an overlap time that
+-- are not the default
 abbrev pub scene : Scene
 scene = record {
   release = 20;
   depth = 2;
   policy = codes "priority";
+  overlap_time = 50;
   network = record {
     sections =
         record { name = codes "X1"; kind = Plain; length = 1000; speed = 90; joints = codes "a" ∷ codes "b" ∷ [] } ∷
@@ -40,8 +53,8 @@ scene = record {
     boards = [];
     turns = [];
     routes =
-        record { name = codes "r1"; from = codes "West"; to = codes "S"; steps = record { section = codes "X1"; from = codes "a"; to = codes "b" } ∷ [] } ∷
-        record { name = codes "r2"; from = codes "S"; to = codes "East"; steps = record { section = codes "X2"; from = codes "b"; to = codes "c" } ∷ [] } ∷ [];
+        route ∷
+        record { name = codes "r2"; from = codes "S"; to = codes "East"; steps = record { section = codes "X2"; from = codes "b"; to = codes "c" } ∷ []; overlap = [] } ∷ [];
   };
   kinds = record { name = codes "R"; length = 90; speed = 90; start = 100; stop = 50 } ∷ [];
   trains = [];

@@ -21,7 +21,7 @@ use Rattle.rail_routes.specs.Net.{Net}
 use Rattle.rail_scene.specs.declared.keys.KeyName.TheVariants as word
 use Rattle.rail_scene.specs.declared.scene.Scene.{Scene}
 use Rattle.rail_scene.specs.declared.scene.SceneTrain.{SceneTrain}
-use Rattle.rail_scene.specs.declared.versions.Version.TheVariants.{One}
+use Rattle.rail_scene.specs.declared.versions.Version.TheVariants.{Two}
 use Rattle.rail_scene.specs.Keys.{text_of}
 use Rattle.rail_scene.specs.Versions.{version_number}
 
@@ -98,17 +98,22 @@ abbrev pub first_joint : List Step → List (List ℕ)
 first_joint [] = []
 first_joint (step ∷ steps) = step.from ∷ []
 
--- the joints and sections of the steps in turn
+-- the sections and joints of the steps in turn
+abbrev pub overlap_of : List Step → List (List ℕ)
+overlap_of steps = flat_map (λ (step : Step). step.section ∷ step.to ∷ []) steps
+
+-- the same behind the joint where they begin
 abbrev pub path_of : List Step → List (List ℕ)
-path_of steps = first_joint steps ++ flat_map (λ (step : Step). step.section ∷ step.to ∷ []) steps
+path_of steps = first_joint steps ++ overlap_of steps
 
 -- the table of a route
 abbrev pub route_data : Route → Data
 route_data route = table (
     member (text_of word.From) (string route.from) (
     member (text_of word.Name) (string route.name) (
+    member (text_of word.Overlap) (array_of string (overlap_of route.overlap)) (
     member (text_of word.Path) (array_of string (path_of route.steps)) (
-    member (text_of word.To) (string route.to) no_members))))
+    member (text_of word.To) (string route.to) no_members)))))
 
 -- the table of a train kind
 abbrev pub kind_data : TrainKind → Data
@@ -144,6 +149,7 @@ scene_members scene =
     member (text_of word.Board) (array_of post_data scene.network.boards) (
     member (text_of word.Depth) (number scene.depth) (
     member (text_of word.Kind) (array_of kind_data scene.kinds) (
+    member (text_of word.OverlapTime) (number scene.overlap_time) (
     member (text_of word.Policy) (string scene.policy) (
     member (text_of word.Portal) (array_of post_data scene.network.portals) (
     member (text_of word.Release) (number scene.release) (
@@ -152,7 +158,7 @@ scene_members scene =
     member (text_of word.Signal) (array_of post_data scene.network.signals) (
     member (text_of word.Train) (array_of train_data scene.trains) (
     member (text_of word.Turn) (array_of turn_data scene.network.turns) (
-    member (text_of word.Version) (number (version_number One)) no_members)))))))))))
+    member (text_of word.Version) (number (version_number Two)) no_members))))))))))))
 
 -- the text is the TOML document of the scene's keys and tables, as the library lays it out
 abbrev pub IsSceneText : Scene → List ℕ → Type 0

@@ -11,7 +11,7 @@ use Rattle.rail_routes.specs.declared.items.Turn.{Turn}
 use Rattle.rail_routes.specs.Net.{Net}
 use Rattle.rail_scene.specs.declared.scene.Scene.{Scene}
 use Rattle.rail_scene.specs.declared.scene.SceneTrain.{SceneTrain}
-use Rattle.rail_scene_text.specs.Tables.{path_of}
+use Rattle.rail_scene_text.specs.Tables.{path_of, overlap_of}
 
 -- the name of a section, and its joints, are names
 abbrev pub is_typed_section : Section → Bool
@@ -25,9 +25,11 @@ is_typed_post post = is_name post.name && is_name post.joint && option_map_or is
 abbrev pub is_typed_turn : Turn → Bool
 is_typed_turn turn = is_name turn.arriving && is_name turn.leaving
 
--- the name of a route, its posts, and its path are names
+-- the name of a route, its posts, its path and its overlap are names
 abbrev pub is_typed_route : Route → Bool
-is_typed_route route = is_name route.name && is_name route.from && is_name route.to && list_all is_name (path_of route.steps)
+is_typed_route route =
+    is_name route.name && is_name route.from && is_name route.to && list_all is_name (path_of route.steps)
+    && list_all is_name (overlap_of route.overlap)
 
 -- the name of a train kind is a name
 abbrev pub is_typed_kind : TrainKind → Bool

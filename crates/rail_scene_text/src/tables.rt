@@ -1,9 +1,9 @@
 //! The tables of a scene file, from its items.
-ghost use Rattle.std.specs.Prelude.{◌≡◌, ◌&&◌, true, IfOk, OnOk, IsTrue};
+ghost use Rattle.std.specs.Prelude.{◌≡◌, ◌++◌, ◌&&◌, true, IfOk, OnOk, IsTrue};
 ghost use Rattle.std.specs.Option.{option_map_or};
 ghost use Rattle.toml.specs.View.{table_view};
 ghost use Rattle.rail_base.specs.NameForms.{is_name};
-ghost use Rattle.rail_scene_text.specs.Tables.{kind_word, path_of, first_joint, post_members, with_ahead};
+ghost use Rattle.rail_scene_text.specs.Tables.{kind_word, path_of, overlap_of, first_joint, post_members, with_ahead};
 
 use crate::values::{Written, array, byte_value, put, time_value};
 use rail_base::{Name, TrainKind};
@@ -159,11 +159,28 @@ fn path_of(alloc: Global, steps: &[Step]) -> Result<Vec<Name>, AllocError>
     ensures { IfOk result (λ names. names.items ≡ path_of steps.now) }
 {
     let mut names = first_joint(alloc, steps)?;
+    push_steps(&mut names, steps)?;
+    Ok(names)
+}
+
+/// The sections and joints of the steps in turn.
+fn overlap_of(alloc: Global, steps: &[Step]) -> Result<Vec<Name>, AllocError>
+    ensures { IfOk result (λ names. names.items ≡ overlap_of steps.now) }
+{
+    let mut names = Vec::new(alloc);
+    push_steps(&mut names, steps)?;
+    Ok(names)
+}
+
+/// Adds the section of each step, and the joint at which it is left.
+fn push_steps(names: &mut Vec<Name>, steps: &[Step]) -> Result<(), AllocError>
+    ensures { OnOk result (names.new.items ≡ names.old.items ++ overlap_of steps.now) }
+{
     for step in steps {
         names.push(step.section)?;
         names.push(step.to)?;
     }
-    Ok(names)
+    Ok(())
 }
 
 /// The joint where the steps begin.
@@ -190,6 +207,7 @@ impl Written for Route {
 
     fn value(&self, alloc: Global) -> Result<Value, AllocError> {
         let path = path_of(alloc, self.steps.as_slice())?;
+        let overlap = overlap_of(alloc, self.overlap.as_slice())?;
         let mut members = Table::new(alloc);
         put(alloc, &mut members, KeyName::Name, self.name.value(alloc)?)?;
         put(alloc, &mut members, KeyName::From, self.from.value(alloc)?)?;
@@ -199,6 +217,12 @@ impl Written for Route {
             &mut members,
             KeyName::Path,
             array(alloc, path.as_slice())?,
+        )?;
+        put(
+            alloc,
+            &mut members,
+            KeyName::Overlap,
+            array(alloc, overlap.as_slice())?,
         )?;
         Ok(Value::Table(members))
     }

@@ -3,7 +3,9 @@ ghost use Rattle.std.specs.Prelude.{◌≡◌, None, OnOk, IfOk};
 ghost use Rattle.toml.specs.View.{table_view};
 ghost use Rattle.rail_scene.specs.Order.{scene_refusal};
 ghost use Rattle.rail_scene.specs.Scenes.{IsScene};
-ghost use Rattle.rail_scene.specs.SpelledScenes.{spelled_scene};
+ghost use Rattle.rail_scene.specs.SpelledScenes.{root_of, spelled_scene};
+ghost use Rattle.rail_scene.specs.Fields.{version_of};
+ghost use Rattle.rail_scene.specs.Versions.{newest};
 ghost use Rattle.rail_scene_text.specs.Tables.{IsSceneText, network_members, scene_members};
 ghost use Rattle.rail_scene_text.specs.Typed.{IsTyped, IsTypedNetwork};
 
@@ -16,9 +18,10 @@ use std::alloc::{AllocError, Global};
 use toml::{Table, Value};
 
 /// The version of the scene format that is written.
-const VERSION: Version = Version::One;
+const VERSION: Version = Version::NEWEST;
 
-/// A text that is read as the scene: the TOML document of its keys and tables, as the library `toml` lays it out. How
+/// A text in the newest version of the format that is read as the scene: the TOML document of its keys and tables, as the
+/// library `toml` lays it out. How
 /// that is may change from one release to the next.
 ///
 /// The scene may be one that was read or one that was put together, as long as it keeps the limits and ranges of a
@@ -29,6 +32,7 @@ pub fn write_scene(alloc: Global, scene: &Scene) -> Result<Vec<u8>, OutOfMemory>
     ensures text { IfOk result (λ text. IsSceneText scene.now text.items) }
     ensures accepted { IfOk result (λ text. scene_refusal text.items ≡ None) }
     ensures same { IfOk result (λ text. spelled_scene text.items ≡ scene.now) }
+    ensures version { IfOk result (λ text. version_of (root_of text.items) ≡ newest) }
 {
     a_text_stands_for_one_time();
     // A network is sound at any time, as its sections tell.
@@ -65,6 +69,12 @@ fn scene_table(alloc: Global, scene: &Scene) -> Result<Table, AllocError>
         &mut root,
         KeyName::Policy,
         scene.policy.value(alloc)?,
+    )?;
+    put(
+        alloc,
+        &mut root,
+        KeyName::OverlapTime,
+        Value::from(scene.overlap_time),
     )?;
     let kinds = array(alloc, scene.kinds.as_slice())?;
     put(alloc, &mut root, KeyName::Kind, kinds)?;

@@ -5,7 +5,7 @@ use Rattle.std.specs.Str.{bytes_eq}
 use Rattle.rail_base.specs.Clock.{IsLenientTime}
 use Rattle.rail_words.specs.declared.files.Role.TheVariants as role
 use Rattle.rail_words.specs.declared.forms.Form.{Form}
-use Rattle.rail_words.specs.declared.forms.Form.TheVariants.{Run, Infra, Play, Check, Stairs, Report, Capacity, Edit, Scene, Gen}
+use Rattle.rail_words.specs.declared.forms.Form.TheVariants.{Run, Infra, Play, Check, Stairs, Report, Capacity, Edit, Migrate, Scene, Gen}
 use Rattle.rail_words.specs.declared.forms.Request.{Request}
 use Rattle.rail_words.specs.declared.forms.Request.TheVariants as request
 use Rattle.rail_words.specs.declared.forms.Scenario.{Scenario as Named}
@@ -21,12 +21,13 @@ verb_of Stairs = codes "stairs"
 verb_of Report = codes "report"
 verb_of Capacity = codes "capacity"
 verb_of Edit = codes "edit"
+verb_of Migrate = codes "migrate"
 verb_of Scene = codes "scene"
 verb_of Gen = codes "gen"
 
 -- all forms
 abbrev pub all_forms : List Form
-all_forms = Run ∷ Infra ∷ Play ∷ Check ∷ Stairs ∷ Report ∷ Capacity ∷ Edit ∷ Scene ∷ Gen ∷ []
+all_forms = Run ∷ Infra ∷ Play ∷ Check ∷ Stairs ∷ Report ∷ Capacity ∷ Edit ∷ Migrate ∷ Scene ∷ Gen ∷ []
 
 -- the form with this verb
 abbrev pub form_named : List ℕ → Option Form
@@ -65,6 +66,7 @@ Values Stairs = Scenario
 Values Report = Scenario
 Values Capacity = Study
 Values Edit = SceneAnd
+Values Migrate = List ℕ
 Values Scene = ℕ
 Values Gen = ℕ
 
@@ -110,6 +112,7 @@ Spells Stairs scenario words = scenario_named words ≡ Some scenario
 Spells Report scenario words = scenario_named words ≡ Some scenario
 Spells Capacity study words = IsStudy study words
 Spells Edit files words = words ≡ files.scene ∷ files.other ∷ []
+Spells Migrate scene words = words ≡ scene ∷ []
 Spells Scene number words = IsOneNumber number words
 Spells Gen number words = IsOneNumber number words
 
@@ -138,6 +141,7 @@ files_of Stairs scenario = scenario_files scenario
 files_of Report scenario = scenario_files scenario
 files_of Capacity study = scenario_files study.scenario
 files_of Edit files = file_as role.Scene (Some files.scene) ∷ file_as role.Edits (Some files.other) ∷ []
+files_of Migrate scene = file_as role.Scene (Some scene) ∷ []
 files_of Scene number = []
 files_of Gen number = []
 
@@ -159,6 +163,7 @@ form_in (request.Stairs scenario) = Stairs
 form_in (request.Report scenario) = Report
 form_in (request.Capacity line from to scenario) = Capacity
 form_in (request.Edit scene edits) = Edit
+form_in (request.Migrate scene) = Migrate
 form_in (request.Scene number) = Scene
 form_in (request.Gen number) = Gen
 
@@ -172,6 +177,7 @@ values_in (request.Stairs scenario) = scenario_in scenario
 values_in (request.Report scenario) = scenario_in scenario
 values_in (request.Capacity line from to scenario) = record { line = line.now; from = from; to = to; scenario = scenario_in scenario }
 values_in (request.Edit scene edits) = record { scene = scene.now; other = edits.now }
+values_in (request.Migrate scene) = scene.now
 values_in (request.Scene number) = number
 values_in (request.Gen number) = number
 
@@ -185,5 +191,6 @@ files_in (request.Stairs scenario) = scenario_files (scenario_in scenario)
 files_in (request.Report scenario) = scenario_files (scenario_in scenario)
 files_in (request.Capacity line from to scenario) = scenario_files (scenario_in scenario)
 files_in (request.Edit scene edits) = file_as role.Scene (Some scene.now) ∷ file_as role.Edits (Some edits.now) ∷ []
+files_in (request.Migrate scene) = file_as role.Scene (Some scene.now) ∷ []
 files_in (request.Scene number) = []
 files_in (request.Gen number) = []

@@ -23,12 +23,13 @@ pub enum Form {
     Report,
     Capacity,
     Edit,
+    Migrate,
     Scene,
     Gen,
 }
 
 /// The forms, in the order in which they are told.
-pub const FORMS: [Form; 10] = [
+pub const FORMS: [Form; 11] = [
     Form::Run,
     Form::Infra,
     Form::Play,
@@ -37,6 +38,7 @@ pub const FORMS: [Form; 10] = [
     Form::Report,
     Form::Capacity,
     Form::Edit,
+    Form::Migrate,
     Form::Scene,
     Form::Gen,
 ];
@@ -56,6 +58,7 @@ impl Form {
             Form::Report => "report",
             Form::Capacity => "capacity",
             Form::Edit => "edit",
+            Form::Migrate => "migrate",
             Form::Scene => "scene",
             Form::Gen => "gen",
         }
@@ -67,7 +70,7 @@ impl Form {
     {
         match self {
             Form::Run | Form::Stairs | Form::Report => "SCENE [TIMETABLE [COMMANDS]]",
-            Form::Infra => "SCENE",
+            Form::Infra | Form::Migrate => "SCENE",
             Form::Play => "SCENE LIST",
             Form::Check => "SCENE TIMETABLE COMMANDS HISTORY",
             Form::Capacity => "LINE FROM TO SCENE [TIMETABLE [COMMANDS]]",
@@ -102,6 +105,7 @@ impl Form {
             Form::Report => "how late the trains are, and for which causes they are held",
             Form::Capacity => "the trains pushed together on a line, and how full it is",
             Form::Edit => "the scene after the edits, as a scene file",
+            Form::Migrate => "the scene, as a scene file of the newest version",
             Form::Scene => "the made-up scene of the number, as a scene file",
             Form::Gen => "a run of that scene, told in one line",
         }
@@ -151,6 +155,9 @@ pub enum Request<'w> {
         scene: &'w str,
         edits: &'w str,
     },
+    Migrate {
+        scene: &'w str,
+    },
     Scene {
         number: u64,
     },
@@ -173,6 +180,7 @@ impl<'w> Request<'w> {
             Request::Report(_) => Form::Report,
             Request::Capacity { .. } => Form::Capacity,
             Request::Edit { .. } => Form::Edit,
+            Request::Migrate { .. } => Form::Migrate,
             Request::Scene { .. } => Form::Scene,
             Request::Gen { .. } => Form::Gen,
         }
@@ -184,7 +192,7 @@ impl<'w> Request<'w> {
     {
         match self {
             Request::Run(scenario) => scenario.file(role),
-            Request::Infra { scene } => match role {
+            Request::Infra { scene } | Request::Migrate { scene } => match role {
                 Role::Scene => Some(*scene),
                 Role::Timetable | Role::Commands | Role::History | Role::List | Role::Edits => None,
             },
@@ -273,6 +281,9 @@ fn request_with<'w>(form: Form, words: &'w [Word]) -> Option<Request<'w>>
             let (scene, edits) = two_files(words)?;
             Some(Request::Edit { scene, edits })
         }
+        Form::Migrate => Some(Request::Migrate {
+            scene: one_file(words)?,
+        }),
         Form::Scene => Some(Request::Scene {
             number: number_in(words)?,
         }),

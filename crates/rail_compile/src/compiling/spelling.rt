@@ -8,7 +8,7 @@ ghost use Rattle.rail_base.specs.FirstRefusals.{first_failing};
 ghost use Rattle.rail_base.specs.Refusals.{AnswersFirst};
 ghost use Rattle.rail_plan.specs.PlanFaults.{IsPlannable};
 ghost use Rattle.rail_scene.specs.Scenes.{IsScene};
-ghost use Rattle.rail_compile.specs.Itineraries.{section_row, tables_of};
+ghost use Rattle.rail_compile.specs.Itineraries.{section_row, tables_of, with_trains};
 ghost use Rattle.rail_compile.specs.Refusals.{trains_tests};
 ghost use Rattle.rail_compile.specs.Typed.{is_named_row};
 ghost use Rattle.rail_compile.specs.Ways.{AreWays};
@@ -17,27 +17,28 @@ use crate::compiling::trains::train_rows;
 use crate::compiling::ways::Ways;
 use indexmap::IndexSet;
 use rail_base::{Fault, Name, SectionRow, Seq, Tables};
-use rail_scene::Scene;
+use rail_scene::{Scene, SceneTrain};
 use rail_track::Section;
 use std::alloc::{AllocError, Global};
 
-/// The tables of a scene, or the first refusal of its trains. The names are those of the kinds.
+/// The tables of a scene with these trains in place of its own, or the first refusal of one. The names are those of the kinds.
 pub fn tables_of(
     alloc: Global,
     scene: &Scene,
     kinds: &IndexSet<Name>,
     ways: &Ways,
+    trains: &[SceneTrain],
 ) -> Result<Tables, Fault>
-    requires scene { IsScene scene.now }
+    requires scene { IsScene (with_trains scene.now trains.now) }
     requires kinds { kinds.now.keys ≡ map (λ (kind : TrainKind). kind.name) scene.now.kinds }
     requires ways { AreWays scene.now.network ways.now }
-    ensures accepted { OnOk result (first_failing (trains_tests scene.now 1 scene.now.trains) ≡ None) }
-    ensures spelled { IfOk result (λ tables. tables ≡ tables_of scene.now) }
+    ensures accepted { OnOk result (first_failing (trains_tests (with_trains scene.now trains.now) 1 trains.now) ≡ None) }
+    ensures spelled { IfOk result (λ tables. tables ≡ tables_of (with_trains scene.now trains.now)) }
     ensures plannable { IfOk result (λ tables. IsPlannable tables) }
-    ensures refused { IfErr result (AnswersFirst (first_failing (trains_tests scene.now 1 scene.now.trains))) }
+    ensures refused { IfErr result (AnswersFirst (first_failing (trains_tests (with_trains scene.now trains.now) 1 trains.now))) }
 {
     let sections = section_rows(alloc, scene.network.sections())?;
-    let trains = train_rows(alloc, scene, kinds, ways)?;
+    let trains = train_rows(alloc, scene, kinds, ways, trains)?;
     Ok(Tables {
         sections: Seq::from_vec(sections),
         release: scene.release,

@@ -8,7 +8,7 @@ ghost use Rattle.rail_base.specs.FirstRefusals.{first_failing};
 ghost use Rattle.rail_base.specs.Refusals.{AnswersFirst};
 ghost use Rattle.rail_scene.specs.declared.scene.SceneTrain.{SceneTrain};
 ghost use Rattle.rail_scene.specs.Scenes.{IsScene, is_fit_train};
-ghost use Rattle.rail_compile.specs.Itineraries.{routes_of, train_row};
+ghost use Rattle.rail_compile.specs.Itineraries.{routes_of, train_row, with_trains};
 ghost use Rattle.rail_compile.specs.Refusals.{train_tests, trains_tests};
 ghost use Rattle.rail_compile.specs.Typed.{is_typed_row};
 ghost use Rattle.rail_compile.specs.Ways.{AreWays, are_numbers, routes_at};
@@ -28,18 +28,28 @@ pub fn train_rows(
     scene: &Scene,
     kinds: &IndexSet<Name>,
     ways: &Ways,
+    trains: &[SceneTrain],
 ) -> Result<Vec<TrainRow>, Fault>
-    requires scene { IsScene scene.now }
+    requires scene { IsScene (with_trains scene.now trains.now) }
     requires kinds { kinds.now.keys ≡ map (λ (kind : TrainKind). kind.name) scene.now.kinds }
     requires ways { AreWays scene.now.network ways.now }
-    ensures accepted { OnOk result (first_failing (trains_tests scene.now 1 scene.now.trains) ≡ None) }
-    ensures rows { IfOk result (λ rows. rows.items ≡ map (train_row scene.now) scene.now.trains) }
+    ensures accepted { OnOk result (first_failing (trains_tests (with_trains scene.now trains.now) 1 trains.now) ≡ None) }
+    ensures rows { IfOk result (λ rows. rows.items ≡ map (train_row (with_trains scene.now trains.now)) trains.now) }
     ensures typed { IfOk result (λ rows. IsTrue (list_all is_typed_row rows.items)) }
-    ensures refused { IfErr result (AnswersFirst (first_failing (trains_tests scene.now 1 scene.now.trains))) }
+    ensures refused { IfErr result (AnswersFirst (first_failing (trains_tests (with_trains scene.now trains.now) 1 trains.now))) }
 {
-    let mut rows = Vec::with_capacity(alloc, scene.trains.as_slice().len())?;
-    for (index, train) in scene.trains.as_slice().iter().enumerate() {
-        let row = row_at(alloc, scene, kinds, ways, index, train, rows.as_slice())?;
+    let mut rows = Vec::with_capacity(alloc, trains.len())?;
+    for (index, train) in trains.iter().enumerate() {
+        let row = row_at(
+            alloc,
+            scene,
+            kinds,
+            ways,
+            trains,
+            index,
+            train,
+            rows.as_slice(),
+        )?;
         if rows.push(row).is_err() {
             return Err(Fault::OutOfMemory);
         }
@@ -53,26 +63,27 @@ fn row_at(
     scene: &Scene,
     kinds: &IndexSet<Name>,
     ways: &Ways,
+    trains: &[SceneTrain],
     index: usize,
     train: &SceneTrain,
     rows: &[TrainRow],
 ) -> Result<TrainRow, Fault>
-    requires scene { IsScene scene.now }
+    requires scene { IsScene (with_trains scene.now trains.now) }
     requires kinds { kinds.now.keys ≡ map (λ (kind : TrainKind). kind.name) scene.now.kinds }
     requires ways { AreWays scene.now.network ways.now }
     requires train { IsTrue (is_fit_train train.now) }
-    requires within { index < length scene.now.trains }
-    requires rows { rows.now ≡ map (train_row scene.now) (take index scene.now.trains) }
-    requires passed { (before : SceneTrain) → 0 < index → before ≡ get_or scene.now.trains (index - 1) before →
-        first_failing (train_tests scene.now (index + 1) before) ≡ None }
-    ensures accepted { OnOk result (first_failing (train_tests scene.now (index + 1) train.now) ≡ None) }
-    ensures row { IfOk result (λ row. row ≡ train_row scene.now train.now) }
+    requires within { index < length trains.now }
+    requires rows { rows.now ≡ map (train_row (with_trains scene.now trains.now)) (take index trains.now) }
+    requires passed { (before : SceneTrain) → 0 < index → before ≡ get_or trains.now (index - 1) before →
+        first_failing (train_tests (with_trains scene.now trains.now) (index + 1) before) ≡ None }
+    ensures accepted { OnOk result (first_failing (train_tests (with_trains scene.now trains.now) (index + 1) train.now) ≡ None) }
+    ensures row { IfOk result (λ row. row ≡ train_row (with_trains scene.now trains.now) train.now) }
     ensures typed { IfOk result (λ row. IsTrue (is_typed_row row)) }
-    ensures refused { IfErr result (AnswersFirst (first_failing (train_tests scene.now (index + 1) train.now))) }
+    ensures refused { IfErr result (AnswersFirst (first_failing (train_tests (with_trains scene.now trains.now) (index + 1) train.now))) }
 {
     let item = index as u32 + 1;
     if index > 0 {
-        let before = &scene.trains.as_slice()[index - 1];
+        let before = &trains[index - 1];
         if are_same(before.routes.as_slice(), train.routes.as_slice()) {
             return row_behind(alloc, scene, kinds, item, train, before, &rows[index - 1]);
         }

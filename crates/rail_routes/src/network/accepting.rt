@@ -8,7 +8,7 @@ use super::Network;
 use super::leading::{repeat_refusal, way_refusal};
 use crate::items::{Post, Role, Route, Step, Turn};
 use rail_base::limits::{
-    APPROACH, POSTS, ROUTE_SECTIONS, ROUTES, SETTING, TURN_TIME, TURNS, WATCHING,
+    APPROACH, OVERLAP_SECTIONS, POSTS, ROUTE_SECTIONS, ROUTES, SETTING, TURN_TIME, TURNS, WATCHING,
 };
 use rail_base::{Name, Reason};
 use rail_track::{NetFault, Section, times};
@@ -24,12 +24,12 @@ impl Network {
     ghost use Rattle.rail_track.specs.Joints.{has_joint};
     ghost use Rattle.rail_routes.specs.Net.{posts, is_post, stands_at};
     ghost use Rattle.rail_routes.specs.PostRules.{post_refusal, stands_well, has_joint_ahead, is_taken, is_guarded, is_astray};
-    ghost use Rattle.rail_routes.specs.RouteRules.{route_refusal, rule_tests};
+    ghost use Rattle.rail_routes.specs.RouteRules.{route_refusal, rule_tests, misses_section};
     ghost use Rattle.rail_base.specs.FirstRefusals.{first_failing};
     ghost use Rattle.rail_track.specs.Joints.{is_named};
     ghost use Rattle.rail_routes.specs.declared.items.Step.{Step};
     ghost use Rattle.rail_routes.specs.TurnRules.{turn_refusal, turns_well};
-    ghost use Rattle.rail_routes.specs.Uses.{section_removal, post_removal, is_section_used, is_post_used, turns_at, goes_to, runs_over};
+    ghost use Rattle.rail_routes.specs.Uses.{section_removal, post_removal, is_section_used, is_post_used, turns_at, goes_to, claims};
     ghost use Rattle.rail_routes.specs.declared.items.Post.{Post};
     ghost use Rattle.rail_base.specs.NameForms.{same_name};
     ghost use Rattle.rail_base.specs.declared.refusals.Reason.TheVariants.{InUse};
@@ -84,7 +84,7 @@ impl Network {
     fn count_of_posts(&self) -> usize
         ensures { result ≡ length self.now.portals + length self.now.signals + length self.now.boards }
     {
-        let _ = &self.runs;
+        let _ = &self.claimed;
         self.portals.as_slice().len() + self.signals.as_slice().len() + self.boards.as_slice().len()
     }
 
@@ -187,18 +187,23 @@ impl Network {
         if steps.is_empty() || steps.len() > ROUTE_SECTIONS {
             return refused(Reason::Range, 4);
         }
+        if route.overlap.as_slice().len() > OVERLAP_SECTIONS {
+            return refused(Reason::Range, 5);
+        }
         if self.routes.contains(&route.name) {
             return refused(Reason::Repeated, 1);
         }
         self.rule_refusal(route)
     }
 
-    /// Which rule a route breaks, whose number of steps is in range.
+    /// Which rule a route breaks, whose numbers of steps are in range.
     fn rule_refusal(&self, route: &Route) -> Option<NetFault>
-        requires { length route.now.steps < 2 ^ 16 }
+        requires path { length route.now.steps < 2 ^ 16 }
+        requires overlap { length route.now.overlap < 2 ^ 16 }
         ensures { result ≡ first_failing (rule_tests self.now route.now) }
     {
         let steps = route.steps.as_slice();
+        let overlap = route.overlap.as_slice();
         let Some(begin) = self.post(route.from) else {
             return refused(Reason::Unknown, 2);
         };
@@ -208,15 +213,18 @@ impl Network {
         if self.misses_section(steps) {
             return refused(Reason::Unknown, 4);
         }
-        match repeat_refusal(steps) {
+        if self.misses_section(overlap) {
+            return refused(Reason::Unknown, 5);
+        }
+        match repeat_refusal(steps, overlap) {
             Some(fault) => Some(fault),
-            None => way_refusal(&self.track, &begin, &end, steps),
+            None => way_refusal(&self.track, &begin, &end, steps, overlap),
         }
     }
 
     /// Whether a step runs over none of the sections.
     fn misses_section(&self, steps: &[Step]) -> bool
-        ensures { result ≡ list_any (λ (step : Step). not (list_any (is_named step.section) self.now.sections)) steps.now }
+        ensures { result ≡ misses_section self.now.sections steps.now }
     {
         steps
             .iter()
@@ -271,18 +279,18 @@ impl Network {
     fn use_refusal(&self, section: &Section) -> Option<NetFault>
         ensures { result ≡ (if is_section_used self.now section.now then Some (Refused InUse 0) else None) }
     {
-        if self.carries_post(section) || self.runs_over(section.name) {
+        if self.carries_post(section) || self.is_claimed(section.name) {
             refused(Reason::InUse, 0)
         } else {
             None
         }
     }
 
-    /// Whether a route runs over the section.
-    fn runs_over(&self, name: Name) -> bool
-        ensures { result ≡ list_any (runs_over name) self.now.routes }
+    /// Whether a route has the section in path or overlap.
+    fn is_claimed(&self, name: Name) -> bool
+        ensures { result ≡ list_any (claims name) self.now.routes }
     {
-        times(&self.runs, &name) > 0
+        times(&self.claimed, &name) > 0
     }
 
     /// Whether a post stands at a joint of the section.

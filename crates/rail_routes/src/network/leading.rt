@@ -1,31 +1,52 @@
 //! Which step of a route is refused.
-ghost use Rattle.std.specs.Prelude.{◌≡◌, ◌+◌, ◌<◌, ◌^◌, ◌&&◌, ◌||◌, not, length};
+ghost use Rattle.std.specs.Prelude.{◌≡◌, ◌+◌, ◌<◌, ◌^◌, ◌&&◌, ◌||◌, not, [], ◌++◌, length};
 ghost use Rattle.std.specs.List.{list_any};
 ghost use Rattle.rail_base.specs.FirstRefusals.{first_failing};
 ghost use Rattle.rail_base.specs.NameForms.{same_name};
 ghost use Rattle.rail_routes.specs.declared.items.Step.{Step};
 ghost use Rattle.rail_routes.specs.Net.{guards};
-ghost use Rattle.rail_routes.specs.RouteRules.{repeat_tests, way_from, step_tests, begins, ends, leads_from};
+ghost use Rattle.rail_routes.specs.RouteRules.{repeat_tests, repeats_behind, way_from, path_from, overlap_from, step_tests, lead_tests, begins, ends, leads_from, is_beyond};
 
 use crate::items::{Post, Role, Step};
 use rail_base::{Name, Reason};
 use rail_track::{NetFault, Track};
 
-/// The first step whose section occurred before.
-pub(super) fn repeat_refusal(steps: &[Step]) -> Option<NetFault>
-    requires { length steps.now < 2 ^ 16 }
-    ensures { result ≡ first_failing (repeat_tests steps.now) }
+/// The first step of path and overlap whose section occurred before.
+pub(super) fn repeat_refusal(steps: &[Step], overlap: &[Step]) -> Option<NetFault>
+    requires path { length steps.now < 2 ^ 16 }
+    requires overlap { length overlap.now < 2 ^ 16 }
+    ensures { result ≡ first_failing (repeat_tests steps.now overlap.now) }
 {
-    // A route has at most 32 steps, so that comparing each with each is cheap.
+    match repeat_behind(&[], steps) {
+        Some(fault) => Some(fault),
+        None => repeat_behind(steps, overlap),
+    }
+}
+
+/// The first of the steps whose section occurred before, among the first ones or since.
+fn repeat_behind(first: &[Step], steps: &[Step]) -> Option<NetFault>
+    requires first { length first.now < 2 ^ 16 }
+    requires steps { length steps.now < 2 ^ 16 }
+    ensures { result ≡ first_failing (repeats_behind first.now steps.now) }
+{
+    // A route has at most 40 steps, so that comparing each with each is cheap.
     for (index, step) in steps.iter().enumerate() {
-        if occurs(&steps[..index], step.section) {
+        if has_occurred(first, &steps[..index], step.section) {
             return Some(NetFault::Refused {
                 reason: Reason::RouteRepeat,
-                step: index as u32 + 1,
+                step: (first.len() + index) as u32 + 1,
             });
         }
     }
     None
+}
+
+/// Whether one of the first steps, or of those since, runs over the section.
+fn has_occurred(first: &[Step], since: &[Step], section: Name) -> bool
+    ensures { result ≡ (list_any (λ (other : Step). same_name section other.section) first.now
+        || list_any (λ (other : Step). same_name section other.section) since.now) }
+{
+    occurs(first, section) || occurs(since, section)
 }
 
 /// Whether a step runs over the section.
@@ -35,15 +56,28 @@ fn occurs(steps: &[Step], section: Name) -> bool
     steps.iter().any(|other| section == other.section)
 }
 
-/// The first step that does not lead on from the one post to the other.
+/// The first step of path and overlap that does not lead on, from the one post to the other and on from there.
 pub(super) fn way_refusal(
     track: &Track,
     begin: &Post,
     end: &Post,
     steps: &[Step],
+    overlap: &[Step],
 ) -> Option<NetFault>
+    requires path { length steps.now < 2 ^ 16 }
+    requires overlap { length overlap.now < 2 ^ 16 }
+    ensures { result ≡ first_failing (way_from begin.now end.now track.now steps.now overlap.now) }
+{
+    match path_refusal(track, begin, end, steps) {
+        Some(fault) => Some(fault),
+        None => overlap_refusal(track, end, steps.len() as u32 + 1, overlap),
+    }
+}
+
+/// The first step that does not lead on from the one post to the other.
+fn path_refusal(track: &Track, begin: &Post, end: &Post, steps: &[Step]) -> Option<NetFault>
     requires { length steps.now < 2 ^ 16 }
-    ensures { result ≡ first_failing (way_from begin.now end.now track.now steps.now) }
+    ensures { result ≡ first_failing (path_from begin.now end.now track.now steps.now) }
 {
     if !begins(track, begin, steps) {
         return Some(NetFault::Refused {
@@ -112,4 +146,48 @@ fn ends(post: &Post, step: &Step) -> bool
     ensures { result ≡ ends post.now step.now }
 {
     post.joint == step.to && !guards(post, step.section)
+}
+
+/// The first step of an overlap that does not lead on from the post. Its first step has this number.
+fn overlap_refusal(track: &Track, end: &Post, first: u32, overlap: &[Step]) -> Option<NetFault>
+    requires first { first < 2 ^ 17 }
+    requires overlap { length overlap.now < 2 ^ 16 }
+    ensures { result ≡ first_failing (overlap_from end.now track.now first overlap.now) }
+{
+    if is_beyond(end.role, overlap) {
+        return Some(NetFault::Refused {
+            reason: Reason::RouteBroken,
+            step: first,
+        });
+    }
+    lead_refusal(track, first, end.joint, overlap)
+}
+
+/// Whether an overlap lies behind a portal.
+fn is_beyond(role: Role, overlap: &[Step]) -> bool
+    ensures { result ≡ is_beyond role overlap.now }
+{
+    match role {
+        Role::Portal => !overlap.is_empty(),
+        Role::Signal | Role::Board => false,
+    }
+}
+
+/// The first step that does not lead on from the joint. The first of all has this number.
+fn lead_refusal(track: &Track, first: u32, start: Name, steps: &[Step]) -> Option<NetFault>
+    requires first { first < 2 ^ 17 }
+    requires steps { length steps.now < 2 ^ 16 }
+    ensures { result ≡ first_failing (lead_tests track.now first start steps.now) }
+{
+    let mut joint = start;
+    for (index, step) in steps.iter().enumerate() {
+        if !leads_on(track, joint, step) {
+            return Some(NetFault::Refused {
+                reason: Reason::RouteBroken,
+                step: first + index as u32,
+            });
+        }
+        joint = step.to;
+    }
+    None
 }

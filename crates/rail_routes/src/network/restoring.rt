@@ -3,6 +3,7 @@ ghost use Rattle.std.specs.Prelude.{◌≡◌, ◌≤◌, Some, length, insert, 
 ghost use Rattle.std.specs.List.{find};
 
 use super::Network;
+use super::claiming::{count_of_sections, count_sections};
 use crate::items::{Post, Role, Route, Turn};
 use rail_base::Name;
 use rail_track::{Section, count_each};
@@ -119,7 +120,7 @@ impl Network {
         if self.routed.reserve(2).is_err() {
             return Err(AllocFailed { value: route });
         }
-        if self.runs.reserve(route.steps.as_slice().len()).is_err() {
+        if self.claimed.reserve(count_of_sections(&route)).is_err() {
             return Err(AllocFailed { value: route });
         }
         match self.routes.insert(index, route) {
@@ -127,10 +128,7 @@ impl Network {
             Err(refused) => return Err(refused),
         }
         count_each(&mut self.routed, &ends);
-        count_each(
-            &mut self.runs,
-            self.routes.as_slice()[index].steps.as_slice(),
-        );
+        count_sections(&mut self.claimed, &self.routes.as_slice()[index]);
         Ok(())
     }
 

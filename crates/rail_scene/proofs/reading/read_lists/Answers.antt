@@ -23,4 +23,4 @@ pub returns-in-Ok-clause-draft : goal.returns-in-Ok-clause-draft
 unfolding listed_items
 returns-in-Ok-clause-draft c =
     let root = view c.args.root.now in
-    c.in-Ok.ensures.added ∙ ap (λ (draft : SceneItems). with_lists root LIST_PARTS draft) c.new-draft.ensures
+    c.in-Ok.ensures.added ∙ ap (λ (draft : SceneItems). with_lists c.args.version root LIST_PARTS draft) c.new-draft.ensures

@@ -45,7 +45,7 @@ returns-clause-refused c =
 pub returns-clause-spelled : goal.returns-clause-spelled
 unfolding spelled_scene
 returns-clause-spelled c =
-    subst (λ (d : Data). IfOk c.read_values.result (λ (scene : Scene). scene ≡ scene_of d)) c.in_ok-root.ensures.root c.read_values.ensures.spelled
+    by_root (λ v d. IfOk c.read_values.result (λ (scene : Scene). scene ≡ scene_of v d)) c.in_ok-root.ensures.root c.version_of-version.ensures c.read_values.ensures.spelled
 
 pub returns-in_err-check_forms-clause-refused : goal.returns-in_err-check_forms-clause-refused
 returns-in_err-check_forms-clause-refused c =

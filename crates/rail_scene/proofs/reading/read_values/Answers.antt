@@ -19,4 +19,4 @@ returns-clause-accepted c = values_none c.args.version (view c.args.root.now) c.
 pub returns-clause-spelled : goal.returns-clause-spelled
 returns-clause-spelled c =
     c.finished.ensures.scene
-    ∙ scene_is (view c.args.root.now) c.in_ok-draft.draft c.in-Ok.header.release c.in-Ok.header.depth c.in-Ok.header.policy c.in_ok-draft.ensures.draft c.in-Ok.ensures.release c.in-Ok.ensures.depth c.in-Ok.ensures.policy
+    ∙ scene_is c.args.version (view c.args.root.now) c.in_ok-draft.draft c.in-Ok.header c.in_ok-draft.ensures.draft c.in-Ok.ensures.release c.in-Ok.ensures.depth c.in-Ok.ensures.policy c.in-Ok.ensures.overlap_time

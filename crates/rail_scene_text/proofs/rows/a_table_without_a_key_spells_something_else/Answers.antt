@@ -18,3 +18,12 @@ returns-clause-ahead c = refl
 
 pub returns-clause-no_ahead : goal.returns-clause-no_ahead
 returns-clause-no_ahead c = refl
+
+pub returns-clause-overlap_time : goal.returns-clause-overlap_time
+returns-clause-overlap_time c = refl
+
+pub returns-clause-overlap : goal.returns-clause-overlap
+returns-clause-overlap c = refl
+
+pub returns-clause-no_overlap : goal.returns-clause-no_overlap
+returns-clause-no_overlap c = refl

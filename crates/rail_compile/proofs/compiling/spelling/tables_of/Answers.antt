@@ -2,14 +2,14 @@ use Rattle.std.proofs.Common.{◌≡◌, map, sym, ap, ◌∙◌, subst}
 use Rattle.std.specs.List.{list_all}
 use Rattle.rail_base.specs.declared.plant.Tables.{Tables}
 use Rattle.rail_plan.specs.PlanFaults.{IsPlannable}
-use Rattle.rail_compile.specs.Itineraries.{section_row, train_row, tables_of}
+use Rattle.rail_compile.specs.Itineraries.{section_row, train_row, tables_of, with_trains}
 use Rattle.rail_compile.specs.Typed.{is_named_row, is_typed_row}
 use Rattle.rail_compile.proofs.Tables.{plannable}
 use Rattle.rail_compile.proofs.compiling.spelling.tables_of.Goals as goal
 
 pub returns-clause-plannable : goal.returns-clause-plannable
 returns-clause-plannable c =
-    let scene = c.args.scene.now in
+    let scene = with_trains c.args.scene.now c.args.trains.now in
     let sections : c.in_ok-sections.sections.items ≡ map section_row scene.network.sections = c.in_ok-sections.ensures.rows ∙ ap (map section_row) c.sections.ensures.sections in
     let trains : c.in_ok-trains.trains.items ≡ map (train_row scene) scene.trains = c.in_ok-trains.ensures.rows in
     let P : Tables → Type 0 = λ tables. IsPlannable tables in

@@ -7,7 +7,7 @@ use Rattle.std.proofs.lemmas.List.Folds.{list_all-append}
 use Rattle.rail_base.specs.FirstRefusals.{first_failing}
 use Rattle.rail_base.specs.Refusals.{AnswersFirst}
 use Rattle.rail_base.proofs.CallerLemmas.{passed_up}
-use Rattle.rail_compile.specs.Itineraries.{train_row}
+use Rattle.rail_compile.specs.Itineraries.{train_row, with_trains}
 use Rattle.rail_compile.specs.Refusals.{trains_tests}
 use Rattle.rail_compile.specs.Typed.{is_typed_row}
 use Rattle.rail_compile.proofs.Trains.{answers_at, last_passed, train_passed_at}
@@ -15,22 +15,20 @@ use Rattle.rail_compile.proofs.compiling.trains.train_rows.Goals as goal
 
 pub returns-in_err-row-clause-refused : goal.returns-in_err-row-clause-refused
 returns-in_err-row-clause-refused c =
-    let scene = c.args.scene.now in
-    let items = c.as_slice-train-items.ensures in
+    let scene = with_trains c.args.scene.now c.args.trains.now in
     let i = c.loop-index.index in
-    let train = c.train-item.result in
+    let train = c.index-trains-index.result in
     passed_up c.from_residual-in_err-row.result c.in_err-row.field-0.0 (AnswersFirst (first_failing (trains_tests scene 1 scene.trains))) c.from_residual-in_err-row.ensures.1
-    (answers_at scene scene.trains i train c.in_err-row.field-0.0 (omega (arith, ap length items, c.loop-index-test.true)) (c.train-item.is ∙ ap (λ ts. get_or ts i train) items)
+    (answers_at scene scene.trains i train c.in_err-row.field-0.0 (omega (arith, c.loop-index-test.true)) c.index-trains-index.is
     c.loop-index.invariant.passed c.in_err-row.ensures.refused)
 
 pub loop-index-preserved : goal.loop-index-preserved
 loop-index-preserved c =
-    let scene = c.args.scene.now in
-    let items = c.as_slice-train-items.ensures in
+    let scene = with_trains c.args.scene.now c.args.trains.now in
     let i = c.loop-index.index in
-    let train = c.train-item.result in
-    let within : i < length scene.trains = omega (arith, ap length items, c.loop-index-test.true) in
-    let here : train ≡ get_or scene.trains i train = c.train-item.is ∙ ap (λ ts. get_or ts i train) items in
+    let train = c.index-trains-index.result in
+    let within : i < length scene.trains = omega (arith, c.loop-index-test.true) in
+    let here : train ≡ get_or scene.trains i train = c.index-trains-index.is in
     let rows = c.loop-index.rows.items in
     let row = c.in_ok-row.row in
     let pushed : is_ok c.push.result ≡ true = c.is_err.ensures.negation ∙ ap not c.if-is_err.false in

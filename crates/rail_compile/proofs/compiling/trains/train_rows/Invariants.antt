@@ -2,15 +2,15 @@ use Rattle.std.proofs.Common.{◌≡◌, ◌+◌, ◌-◌, ◌<◌, true, drop, 
 use Rattle.std.specs.List.{list_all}
 use Rattle.rail_base.specs.FirstRefusals.{first_failing}
 use Rattle.rail_scene.specs.declared.scene.SceneTrain.{SceneTrain}
-use Rattle.rail_compile.specs.Itineraries.{train_row}
+use Rattle.rail_compile.specs.Itineraries.{train_row, with_trains}
 use Rattle.rail_compile.specs.Refusals.{train_tests, trains_tests}
 use Rattle.rail_compile.specs.Typed.{is_typed_row}
 use Rattle.rail_compile.proofs.compiling.trains.train_rows.Given as goal
 
 abbrev pub invariant-loop-index : goal.invariant-loop-index
 invariant-loop-index l = record {
-  passed : first_failing (trains_tests l.scene (l.index + 1) (drop l.index l.scene.trains)) ≡ first_failing (trains_tests l.scene 1 l.scene.trains);
-  rows : l.rows.items ≡ map (train_row l.scene) (take l.index l.scene.trains);
-  last : (before : SceneTrain) → 0 < l.index → before ≡ get_or l.scene.trains (l.index - 1) before → first_failing (train_tests l.scene (l.index + 1) before) ≡ None;
+  passed : first_failing (trains_tests (with_trains l.scene l.trains) (l.index + 1) (drop l.index l.trains)) ≡ first_failing (trains_tests (with_trains l.scene l.trains) 1 l.trains);
+  rows : l.rows.items ≡ map (train_row (with_trains l.scene l.trains)) (take l.index l.trains);
+  last : (before : SceneTrain) → 0 < l.index → before ≡ get_or l.trains (l.index - 1) before → first_failing (train_tests (with_trains l.scene l.trains) (l.index + 1) before) ≡ None;
   typed : list_all is_typed_row l.rows.items ≡ true;
 }

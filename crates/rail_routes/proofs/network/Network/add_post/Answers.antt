@@ -13,7 +13,7 @@ invariant_of-self c =
     let post = c.args.post in
     rw c.in_ok-push-in-Portal.ensures.ok record {
       sound = sound_with_portal (lists_of c.self.inside) post is.sound c.requires (ap (λ (net : Net). post_refusal net post) c.self.view_is ∙ sym c.in_default.ensures) c.in-Portal.is;
-      run = is.run;
+      claimed = is.claimed;
       turned = is.turned;
       routed = is.routed;
     }
@@ -24,7 +24,7 @@ invariant_of-self-in-Continue-branch-2 c =
     let post = c.args.post in
     rw c.in_ok-push-in-Signal.ensures.ok record {
       sound = sound_with_signal (lists_of c.self.inside) post is.sound c.requires (ap (λ (net : Net). post_refusal net post) c.self.view_is ∙ sym c.in_default.ensures) c.in-Signal.is;
-      run = is.run;
+      claimed = is.claimed;
       turned = is.turned;
       routed = is.routed;
     }
@@ -35,7 +35,7 @@ invariant_of-self-in-Continue-branch-3 c =
     let post = c.args.post in
     rw c.in_ok-push-in-Board.ensures.ok record {
       sound = sound_with_board (lists_of c.self.inside) post is.sound c.requires (ap (λ (net : Net). post_refusal net post) c.self.view_is ∙ sym c.in_default.ensures) c.in-Board.is;
-      run = is.run;
+      claimed = is.claimed;
       turned = is.turned;
       routed = is.routed;
     }

@@ -32,7 +32,7 @@ invariant_of-self c =
     let is = c.self.invariant in
     record {
       sound = sound_after_adding (lists_of c.self.inside) c.args.section _ c.add_section.result is.sound (sym c.in_default.ensures) c.add_section.ensures.sound c.add_section.ensures.added c.add_section.ensures.unchanged;
-      run = is.run;
+      claimed = is.claimed;
       turned = is.turned;
       routed = is.routed;
     }

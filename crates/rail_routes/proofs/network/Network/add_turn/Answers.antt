@@ -25,7 +25,7 @@ invariant_of-self-2 c =
     let turn = c.args.turn in
     rw c.in_ok-push.ensures.ok record {
       sound = sound_with_turn (lists_of c.self.inside) turn is.sound (ap (λ (net : Net). turn_refusal net turn) c.self.view_is ∙ sym c.in_default.ensures);
-      run = is.run;
+      claimed = is.claimed;
       turned = λ name.
           let kept : times same_name c.reserve.new.self name ≡ times same_name c.self.inside.turned name = ap (λ es. unwrap_or (lookup (same_name name) es) 0) c.reserve.ensures.entries in
           omega (arith, kept, is.turned name, c.count_each.ensures.counted name, sum_by_push (λ (t : Turn). count_by (same_name name) (t.arriving ∷ t.leaving ∷ [])) c.self.inside.turns turn);

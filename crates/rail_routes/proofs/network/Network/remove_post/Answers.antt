@@ -18,7 +18,7 @@ invariant_of-self c =
     let is = c.self.invariant in
     rw (c.remove-portal.ensures.rest, c.remove-signal.ensures.rest, c.remove-board.ensures.rest) record {
       sound = sound_without_post (lists_of c.self.inside) c.args.name is.sound (unused (lists_of c.self.inside) c.args.name (ap (λ (net : Net). post_removal net c.args.name) c.self.view_is ∙ sym c.in_default.ensures));
-      run = is.run;
+      claimed = is.claimed;
       turned = is.turned;
       routed = is.routed;
     }
@@ -28,7 +28,7 @@ invariant_of-self-2 c =
     let is = c.self.invariant in
     rw (c.remove-portal.ensures.rest, c.remove-signal.ensures.rest, c.remove-board.ensures.rest) record {
       sound = sound_without_post (lists_of c.self.inside) c.args.name is.sound (unused (lists_of c.self.inside) c.args.name (ap (λ (net : Net). post_removal net c.args.name) c.self.view_is ∙ sym c.in_default.ensures));
-      run = is.run;
+      claimed = is.claimed;
       turned = is.turned;
       routed = is.routed;
     }

@@ -20,14 +20,12 @@ invariant_of-self c = rw (c.remove.ensures.rest ∙ without-absent (is_route c.a
 pub returns-in_default-clause-unchanged : goal.returns-in_default-clause-unchanged
 returns-in_default-clause-unchanged c = rw (c.remove.ensures.rest ∙ without-absent (is_route c.args.name) c.self.inside.routes (sym c.in_default.ensures.item)) c.self.view_is
 
-pub discount_each-requires : goal.discount_each-requires
-discount_each-requires c = rw c.as_slice.ensures record {
-  counted = λ name.
-      omega (arith, c.self.invariant.run name, sum_by-without (is_route c.args.name) (λ route. count_by (same_name name) (sections_of route)) c.self.inside.routes c.in-Some.route (sym c.in-Some.ensures.item));
-}
+pub discount_sections-requires : goal.discount_sections-requires
+discount_sections-requires c = λ name.
+    omega (arith, c.self.invariant.claimed name, sum_by-without (is_route c.args.name) (λ route. count_by (same_name name) (sections_of route)) c.self.inside.routes c.in-Some.route (sym c.in-Some.ensures.item))
 
-pub discount_each-requires-2 : goal.discount_each-requires-2
-discount_each-requires-2 c = record {
+pub discount_each-requires : goal.discount_each-requires
+discount_each-requires c = record {
   counted = λ name.
       omega (arith, c.self.invariant.routed name, sum_by-without (is_route c.args.name) (λ (route : Route). count_by (same_name name) (route.from ∷ route.to ∷ [])) c.self.inside.routes c.in-Some.route (sym c.in-Some.ensures.item));
 }
@@ -37,11 +35,11 @@ invariant_of-self-2 c =
     let is = c.self.invariant in
     rw c.remove.ensures.rest record {
       sound = sound_without_route (lists_of c.self.inside) (is_route c.args.name) is.sound;
-      run = λ name.
-          omega (arith, is.run name, rw c.as_slice.ensures at (c.discount_each.ensures.discounted name), sum_by-without (is_route c.args.name) (λ route. count_by (same_name name) (sections_of route)) c.self.inside.routes c.in-Some.route (sym c.in-Some.ensures.item));
+      claimed = λ name.
+          omega (arith, is.claimed name, c.discount_sections.ensures name, sum_by-without (is_route c.args.name) (λ route. count_by (same_name name) (sections_of route)) c.self.inside.routes c.in-Some.route (sym c.in-Some.ensures.item));
       turned = is.turned;
       routed = λ name.
-          omega (arith, is.routed name, c.discount_each-2.ensures.discounted name, sum_by-without (is_route c.args.name) (λ (route : Route). count_by (same_name name) (route.from ∷ route.to ∷ [])) c.self.inside.routes c.in-Some.route (sym c.in-Some.ensures.item));
+          omega (arith, is.routed name, c.discount_each.ensures.discounted name, sum_by-without (is_route c.args.name) (λ (route : Route). count_by (same_name name) (route.from ∷ route.to ∷ [])) c.self.inside.routes c.in-Some.route (sym c.in-Some.ensures.item));
     }
 
 pub returns-in_default-clause-sound : goal.returns-in_default-clause-sound

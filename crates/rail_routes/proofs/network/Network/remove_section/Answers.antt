@@ -23,7 +23,7 @@ invariant_of-self c =
     record {
       sound = sound_after_removal (lists_of c.self.inside) c.args.name _ c.remove_section.result is.sound (ap (λ (net : Net). section_removal net c.args.name) c.self.view_is ∙ sym c.in_default.ensures)
           c.remove_section.ensures.sound c.remove_section.ensures.removed c.remove_section.ensures.rest c.remove_section.ensures.unchanged;
-      run = is.run;
+      claimed = is.claimed;
       turned = is.turned;
       routed = is.routed;
     }

@@ -30,7 +30,7 @@ invariant_of-self-2 c =
     let is = c.self.invariant in
     rw c.remove.ensures.rest record {
       sound = sound_without_turn (lists_of c.self.inside) (is_turn c.args.arriving c.args.leaving) is.sound;
-      run = is.run;
+      claimed = is.claimed;
       turned = λ name.
           omega (arith, is.turned name, c.discount_each.ensures.discounted name, sum_by-without (is_turn c.args.arriving c.args.leaving) (λ (turn : Turn). count_by (same_name name) (turn.arriving ∷ turn.leaving ∷ [])) c.self.inside.turns c.in-Some.turn (sym c.in-Some.ensures.item));
       routed = is.routed;

@@ -29,7 +29,7 @@ loop-index-preserved c =
       ap (λ (next : SceneItems). first_failing (list_values part c.args.version (i + 1 + 1) next (map view (drop (i + 1) tables)))) added
           ∙ sym (value_pass part c.args.version draft tables i table c.loop-index-test.true c.index-tables-index.is c.in-Ok.ensures.accepted)
           ∙ c.loop-index.invariant.0,
-      ap (λ (next : SceneItems). with_items part (map view (drop (i + 1) tables)) next) added
+      ap (λ (next : SceneItems). with_items part c.args.version (map view (drop (i + 1) tables)) next) added
           ∙ sym (draft_pass part c.args.version draft tables i table c.loop-index-test.true c.index-tables-index.is)
           ∙ c.loop-index.invariant.1,
     )

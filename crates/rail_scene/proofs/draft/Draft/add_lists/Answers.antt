@@ -26,7 +26,7 @@ loop-part-preserved c =
       ap (λ (next : SceneItems). first_failing (values_of c.args.version root next (drop (i + 1) parts))) added
           ∙ sym (values_pass c.args.version root draft parts i _ c.loop-part-test.true c.key.result _ c.key.ensures c.elements_at.ensures c.in_ok-add_list.ensures.accepted)
           ∙ c.loop-part.invariant.0,
-      ap (λ (next : SceneItems). with_lists root (drop (i + 1) parts) next) added
+      ap (λ (next : SceneItems). with_lists c.args.version root (drop (i + 1) parts) next) added
           ∙ sym (lists_pass c.args.version root draft parts i _ c.loop-part-test.true c.key.result _ c.key.ensures c.elements_at.ensures)
           ∙ c.loop-part.invariant.1,
     )

@@ -1,0 +1,12 @@
+-- Lemmas on reroutings.
+mod Changed
+mod Itineraries
+mod Items
+mod JoinedLines
+mod Judging
+mod OneAnswer
+mod Proposed
+mod Ready
+mod Refused
+mod States
+mod Ways

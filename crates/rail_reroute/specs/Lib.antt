@@ -1,0 +1,4 @@
+-- What the contracts of this crate, and the definitions above it, speak of.
+pub mod Judgements
+pub mod Lines
+pub mod Proposals
