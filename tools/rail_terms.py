@@ -101,8 +101,9 @@ class Case:
         route = self.routes[train["routes"][place]]
         post = self.posts[route["from"]]
         turn = self.turn_at(train, place)
-        return "record { sections = %s; setting = %d; watching = %d; approach = %d; turn = %s }" % (
+        return "record { sections = %s; overlap = %s; setting = %d; watching = %d; approach = %d; turn = %s }" % (
             list_of(self.section_numbers[x] for x in route["path"][1::2]),
+            list_of(self.section_numbers[x] for x in route.get("overlap", [])[0::2]),
             post["setting"], post["watching"], post["approach"],
             "None" if turn is None else "Some (record { step = %d; time = %d })" % turn)
 
@@ -135,6 +136,7 @@ class Case:
             "  tables = record {",
             "    sections = %s;" % sections,
             "    release = %d;" % self.scene["release"],
+            "    overlap_time = %d;" % self.scene.get("overlap_time", 0),
             "    depth = %d;" % self.scene.get("depth", 1),
             "    trains = %s;" % list_of(self.train_term(t) for t in self.trains),
             "  };",

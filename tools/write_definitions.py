@@ -30,11 +30,12 @@ EXAMPLES = "rail_worked"
 
 # Definitions of the forms of which it is told how much they reach.
 PARTS = (
-    ("IsRun", "what holds of the history that `run` writes, and of which `stairs`, `report` and `capacity` tell"),
+    ("IsRun", "what holds of the history that `run` writes, and of which `stairs`, `report`, `capacity` and `insert` tell"),
     ("AnswersRun", "what `run` answers"),
     ("AnswersStairs", "what `stairs` answers"),
     ("AnswersReport", "what `report` answers"),
     ("AnswersCapacity", "what `capacity` answers"),
+    ("AnswersInsertion", "what `insert` answers"),
     ("AnswersCheck", "what `check` answers"),
     ("AnswersInfra", "what `infra` answers"),
     ("AnswersPlay", "what `play` answers"),

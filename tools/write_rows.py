@@ -27,6 +27,8 @@ ROWS = [
     ("closed-section", "a_closed_section_ends_the_run", "A closed section leaves a train inside at the end.", True, False, (12, 11, 6)),
     ("stop-and-go", "stop_then_go_at_one_instant", "A stop and then a go at one instant hold nothing.", True, True, (16, 9, 11)),
     ("go-and-stop", "go_then_stop_at_one_instant", "A go and then a stop at one instant hold the train.", True, False, (12, 10, 4)),
+    ("overlap", "an_overlap_taken_over", "A train takes over a section of its overlap, and another one waits for it.", True, True, (14, 17, 13)),
+    ("overlap-kept", "an_overlap_until_its_timer_runs_out", "The overlap of a train that goes no further is held until its timer runs out.", True, False, (13, 12, 8)),
     ("cancelled", "a_cancelled_train", "A train that is cancelled before its first admission has no other line.", True, False, (1, 1, 1)),
     ("cancelled-too-late", "a_train_cancelled_too_late", "A cancel after an admission changes nothing.", True, True, (6, 5, 6)),
     ("following", "a_train_follows_another", "A train follows another one into each section as soon as that is free.", True, True, (17, 11, 22)),
@@ -116,10 +118,14 @@ def write_row(repository, name, function, says, whole, leaves, places):
     module = camel(name)
     write(crate / "specs" / (module + ".antt"), "\n".join(parts) + "\n")
     clauses = []
+    over = name.startswith("overlap")
+    if over:
+        clauses.append(("accepted", "IsTrue (is_accepted_input input)"))
     if whole:
         clauses.append(("lawful", "IsTrue (is_complete input front)"))
         clauses.append(("run", "IsTrue (is_run_history input seats front)"))
-        clauses.append(("bounded", "lines_beside_holds front %s bound plant (length input.commands)" % ("≡" if leaves else "≤")))
+        overtaken = " + taken_over plant front" if over else ""
+        clauses.append(("bounded", "lines_beside_holds front%s %s bound plant (length input.commands)" % (overtaken, "≡" if leaves else "≤")))
     else:
         clauses.append(("run", "IsTrue (is_run input seats front)"))
     clauses.append(("text", "text plant front ≡ printed"))
@@ -129,8 +135,10 @@ def write_row(repository, name, function, says, whole, leaves, places):
         clauses.append(("fresh_lawful", "IsTrue (is_complete input with_fresh)"))
         clauses.append(("fresh_no_run", "is_run_history input seats with_fresh ≡ false"))
     names = ["plant", "seats", "input", "front", "printed"] + list(variants) + (["with_fresh"] if name == "loop" else [])
-    source = ["ghost use Rattle.std.specs.Prelude.{◌≡◌, ◌≤◌, IsTrue, false, length};",
+    source = ["ghost use Rattle.std.specs.Prelude.{◌≡◌, ◌≤◌, %sIsTrue, false, length};" % ("◌+◌, " if over else ""),
+              *(["ghost use Rattle.rail_rules.specs.Accepted.{is_accepted_input};"] if over else []),
               "ghost use Rattle.rail_rules.specs.Fronts.{lines_beside_holds};",
+              *(["ghost use Rattle.rail_rules.specs.LineCounts.{taken_over};"] if over else []),
               "ghost use Rattle.rail_rules.specs.Lawful.{is_complete};",
               "ghost use Rattle.rail_rules.specs.Plant.{bound};",
               "ghost use Rattle.rail_rules.specs.RunHistories.{is_run, is_run_history};",

@@ -54,7 +54,7 @@ pub fn the_limits_are_those_of_the_formats()
     ensures overlap { limit.OVERLAP ≡ most OverlapTime }
     ensures start { limit.START ≡ most StartSupplement }
     ensures stop { limit.STOP ≡ most StopSupplement }
-    ensures move_lines { limit.MOVE_LINES ≡ 2 * most RouteSections + 3 }
+    ensures move_lines { limit.MOVE_LINES ≡ 2 * most RouteSections + most OverlapSections + 3 }
     ensures train_lines { limit.TRAIN_LINES ≡ most ItineraryRoutes * limit.MOVE_LINES }
     ensures list_trains { limit.LIST_TRAINS ≡ most FreshTrains }
     ensures fresh_lines { limit.FRESH_LINES ≡ most FreshLines }

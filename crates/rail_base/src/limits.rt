@@ -15,12 +15,12 @@ pub const OVERLAP_SECTIONS: usize = 8;
 /// Train kinds of a scene.
 pub const KINDS: usize = 128;
 /// Trains of a scene.
-pub const TRAINS: usize = 128;
+pub const TRAINS: usize = 256;
 /// Routes of an itinerary, of which there is at least one.
-pub const ITINERARY_ROUTES: usize = 64;
-/// Lines of a move, hold lines aside: its head enters and its tail frees each section, and it is ready,
-/// admitted and arrives.
-pub const MOVE_LINES: usize = 2 * ROUTE_SECTIONS + 3;
+pub const ITINERARY_ROUTES: usize = 128;
+/// Lines of a move, hold lines aside: its head enters and its tail frees each section, the overlap's sections are
+/// freed, and it is ready, admitted and arrives.
+pub const MOVE_LINES: usize = 2 * ROUTE_SECTIONS + OVERLAP_SECTIONS + 3;
 /// Lines of the moves of a train, hold lines aside.
 pub const TRAIN_LINES: usize = ITINERARY_ROUTES * MOVE_LINES;
 /// Commands of a run.

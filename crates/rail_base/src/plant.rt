@@ -8,6 +8,8 @@ pub struct Tables {
     pub sections: Seq<SectionRow>,
     /// Release time in tenths of a second, one for the whole plant.
     pub release: u32,
+    /// How long after its arrival a train still holds the overlap of a route, in tenths of a second, one for the whole plant.
+    pub overlap_time: u32,
     /// The greatest number of free legs in a list that the analysis looks for.
     pub depth: u8,
     pub trains: Seq<TrainRow>,
@@ -18,6 +20,7 @@ impl Drop for Tables {
         let Tables {
             sections: _sections,
             release: _release,
+            overlap_time: _overlap_time,
             depth: _depth,
             trains: _trains,
         } = self;
@@ -77,6 +80,8 @@ pub struct TrainKind {
 pub struct MoveRow {
     /// The needed sections in route order.
     pub sections: Seq<SectionNo>,
+    /// The sections of the route's overlap in order: beyond its end, and held together with the route.
+    pub overlap: Seq<SectionNo>,
     /// Time for clearing the signal, in tenths of a second.
     pub setting: u32,
     /// Signal watching time, in tenths of a second.
@@ -91,6 +96,7 @@ impl Drop for MoveRow {
     fn drop(self) {
         let MoveRow {
             sections: _sections,
+            overlap: _overlap,
             setting: _,
             watching: _,
             approach: _,

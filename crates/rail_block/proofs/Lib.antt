@@ -6,3 +6,5 @@ mod Carrying
 mod Placing
 mod Ending
 mod Parting
+-- When the next move takes over.
+mod Taken

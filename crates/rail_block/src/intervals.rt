@@ -3,19 +3,20 @@
 ghost use Rattle.std.specs.Prelude.{◌≡◌, ℕ, ◌+◌, ◌-◌, ◌<◌, ◌≤◌, ◌^◌, ◌==◌, ◌&&◌, not, cond, List, Some, None};
 ghost use Rattle.std.specs.Option.{ForSome, option_copied};
 ghost use Rattle.rail_rules.specs.Intervals.{does_stand, interval_of, is_open, is_undecided, parts_of, standing_part};
-ghost use Rattle.rail_rules.specs.Plant.{is_forced, move_row, moves, steps, trains};
+ghost use Rattle.rail_rules.specs.Plant.{claims, is_forced, move_row, moves, steps, trains};
 ghost use Rattle.rail_rules.specs.Times.{enter, leave};
 ghost use Rattle.rail_block.specs.CarriedTimes.{AreBelow, AreTimes};
 ghost use Rattle.rail_block.specs.KnownMoves.{AreTimesOf, of_move, of_place, of_step, timed_step};
 
 use crate::ends::cleared_from;
-use crate::moves::{KnownMove, KnownStep};
+use crate::moves::{KnownMove, KnownOver, KnownStep};
 use crate::running::{after, between};
 use crate::times::MoveTimes;
 use rail_base::{Interval, Parts, TrainNo};
 use rail_plan::Plant;
 
-/// The blocking interval of the section of the step, counted from 1, by the train's move to this place.
+/// The blocking interval of the section of the step, counted from 1, by the train's move to this place; behind its steps come
+/// the sections of the overlap, whose intervals have an end and no parts.
 /// `times` is the times of the move, `next` those of the next one where that is admitted. Without them
 /// the interval of a section on which the train stands is open: it has no end and no standing part, and
 /// the running part of the last step is undecided where the train may pass.
@@ -31,15 +32,19 @@ pub fn interval_of(
     requires first { 1 ≤ place }
     requires last { place ≤ moves plant.now train }
     requires first_step { 1 ≤ step }
-    requires last_step { step ≤ steps plant.now train (place - 1) }
+    requires last_step { step ≤ claims plant.now train (place - 1) }
     requires times { AreBelow (2 ^ 51) times.now }
     requires next { ForSome (option_copied next) (AreBelow (2 ^ 51)) }
     ensures { (adms : List ℕ) → AreTimes plant.now train adms place times.now (option_copied next.entry)
         → result ≡ interval_of plant.now train adms (place - 1) (step - 1) }
 {
     let known = KnownMove::new(plant, train, place);
-    let known_step = KnownStep::new(&known, step);
-    known_step.interval(times, next)
+    if step <= known.steps() {
+        let known_step = KnownStep::new(&known, step);
+        return known_step.interval(times, next);
+    }
+    let known_over = KnownOver::new(&known, step);
+    known_over.interval(times, next)
 }
 
 impl KnownMove<'_> {

@@ -5,7 +5,8 @@
 //! five numbers of a move stand for that list: with them each time of the move and of the one after it
 //! is found without a look at earlier moves. The contracts say so for every list of admissions whose
 //! times they are; `specs/` says which numbers those are. A move whose train and place the plant has is a
-//! `KnownMove`, and a step that it has is a `KnownStep`, so that no other call asks for that again.
+//! `KnownMove`, a step that it has is a `KnownStep`, and a section of its
+//! overlap is a `KnownOver`, so that no other call asks for that again.
 //!
 //! Bodies may be changed as long as the contracts hold. What may not change is that nothing here takes
 //! memory, and that the work of a call doesn't grow with the number of moves before.
@@ -15,6 +16,7 @@ mod ends;
 mod intervals;
 mod laws;
 mod moves;
+mod overlaps;
 mod running;
 mod signals;
 mod steps;
@@ -23,8 +25,8 @@ mod times;
 pub use ends::cleared_from;
 pub use intervals::interval_of;
 pub use laws::later_admissions_change_no_earlier_times;
-pub use moves::{KnownMove, KnownStep};
+pub use moves::{KnownMove, KnownOver, KnownStep};
 pub use rail_base::{Interval, Parts};
-pub use running::{clear_time_of, start_loss};
+pub use running::{after, clear_time_of, start_loss};
 pub use steps::enter_time;
 pub use times::{MoveTimes, entry_times, times_of};

@@ -1,8 +1,8 @@
-//! A move of a train of a plant, and a step of one.
+//! A move of a train of a plant, a step of one, and a section of its overlap.
 
 ghost use Rattle.std.specs.Prelude.{◌≡◌, ◌-◌, ◌<◌, ◌≤◌, IsTrue};
 ghost use Rattle.rail_rules.specs.Accepted.{is_accepted};
-ghost use Rattle.rail_rules.specs.Plant.{moves, steps, trains};
+ghost use Rattle.rail_rules.specs.Plant.{claims, moves, steps, trains};
 
 use crate::running::may_be_run;
 use rail_base::TrainNo;
@@ -35,6 +35,17 @@ pub struct KnownStep<'m> {
     pub ghost last: { step ≤ steps of.now.plant.now of.now.train (of.now.place - 1) },
 }
 
+/// A section of the overlap of a move.
+#[derive(Clone, Copy)]
+pub struct KnownOver<'m> {
+    /// The move.
+    pub of: &'m KnownMove<'m>,
+    /// The number of the section among those that the move claims, counted from 1: it is behind the steps.
+    pub step: u16,
+    pub ghost behind: { steps of.now.plant.now of.now.train (of.now.place - 1) < step },
+    pub ghost last: { step ≤ claims of.now.plant.now of.now.train (of.now.place - 1) },
+}
+
 impl<'p> KnownMove<'p> {
     /// The move of the train to this place, counted from 1.
     pub fn new(plant: &'p Plant, train: TrainNo, place: u16) -> KnownMove<'p>
@@ -63,5 +74,17 @@ impl<'m> KnownStep<'m> {
         ensures step { result.step ≡ step }
     {
         KnownStep { of, step }
+    }
+}
+
+impl<'m> KnownOver<'m> {
+    /// The section of the overlap of the move, whose number is behind those of the steps.
+    pub fn new(of: &'m KnownMove<'m>, step: u16) -> KnownOver<'m>
+        requires behind { steps of.now.plant.now of.now.train (of.now.place - 1) < step }
+        requires last { step ≤ claims of.now.plant.now of.now.train (of.now.place - 1) }
+        ensures of { result.of.now ≡ of.now }
+        ensures step { result.step ≡ step }
+    {
+        KnownOver { of, step }
     }
 }

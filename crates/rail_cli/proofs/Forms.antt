@@ -1,23 +1,26 @@
 -- Words ask for one form at most, and spell one value for it; and a command whose input is accepted is done.
-use Rattle.std.proofs.Common.{List, None, Option, [], ℕ, ◌∙◌, ◌∷◌, ◌≡◌, ◌⊎◌, ap, get_or, inl, inr, refl, subst, sym}
+use Rattle.std.proofs.Common.{List, None, Option, Some, [], ℕ, ◌∙◌, ◌∷◌, ◌≡◌, ◌⊎◌, ap, get_or, inl, inr, refl, subst, sym, ⊎_elim, ◌<◌, ◌^◌, arith}
 use Rattle.std.proofs.lemmas.Fmt.{decimal_injective}
 use Rattle.std.proofs.lemmas.Option.{none-some, same_Some}
 use Rattle.rail_base.specs.Clock.{IsLenientTime}
-use Rattle.rail_words.specs.Forms.{IsAsked, IsNumber, IsOneNumber, IsStudy, Scenario, SceneAnd, Spells, Study, Values, files_in, files_of, form_in, values_in}
+use Rattle.rail_words.specs.Forms.{ArePaths, IsAsked, IsNumber, IsOneNumber, IsStudy, Paths, Scenario, SceneAnd, Spells, Study, Values, files_in, files_of, form_in, values_in}
 use Rattle.rail_words.specs.declared.forms.Request.{Request}
 use Rattle.rail_words.specs.declared.forms.Request.TheVariants as request
 use Rattle.rail_words.specs.declared.forms.Form.{Form}
 use Rattle.rail_words.specs.declared.forms.Form.TheVariants as form
+use Rattle.rail_base.specs.declared.intervals.Interval.{Interval}
 use Rattle.rail_base.specs.declared.refusals.Refusal.{Refusal}
 use Rattle.rail_policy.specs.Seats.{DeskSeat}
+use Rattle.rail_capacity.specs.declared.compression.Window.{Window}
 use Rattle.rail_rules.specs.Orders.{Input}
 use Rattle.rail_rules.specs.RunHistories.{Seat}
 use Rattle.rail_forms.specs.declared.status.Status.{Status}
 use Rattle.rail_forms.specs.declared.status.Status.TheVariants.{CheckedNo, Done, OutOfMemory, ReadFault, Refused, Usage, WriteFault}
 use Rattle.rail_forms.specs.Answers.{IsAnswer, Told}
 use Rattle.rail_forms.specs.Checks.{AnswersCheck, done_with}
+use Rattle.rail_forms.specs.Insertions.{IsNoPathAmong, IsPathsAnswer, IsRefusedRun}
 use Rattle.rail_forms.specs.Scenarios.{AnswersScenario}
-use Rattle.rail_cli.specs.Forms.{AnswersForm, AnswersRequest, AreRefusedAlone, IsAcceptedCheck, IsAcceptedInput, IsAcceptedScenario, IsDone, IsRefusedAlone}
+use Rattle.rail_cli.specs.Forms.{AnswersForm, AnswersRequest, AreRefusedAlone, IsAcceptedCheck, IsAcceptedInput, IsAcceptedScenario, IsBounded, IsDone, IsNoPath, IsRefusedAlone}
 
 -- a text is that of one time
 abbrev TellsOneTime : Type 0
@@ -48,6 +51,20 @@ one_study study other (line ∷ from ∷ to ∷ words) one h g = λ i. record {
   scenario = same_Some study.scenario other.scenario (sym h.3 ∙ g.3) i;
 }
 
+-- they ask for the same paths
+same_paths : (paths other : Paths) (words : List (List ℕ)) → TellsOneTime → ArePaths paths words → ArePaths other words → paths ≡ other
+same_paths paths other [] one h g = absurd h
+same_paths paths other (train ∷ []) one h g = absurd h
+same_paths paths other (train ∷ from ∷ []) one h g = absurd h
+same_paths paths other (train ∷ from ∷ to ∷ []) one h g = absurd h
+same_paths paths other (train ∷ from ∷ to ∷ count ∷ words) one h g = λ i. record {
+  train = (h.0 ∙ sym g.0) i;
+  from = one from paths.from other.from h.1 g.1 i;
+  to = one to paths.to other.to h.2 g.2 i;
+  count = decimal_injective paths.count other.count h.3.number.fits g.3.number.fits (sym h.3.number.spelled ∙ g.3.number.spelled) i;
+  scenario = same_Some paths.scenario other.scenario (sym h.4 ∙ g.4) i;
+}
+
 one_value : (form : Form) (values others : Values form) (words : List (List ℕ)) → TellsOneTime → Spells form values words → Spells form others words → values ≡ others
 one_value form.Run values others words one h g = same_Some values others (sym h ∙ g)
 one_value form.Infra values others words one h g = ap (λ (ws : List (List ℕ)). get_or ws 0 []) (sym h ∙ g)
@@ -56,6 +73,7 @@ one_value form.Check values others words one h g = same_Some values others (sym 
 one_value form.Stairs values others words one h g = same_Some values others (sym h ∙ g)
 one_value form.Report values others words one h g = same_Some values others (sym h ∙ g)
 one_value form.Capacity values others words one h g = one_study values others words one h g
+one_value form.Insert values others words one h g = same_paths values others words one h g
 one_value form.Edit values others words one h g = one_pair values others words h g
 one_value form.Migrate values others words one h g = ap (λ (ws : List (List ℕ)). get_or ws 0 []) (sym h ∙ g)
 one_value form.Scene values others words one h g = one_number values others words h g
@@ -85,10 +103,32 @@ request_answered (request.Check scenario history) deck told before now status h 
 request_answered (request.Stairs scenario) deck told before now status h = h
 request_answered (request.Report scenario) deck told before now status h = h
 request_answered (request.Capacity line from to scenario) deck told before now status h = h
+request_answered (request.Insert paths) deck told before now status h = h
 request_answered (request.Edit scene edits) deck told before now status h = h
 request_answered (request.Migrate scene) deck told before now status h = h
 request_answered (request.Scene number) deck told before now status h = h
 request_answered (request.Gen number) deck told before now status h = h
+
+-- what words ask for is bounded
+pub request_bounded : (asked : Request) (words : List (List ℕ)) → IsAsked (form_in asked) (values_in asked) words → IsBounded asked
+request_bounded asked [] is = absurd is
+request_bounded (request.Insert paths) (verb ∷ []) is = absurd is.1
+request_bounded (request.Insert paths) (verb ∷ train ∷ []) is = absurd is.1
+request_bounded (request.Insert paths) (verb ∷ train ∷ from ∷ []) is = absurd is.1
+request_bounded (request.Insert paths) (verb ∷ train ∷ from ∷ to ∷ []) is = absurd is.1
+request_bounded (request.Insert paths) (verb ∷ train ∷ from ∷ to ∷ count ∷ words) is =
+    let short = is.1.2.short in let late : paths.to < 2 ^ 55 = omega (arith, short) in (late, is.1.3.some)
+request_bounded (request.Run scenario) (verb ∷ words) is = tt
+request_bounded (request.Infra scene) (verb ∷ words) is = tt
+request_bounded (request.Play scene list) (verb ∷ words) is = tt
+request_bounded (request.Check scenario history) (verb ∷ words) is = tt
+request_bounded (request.Stairs scenario) (verb ∷ words) is = tt
+request_bounded (request.Report scenario) (verb ∷ words) is = tt
+request_bounded (request.Capacity line from to scenario) (verb ∷ words) is = tt
+request_bounded (request.Edit scene edits) (verb ∷ words) is = tt
+request_bounded (request.Migrate scene) (verb ∷ words) is = tt
+request_bounded (request.Scene number) (verb ∷ words) is = tt
+request_bounded (request.Gen number) (verb ∷ words) is = tt
 
 pub request_files : (asked : Request) → files_in asked ≡ files_of (form_in asked) (values_in asked)
 request_files (request.Run scenario) = refl
@@ -98,6 +138,7 @@ request_files (request.Check scenario history) = refl
 request_files (request.Stairs scenario) = refl
 request_files (request.Report scenario) = refl
 request_files (request.Capacity line from to scenario) = refl
+request_files (request.Insert paths) = refl
 request_files (request.Edit scene edits) = refl
 request_files (request.Migrate scene) = refl
 request_files (request.Scene number) = refl
@@ -111,6 +152,7 @@ request_alone (request.Check scenario history) h = h
 request_alone (request.Stairs scenario) h = h
 request_alone (request.Report scenario) h = h
 request_alone (request.Capacity line from to scenario) h = h
+request_alone (request.Insert paths) h = h
 request_alone (request.Edit scene edits) h = h
 request_alone (request.Migrate scene) h = h
 request_alone (request.Scene number) h = h
@@ -169,6 +211,25 @@ complete_check scenario history deck told before now status answer ok read write
     of WriteFault r w h = h
     of OutOfMemory r w h = inr refl
 
+-- paths that are asked for are written or there is none, unless a call failed or memory is wanting
+complete_paths : (word : List ℕ) (window : Window) (count : ℕ) (first : Option Refusal) (input : Input) (seats : List Seat) (before now : Option (List ℕ)) (status : Status)
+    → IsPathsAnswer word window count first input seats before now status → first ≡ None → (status ≡ ReadFault → ⊥) → (status ≡ WriteFault → ⊥)
+    → ((status ≡ Done) ⊎ IsNoPath status) ⊎ (status ≡ OutOfMemory)
+complete_paths word window count first input seats before now Done answer none read write = inl (inl refl)
+complete_paths word window count first input seats before now Usage answer none read write = absurd answer
+complete_paths word window count first input seats before now (Refused refusal) answer none read write = inl (inr (⊎_elim
+    (λ (is : first ≡ Some refusal). absurd (none-some refusal (sym none ∙ is)))
+    (λ (late : (first ≡ None) × IsRefusedRun word window refusal input seats). why _ late.1.train late.1.none)
+    answer))
+  where
+    why : (intervals : List Interval) (train : ℕ) → IsNoPathAmong intervals train window refusal → IsNoPath (Refused refusal)
+    why intervals train (inl is) = inl (ap Refused is.0)
+    why intervals train (inr is) = inr (ap Refused is.0)
+complete_paths word window count first input seats before now ReadFault answer none read write = absurd (read refl)
+complete_paths word window count first input seats before now WriteFault answer none read write = absurd (write refl)
+complete_paths word window count first input seats before now OutOfMemory answer none read write = inr refl
+complete_paths word window count first input seats before now (CheckedNo line law) answer none read write = absurd answer
+
 -- a command whose input is accepted is done, unless a call failed or memory is wanting
 pub complete_form : (form : Form) (values : Values form) (deck : List DeskSeat) (told : Told) (before now : Option (List ℕ)) (status : Status)
     → AnswersForm form values deck told before now status → IsAcceptedInput form values deck told → (status ≡ ReadFault → ⊥) → (status ≡ WriteFault → ⊥)
@@ -183,6 +244,9 @@ complete_form form.Stairs scenario deck told before now status answer ok read wr
 complete_form form.Report scenario deck told before now status answer ok read write = complete_scenario _ _ _ scenario deck told status answer ok read write
 complete_form form.Capacity study deck told before now status answer ok read write =
     complete_scenario _ _ _ study.scenario deck told status (answer.of_run ok.0) ok.1 read write
+complete_form form.Insert paths deck told before now status answer ok read write =
+    let all = answer.of_run ok.0 in let files = ok.1 in
+    complete_paths _ _ _ _ _ _ _ _ status (all.all files.bytes files.calls files.orders files.scene_told files.calls_told files.orders_told) files.fine read write
 complete_form form.Edit files deck told before now status answer ok read write =
     complete_answer _ _ _ status (answer.both ok.bytes ok.others ok.scene_told ok.others_told) ok.fine read write
 complete_form form.Migrate scene deck told before now status answer ok read write = complete_answer _ _ _ status (answer ok.0 ok.1) ok.2 read write

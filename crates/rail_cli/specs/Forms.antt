@@ -1,8 +1,8 @@
 -- What is answered to what the words of each form spell, and when a command is done.
-use Rattle.std.specs.Prelude.{List, None, Option, Some, ℕ, ◌≡◌, ◌⊎◌}
+use Rattle.std.specs.Prelude.{List, None, Option, Some, ℕ, ◌<◌, ◌≤◌, ◌^◌, ◌≡◌, ◌⊎◌}
 use Rattle.rail_capacity.specs.declared.compression.Window.{Window}
 use Rattle.rail_policy.specs.Seats.{DeskSeat, names_of}
-use Rattle.rail_words.specs.Forms.{Scenario, SceneAnd, Study, Values, scenario_in}
+use Rattle.rail_words.specs.Forms.{Scenario, SceneAnd, Study, Values, paths_in, scenario_in}
 use Rattle.rail_words.specs.declared.forms.Request.{Request}
 use Rattle.rail_words.specs.declared.forms.Request.TheVariants as request
 use Rattle.rail_words.specs.declared.forms.Form.{Form}
@@ -14,6 +14,7 @@ use Rattle.rail_forms.specs.Checks.{AnswersCheck, check_refusal, done_with}
 use Rattle.rail_forms.specs.Edits.{AnswersEdit}
 use Rattle.rail_forms.specs.Infra.{AnswersInfra}
 use Rattle.rail_forms.specs.Migration.{AnswersMigrate}
+use Rattle.rail_forms.specs.Insertions.{AnswersInsertion, no_place, no_stairway, with_train}
 use Rattle.rail_forms.specs.Plays.{AnswersPlay, play_refusal}
 use Rattle.rail_forms.specs.Reports.{AnswersReport}
 use Rattle.rail_forms.specs.Runs.{AnswersRun}
@@ -32,7 +33,7 @@ use Rattle.rail_rules.specs.Numbers.{or_else}
 use Rattle.rail_rules.specs.Orders.{Input}
 use Rattle.rail_words.specs.declared.files.Role.{Role}
 use Rattle.rail_words.specs.declared.files.Role.TheVariants as role
-use Rattle.rail_forms.specs.declared.status.Status.TheVariants.{Done, OutOfMemory}
+use Rattle.rail_forms.specs.declared.status.Status.TheVariants.{Done, OutOfMemory, Refused}
 use Rattle.rail_forms.specs.Files.{told_of, too_large}
 use Rattle.rail_forms.specs.Scenarios.{nothing_else, scenario_refusal}
 
@@ -50,6 +51,7 @@ AnswersForm form.Stairs scenario deck told before now status = AnswersStairs sce
 AnswersForm form.Report scenario deck told before now status = AnswersReport scenario deck told before now status
 AnswersForm form.Capacity study deck told before now status =
     AnswersCapacity study.line (window_of study) study.scenario deck told before now status
+AnswersForm form.Insert paths deck told before now status = AnswersInsertion paths deck told before now status
 AnswersForm form.Edit files deck told before now status = AnswersEdit files.scene files.other told before now status
 AnswersForm form.Migrate scene deck told before now status = AnswersMigrate scene told before now status
 AnswersForm form.Scene number deck told before now status = AnswersScene number before now status
@@ -66,6 +68,7 @@ AnswersRequest (request.Stairs scenario) deck told before now status = AnswersSt
 AnswersRequest (request.Report scenario) deck told before now status = AnswersReport (scenario_in scenario) deck told before now status
 AnswersRequest (request.Capacity line from to scenario) deck told before now status =
     AnswersCapacity line.now (record { from = from; to = to }) (scenario_in scenario) deck told before now status
+AnswersRequest (request.Insert paths) deck told before now status = AnswersInsertion (paths_in paths) deck told before now status
 AnswersRequest (request.Edit scene edits) deck told before now status = AnswersEdit scene.now edits.now told before now status
 AnswersRequest (request.Migrate scene) deck told before now status = AnswersMigrate scene.now told before now status
 AnswersRequest (request.Scene number) deck told before now status = AnswersScene number before now status
@@ -74,6 +77,7 @@ AnswersRequest (request.Gen number) deck told before now status = AnswersGen num
 -- the request is refused before any file
 abbrev pub IsRefusedAlone : Request → Type 0
 IsRefusedAlone (request.Capacity line from to scenario) = IsEmptyStudy line.now (record { from = from; to = to })
+IsRefusedAlone (request.Insert paths) = paths.to ≤ paths.from
 IsRefusedAlone (request.Run scenario) = ⊥
 IsRefusedAlone (request.Infra scene) = ⊥
 IsRefusedAlone (request.Play scene list) = ⊥
@@ -85,9 +89,10 @@ IsRefusedAlone (request.Migrate scene) = ⊥
 IsRefusedAlone (request.Scene number) = ⊥
 IsRefusedAlone (request.Gen number) = ⊥
 
--- what is refused before any file: a capacity study of no line, or of a window that is empty
+-- what is refused before any file: a capacity study of no line, and a study or paths in a window that is empty
 abbrev pub AreRefusedAlone : (form : Form) → Values form → Type 0
 AreRefusedAlone form.Capacity study = IsEmptyStudy study.line (window_of study)
+AreRefusedAlone form.Insert paths = paths.to ≤ paths.from
 AreRefusedAlone form.Run values = ⊥
 AreRefusedAlone form.Infra values = ⊥
 AreRefusedAlone form.Play values = ⊥
@@ -98,6 +103,12 @@ AreRefusedAlone form.Edit values = ⊥
 AreRefusedAlone form.Migrate values = ⊥
 AreRefusedAlone form.Scene values = ⊥
 AreRefusedAlone form.Gen values = ⊥
+
+-- what is known of a request beside its type: paths are asked for in a window of times that an input can spell, and one at
+-- least
+abbrev pub IsBounded : Request → Type 0
+IsBounded (request.Insert paths) = (paths.to < 2 ^ 55) × (1 ≤ paths.count)
+IsBounded asked = Unit {0}
 
 -- the bytes of a scenario's files are told, and nothing is refused
 pub record IsAcceptedScenario (refusal : Option Refusal → Input → Option Refusal) (deck : List DeskSeat) (told : Told)
@@ -143,15 +154,23 @@ IsAcceptedInput form.Stairs scenario deck told = IsAcceptedScenario nothing_else
 IsAcceptedInput form.Report scenario deck told = IsAcceptedScenario nothing_else deck told scenario
 IsAcceptedInput form.Capacity study deck told = (study_refusal study.line (window_of study) ≡ None)
     × IsAcceptedScenario (with_line study.line) deck told study.scenario
+IsAcceptedInput form.Insert paths deck told = (paths.from < paths.to)
+    × IsAcceptedScenario (with_train paths.train None) deck told paths.scenario
 IsAcceptedInput form.Edit files deck told = AreAccepted role.Edits edited_scene_refusal files told
 IsAcceptedInput form.Migrate scene deck told = (bytes : List ℕ) × (told scene ≡ Some bytes)
     × (or_else (too_large role.Scene bytes) (plant_refusal bytes) ≡ None)
 IsAcceptedInput form.Scene number deck told = Unit {0}
 IsAcceptedInput form.Gen number deck told = Unit {0}
 
--- a command of the form is done: a check also where it ends with a verdict that is no
+-- the command ends because no path is free: the train has no stairway in the run, or not even one copy of it fits
+abbrev pub IsNoPath : Status → Type 0
+IsNoPath status = (status ≡ Refused no_stairway) ⊎ (status ≡ Refused no_place)
+
+-- a command of the form is done: a check also where it ends with a verdict that is no, and paths that are asked for also
+-- where none is free
 abbrev pub IsDone : Form → Status → Type 0
 IsDone form.Check status = done_with status ≡ Done
+IsDone form.Insert status = (status ≡ Done) ⊎ IsNoPath status
 IsDone _ status = status ≡ Done
 
 -- where the input is accepted and no count of faults rose, the command was done, or memory was wanting

@@ -6,12 +6,14 @@ ghost use Rattle.rail_words.specs.Forms.{IsAsked, Values, files_in, files_of};
 ghost use Rattle.rail_words.specs.declared.forms.Form.{Form};
 ghost use Rattle.rail_forms.specs.declared.status.Status.TheVariants as status;
 ghost use Rattle.rail_forms.specs.Promises.{KeepsPromise, ReadsFiles, WritesAnswer, ended};
-ghost use Rattle.rail_cli.specs.Forms.{AnswersForm, AnswersRequest, AreRefusedAlone, IsAcceptedInput, IsComplete, IsDone, IsRefusedAlone};
+ghost use Rattle.rail_cli.specs.Forms.{AnswersForm, AnswersRequest, AreRefusedAlone, IsAcceptedInput, IsBounded, IsComplete, IsDone, IsRefusedAlone};
 
 use rail_base::{Word, a_text_stands_for_one_time};
 use rail_capacity::Window;
 use rail_forms::scenario::Purpose;
-use rail_forms::{Status, capacity, check, edit, infra, migrate, play, scenario, scene, summary};
+use rail_forms::{
+    Status, capacity, check, edit, infra, insertion, migrate, play, scenario, scene, summary,
+};
 use rail_io::{Shelf, Sink};
 use rail_policy::Policy;
 use rail_words::{Request, request_of};
@@ -26,7 +28,8 @@ use std::alloc::Global;
 /// line names the true cause, the policy is obeyed, each ready train waits for a stated true cause whenever
 /// time goes on, and a repaired list goes before a fresh one; at the end, where no section stays closed and no
 /// train stopped, every train is out or cancelled, and where none is cancelled there are exactly as many lines as
-/// the bound says, hold lines aside. So it is of any commands and any policies, whatever these answer.
+/// the bound says, hold lines aside, less one for each section of an overlap that was taken over. So it is of any
+/// commands and any policies, whatever these answer.
 ///
 /// The policies of the deck are those that the scene and the commands may name, 1 to 16 with distinct names.
 ///
@@ -34,7 +37,8 @@ use std::alloc::Global;
 /// the text of lines, `check` adds `yes` and ends `Done` exactly where these are a history that is lawful to its end;
 /// else it adds the first line that may not follow and the law that it breaks, and ends `CheckedNo` with both.
 ///
-/// A command whose input is accepted is done where no count of faults rose, unless memory is wanting.
+/// A command whose input is accepted is done where no count of faults rose, unless memory is wanting; where paths are asked
+/// for it may also be refused because none is free.
 ///
 /// `Usage` comes exactly where the words are not in the table of words, and before any file. A refusal is
 /// the first one in the order of refusals. `ReadFault` and `WriteFault` come only where the count of
@@ -78,6 +82,7 @@ fn answer<S: Shelf, O: Sink>(
     deck: Vec<Box<dyn Policy>>,
 ) -> Result<(), Status>
     requires fine { IsTrue (is_fine_deck (map ⟦<Box<dyn Policy> as Policy>⟧.seat deck.items)) }
+    requires bounded { IsBounded request.now }
     ensures kept { KeepsPromise S.Shelf O.Sink (files_in request.now) shelf.old shelf.new out.old out.new (ended result) }
     ensures answer { AnswersRequest request.now (map ⟦<Box<dyn Policy> as Policy>⟧.seat deck.items)
         (S.told shelf.old) (O.written out.old) (O.written out.new) (ended result) }
@@ -105,6 +110,7 @@ fn answer<S: Shelf, O: Sink>(
             };
             capacity::answer(alloc, line, window, scenario, shelf, out, deck)
         }
+        Request::Insert(paths) => insertion::answer(alloc, paths, shelf, out, deck),
         Request::Infra { scene } => infra::answer(alloc, scene, shelf, out),
         Request::Play { scene, list } => play::answer(alloc, scene, list, shelf, out),
         Request::Check { scenario, history } => {

@@ -8,4 +8,3 @@ mod Names
 mod Trains
 mod Moves
 mod Tables
-mod Overlapping

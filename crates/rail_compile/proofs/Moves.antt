@@ -1,13 +1,13 @@
 -- The moves over the routes of an itinerary are fine.
-use Rattle.std.proofs.Common.{◌≡◌, ℕ, suc, ◌+◌, ◌-◌, ◌<◌, Bool, true, false, not, ◌&&◌, ◌||◌, eqb, ltb, leb, List, [], ◌∷◌, ◌++◌, length, get_or, map, is_some, unwrap_or, option_and_then, Option, Some, None, refl, sym, ap, ◌∙◌, arith}
+use Rattle.std.proofs.Common.{◌≡◌, ℕ, suc, ◌+◌, ◌-◌, ◌<◌, Bool, true, false, not, ◌&&◌, ◌||◌, ◌==◌, eqb, ltb, leb, List, [], ◌∷◌, ◌++◌, length, get_or, map, is_some, unwrap_or, option_and_then, Option, Some, None, refl, sym, ap, ◌∙◌, arith}
 use Rattle.std.specs.List.{find, list_any, list_all, position}
 use Rattle.std.specs.Cmp.Lexicographic.{bytes_decides}
 use Rattle.std.proofs.lemmas.Bool.{and_parts, and_from, or_parts, or_from, eqb-true, lt-ltb, le-leb, false≢true, not-true, not_from_false, false_from_ne_true}
-use Rattle.std.proofs.lemmas.List.{length-map}
+use Rattle.std.proofs.lemmas.List.{length-map, map-append}
 use Rattle.std.proofs.lemmas.List.Folds.{list_all-append}
 use Rattle.std.proofs.lemmas.List.Quantifiers.{position-Some}
 use Rattle.rail_base.specs.NameForms.{same_name}
-use Rattle.rail_base.specs.declared.limits.TheConstants.{ROUTE_SECTIONS, SETTING, WATCHING, APPROACH, TURN_TIME}
+use Rattle.rail_base.specs.declared.limits.TheConstants.{OVERLAP_SECTIONS, ROUTE_SECTIONS, SETTING, WATCHING, APPROACH, TURN_TIME}
 use Rattle.rail_base.specs.declared.plant.MoveRow.{MoveRow}
 use Rattle.rail_base.specs.declared.plant.TurnRow.{TurnRow}
 use Rattle.rail_rules.specs.Numbers.{is_in}
@@ -28,9 +28,11 @@ use Rattle.rail_routes.specs.Net.{Net, posts, is_post, is_turn, post_named}
 use Rattle.rail_routes.specs.PostRules.{is_formed, has_times, stands_well}
 use Rattle.rail_routes.specs.TurnRules.{turns_well}
 use Rattle.rail_routes.specs.Sound.{same_role, have_one_section, is_timed, is_sound_post, is_sound_turn, is_sound_route, IsSoundNetwork}
+use Rattle.rail_compile.specs.Refusals.{ends_at_portal}
+use Rattle.rail_compile.specs.Ways.{is_known_step}
 use Rattle.rail_compile.specs.Itineraries.{no_post, may_leave, turn_to, turn_row, turn_between, turn_before, number_of, move_over, moves_over}
 use Rattle.rail_compile.proofs.Finds.{found_passes, position_some, some_unwrapped}
-use Rattle.rail_compile.proofs.Routes.{is_known_step, sound_route, leads_from}
+use Rattle.rail_compile.proofs.Routes.{ends_plain, led_from, sound_route}
 
 -- the number of a known section
 pub record IsNumber (sections : List Section) (name : List ℕ) (n : ℕ) : Type 0 where
@@ -156,26 +158,36 @@ turn_fine net h route (next ∷ rest) = turned route.steps (turn_to net route ne
 pub move_fine : (net : Net) → IsSoundNetwork net → (route : Route) (turn : Option TurnRow) → is_sound_route net route ≡ true → is_turn_in_range (length route.steps) turn ≡ true → is_move_in_range (length net.sections) (move_over net route turn) ≡ true
 move_fine net h route turn sound fine =
     let facts = sound_route net route sound in
-    let way = leads_from net route sound in
+    let way = led_from net route sound in
     let post : Post = unwrap_or (post_named route.from net) no_post in
     let numbers : List ℕ = map (step_number net) route.steps in
+    let over : List ℕ = map (step_number net) route.overlap in
+    let claims : List ℕ = numbers ++ over in
+    let all : List Step = route.steps ++ route.overlap in
+    let together : map (step_number net) all ≡ claims = map-append (step_number net) route.steps route.overlap in
+    let known : list_all (is_known_step net.sections) all ≡ true =
+    list_all-append (is_known_step net.sections) route.steps route.overlap
+    ∙ and_from (list_all (is_known_step net.sections) route.steps) (list_all (is_known_step net.sections) route.overlap) way.known way.over_known in
     let count : length numbers ≡ length route.steps = length-map route.steps (step_number net) in
+    let over_count : length over ≡ length route.overlap = length-map route.overlap (step_number net) in
     let found : post_named route.from net ≡ Some post = some_unwrapped (post_named route.from net) no_post way.there in
     let times = has_times_in_range post way.no_board (found_passes (is_post route.from) is_timed (posts net) post found (posts_timed net h)) in
     let c1 : Bool = is_from_one ROUTE_SECTIONS (length numbers) in
-    let c2 : Bool = list_all (λ x. ltb x (length net.sections)) numbers in
-    let c3 : Bool = are_distinct_numbers numbers in
+    let c0 : Bool = leb (length over) OVERLAP_SECTIONS in
+    let c2 : Bool = list_all (λ x. ltb x (length net.sections)) claims in
+    let c3 : Bool = are_distinct_numbers claims in
     let c4 : Bool = is_from_one SETTING post.setting in
     let c5 : Bool = leb post.watching WATCHING in
     let c6 : Bool = leb post.approach APPROACH in
     let c7 : Bool = is_turn_in_range (length numbers) turn in
     let p1 : c1 ≡ true = and_from (ltb 0 (length numbers)) (leb (length numbers) ROUTE_SECTIONS) (lt-ltb 0 (length numbers) (omega (arith, count, facts.some_step))) (le-leb (length numbers) ROUTE_SECTIONS (omega (arith, count, facts.few_steps))) in
-    let p2 = and_from c1 c2 p1 (numbers_known net route.steps way.known) in
-    let p3 = and_from (c1 && c2) c3 p2 (numbers_distinct net route.steps way.known facts.apart) in
-    let p4 = and_from (c1 && c2 && c3) c4 p3 times.setting in
-    let p5 = and_from (c1 && c2 && c3 && c4) c5 p4 times.watching in
-    let p6 = and_from (c1 && c2 && c3 && c4 && c5) c6 p5 times.approach in
-    and_from (c1 && c2 && c3 && c4 && c5 && c6) c7 p6 (ap (λ k. is_turn_in_range k turn) count ∙ fine)
+    let p0 = and_from c1 c0 p1 (le-leb (length over) OVERLAP_SECTIONS (omega (arith, over_count, facts.few_over))) in
+    let p2 = and_from (c1 && c0) c2 p0 (ap (list_all (λ x. ltb x (length net.sections))) (sym together) ∙ numbers_known net all known) in
+    let p3 = and_from (c1 && c0 && c2) c3 p2 (ap are_distinct_numbers (sym together) ∙ numbers_distinct net all known facts.apart) in
+    let p4 = and_from (c1 && c0 && c2 && c3) c4 p3 times.setting in
+    let p5 = and_from (c1 && c0 && c2 && c3 && c4) c5 p4 times.watching in
+    let p6 = and_from (c1 && c0 && c2 && c3 && c4 && c5) c6 p5 times.approach in
+    and_from (c1 && c0 && c2 && c3 && c4 && c5 && c6) c7 p6 (ap (λ k. is_turn_in_range k turn) count ∙ fine)
 
 pub moves_fine : (net : Net) → IsSoundNetwork net → (routes : List Route) → list_all (is_sound_route net) routes ≡ true → list_all (is_move_in_range (length net.sections)) (moves_over net routes) ≡ true
 moves_fine net h [] sound = refl
@@ -198,3 +210,17 @@ last_turn net (route ∷ next ∷ rest) =
     let first : MoveRow = move_over net route (turn_between net route next) in
     let index : suc (length later - 1) ≡ length (first ∷ later) - 1 = omega arith in
     ap (λ k. not (is_some (get_or (first ∷ later) k no_move).turn)) (sym index) ∙ last_turn net (next ∷ rest)
+
+-- no overlap is after the last move, which leads to a portal
+pub last_over : (net : Net) (routes : List Route) → list_all (is_sound_route net) routes ≡ true → ends_at_portal net routes ≡ true
+    → (length (get_or (moves_over net routes) (length (moves_over net routes) - 1) no_move).overlap == 0) ≡ true
+last_over net [] sound ends = refl
+last_over net (route ∷ []) sound ends =
+    let plain : route.overlap ≡ [] = ends_plain net route (and_parts (is_sound_route net route) true sound).0 ends in
+    ap (λ (steps : List Step). length (map (step_number net) steps) == 0) plain
+last_over net (route ∷ next ∷ rest) sound ends =
+    let later : List MoveRow = moves_over net (next ∷ rest) in
+    let first : MoveRow = move_over net route (turn_between net route next) in
+    let index : suc (length later - 1) ≡ length (first ∷ later) - 1 = omega arith in
+    ap (λ k. length (get_or (first ∷ later) k no_move).overlap == 0) (sym index)
+    ∙ last_over net (next ∷ rest) (and_parts (is_sound_route net route) (list_all (is_sound_route net) (next ∷ rest)) sound).1 ends

@@ -28,11 +28,11 @@ use Rattle.rail_scene.specs.declared.scene.Scene.{Scene}
 use Rattle.rail_scene.specs.declared.scene.SceneTrain.{SceneTrain}
 use Rattle.rail_scene.specs.Scenes.{is_fit_kind, is_fit_train, IsScene}
 use Rattle.rail_compile.specs.Itineraries.{no_route, route_of, routes_of, kind_of, section_row, train_row, tables_of}
-use Rattle.rail_compile.specs.Refusals.{is_known, are_known, trains_tests, fault_for, plan_refusal}
+use Rattle.rail_compile.specs.Refusals.{is_known, are_known, trains_tests, fault_for, compile_refusal}
 use Rattle.rail_compile.specs.Typed.{is_named_row, is_typed_row}
 use Rattle.rail_compile.proofs.Finds.{is_some-find, found_passes, all_at, some_unwrapped}
 use Rattle.rail_compile.proofs.Names.{distinct_from_apart}
-use Rattle.rail_compile.proofs.Moves.{moves_fine, length-moves_over, last_turn}
+use Rattle.rail_compile.proofs.Moves.{moves_fine, length-moves_over, last_over, last_turn}
 use Rattle.rail_compile.proofs.Places.{or-none}
 use Rattle.rail_compile.proofs.Trains.{IsUnrefused, unrefused_at}
 
@@ -103,7 +103,8 @@ module _ (scene : Scene) (h : IsScene scene) (sound : IsSoundNetwork scene.netwo
       let moves_are : list_all (is_move_in_range n) row.moves ≡ true =
       ap (λ k. list_all (is_move_in_range k) row.moves) (length-map net.sections section_row) ∙ moves_fine net sound routes (routes_sound net sound given.routes unrefused.routes) in
       let P : TrainRow → Type 0 = λ r. (is_name r.name && is_kind_in_range r.kind && leb r.entry INPUT_TIME && leb r.priority 255
-      && is_from_one ITINERARY_ROUTES (length r.moves) && list_all (is_move_in_range n) r.moves && not (is_some (get_or r.moves (length r.moves - 1) no_move).turn)) ≡ true in
+      && is_from_one ITINERARY_ROUTES (length r.moves) && list_all (is_move_in_range n) r.moves && not (is_some (get_or r.moves (length r.moves - 1) no_move).turn)
+      && (length (get_or r.moves (length r.moves - 1) no_move).overlap == 0)) ≡ true in
       let b1 : Bool = is_name row.name in
       let b2 : Bool = is_kind_in_range row.kind in
       let b3 : Bool = leb row.entry INPUT_TIME in
@@ -111,12 +112,14 @@ module _ (scene : Scene) (h : IsScene scene) (sound : IsSoundNetwork scene.netwo
       let b5 : Bool = is_from_one ITINERARY_ROUTES (length row.moves) in
       let b6 : Bool = list_all (is_move_in_range n) row.moves in
       let b7 : Bool = not (is_some (get_or row.moves (length row.moves - 1) no_move).turn) in
+      let b8 : Bool = length (get_or row.moves (length row.moves - 1) no_move).overlap == 0 in
       let p2 = and_from b1 b2 types.0 (kind_fine scene.kinds given.kind h.kinds unrefused.kind) in
       let p3 = and_from (b1 && b2) b3 p2 fits.0 in
       let p4 = and_from (b1 && b2 && b3) b4 p3 types.1 in
       let p5 = and_from (b1 && b2 && b3 && b4) b5 p4 (ap (is_from_one ITINERARY_ROUTES) count ∙ fits.1) in
       let p6 = and_from (b1 && b2 && b3 && b4 && b5) b6 p5 moves_are in
-      subst P (sym at) (and_from (b1 && b2 && b3 && b4 && b5 && b6) b7 p6 (last_turn net routes))
+      let p7 = and_from (b1 && b2 && b3 && b4 && b5 && b6) b7 p6 (last_turn net routes) in
+      subst P (sym at) (and_from (b1 && b2 && b3 && b4 && b5 && b6 && b7) b8 p7 (last_over net routes (routes_sound net sound given.routes unrefused.routes) unrefused.ends))
 
   pub plannable : first_failing (trains_tests scene 1 scene.trains) ≡ None → list_all is_named_row (map section_row scene.network.sections) ≡ true → list_all is_typed_row (map (train_row scene) scene.trains) ≡ true → IsPlannable (tables_of scene)
   plannable none named typed =
@@ -126,6 +129,7 @@ module _ (scene : Scene) (h : IsScene scene) (sound : IsSoundNetwork scene.netwo
         few_sections = omega (arith, length-map sections section_row, sound.distinct.track.few);
         few_trains = omega (arith, count, h.few_trains);
         release = h.release;
+        overlap_time = h.overlap_time;
         depth = h.depth;
         sections = sections_fine sections sound.distinct.track.fit named;
         section_names = ap are_distinct_names (names_of_rows section_row (λ (row : SectionRow). row.name) sections) ∙ distinct_from_apart (λ (section : Section). section.name) sections sound.distinct.track.distinct;
@@ -144,12 +148,12 @@ module _ (scene : Scene) (h : IsScene scene) (sound : IsSoundNetwork scene.netwo
       no_scene_train = record { name = []; kind = []; entry = 0; priority = 0; routes = [] }
 
 -- where no train is refused, the scene is refused for a fault of its tables
-told_of_plan : (scene : Scene) (first : Option PlanFault) → first_failing (trains_tests scene 1 scene.trains) ≡ None → fault_of (tables_of scene) ≡ first → plan_refusal scene ≡ option_and_then (λ why. refusal_in (fault_for why)) first
+told_of_plan : (scene : Scene) (first : Option PlanFault) → first_failing (trains_tests scene 1 scene.trains) ≡ None → fault_of (tables_of scene) ≡ first → compile_refusal scene ≡ option_and_then (λ why. refusal_in (fault_for why)) first
 told_of_plan scene first none is =
     or-none (first_failing (trains_tests scene 1 scene.trains)) (option_and_then (λ why. refusal_in (fault_for why)) (fault_of (tables_of scene))) (ap is_some none)
     ∙ ap (option_and_then (λ why. refusal_in (fault_for why))) is
 
-pub answers_plan : (scene : Scene) (fault : PlanFault) → first_failing (trains_tests scene 1 scene.trains) ≡ None → IsAnswer (fault_of (tables_of scene)) fault → AnswersFirst (plan_refusal scene) (fault_for fault)
+pub answers_plan : (scene : Scene) (fault : PlanFault) → first_failing (trains_tests scene 1 scene.trains) ≡ None → IsAnswer (fault_of (tables_of scene)) fault → AnswersFirst (compile_refusal scene) (fault_for fault)
 answers_plan scene (TooLong t place) none is = told_of_plan scene (Some (TooLong t place)) none is
 answers_plan scene (SelfBlocked t place section) none is = told_of_plan scene (Some (SelfBlocked t place section)) none is
 answers_plan scene OutOfMemory none is = tt

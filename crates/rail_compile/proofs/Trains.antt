@@ -79,11 +79,30 @@ or-none-parts (Some x) other none = absurd (cc)
 pub record IsUnrefused (scene : Scene) (train : SceneTrain) : Type 0 where
   pub kind : list_any (λ (k : TrainKind). same_name train.kind k.name) scene.kinds ≡ true
   pub routes : are_known scene.network train.routes ≡ true
+  pub ends : ends_at_portal scene.network (routes_of scene.network train.routes) ≡ true
+
+-- the last of the tests passes: the itinerary ends at a portal
+ends_found : (net : Net) (item place count : ℕ) (ends : Bool) (routes : List Route) →
+    AllPassed (place_tests net item place routes ++ train_refused reason.NotPortal item count (not ends) ∷ []) → ends ≡ true
+ends_found net item place count ends [] passed = not_false ends passed.0
+  where
+    not_false : (b : Bool) → not b ≡ false → b ≡ true
+    not_false true is = refl
+    not_false false is = sym is
+ends_found net item place count ends (route ∷ []) passed = ends_found net item place count ends [] passed
+ends_found net item place count ends (route ∷ next ∷ rest) passed = ends_found net item (suc place) count ends (next ∷ rest) passed.1
 
 unrefused : (scene : Scene) (item : ℕ) (train : SceneTrain) (k r : Bool) → k ≡ list_any (λ (kind : TrainKind). same_name train.kind kind.name) scene.kinds → r ≡ are_known scene.network train.routes → first_failing (train_tests scene item train) ≡ None → IsUnrefused scene train
 unrefused scene item train false r kind_is routes_are none = absurd (cc (train_is scene item train false r kind_is routes_are))
 unrefused scene item train true false kind_is routes_are none = absurd (cc (train_is scene item train true false kind_is routes_are))
-unrefused scene item train true true kind_is routes_are none = record { kind = sym kind_is; routes = sym routes_are }
+unrefused scene item train true true kind_is routes_are none =
+    let routes = routes_of scene.network train.routes in
+    let passed = all_passed (train_tests scene item train) none in
+    record {
+      kind = sym kind_is;
+      routes = sym routes_are;
+      ends = ends_found scene.network item 1 (length routes) (ends_at_portal scene.network routes) routes passed.1.1.1;
+    }
 
 -- where no train is refused, none of them is
 pub unrefused_at : (scene : Scene) (item : ℕ) (trains : List SceneTrain) (i : ℕ) (train : SceneTrain) → first_failing (trains_tests scene item trains) ≡ None → i < length trains → train ≡ get_or trains i train → IsUnrefused scene train

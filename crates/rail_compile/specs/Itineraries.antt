@@ -99,11 +99,12 @@ turn_before net route (next ∷ rest) = turn_between net route next
 abbrev pub number_of : Net → List ℕ → ℕ
 number_of net name = unwrap_or (position (is_named name) net.sections) 0
 
--- the move over a route, from the post at which it begins, with the turn at its end
+-- the move over a route and its overlap, from the post at which it begins, with the turn at its end
 abbrev pub move_over : Net → Route → Option TurnRow → MoveRow
 move_over net route turn = let post = unwrap_or (post_named route.from net) no_post in
     record {
       sections = map (λ (step : Step). number_of net step.section) route.steps;
+      overlap = map (λ (step : Step). number_of net step.section) route.overlap;
       setting = post.setting;
       watching = post.watching;
       approach = post.approach;
@@ -138,6 +139,7 @@ abbrev pub tables_of : Scene → Tables
 tables_of scene = record {
   sections = map section_row scene.network.sections;
   release = scene.release;
+  overlap_time = scene.overlap_time;
   depth = scene.depth;
   trains = map (train_row scene) scene.trains;
 }

@@ -1,5 +1,5 @@
 -- Which scenes are refused when they are compiled, and why first.
-use Rattle.std.specs.Prelude.{ℕ, suc, ◌==◌, Bool, false, not, List, [], ◌∷◌, ◌++◌, length, Option, option_and_then}
+use Rattle.std.specs.Prelude.{ℕ, suc, Bool, false, not, List, [], ◌∷◌, ◌++◌, length, Option, option_and_then}
 use Rattle.std.specs.List.{list_any, list_all}
 use Rattle.std.specs.Option.{option_or}
 use Rattle.rail_base.specs.NameForms.{same_name}
@@ -19,7 +19,7 @@ use Rattle.rail_plan.specs.declared.faults.PlanFault.TheVariants.{TooLong, SelfB
 use Rattle.rail_plan.specs.PlanFaults.{fault_of}
 use Rattle.rail_scene.specs.declared.scene.Scene.{Scene}
 use Rattle.rail_scene.specs.declared.scene.SceneTrain.{SceneTrain}
-use Rattle.rail_compile.specs.Itineraries.{route_of, routes_of, is_portal, goes_on_to, tables_of}
+use Rattle.rail_compile.specs.Itineraries.{routes_of, is_portal, goes_on_to, tables_of}
 
 -- a refusal of a train of the scene, which counts from 1
 abbrev pub of_train : Reason → ℕ → ℕ → Refusal
@@ -75,34 +75,15 @@ abbrev pub trains_tests : Scene → ℕ → List SceneTrain → List (Test Refus
 trains_tests scene item [] = []
 trains_tests scene item (train ∷ rest) = train_tests scene item train ++ trains_tests scene (suc item) rest
 
--- the route has an overlap
-abbrev pub has_overlap : Route → Bool
-has_overlap route = not (length route.overlap == 0)
-
--- the itinerary of a train has a route with an overlap
-abbrev pub has_overlap_on : Net → SceneTrain → Bool
-has_overlap_on net train = list_any (λ name. has_overlap (route_of net name)) train.routes
-
--- a run with overlaps is not built yet
-abbrev pub overlap_test : Scene → Test Refusal
-overlap_test scene = record {
-  answer = record { reason = reason.NotYet; part = part.Root; item = 0; step = 0 };
-  fails = list_any (has_overlap_on scene.network) scene.trains;
-}
-
 -- the answer for a fault of the plant: the train is refused at the place
 abbrev pub fault_for : PlanFault → Fault
 fault_for (TooLong t place) = fault.Refused (of_train reason.TooLong (suc t) place)
 fault_for (SelfBlocked t place section) = fault.Refused (of_train reason.SelfBlocked (suc t) place)
 fault_for OutOfMemory = fault.OutOfMemory
 
--- why the plant of a scene is refused: the first test of a train and its itinerary that fails, train by train, and where
--- none does the first fault of the plant, again train by train
-abbrev pub plan_refusal : Scene → Option Refusal
-plan_refusal scene =
+-- why a scene is refused: the first test of a train and its itinerary that fails, train by train, and where none does
+-- the first fault of the plant, again train by train
+abbrev pub compile_refusal : Scene → Option Refusal
+compile_refusal scene =
     option_or (first_failing (trains_tests scene 1 scene.trains))
     (option_and_then (λ why. refusal_in (fault_for why)) (fault_of (tables_of scene)))
-
--- why a scene is refused: its plant, and then an overlap in an itinerary
-abbrev pub compile_refusal : Scene → Option Refusal
-compile_refusal scene = option_or (plan_refusal scene) (first_failing (overlap_test scene ∷ []))

@@ -2,7 +2,10 @@
 use Rattle.std.specs.Prelude.{ℕ, Bool, nat_lt, length, List, map, get_or, position, unwrap_or, None, ◌≡◌}
 use Rattle.std.specs.List.{list_all, list_any}
 use Rattle.rail_base.specs.NameForms.{same_name}
+use Rattle.rail_track.specs.declared.section.Section.{Section}
+use Rattle.rail_track.specs.Joints.{is_named}
 use Rattle.rail_routes.specs.declared.items.Route.{Route}
+use Rattle.rail_routes.specs.declared.items.Step.{Step}
 use Rattle.rail_routes.specs.Net.{Net}
 use Rattle.rail_base.specs.declared.plant.TrainKind.{TrainKind}
 use Rattle.rail_scene.specs.declared.scene.Scene.{Scene}
@@ -22,6 +25,10 @@ place_among names name = unwrap_or (position (same_name name) names) 0
 -- the route of this number
 abbrev pub route_at : Net → ℕ → Route
 route_at net number = get_or net.routes number no_route
+
+-- the section of the step is one of these
+abbrev pub is_known_step : List Section → Step → Bool
+is_known_step sections step = list_any (is_named step.section) sections
 
 -- the routes of these numbers, in order
 abbrev pub routes_at : Net → List ℕ → List Route

@@ -4,11 +4,10 @@ ghost use Rattle.std.specs.Prelude.{◌≡◌, suc, None, IsTrue, IfOk, IfErr, O
 ghost use Rattle.rail_rules.specs.Accepted.{is_accepted};
 ghost use Rattle.rail_base.specs.declared.refusals.Fault.TheVariants.{Refused};
 ghost use Rattle.rail_scene.specs.Scenes.{IsScene};
-ghost use Rattle.rail_compile.specs.Itineraries.{plant_of_scene, route_of, with_trains};
+ghost use Rattle.rail_compile.specs.Itineraries.{plant_of_scene, with_trains};
 ghost use Rattle.rail_base.specs.Refusals.{AnswersFirst};
-ghost use Rattle.rail_compile.specs.Refusals.{compile_refusal, plan_refusal, fault_for, has_overlap, has_overlap_on, of_train};
+ghost use Rattle.rail_compile.specs.Refusals.{compile_refusal, fault_for, of_train};
 ghost use Rattle.rail_compile.specs.Ways.{AreLookups};
-ghost use Rattle.std.specs.List.{list_any};
 
 use crate::compiling::itineraries::of_train;
 use crate::compiling::kinds::kind_names;
@@ -17,7 +16,6 @@ use crate::compiling::ways::{Ways, ways_of};
 use indexmap::IndexSet;
 use rail_base::{Fault, Name, OutOfMemory, Part, Reason, Refusal, TrainNo};
 use rail_plan::{PlanFault, Plant};
-use rail_routes::Network;
 use rail_scene::{Scene, SceneTrain};
 use std::alloc::Global;
 
@@ -56,8 +54,7 @@ impl Lookups {
 /// portal, where its first route does not begin at one, at step 0; as broken, at the first place where the
 /// next route does not begin at the signal where the last one ended, and no turn leads there; as no
 /// portal, where its last route does not end at one, at the last place. Where no train is refused so, it
-/// is refused as `Plant::new` refuses its tables, at the place. Items and places count from 1. Last it is refused as not
-/// built yet, of the root, where an itinerary has a route with an overlap.
+/// is refused as `Plant::new` refuses its tables, at the place. Items and places count from 1.
 pub fn compile(alloc: Global, scene: &Scene) -> Result<Plant, Fault>
     requires { IsScene scene.now }
     ensures accepted { OnOk result (compile_refusal scene.now ≡ None) }
@@ -65,31 +62,11 @@ pub fn compile(alloc: Global, scene: &Scene) -> Result<Plant, Fault>
     ensures valid { IfOk result (λ plant. IsTrue (is_accepted plant)) }
     ensures refused { IfErr result (AnswersFirst (compile_refusal scene.now)) }
 {
-    let plant = plan(alloc, scene)?;
-    if has_overlaps(&scene.network, scene.trains.as_slice()) {
-        return Err(Fault::Refused(Refusal {
-            reason: Reason::NotYet,
-            part: Part::Root,
-            item: 0,
-            step: 0,
-        }));
-    }
-    Ok(plant)
-}
-
-/// The plant of the scene, whether or not its itineraries have overlaps.
-fn plan(alloc: Global, scene: &Scene) -> Result<Plant, Fault>
-    requires { IsScene scene.now }
-    ensures accepted { OnOk result (plan_refusal scene.now ≡ None) }
-    ensures spelled { IfOk result (λ plant. plant ≡ plant_of_scene scene.now) }
-    ensures valid { IfOk result (λ plant. IsTrue (is_accepted plant)) }
-    ensures refused { IfErr result (AnswersFirst (plan_refusal scene.now)) }
-{
     let lookups = Lookups::of_scene(alloc, scene)?;
     compile_with(alloc, scene, &lookups, scene.trains.as_slice())
 }
 
-/// The plant of the scene with these trains in place of its own, which has no calls. It is refused as `plan` refuses
+/// The plant of the scene with these trains in place of its own, which has no calls. It is refused as `compile` refuses
 /// the scene with these trains.
 pub fn compile_with(
     alloc: Global,
@@ -99,46 +76,15 @@ pub fn compile_with(
 ) -> Result<Plant, Fault>
     requires scene { IsScene (with_trains scene.now trains.now) }
     requires lookups { AreLookups scene.now lookups.now }
-    ensures accepted { OnOk result (plan_refusal (with_trains scene.now trains.now) ≡ None) }
+    ensures accepted { OnOk result (compile_refusal (with_trains scene.now trains.now) ≡ None) }
     ensures spelled { IfOk result (λ plant. plant ≡ plant_of_scene (with_trains scene.now trains.now)) }
     ensures valid { IfOk result (λ plant. IsTrue (is_accepted plant)) }
-    ensures refused { IfErr result (AnswersFirst (plan_refusal (with_trains scene.now trains.now))) }
+    ensures refused { IfErr result (AnswersFirst (compile_refusal (with_trains scene.now trains.now))) }
 {
     let tables = tables_of(alloc, scene, &lookups.kinds, &lookups.ways, trains)?;
     match Plant::new(alloc, tables) {
         Ok(plant) => Ok(plant),
         Err(fault) => Err(fault_for(fault)),
-    }
-}
-
-/// Whether the itinerary of one of the trains has a route with an overlap.
-fn has_overlaps(network: &Network, trains: &[SceneTrain]) -> bool
-    ensures { result ≡ list_any (has_overlap_on network.now) trains.now }
-{
-    trains.iter().any(|train| has_overlap_on(network, train))
-}
-
-/// Whether the itinerary of the train has a route with an overlap.
-fn has_overlap_on(network: &Network, train: &SceneTrain) -> bool
-    ensures { result ≡ has_overlap_on network.now train.now }
-{
-    is_any_with_overlap(network, train.routes.as_slice())
-}
-
-/// Whether one of the names is that of a route with an overlap.
-fn is_any_with_overlap(network: &Network, names: &[Name]) -> bool
-    ensures { result ≡ list_any (λ name. has_overlap (route_of network.now name)) names.now }
-{
-    names.iter().any(|name| has_overlap(network, *name))
-}
-
-/// Whether the name is that of a route with an overlap.
-fn has_overlap(network: &Network, name: Name) -> bool
-    ensures { result ≡ has_overlap (route_of network.now name) }
-{
-    match network.route(name) {
-        Some(route) => !route.overlap.as_slice().is_empty(),
-        None => false,
     }
 }
 

@@ -43,7 +43,7 @@ needs_next plan t p x none =
 
 -- a table has no claims behind the last move of a train
 pub claims_past : (table : List MoveLists) (t m : ℕ) → (moves_in table).moves t ≤ m → (moves_in table).claim t m ≡ []
-claims_past table t m past = get_or_past (get_or table t no_lists).needs m [] past
+claims_past table t m past = get_or_past (get_or table t no_lists).claims m [] past
 
 -- a section that is needed from a place on is needed by a move
 pub needs_at : (plan : Moves) (t p x : ℕ) → needs_from plan t p x ≡ true → (i : ℕ) × (is_in x (plan.claim t i) ≡ true)

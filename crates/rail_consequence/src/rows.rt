@@ -197,6 +197,6 @@ fn need_at(moves: &Moves, train: TrainNo, place: u16) -> [u64; WORDS]
     if place == moves.places(train) {
         return need;
     }
-    add_all(&mut need, moves.need(train, place + 1));
+    add_all(&mut need, moves.claim(train, place + 1));
     need
 }

@@ -10,6 +10,7 @@ use Rattle.rail_base.specs.declared.history.Cause.TheVariants.{NoList}
 use Rattle.rail_base.specs.declared.orders.PolicyKind.{PolicyKind}
 use Rattle.rail_policy.specs.Choices.{HasLeastKey}
 use Rattle.rail_policy.specs.declared.offer.Offer.{Offer}
+use Rattle.rail_laws_run.specs.HolderTables.{own_overlap}
 use Rattle.rail_rules.specs.Plant.{claimed, train}
 use Rattle.rail_rules.specs.RunHistories.{due}
 use Rattle.rail_state.specs.declared.train.TrainState.{TrainState}
@@ -129,7 +130,7 @@ pub unbarred_left : (old new : Ledger) (t : ℕ) → HasTriedTrain old new t →
 unbarred_left old new t tried unbarred = λ u lt is.
     let before = tried.untried u is in
     let known = tried.others u in
-    (λ i. bar_by (tried.alike.orders i) (tried.alike.holders i) u (claimed (tried.alike.input i).plant u (known.1 i).place))
+    (λ i. bar_by (tried.alike.orders i) (tried.alike.holders i) u (own_overlap (tried.alike.input i).plant u (known.1 i).place) (claimed (tried.alike.input i).plant u (known.1 i).place))
     ∙ unbarred u (omega (arith, lt, tried.many)) before.0
 
 -- where nothing is left to offer, the cause of each train that waits is known

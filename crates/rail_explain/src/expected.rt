@@ -15,7 +15,7 @@ const _: () = prove!(2 * ROUTE_SECTIONS + 1 == 65);
 
 const _: () = prove!(2 * OVERLAP_SECTIONS == 16);
 
-const _: () = prove!(ITINERARY_ROUTES == 64);
+const _: () = prove!(ITINERARY_ROUTES == 128);
 
 /// Puts the range of a key.
 pub fn put_range(line: &mut Line, form: Form)
@@ -35,7 +35,7 @@ pub fn put_range(line: &mut Line, form: Form)
         Form::Overlap => line.put(
             b" must have at most 16 names, sections and joints in turn, in an even number",
         ),
-        Form::Itinerary => line.put(b" must have 1 to 64 names"),
+        Form::Itinerary => line.put(b" must have 1 to 128 names"),
         Form::Name | Form::Policy | Form::Tables => line.put(b" is out of its range"),
     }
 }

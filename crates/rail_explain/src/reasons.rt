@@ -15,9 +15,9 @@ const _: () = prove!(FILE_BYTES == 1_048_576 && HISTORY_BYTES == 16_777_216);
 
 const _: () = prove!(SECTIONS == 512 && POSTS == 512 && TURNS == 512 && ROUTES == 1_024);
 
-const _: () = prove!(KINDS == 128 && TRAINS == 128);
+const _: () = prove!(KINDS == 128 && TRAINS == 256);
 
-const _: () = prove!(COMMANDS == 1_024 && EDITS == 4_096 && LIST_TRAINS == 8_192);
+const _: () = prove!(COMMANDS == 1_024 && EDITS == 4_096 && LIST_TRAINS == 32_768);
 
 /// What the reason of a refusal means. The reasons that are told with a key, a joint, a step or a place have their words
 /// behind these.
@@ -76,10 +76,13 @@ pub fn meaning(refusal: &Refusal) -> &'static [u8]
         Reason::ListPlaces => b": two trains would stand on one section at these places",
         Reason::SnapshotForm => b" is no line of a snapshot",
         Reason::SnapshotOther => b" is of a run of another scene, timetable or command file",
-        Reason::NoPath => b": no path is free between the paths of the other trains",
+        Reason::NoPath if refusal.item == 2 => {
+            b", TRAIN, has no whole path in the run to be copied: it was not admitted, or stands somewhere at the end"
+        }
+        Reason::NoPath => b", FROM: no path is free that begins there or later, and before TO",
         Reason::RerouteForm => b" does not say how a train is rerouted",
         Reason::RerouteName => b" names a train or a route that is not in the scene",
-        Reason::NotYet => b": a run over routes with overlaps is not built",
+        Reason::NotYet => b": the command has a form that is not built",
     }
 }
 
@@ -88,7 +91,7 @@ fn unknown(part: Part) -> &'static [u8]
     ensures short { length result.now ≤ 140 }
 {
     match part {
-        Part::Word => b" of LINE names no section of the scene",
+        Part::Word => b" names nothing of the scene: LINE takes sections, TRAIN a train",
         _ => b" names what is not there",
     }
 }
@@ -138,9 +141,9 @@ fn too_many(part: Part) -> &'static [u8]
         Part::Turn => b" is one too many: there may be 512 turns",
         Part::Route => b" is one too many: there may be 1,024 routes",
         Part::Kind => b" is one too many: there may be 128 kinds",
-        Part::Train => b" is one too many: there may be 128 trains",
+        Part::Train => b" is one too many: there may be 256 trains",
         Part::Line =>
-            b" is one too many: there may be 1,024 commands, 4,096 edits kept, and 8,192 trains in a list",
+            b" is one too many: there may be 1,024 commands, 4,096 edits kept, and 32,768 trains in a list",
         _ => b" is more than there may be",
     }
 }

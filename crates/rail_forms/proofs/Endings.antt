@@ -1,5 +1,5 @@
 -- What holds at the end of a run.
-use Rattle.std.proofs.Common.{◌≡◌, ◌⊎◌, ℕ, zero, suc, ◌<◌, Bool, true, false, not, ◌||◌, List, [], ◌∷◌, ◌++◌, filter, length, refl, sym, ap, ◌∙◌, subst, ⊎_elim, arith}
+use Rattle.std.proofs.Common.{◌≡◌, ◌⊎◌, ℕ, zero, suc, ◌+◌, ◌<◌, Bool, true, false, not, ◌||◌, List, [], ◌∷◌, ◌++◌, filter, length, refl, sym, ap, ◌∙◌, subst, ⊎_elim, arith}
 use Rattle.std.specs.Cmp.Lexicographic.{bytes_decides}
 use Rattle.std.proofs.lemmas.Bool.{and_parts, and_from, cond-false, false≢true, not_from_true, or_left, or_right}
 use Rattle.std.proofs.lemmas.List.Elements.{filter-append}
@@ -12,6 +12,7 @@ use Rattle.rail_laws_front.proofs.CallerLemmas.{well_formed_from_accepted}
 use Rattle.rail_laws_run.proofs.CallerLemmas.{run_lawful}
 use Rattle.rail_rules.specs.Accepted.{is_accepted_input}
 use Rattle.rail_rules.specs.Fronts.{Front, Line, has_ended, is_end, lines_beside_holds}
+use Rattle.rail_rules.specs.LineCounts.{taken_over}
 use Rattle.rail_rules.specs.Lawful.{is_complete, is_lawful, is_out, is_out_line, may_follow_as, remaining}
 use Rattle.rail_rules.specs.Numbers.{listed, same_numbers}
 use Rattle.rail_rules.specs.Orders.{Input, is_cancelled, is_closed, is_stopped, orders_of, told}
@@ -100,8 +101,8 @@ module _ (input : Input) (ok : is_accepted_input input ≡ true) (front : Front)
   all_gone : NothingIsBarred input front → (t : ℕ) → t < trains input.plant → HasGone input front t
   all_gone free = complete_out input fine front complete (nothing_bars input ok front free)
 
-  -- where moreover no train is cancelled there are as many lines as the bound says
-  exact_lines : NothingIsBarred input front → ((t : ℕ) → t < trains input.plant → is_cancelled t (told input.commands front) ≡ false) → lines_beside_holds front ≡ bound input.plant (length input.commands)
+  -- where moreover no train is cancelled there are as many lines as the bound says, but for what was taken over
+  exact_lines : NothingIsBarred input front → ((t : ℕ) → t < trains input.plant → is_cancelled t (told input.commands front) ≡ false) → lines_beside_holds front + taken_over input.plant front ≡ bound input.plant (length input.commands)
   exact_lines free running = complete_bound input fine front complete (nothing_bars input ok front free) (nobody_cancelled input ok front running)
 
   -- so without commands every train is out
@@ -113,7 +114,7 @@ module _ (input : Input) (ok : is_accepted_input input ≡ true) (front : Front)
       (all_gone (free_without input none front) t lt)
 
   -- and there are as many lines as the bound says
-  lines_without : input.commands ≡ [] → lines_beside_holds front ≡ bound input.plant 0
+  lines_without : input.commands ≡ [] → lines_beside_holds front + taken_over input.plant front ≡ bound input.plant 0
   lines_without none = exact_lines (free_without input none front) (λ t _. running_without input none front t) ∙ ap (λ commands. bound input.plant (length commands)) none
 
 -- what holds at the end of each run

@@ -15,6 +15,7 @@ mod CheckAnswers
 mod Parts
 mod Reading
 mod ScenarioAnswers
+mod Behind
 mod NotedRuns
 mod Summaries
 mod Pieces

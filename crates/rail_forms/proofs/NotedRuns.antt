@@ -5,6 +5,7 @@ use Rattle.std.proofs.lemmas.Bool.{and_from, and_parts}
 use Rattle.rail_base.specs.declared.history.What.{What}
 use Rattle.rail_base.specs.declared.intervals.Interval.{Interval}
 use Rattle.rail_base.specs.declared.orders.Command.{Command}
+use Rattle.rail_base.specs.declared.refusals.Refusal.{Refusal}
 use Rattle.rail_capacity.specs.BlockingTimes.{are_conflict_free, block_of, taken_blocks}
 use Rattle.rail_capacity.specs.Compression.{IsCompression}
 use Rattle.rail_capacity.specs.declared.compression.Window.{Window}
@@ -13,6 +14,11 @@ use Rattle.rail_delay.specs.Accounts.{AreNoted as AreNotedDelays, Kept}
 use Rattle.rail_delay.specs.Reports.{report_text}
 use Rattle.rail_delay.specs.Accounts.{account}
 use Rattle.rail_delay.specs.declared.account.Account.{Account}
+use Rattle.rail_insert.specs.Insertions.{IsInsertion}
+use Rattle.rail_insert.specs.Texts.{inserted_text}
+use Rattle.rail_insert.specs.Timely.{are_timely}
+use Rattle.rail_insert.specs.declared.insertion.Placed.{Placed}
+use Rattle.rail_input.specs.Inputs.{train_names}
 use Rattle.rail_laws_front.proofs.CallerLemmas.{length-listed}
 use Rattle.rail_laws_run.proofs.CallerLemmas.{run_lawful}
 use Rattle.rail_rules.specs.Fronts.{Front, has_ended, is_end}
@@ -26,6 +32,7 @@ use Rattle.rail_stairs.specs.Stairways.{ended_at, ended_by, stairway}
 use Rattle.rail_stairs.specs.StairsTexts.{stairs_text}
 use Rattle.rail_forms.specs.Capacity.{IsCapacityText, capacity_text, line_of}
 use Rattle.rail_text.specs.Names.{NameLists, names_of}
+use Rattle.rail_forms.specs.Insertions.{IsInsertionText, IsNoPathAmong, IsRefusedRun, train_named}
 use Rattle.rail_forms.specs.Noted.{IsNotedRun, ReportsRun}
 use Rattle.rail_forms.specs.Reports.{IsReportText}
 use Rattle.rail_forms.specs.Runs.{IsFinished, IsRunWithin}
@@ -109,6 +116,44 @@ module _ (input : Input) (seats : List Seat) (stairs : Stairs) (plant : Plant) (
         is = ap (λ (n : NameLists). capacity_text n shifts occupancy rate) names_are;
       };
       added = added;
+    }
+
+  -- its intervals, of which open ones stay open
+  module _ (intervals : List Interval) (are : (front : Front) → AreNoted plant front stairs → intervals ≡ stairway plant front) where
+    open_intervals : intervals ≡ stairway input.plant noted.front
+    open_intervals = are noted.front noted_here ∙ ap (λ (p : Plant). stairway p noted.front) is
+
+    -- they are early enough to place trains between them
+    pub noted_timely : ((front : Front) → is_complete input front ≡ true → are_timely (stairway input.plant front) ≡ true) → are_timely intervals ≡ true
+    noted_timely timely = ap are_timely open_intervals ∙ timely noted.front (run_complete input seats noted.front noted.run)
+
+    -- the text of the trains that are placed there
+    pub insertion_told : (word : List ℕ) (train : ℕ) (window : Window) (count : ℕ) (names : NameLists) (copies : List Placed) (X : List ℕ → Type 0)
+        → train_named (train_names input.plant.tables) word ≡ Some train → names ≡ names_of input.plant → IsInsertion intervals train window count copies
+        → X (inserted_text names train copies) → ReportsRun (IsInsertionText word window count) input seats X
+    insertion_told word train window count names copies X named names_are insertion added = record {
+      front = noted.front;
+      run = noted.run;
+      text = inserted_text names train copies;
+      told = record {
+        train = train;
+        copies = copies;
+        named = named;
+        insertion = subst (λ (xs : List Interval). IsInsertion xs train window count copies) open_intervals insertion;
+        is = ap (λ (n : NameLists). inserted_text n train copies) names_are;
+      };
+      added = added;
+    }
+
+    -- or why none is
+    pub refused_told : (word : List ℕ) (train : ℕ) (window : Window) (refusal : Refusal) → train_named (train_names input.plant.tables) word ≡ Some train
+        → IsNoPathAmong intervals train window refusal → IsRefusedRun word window refusal input seats
+    refused_told word train window refusal named none = record {
+      train = train;
+      front = noted.front;
+      named = named;
+      run = noted.run;
+      none = subst (λ (xs : List Interval). IsNoPathAmong xs train window refusal) open_intervals none;
     }
 
 -- what was noted of the delays of a run

@@ -25,7 +25,7 @@ use Rattle.rail_forms.specs.declared.status.Status.{Status}
 use Rattle.rail_forms.specs.declared.status.Status.TheVariants.{Refused}
 use Rattle.rail_forms.specs.Answers.{Decides, IsAnswer, Told, status_of}
 use Rattle.rail_forms.specs.declared.scenario.Purpose.{Purpose}
-use Rattle.rail_forms.specs.declared.scenario.Purpose.TheVariants.{Capacity, History, Report, Stairs}
+use Rattle.rail_forms.specs.declared.scenario.Purpose.TheVariants.{Capacity, History, Insertion, Report, Stairs}
 use Rattle.rail_words.specs.Files.{File, file_as}
 use Rattle.rail_words.specs.Forms.{Scenario}
 use Rattle.rail_words.specs.declared.files.Role.{Role}
@@ -99,11 +99,13 @@ or_else_none : (first : Option Refusal) → or_else first None ≡ first
 or_else_none None = refl
 or_else_none (Some refusal) = refl
 
-pub refusal_split : (purpose : Purpose) (first : Option Refusal) (input : Input) → refusal_of purpose first input ≡ or_else first (late_refusal purpose input)
-refusal_split History first input = sym (or_else_none first)
-refusal_split Stairs first input = sym (or_else_none first)
-refusal_split Report first input = sym (or_else_none first)
-refusal_split (Capacity study) first input = refl
+pub refusal_split : (purpose : Purpose) (status : Status) (first : Option Refusal) (input : Input)
+    → refusal_of purpose status first input ≡ or_else first (late_refusal purpose status input)
+refusal_split History status first input = sym (or_else_none first)
+refusal_split Stairs status first input = sym (or_else_none first)
+refusal_split Report status first input = sym (or_else_none first)
+refusal_split (Capacity study) status first input = refl
+refusal_split (Insertion demand) status first input = refl
 
 or_else_more : (a b c : Option Refusal) → or_else (or_else a b) c ≡ or_else a (or_else b c)
 or_else_more None b c = refl
@@ -111,20 +113,20 @@ or_else_more (Some refusal) b c = refl
 
 -- where the first refusal answers, so does it before all that is refused for the purpose
 pub first_answers : (purpose : Purpose) (first : Option Refusal) (input : Input) (whole part : Type 0) (why : Fault) (status : Status) → status ≡ status_of why → AnswersFirst first why
-    → IsAnswer (refusal_of purpose first input) whole part status
+    → IsAnswer (refusal_of purpose status first input) whole part status
 first_answers purpose first input whole part why status is answers =
-    subst (λ (o : Option Refusal). IsAnswer o whole part status) (sym (refusal_split purpose first input))
-    (subst (IsAnswer (or_else first (late_refusal purpose input)) whole part) (sym is) (of why answers))
+    subst (λ (o : Option Refusal). IsAnswer o whole part status) (sym (refusal_split purpose status first input))
+    (subst (IsAnswer (or_else first (late_refusal purpose status input)) whole part) (sym is) (of why answers))
   where
-    of : (why : Fault) → AnswersFirst first why → IsAnswer (or_else first (late_refusal purpose input)) whole part (status_of why)
-    of (fault.Refused refusal) answers = ap (λ (o : Option Refusal). or_else o (late_refusal purpose input)) answers
+    of : (why : Fault) → AnswersFirst first why → IsAnswer (or_else first (late_refusal purpose status input)) whole part (status_of why)
+    of (fault.Refused refusal) answers = ap (λ (o : Option Refusal). or_else o (late_refusal purpose status input)) answers
     of fault.OutOfMemory answers = tt
 
 -- where there is none, all is as what else is refused
 pub late_answers : (purpose : Purpose) (first : Option Refusal) (input : Input) (whole part : Type 0) (status : Status) → first ≡ None
-    → IsAnswer (late_refusal purpose input) whole part status → IsAnswer (refusal_of purpose first input) whole part status
+    → IsAnswer (late_refusal purpose status input) whole part status → IsAnswer (refusal_of purpose status first input) whole part status
 late_answers purpose first input whole part status none answer =
-    subst (λ (o : Option Refusal). IsAnswer o whole part status) (sym (refusal_split purpose first input)) (answer_after first (late_refusal purpose input) whole part status none answer)
+    subst (λ (o : Option Refusal). IsAnswer o whole part status) (sym (refusal_split purpose status first input)) (answer_after first (late_refusal purpose status input) whole part status none answer)
 
 -- what is answered where a file that may be missing was not read
 pub named_answer : {S : Type 0} (shelf : Ghosts S) (role : Role) (file : Option (List ℕ)) (before now : S) (content : Option (List ℕ)) (later : Option Refusal) (whole part : Type 0) (status : Status)
@@ -223,19 +225,19 @@ module _ (purpose : Purpose) (scenario : Scenario) (deck : List DeskSeat) (told 
       Answers b c o first = IsAnswer first (whole_of purpose before now (input_in b c o (names_of deck)) (handed_in deck)) (part_of purpose before now (input_in b c o (names_of deck)) (handed_in deck)) status
 
       abbrev refused : List ℕ → Option (List ℕ) → Option (List ℕ) → Option Refusal
-      refused b c o = refusal_of purpose (input_refusal b c o (names_of deck)) (input_in b c o (names_of deck))
+      refused b c o = refusal_of purpose status (input_refusal b c o (names_of deck)) (input_in b c o (names_of deck))
 
       of_plant : Answers scene_read timetable_read commands_read (refused scene_read timetable_read commands_read) → Decides (plant_refusal scene_read) status
       of_plant answer =
           let split : refused scene_read timetable_read commands_read ≡ or_else (plant_refusal scene_read) _
-          = refusal_split purpose (input_refusal scene_read timetable_read commands_read (names_of deck)) (input_in scene_read timetable_read commands_read (names_of deck))
-          ∙ or_else_more (plant_refusal scene_read) _ (late_refusal purpose (input_in scene_read timetable_read commands_read (names_of deck))) in
+          = refusal_split purpose status (input_refusal scene_read timetable_read commands_read (names_of deck)) (input_in scene_read timetable_read commands_read (names_of deck))
+          ∙ or_else_more (plant_refusal scene_read) _ (late_refusal purpose status (input_in scene_read timetable_read commands_read (names_of deck))) in
           first_decides _ _ _ _ _ (subst (Answers scene_read timetable_read commands_read) split answer)
 
       pub all_files : Answers scene_read timetable_read commands_read (refused scene_read timetable_read commands_read) → AnswersPurpose purpose scenario deck told before now status
       all_files answer = record {
         all = λ bytes calls orders at calls_at orders_at.
-            let Answer : List ℕ → Option (List ℕ) → Option (List ℕ) → Type 0 = λ b c o. Answers b c o (scenario_refusal (refusal_of purpose) b c o deck) in
+            let Answer : List ℕ → Option (List ℕ) → Option (List ℕ) → Type 0 = λ b c o. Answers b c o (scenario_refusal (refusal_of purpose status) b c o deck) in
             subst (λ b. Answer b calls orders) (scene_is bytes at)
             (subst (λ c. Answer scene_read c orders) (timetable_is calls calls_at)
             (subst (λ o. Answer scene_read timetable_read o) (commands_is orders orders_at)

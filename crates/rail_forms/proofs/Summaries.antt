@@ -50,11 +50,11 @@ plant_and_commands input accepted =
     (of_plant.0, leb-true (length input.commands) COMMANDS of_plant.1)
 
 -- a history has few lines
-few_lines : (input : Input) → is_accepted_input input ≡ true → (front : Front) → is_lawful input front ≡ true → length front ≤ 1100000 * 300
+few_lines : (input : Input) → is_accepted_input input ≡ true → (front : Front) → is_lawful input front ≡ true → length front ≤ 3100000 * 300
 few_lines input accepted front lawful =
     let parts = plant_and_commands input accepted in
     let few = lines_at_most input (well_formed_from_accepted input.plant parts.0) front lawful in
-    let product = mul-le (bound input.plant (length input.commands)) (trains input.plant + 1) 1100000 300
+    let product = mul-le (bound input.plant (length input.commands)) (trains input.plant + 1) 3100000 300
     (omega (arith, bound_small input.plant parts.0, parts.1)) (omega (arith, (accepted_parts input.plant parts.0).few_trains)) in
     omega (arith, few, product)
 

@@ -11,6 +11,7 @@ pub mod Begun
 pub mod Stairs
 pub mod Reports
 pub mod Capacity
+pub mod Insertions
 pub mod Purposes
 pub mod Infra
 pub mod Migration

@@ -1,10 +1,10 @@
 -- The form `run`: the history of a scene.
-use Rattle.std.specs.Prelude.{◌≡◌, ◌≢◌, ◌⊎◌, ℕ, suc, ◌<◌, ◌≤◌, ◌^◌, false, IsTrue, List, [], ◌∷◌, ◌++◌, length, Option, Some, None}
+use Rattle.std.specs.Prelude.{◌+◌, ◌≡◌, ◌≢◌, ◌⊎◌, ℕ, suc, ◌<◌, ◌≤◌, ◌^◌, false, IsTrue, List, [], ◌∷◌, ◌++◌, length, Option, Some, None}
 use Rattle.rail_base.specs.declared.history.Note.{Note}
 use Rattle.rail_base.specs.declared.history.Note.TheVariants.{Fresh}
 use Rattle.rail_base.specs.declared.history.Cause.{Cause}
 use Rattle.rail_base.specs.declared.history.What.TheVariants.{Admit, End, Hold}
-use Rattle.rail_rules.specs.LineCounts.{holds_train, lines_that}
+use Rattle.rail_rules.specs.LineCounts.{holds_train, lines_that, taken_over}
 use Rattle.rail_io.specs.Writes.{Adds, AddsPrefix}
 use Rattle.rail_rules.specs.Accepted.{is_accepted_input}
 use Rattle.rail_rules.specs.Causes.{cause, is_ready, is_repairable, last_hold, place}
@@ -65,13 +65,14 @@ pub record IsFinished (input : Input) (front : Front) : Type 0 where
   pub nobody : NothingIsBarred input front → last.trains ≡ []
   pub left : NothingIsBarred input front → (t : ℕ) → t < trains input.plant
       → IsTrue (is_out front t) ⊎ IsTrue (is_cancelled t (told input.commands front))
-  -- where moreover no train is cancelled there are exactly as many lines as the bound says, hold lines aside
+  -- where moreover no train is cancelled there are exactly as many lines as the bound says, hold lines aside, less one for
+  -- each section of an overlap that was taken over
   pub exact : NothingIsBarred input front
       → ((t : ℕ) → t < trains input.plant → is_cancelled t (told input.commands front) ≡ false)
-      → lines_beside_holds front ≡ bound input.plant (length input.commands)
+      → lines_beside_holds front + taken_over input.plant front ≡ bound input.plant (length input.commands)
   -- so without commands every train is out, and there are exactly so many lines
   pub all_left : input.commands ≡ [] → (t : ℕ) → t < trains input.plant → IsTrue (is_out front t)
-  pub all_lines : input.commands ≡ [] → lines_beside_holds front ≡ bound input.plant 0
+  pub all_lines : input.commands ≡ [] → lines_beside_holds front + taken_over input.plant front ≡ bound input.plant 0
 
 -- every time of the front is below 2^50 tenths of a second
 abbrev pub IsBeforeLimit : Front → Type 0

@@ -65,7 +65,7 @@ impl Begun {
     }
 
     /// Notes the lines of the run one by one, until the history has ended or one cannot be noted. It takes no memory. The
-    /// engine that comes back has ended.
+    /// engine comes back for its plant.
     pub fn follow_to_end<N: Notes>(self, notes: &mut N) -> Result<Engine, N::Fault>
         requires begun { HasBegun ⟦<Desk as Seen>⟧.table self }
         requires none { N.are_noted (input_of self) [] notes.old notes.old }

@@ -1,7 +1,7 @@
 //! The forms of the command line: what each of them does, from the bytes of its files to the bytes of its answer.
 //!
 //! A form has a module, whose call `answer` reads the files that it is handed the names of, and adds its answer to an
-//! output. `run`, `stairs`, `report` and `capacity` read and begin a run in one way (`src/scenario.rt`). Every run is
+//! output. `run`, `stairs`, `report`, `capacity` and `insert` read and begin a run in one way (`src/scenario.rt`). Every run is
 //! followed to its end by one loop (`src/begun.rt`), which hands each line to what is noted of it (`src/notes.rt`): the
 //! history is written so as well (`src/run.rt`). This layer stands on all that is below the program and joins
 //! it; which words ask for which form is told above. What every form promises of the files and of the output is one
@@ -13,9 +13,11 @@
 mod begun;
 pub mod capacity;
 pub mod check;
+pub mod demand;
 pub mod edit;
 mod files;
 pub mod infra;
+pub mod insertion;
 pub mod migrate;
 mod notes;
 pub mod play;

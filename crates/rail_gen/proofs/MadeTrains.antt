@@ -119,7 +119,7 @@ fit count few train made = ap is_fit_train made.is ∙ own made.number made.word
     some : (n k : ℕ) → n ≡ 1 + (k + k) → k ≤ 8 → is_from_one (most ItineraryRoutes) n ≡ true
     some n k is low =
         let first : nat_le 1 n ≡ true = grind (arith, nat_tests) in
-        let last : nat_le n 64 ≡ true = grind (arith, nat_tests) in
+        let last : nat_le n 128 ≡ true = grind (arith, nat_tests) in
         λ i. first i && last i
 
     own : (number : ℕ) (words : TrainWords) → words.entry < 7_200 → length words.tracks ≡ count → is_fit_train (train_of count number words) ≡ true

@@ -59,6 +59,7 @@ plant_of names = record {
   tables = record {
     sections = map (λ (name : List ℕ). record no_section { name = name }) names.sections.keys;
     release = 0;
+    overlap_time = 0;
     depth = 0;
     trains = map (λ (name : List ℕ). record no_train { name = name }) names.trains.keys;
   };

@@ -29,7 +29,7 @@ pub struct History {
 /// It is refused as no history at the first line that is no line of a history. Each line has to end with a line
 /// feed, its times have to be of the canonical form and no time above 2^64 - 1 tenths, its numbers without
 /// leading zeros and at most 65,535, and its names those of sections and trains. A fresh list has at most
-/// 8,192 trains, and a history at most 8,192 fresh lists. An empty file is read as no entries.
+/// `LIST_TRAINS` trains, and a history at most `FRESH_LINES` fresh lists. An empty file is read as no entries.
 pub fn read_history(alloc: Global, names: &Names, bytes: &[u8]) -> Result<History, Fault>
     requires trains { length names.now.trains.keys ≤ 2 ^ 16 }
     requires sections { length names.now.sections.keys ≤ 2 ^ 16 }

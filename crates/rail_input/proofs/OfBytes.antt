@@ -21,7 +21,7 @@ use Rattle.rail_scene.specs.declared.scene.SceneTrain.{SceneTrain}
 use Rattle.rail_scene.specs.Order.{scene_refusal}
 use Rattle.rail_scene.proofs.CallerLemmas.{scene_of_bytes}
 use Rattle.rail_compile.specs.Itineraries.{routes_of, tables_of}
-use Rattle.rail_compile.specs.Refusals.{compile_refusal, plan_refusal, overlap_test, fault_for, place_tests, train_tests, trains_tests}
+use Rattle.rail_compile.specs.Refusals.{compile_refusal, fault_for, place_tests, train_tests, trains_tests}
 use Rattle.rail_command.specs.Commands.{commands_refusal, lines_tests, line_tests, time_on}
 use Rattle.rail_text.specs.Lines.{Line, lines_of}
 use Rattle.rail_timetable.specs.Records.{records_in}
@@ -66,19 +66,12 @@ of_fault (Some (plan_fault.TooLong t place)) refusal is = sym (ap (λ (r : Refus
 of_fault (Some (plan_fault.SelfBlocked t place section)) refusal is = sym (ap (λ (r : Refusal). is_file r.part) (same_Some _ refusal is))
 of_fault (Some plan_fault.OutOfMemory) refusal is = absurd (none-some refusal is)
 
-of_planning : (scene : Scene) → RefusesNoFile (plan_refusal scene)
-of_planning scene = by (first_failing (trains_tests scene 1 scene.trains)) (of_tests (trains_tests scene 1 scene.trains) (of_trains scene 1 scene.trains))
+of_compiling : (scene : Scene) → RefusesNoFile (compile_refusal scene)
+of_compiling scene = by (first_failing (trains_tests scene 1 scene.trains)) (of_tests (trains_tests scene 1 scene.trains) (of_trains scene 1 scene.trains))
   where
     by : (first : Option Refusal) → RefusesNoFile first → RefusesNoFile (option_or first (option_and_then (λ why. refusal_in (fault_for why)) (fault_of (tables_of scene))))
     by None none refusal is = of_fault (fault_of (tables_of scene)) refusal is
     by (Some first) none refusal is = none refusal is
-
-of_either : (first second : Option Refusal) → RefusesNoFile first → RefusesNoFile second → RefusesNoFile (option_or first second)
-of_either None second none other refusal is = other refusal is
-of_either (Some first) second none other refusal is = none refusal is
-
-of_compiling : (scene : Scene) → RefusesNoFile (compile_refusal scene)
-of_compiling scene = of_either (plan_refusal scene) (first_failing (overlap_test scene ∷ [])) (of_planning scene) (of_tests (overlap_test scene ∷ []) (refl, tt))
 
 -- a fault that answers the refusal of the plant of a scene
 pub compile_fault : (scene : Scene) (fault : Fault) → AnswersFirst (compile_refusal scene) fault → refuses_file fault ≡ false

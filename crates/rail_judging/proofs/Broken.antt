@@ -9,7 +9,7 @@ use Rattle.rail_base.specs.declared.history.What.TheVariants.{Free, Arrive, Ente
 use Rattle.rail_base.specs.declared.history.Cause.{Cause}
 use Rattle.rail_rules.specs.Numbers.{all_below, comes_before, or_else, same_numbers}
 use Rattle.rail_rules.specs.Places.{completes}
-use Rattle.rail_rules.specs.Plant.{moves_of, needed, trains}
+use Rattle.rail_rules.specs.Plant.{moves_of, claimed, trains}
 use Rattle.rail_rules.specs.Fronts.{Line, Front, has_ended, has_held, instant, kept, option_code, rank, same_cause, same_entry}
 use Rattle.rail_rules.specs.Orders.{Input, told}
 use Rattle.rail_rules.specs.Events.{command_line, due_lines, is_least, is_quiet, is_written}
@@ -266,10 +266,10 @@ module _ (input : Input) (front : Front) (timely : IsTimely input front) (going 
   stop t = stop_cause t (told input.commands front)
 
   abbrev closed : ℕ → Option Cause
-  closed t = closed_cause (needed input.plant t (place front t)) (told input.commands front)
+  closed t = closed_cause (claimed input.plant t (place front t)) (told input.commands front)
 
   abbrev blocked : ℕ → Option Cause
-  blocked t = blocked_cause input front (needed input.plant t (place front t))
+  blocked t = blocked_cause input front t (claimed input.plant t (place front t))
 
   event : is_bare line ≡ true → may_happen input front line ≡ not (((((not (is_least (due_lines input front) line.entry) || false) || false) || false) || false) || is_undecided input front)
   event bare = event_is bare ∙ sym (ap not (five (not (is_least (due_lines input front) line.entry)) (is_undecided input front)))

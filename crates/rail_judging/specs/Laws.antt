@@ -28,12 +28,12 @@ abbrev pub is_out_of_place : Input → Front → Line → What → Bool
 is_out_of_place input front line (Admit t m note) = is_misplaced input front line t m
 is_out_of_place input front line _ = false
 
--- law 3: an admission of a stopped train, or over a closed section
+-- law 3: an admission of a stopped train, or over a closed section of those that it claims
 abbrev pub is_against_orders : Input → Front → What → Bool
 is_against_orders input front (Admit t m note) = is_forbidden input front t
 is_against_orders input front _ = false
 
--- law 4: an admission over a section with an interval that contains the instant
+-- law 4: an admission over a section with an interval that contains the instant, which isn't of the overlap of the train's own last move
 abbrev pub is_over_occupied : Input → Front → What → Bool
 is_over_occupied input front (Admit t m note) = is_occupied input front t
 is_over_occupied input front _ = false

@@ -17,14 +17,14 @@ abbrev pub is_misplaced : Input → Front → Line → ℕ → ℕ → Bool
 is_misplaced input front line t m =
     not ((line.entry.at == instant front) && waits input front t && (m == suc (place front t)) && not (has_held front))
 
--- the train is stopped, or a needed section of its next move is closed
+-- the train is stopped, or a section that its next move claims is closed
 abbrev pub is_forbidden : Input → Front → ℕ → Bool
 is_forbidden input front t = is_some (stop_cause t (told input.commands front))
     || is_some (closed_cause (claimed input.plant t (place front t)) (told input.commands front))
 
--- a needed section of its next move has an interval that contains the instant
+-- a section that its next move claims has an interval that contains the instant, which is none of the overlap of its own last admitted move
 abbrev pub is_occupied : Input → Front → ℕ → Bool
-is_occupied input front t = is_some (blocked_cause input front (claimed input.plant t (place front t)))
+is_occupied input front t = is_some (blocked_cause input front t (claimed input.plant t (place front t)))
 
 -- the law that a line breaks which may not follow, by its kind
 abbrev pub law_of : Input → Front → Line → What → ℕ

@@ -5,6 +5,7 @@ use Rattle.rail_base.specs.declared.orders.PolicyKind.{PolicyKind}
 use Rattle.rail_base.specs.declared.orders.PolicyKind.TheVariants.{Priority, Timetable, Fcfs, Rotating, Custom}
 use Rattle.rail_base.specs.declared.history.What.{What}
 use Rattle.rail_base.specs.declared.history.What.TheVariants.{Free, Arrive, Enter, Out, Ready, Told, Untold, Admit, Hold, End}
+use Rattle.rail_base.specs.declared.limits.TheConstants.{TRAINS}
 use Rattle.rail_rules.specs.Numbers.{comes_before, same_numbers}
 use Rattle.rail_rules.specs.Plant.{trains}
 use Rattle.rail_rules.specs.Fronts.{Front}
@@ -50,7 +51,7 @@ mark_below input seats name (line ∷ before) h =
 
 -- keys of a built-in kind tell trains
 key_tells : (input : Input) (seats : List Seat) (front : Front) (t u : ℕ) (kind : PolicyKind)
-    → is_built_in kind ≡ true → are_marks seats ≡ true → t < 128 → u < 128
+    → is_built_in kind ≡ true → are_marks seats ≡ true → t < TRAINS → u < TRAINS
     → comes_before (key input seats front t kind) (key input seats front u kind) ≡ false
     → comes_before (key input seats front u kind) (key input seats front t kind) ≡ false → t ≡ u
 key_tells input seats front t u Priority built marks lt lu first second = ap (λ k. get_or k 2 0) (neither_before (key input seats front t Priority) (key input seats front u Priority) refl first second)
@@ -63,7 +64,7 @@ key_tells input seats front t u Custom built marks lt lu first second = absurd (
 -- two trains that are both chosen are one
 pub one_chosen : (input : Input) (seats : List Seat) (front : Front) (t u : ℕ)
     → is_built_in (kind_in_force input seats front) ≡ true → are_marks seats ≡ true
-    → trains input.plant ≤ 128 → t < trains input.plant → u < trains input.plant
+    → trains input.plant ≤ TRAINS → t < trains input.plant → u < trains input.plant
     → could_go input front t ≡ true → could_go input front u ≡ true → is_chosen input seats front t ≡ true
     → is_chosen input seats front u ≡ true → t ≡ u
 one_chosen input seats front t u built marks few lt lu goes_t goes_u chosen_t chosen_u =

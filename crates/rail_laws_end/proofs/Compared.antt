@@ -3,6 +3,7 @@ use Rattle.std.proofs.Common.{◌≡◌, ◌≤◌, true, not, ◌&&◌, ◌||�
 use Rattle.std.proofs.lemmas.Bool.{cases_lt, false≢true, and_parts, and_from, or_cases, not-true}
 use Rattle.std.proofs.lemmas.List.{append-nil}
 use Rattle.rail_base.specs.declared.history.Entry.{Entry}
+use Rattle.rail_base.specs.declared.limits.TheConstants.{TRAINS}
 use Rattle.rail_rules.specs.Plant.{trains}
 use Rattle.rail_rules.specs.Fronts.{Line, Front, has_ended, is_admission}
 use Rattle.rail_rules.specs.Orders.{Input}
@@ -27,7 +28,7 @@ ends_with line (next ∷ lines) =
     let rest : EndsWith (next ∷ lines) = ends_with next lines in
     record { before = line ∷ rest.before; last = rest.last; is = ap (λ xs. line ∷ xs) rest.is }
 
-module _ (input : Input) (fine : IsWellFormed input.plant) (few : trains input.plant ≤ 128) (seats : List Seat) (marks : are_marks seats ≡ true) where
+module _ (input : Input) (fine : IsWellFormed input.plant) (few : trains input.plant ≤ TRAINS) (seats : List Seat) (marks : are_marks seats ≡ true) where
   run_before : (line : Line) (front : Front) → is_run input seats (line ∷ front) ≡ true → is_run input seats front ≡ true
   run_before line front run = (and_parts (is_run input seats front) (may_follow input front line) (and_parts (is_run input seats front && may_follow input front line) (is_run_line input seats front line.entry.what) run).0).0
 

@@ -12,8 +12,9 @@ use Rattle.rail_base.specs.declared.orders.Command.{Command}
 use Rattle.rail_rules.specs.Numbers.{all_below, listed}
 use Rattle.rail_rules.specs.Moves.{Moves}
 use Rattle.rail_rules.specs.Places.{place_of, is_inside, is_held, is_legal, nobody_inside, completes}
-use Rattle.rail_rules.specs.Plant.{trains, moves, moves_of, needed, bound}
+use Rattle.rail_rules.specs.Plant.{trains, moves, moves_of, claimed, bound}
 use Rattle.rail_rules.specs.Fronts.{Line, Front, at_time, is_end, has_ended, is_admission, admissions, places, kept, without_first, with_rest_of, same_entry, stands, lines_beside_holds}
+use Rattle.rail_rules.specs.LineCounts.{taken_over}
 use Rattle.rail_rules.specs.Orders.{Input, told, is_closed, is_stopped, is_cancelled}
 use Rattle.rail_rules.specs.Times.{out}
 use Rattle.rail_rules.specs.Events.{is_quiet, ready_line, due_lines, train_events, events, is_written, commands_due}
@@ -80,12 +81,12 @@ module _ (input : Input) (fine : IsWellFormed input.plant) (front : Front) (lawf
       (λ cancelled. absurd (omega (arith, positive, here, cancelled_never_goes input front lawful u cancelled)))
       (λ going. going)
       (cases_Bool (is_cancelled u (told input.commands front))) in
-      let legal = and_parts (ltb (place_of (places input.plant front) u) (moves input.plant u)) (not (list_any (is_held plan (places input.plant front)) (needed input.plant u (place_of (places input.plant front) u)))) moved.1 in
-      let Q : ℕ → Type 0 = λ p. list_any (is_held plan (places input.plant front)) (needed input.plant u p) ≡ false in
+      let legal = and_parts (ltb (place_of (places input.plant front) u) (moves input.plant u)) (not (list_any (is_held plan (places input.plant front)) (claimed input.plant u (place_of (places input.plant front) u)))) moved.1 in
+      let Q : ℕ → Type 0 = λ p. list_any (is_held plan (places input.plant front)) (claimed input.plant u p) ≡ false in
       let unheld = subst Q here (not-true _ legal.1) in
       let goes : is_some (cause input front u) ≡ false =
       no_cause input front u
-      (legal_unbarred input fine front lawful nothing free u (λ x is_needed. list_any_at (is_held plan (places input.plant front)) (needed input.plant u (place front u)) x unheld is_needed))
+      (legal_unbarred input fine front lawful nothing free u (λ x is_claimed. list_any_at (is_held plan (places input.plant front)) (claimed input.plant u (place front u)) x unheld is_claimed))
       (sym (ap (completes plan (places_after input front u)) (pulled (kept input.plant front) is (omega (arith, positive, here)))) ∙ both.1) in
       (known, ready_now input front u nothing known room runs, goes)
     where
@@ -311,8 +312,8 @@ nothing_to_come input front nothing nobody =
       nothing,
     )
 
--- at the end of a front whose every train is out, the bound is met
-pub exactly_bound : (input : Input) → IsWellFormed input.plant → (front : Front) → is_lawful input front ≡ true → has_ended front ≡ true → NothingIsBarred input front → NobodyIsCancelled input front → lines_beside_holds front ≡ bound input.plant (length input.commands)
+-- at the end of a front whose every train is out, the bound is met by the lines and the sections of overlaps that were taken over
+pub exactly_bound : (input : Input) → IsWellFormed input.plant → (front : Front) → is_lawful input front ≡ true → has_ended front ≡ true → NothingIsBarred input front → NobodyIsCancelled input front → lines_beside_holds front + taken_over input.plant front ≡ bound input.plant (length input.commands)
 exactly_bound input fine [] lawful ended free nobody = absurd (false≢true ended)
 exactly_bound input fine (line ∷ front) lawful ended free nobody =
     let h = at_end input line front lawful ended in
@@ -347,7 +348,7 @@ complete_names input fine line front complete =
     let both = and_parts (is_lawful input (line ∷ front)) (has_ended (line ∷ front)) complete in
     end_names_nobody input fine line front both.0 both.1
 
-pub complete_bound : (input : Input) → IsWellFormed input.plant → (front : Front) → is_complete input front ≡ true → NothingIsBarred input front → NobodyIsCancelled input front → lines_beside_holds front ≡ bound input.plant (length input.commands)
+pub complete_bound : (input : Input) → IsWellFormed input.plant → (front : Front) → is_complete input front ≡ true → NothingIsBarred input front → NobodyIsCancelled input front → lines_beside_holds front + taken_over input.plant front ≡ bound input.plant (length input.commands)
 complete_bound input fine front complete =
     let both = and_parts (is_lawful input front) (has_ended front) complete in
     exactly_bound input fine front both.0 both.1

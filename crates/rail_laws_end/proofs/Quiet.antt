@@ -10,11 +10,11 @@ use Rattle.rail_rules.specs.Numbers.{or_else, first_below, is_in, any_below}
 use Rattle.rail_rules.specs.Moves.{stand}
 use Rattle.rail_rules.specs.Places.{holds, is_held}
 use Rattle.rail_rules.specs.Analysis.{finds}
-use Rattle.rail_rules.specs.Plant.{trains, moves_of, needed, steps, step_section}
+use Rattle.rail_rules.specs.Plant.{trains, moves_of, claimed, claims, step_section}
 use Rattle.rail_rules.specs.Fronts.{Front, instant, admissions, places, stands, same_entry}
 use Rattle.rail_rules.specs.Orders.{Input, told, is_closed, is_stopped, is_cancelled}
 use Rattle.rail_rules.specs.Times.{admitted}
-use Rattle.rail_rules.specs.Intervals.{is_open, end_time, contains_instant, blocks}
+use Rattle.rail_rules.specs.Intervals.{is_open, end_time, contains_instant, barring, bars}
 use Rattle.rail_rules.specs.Events.{due_lines}
 use Rattle.rail_rules.specs.Causes.{place, stop_cause, closed_cause, blocked_cause, blocker, bar, is_repairable, list_cause, cause, places_after}
 use Rattle.rail_rules.specs.Lawful.{is_lawful}
@@ -22,7 +22,7 @@ use Rattle.rail_rules.proofs.CallerLemmas.{any_below_none, any_below_from, is_in
 use Rattle.rail_laws_front.specs.Premises.{IsWellFormed}
 use Rattle.rail_laws_front.specs.EventLines.{IsEvent}
 use Rattle.rail_laws_front.specs.Invariant.{IsTimely}
-use Rattle.rail_laws_front.proofs.CallerLemmas.{timely, place_in, places_long, are_standing, free_due, stands_or_due}
+use Rattle.rail_laws_front.proofs.CallerLemmas.{bars_claimed, timely, place_in, places_long, are_standing, free_due, stands_or_due}
 use Rattle.rail_laws_end.specs.Remaining.{NothingIsBarred}
 use Rattle.rail_rules.specs.Overlaps.{IsStep}
 
@@ -59,14 +59,14 @@ neither_some (Some x) b ha hb = absurd (false≢true (sym ha))
 neither_some None b ha hb = hb
 
 -- a section that nobody holds isn't blocked
-pub unheld_unblocked : (input : Input) → IsWellFormed input.plant → (front : Front) → is_lawful input front ≡ true → length (due_lines input front) ≡ 0 → (x : ℕ) → is_held (moves_of input.plant) (places input.plant front) x ≡ false → blocker input front x ≡ None
-unheld_unblocked input fine front lawful nothing x unheld =
-    first_of_none (λ u. blocks input.plant u (admissions front u) x (instant front)) (trains input.plant) (λ u lu.
-    any_below_none (λ m. any_below (λ j. eqb (step_section input.plant u m j) x && contains_instant input.plant u (admissions front u) m j (instant front)) (steps input.plant u m)) (length (admissions front u)) (λ m lm.
-    any_below_none (λ j. eqb (step_section input.plant u m j) x && contains_instant input.plant u (admissions front u) m j (instant front)) (steps input.plant u m) (λ j lj.
-    at_step u m j lu lm lj)))
+pub unheld_unblocked : (input : Input) → IsWellFormed input.plant → (front : Front) → is_lawful input front ≡ true → length (due_lines input front) ≡ 0 → (t x : ℕ) → is_held (moves_of input.plant) (places input.plant front) x ≡ false → blocker input front t x ≡ None
+unheld_unblocked input fine front lawful nothing t x unheld =
+    first_of_none (λ u. bars input.plant t u (admissions front u) x (instant front)) (trains input.plant) (λ u lu.
+    any_below_none (λ m. any_below (λ j. eqb (step_section input.plant u m j) x && contains_instant input.plant u (admissions front u) m j (instant front)) (barring input.plant t u (place front u) m)) (length (admissions front u)) (λ m lm.
+    any_below_none (λ j. eqb (step_section input.plant u m j) x && contains_instant input.plant u (admissions front u) m j (instant front)) (barring input.plant t u (place front u) m) (λ j lj.
+    at_step u m j lu lm (bars_claimed input.plant t u (place front u) m j lj))))
   where
-    at_step : (u m j : ℕ) → u < trains input.plant → m < length (admissions front u) → j < steps input.plant u m → (eqb (step_section input.plant u m j) x && contains_instant input.plant u (admissions front u) m j (instant front)) ≡ false
+    at_step : (u m j : ℕ) → u < trains input.plant → m < length (admissions front u) → j < claims input.plant u m → (eqb (step_section input.plant u m j) x && contains_instant input.plant u (admissions front u) m j (instant front)) ≡ false
     at_step u m j lu lm lj =
         let step : IsStep input.plant front u m j = record { known = lu; admitted_move = lm; step = lj } in
         let opens : Bool = is_open input.plant u (admissions front u) m j in
@@ -87,12 +87,12 @@ unheld_unblocked input fine front lawful nothing x unheld =
         (λ other. and_left (eqb (step_section input.plant u m j) x) (contains_instant input.plant u (admissions front u) m j (instant front)) other)
         (cases_Bool (eqb (step_section input.plant u m j) x))
 
-no_block : (input : Input) (front : Front) (sections : List ℕ) → ((x : ℕ) → is_in x sections ≡ true → blocker input front x ≡ None) → is_some (blocked_cause input front sections) ≡ false
-no_block input front [] h = refl
-no_block input front (x ∷ sections) h =
-    neither_some (option_map (Blocked x) (blocker input front x)) (blocked_cause input front sections)
-    (none_some (Blocked x) (blocker input front x) (h x (is_in-head x sections)))
-    (no_block input front sections (λ y is. h y (or_right (eqb x y) (is_in y sections) is)))
+no_block : (input : Input) (front : Front) (t : ℕ) (sections : List ℕ) → ((x : ℕ) → is_in x sections ≡ true → blocker input front t x ≡ None) → is_some (blocked_cause input front t sections) ≡ false
+no_block input front t [] h = refl
+no_block input front t (x ∷ sections) h =
+    neither_some (option_map (Blocked x) (blocker input front t x)) (blocked_cause input front t sections)
+    (none_some (Blocked x) (blocker input front t x) (h x (is_in-head x sections)))
+    (no_block input front t sections (λ y is. h y (or_right (eqb x y) (is_in y sections) is)))
 
 no_closed : (orders : List Order) (sections : List ℕ) → ((x : ℕ) → is_closed x orders ≡ false) → find (λ x. is_closed x orders) sections ≡ None
 no_closed orders [] h = refl
@@ -101,17 +101,17 @@ no_closed orders (x ∷ sections) h = cond-false (is_closed x orders) (Some x) (
 -- a legal next move of a train isn't barred where nothing is due and no closure and no stop remains
 pub legal_unbarred : (input : Input) → IsWellFormed input.plant → (front : Front) → is_lawful input front ≡ true
     → length (due_lines input front) ≡ 0 → NothingIsBarred input front → (t : ℕ)
-    → ((x : ℕ) → is_in x (needed input.plant t (place front t)) ≡ true
+    → ((x : ℕ) → is_in x (claimed input.plant t (place front t)) ≡ true
     → is_held (moves_of input.plant) (places input.plant front) x ≡ false)
     → is_some (bar input front t) ≡ false
 legal_unbarred input fine front lawful nothing free t unheld =
     let orders : List Order = told input.commands front in
-    let sections : List ℕ = needed input.plant t (place front t) in
-    neither_some (stop_cause t orders) (or_else (closed_cause sections orders) (blocked_cause input front sections))
+    let sections : List ℕ = claimed input.plant t (place front t) in
+    neither_some (stop_cause t orders) (or_else (closed_cause sections orders) (blocked_cause input front t sections))
     (ap is_some (cond-false (is_stopped t orders) (Some Stopped) None (free.going t)))
-    (neither_some (closed_cause sections orders) (blocked_cause input front sections)
+    (neither_some (closed_cause sections orders) (blocked_cause input front t sections)
     (none_some Closed (find (λ x. is_closed x orders) sections) (no_closed orders sections free.opened))
-    (no_block input front sections (λ x is. unheld_unblocked input fine front lawful nothing x (unheld x is))))
+    (no_block input front t sections (λ x is. unheld_unblocked input fine front lawful nothing t x (unheld x is))))
 
 -- a train that nothing bars and whose repaired list completes has no cause
 pub no_cause : (input : Input) (front : Front) (t : ℕ) → is_some (bar input front t) ≡ false → is_repairable input front t ≡ true → is_some (cause input front t) ≡ false

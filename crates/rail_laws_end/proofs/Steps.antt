@@ -9,6 +9,7 @@ use Rattle.rail_base.specs.declared.history.What.TheVariants.{Admit, Hold}
 use Rattle.rail_base.specs.declared.history.Note.{Note}
 use Rattle.rail_base.specs.declared.history.Note.TheVariants.{Pulled, Appended, Fresh}
 use Rattle.rail_base.specs.declared.history.Cause.{Cause}
+use Rattle.rail_base.specs.declared.limits.TheConstants.{TRAINS}
 use Rattle.rail_rules.specs.Numbers.{all_below, comes_before, same_numbers}
 use Rattle.rail_rules.specs.Places.{completes}
 use Rattle.rail_rules.specs.Plant.{trains, moves_of}
@@ -51,7 +52,7 @@ nothing_due : (due : List Entry) (e : Entry) → length due ≡ 0 → list_any (
 nothing_due [] e none is = false≢true is
 nothing_due (d ∷ due) e none is = omega (arith, none)
 
-module _ (input : Input) (fine : IsWellFormed input.plant) (few : trains input.plant ≤ 128) (seats : List Seat) (marks : are_marks seats ≡ true) (front : Front) (lawful : is_lawful input front ≡ true) where
+module _ (input : Input) (fine : IsWellFormed input.plant) (few : trains input.plant ≤ TRAINS) (seats : List Seat) (marks : are_marks seats ≡ true) (front : Front) (lawful : is_lawful input front ≡ true) where
   -- a settled front has a told cause for each ready train
   pub settled_parts : (t : ℕ) → t < trains input.plant → is_settled input front ≡ true → is_ready input front t ≡ true → (is_some (cause input front t) ≡ true) × (is_told_so input front t ≡ true)
   settled_parts t lt settled ready = at_front front settled ready

@@ -1,9 +1,10 @@
-ghost use Rattle.std.specs.Prelude.{◌≡◌, ◌⊎◌, ℕ, ◌-◌, ◌<◌, IsTrue, Bool, false, is_some, List, [], ◌∷◌, length, replicate};
+ghost use Rattle.std.specs.Prelude.{◌≡◌, ◌⊎◌, ℕ, ◌+◌, ◌-◌, ◌<◌, IsTrue, Bool, false, is_some, List, [], ◌∷◌, length, replicate};
 ghost use Rattle.rail_laws_end.specs.Remaining.{NobodyIsCancelled, NothingIsBarred};
 ghost use Rattle.rail_rules.specs.Causes.{cause, place, waits};
 ghost use Rattle.rail_rules.specs.Events.{due_lines};
 ghost use Rattle.rail_rules.specs.Fronts.{Front, Line, has_ended, kept, lines_beside_holds};
 ghost use Rattle.rail_rules.specs.Lawful.{is_complete, is_lawful, is_out};
+ghost use Rattle.rail_rules.specs.LineCounts.{taken_over};
 ghost use Rattle.rail_rules.specs.Moves.{Moves, is_valid};
 ghost use Rattle.rail_rules.specs.Orders.{Input, is_cancelled, told};
 ghost use Rattle.rail_rules.specs.Places.{after, completes, nobody_inside, place_of};
@@ -49,9 +50,10 @@ pub fn the_end_line_names_nobody()
 {}
 
 /// A history that is lawful to the end has exactly as many lines as the bound says, hold lines aside,
-/// where nobody was cancelled and no closure and no stop remains.
+/// less one for each section of an overlap that was taken over, where nobody was cancelled and no closure
+/// and no stop remains.
 pub fn a_history_of_trains_that_all_leave_has_so_many_lines()
     ensures { (input : Input) → IsWellFormed input.plant → (front : Front)
         → IsTrue (is_complete input front) → NothingIsBarred input front → NobodyIsCancelled input front
-        → lines_beside_holds front ≡ bound input.plant (length input.commands) }
+        → lines_beside_holds front + taken_over input.plant front ≡ bound input.plant (length input.commands) }
 {}

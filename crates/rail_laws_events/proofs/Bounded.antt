@@ -1,8 +1,10 @@
 -- A lawful front has no more lines than the bound, hold lines aside.
-use Rattle.std.proofs.Common.{◌≡◌, ℕ, ◌+◌, ◌*◌, ◌<◌, ◌≤◌, Bool, true, false, cond, length, refl, ap, ◌∙◌, arith}
+use Rattle.std.proofs.Common.{◌≡◌, ℕ, ◌+◌, ◌<◌, ◌≤◌, Bool, true, false, cond, length, refl, ap, ◌∙◌, arith}
 use Rattle.rail_rules.specs.Numbers.{sum_below}
-use Rattle.rail_rules.specs.Plant.{Plant, trains, moves, steps, bound}
+use Rattle.rail_rules.specs.Plant.{Plant, trains, moves, claims, move_lines, bound}
 use Rattle.rail_rules.specs.Fronts.{Front, has_ended, admissions, lines_beside_holds}
+use Rattle.rail_rules.specs.LineCounts.{taken_over}
+use Rattle.rail_rules.specs.Intervals.{is_taken_over}
 use Rattle.rail_rules.specs.Orders.{Input}
 use Rattle.rail_rules.specs.Causes.{place}
 use Rattle.rail_rules.specs.Events.{train_events}
@@ -23,16 +25,16 @@ one_at_most false = omega arith
 
 -- the shares of all trains together
 pub shares_of : Plant → ℕ
-shares_of plant = sum_below (λ t. sum_below (λ m. 2 * steps plant t m + 3) (moves plant t)) (trains plant) + trains plant
+shares_of plant = sum_below (λ t. sum_below (move_lines plant t) (moves plant t)) (trains plant) + trains plant
 
 pub bound_is : (plant : Plant) (commands : ℕ) → bound plant commands ≡ shares_of plant + commands + 1
 unfolding shares_of
 bound_is plant commands = refl
 
-shares_sum : (plant : Plant) → sum_below (λ t. sum_below (λ m. 2 * steps plant t m + 3) (moves plant t) + 1) (trains plant) ≡ shares_of plant
+shares_sum : (plant : Plant) → sum_below (λ t. sum_below (move_lines plant t) (moves plant t) + 1) (trains plant) ≡ shares_of plant
 unfolding shares_of
 shares_sum plant =
-    sum-plus (λ t. sum_below (λ m. 2 * steps plant t m + 3) (moves plant t)) (λ _. 1) (trains plant)
+    sum-plus (λ t. sum_below (move_lines plant t) (moves plant t)) (λ _. 1) (trains plant)
     ∙ omega (arith, sum-constant 1 (trains plant))
 
 -- the event lines and admissions of a front
@@ -52,7 +54,7 @@ written_bound input fine front lawful =
       tally_all (written front),
       tally_all (all_events input.plant front),
       events_and_admissions input.plant front,
-      sum_below-le (λ t. length (train_events input.plant t (admissions front t) false) + place front t) (λ t. sum_below (λ m. 2 * steps input.plant t m + 3) (moves input.plant t) + 1) (trains input.plant)
+      sum_below-le (λ t. length (train_events input.plant t (admissions front t) false) + place front t) (λ t. sum_below (move_lines input.plant t) (moves input.plant t) + 1) (trains input.plant)
           (λ t lt. train_bound input.plant t (admissions front t) (few_admissions input fine front lawful t lt)),
       shares_sum input.plant,
     )
@@ -72,12 +74,14 @@ bounded input fine front lawful =
     )
 
 -- where nothing is to come, every train has made its moves, every command is written and the end line stands, the bound is met
+-- by the lines and the sections of overlaps that were taken over
 pub met : (input : Input) → IsWellFormed input.plant → (front : Front) → is_lawful input front ≡ true
     → has_ended front ≡ true → tally (λ _. true) (to_come input.plant front) ≡ 0
     → commands_written input front ≡ length input.commands
     → ((t : ℕ) → t < trains input.plant → (place front t ≡ moves input.plant t) × (0 < moves input.plant t))
-    → lines_beside_holds front ≡ bound input.plant (length input.commands)
+    → lines_beside_holds front + taken_over input.plant front ≡ bound input.plant (length input.commands)
 met input fine front lawful ended nothing all_commands whole =
+    let taken : ℕ → ℕ = λ t. sum_below (λ m. sum_below (λ j. cond (is_taken_over input.plant t (admissions front t) m j) 1 0) (claims input.plant t m)) (length (admissions front t)) in
     omega (
       arith,
       lines_counted front,
@@ -92,7 +96,8 @@ met input fine front lawful ended nothing all_commands whole =
       tally_all (all_events input.plant front),
       nothing,
       events_and_admissions input.plant front,
-      sum_below_same (λ t. length (train_events input.plant t (admissions front t) false) + place front t) (λ t. sum_below (λ m. 2 * steps input.plant t m + 3) (moves input.plant t) + 1) (trains input.plant)
+      sum-plus (λ t. length (train_events input.plant t (admissions front t) false) + place front t) taken (trains input.plant),
+      sum_below_same (λ t. length (train_events input.plant t (admissions front t) false) + place front t + taken t) (λ t. sum_below (move_lines input.plant t) (moves input.plant t) + 1) (trains input.plant)
           (λ t lt. train_whole input.plant t (admissions front t) (whole t lt).0 (whole t lt).1),
       shares_sum input.plant,
       bound_is input.plant (length input.commands),

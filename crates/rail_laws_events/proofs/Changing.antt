@@ -1,25 +1,25 @@
 -- What each line changes in the account.
-use Rattle.std.proofs.Common.{◌≡◌, ℕ, zero, suc, ◌+◌, ◌-◌, ◌<◌, min, Bool, true, false, not, cond, eqb, ltb, List, [], ◌∷◌, ◌++◌, length, Option, Some, None, refl, sym, ap, ◌∙◌, subst, ⊎_elim, arith}
-use Rattle.std.proofs.lemmas.Bool.{cases_Bool, cases_lt, false≢true, and_left, and_right, and_from, lt-ltb, le-ltb, ne_eqb, cond-true, cond-false, not_from_true, not_from_false}
+use Rattle.std.proofs.Common.{◌≡◌, ℕ, zero, suc, ◌+◌, ◌-◌, ◌<◌, min, Bool, true, false, not, cond, eqb, ltb, List, [], ◌∷◌, ◌++◌, length, Option, Some, None, refl, sym, ap, ◌∙◌, subst, ⊎_elim, arith, add-zero, add-suc}
+use Rattle.std.proofs.lemmas.Bool.{cases_Bool, cases_lt, false≢true, and_left, and_right, and_from, or_left, lt-ltb, le-ltb, ne_eqb, cond-true, cond-false, not_from_true, not_from_false}
 use Rattle.rail_base.specs.declared.history.Entry.{Entry}
 use Rattle.rail_base.specs.declared.history.Note.{Note}
 use Rattle.rail_base.specs.declared.history.What.{What}
 use Rattle.rail_base.specs.declared.history.What.TheVariants.{Free, Arrive, Enter, Out, Ready, Told, Untold, Admit, Hold, End}
 use Rattle.rail_rules.specs.Numbers.{gather, sum_below}
-use Rattle.rail_rules.specs.Plant.{Plant, trains, moves, steps, step_section}
+use Rattle.rail_rules.specs.Plant.{Plant, trains, moves, overlap, steps, claims, step_section}
 use Rattle.rail_rules.specs.Fronts.{Line, Front, at_time, is_admission, admissions}
 use Rattle.rail_rules.specs.Orders.{Input}
 use Rattle.rail_rules.specs.Times.{is_admitted, out, clearing}
-use Rattle.rail_rules.specs.Intervals.{does_stand, is_open, end_time, end_of}
+use Rattle.rail_rules.specs.Intervals.{does_stand, is_open, is_taken_over, is_unfreed, end_time, freed_at}
 use Rattle.rail_rules.specs.Events.{enter_line, arrive_line, free_lines, out_lines, ready_line, move_events, moved_events, ready_events, train_events}
 use Rattle.rail_rules.specs.Causes.{place}
 use Rattle.rail_rules.specs.Lawful.{is_lawful}
-use Rattle.rail_rules.proofs.CallerLemmas.{gather_same, admissions_kept}
+use Rattle.rail_rules.proofs.CallerLemmas.{gather_same, admissions_kept, claims_are, freed_from, needed_not_taken}
 use Rattle.rail_laws_front.specs.Premises.{IsWellFormed}
 use Rattle.rail_laws_front.specs.Views.{Admits}
-use Rattle.rail_laws_front.proofs.CallerLemmas.{lawful_before, Agree, agree_added, length_added, is_added, ready_agrees, enter_agrees, arrive_agrees, is_open_agrees, end_agrees, end_inner_agrees, not_admitted, last_does_stand, admission_added, admission_of_other, waiting_parts, waiting_known}
+use Rattle.rail_laws_front.proofs.CallerLemmas.{lawful_before, Agree, agree_added, length_added, is_added, ready_agrees, enter_agrees, arrive_agrees, unfreed_agrees, end_agrees, end_inner_agrees, not_admitted, last_does_stand, admission_added, admission_of_other, waiting_parts, waiting_known}
 use Rattle.rail_laws_events.specs.Accounts.{tally, is_train_event, written, all_events, to_come}
-use Rattle.rail_laws_events.specs.Changes.{taken_back, freed_before, ready_after, gained}
+use Rattle.rail_laws_events.specs.Changes.{overlap_frees, taken_back, freed_before, ready_after, gained}
 use Rattle.rail_laws_events.proofs.Tallies.{tally-append}
 use Rattle.rail_laws_events.proofs.Balance.{account}
 
@@ -31,6 +31,11 @@ tally-gather p f (suc n) = omega (arith, tally-append p (gather f n) (f n), tall
 sum-three : (f g h : ℕ → ℕ) (n : ℕ) → ((i : ℕ) → i < n → f i ≡ g i + h i) → sum_below f n ≡ sum_below g n + sum_below h n
 sum-three f g h zero each = refl
 sum-three f g h (suc n) each = omega (arith, sum-three f g h n (λ i lt. each i (omega (arith, lt))), each n (omega arith))
+
+-- a sum over more numbers in two parts
+sum-split : (f : ℕ → ℕ) (a b : ℕ) → sum_below f (a + b) ≡ sum_below f a + sum_below (λ i. f (a + i)) b
+sum-split f a zero = ap (sum_below f) (add-zero a) ∙ omega arith
+sum-split f a (suc b) = ap (sum_below f) (add-suc a b) ∙ omega (arith, sum-split f a b)
 
 -- sums that differ at one number
 sum-exchanged : (f g : ℕ → ℕ) (lost more n t : ℕ) → t < n → f t + lost ≡ g t + more → ((i : ℕ) → i < n → (i ≡ t → ⊥) → f i ≡ g i) → sum_below f n + lost ≡ sum_below g n + more
@@ -63,18 +68,18 @@ module _ (plant : Plant) (fine : IsWellFormed plant) (t : ℕ) (adms : List ℕ)
       gather_same (λ j. enter_line plant t more m j ∷ []) (λ j. enter_line plant t adms m j ∷ []) (steps plant t m)
       (λ j _. ap (λ time. at_time time (Enter t (suc m) (step_section plant t m j)) ∷ []) (enter_agrees plant t more adms (length adms) m j agrees (omega (arith, lt)))) in
       let arrives = arrive_agrees plant t more adms (length adms) m agrees lt in
-      let frees : gather (λ j. free_lines t (step_section plant t m j) (end_of plant t more m j)) (steps plant t m) ≡ gather (λ j. free_lines t (step_section plant t m j) (end_of plant t adms m j)) (steps plant t m) =
-      gather_same (λ j. free_lines t (step_section plant t m j) (end_of plant t more m j)) (λ j. free_lines t (step_section plant t m j) (end_of plant t adms m j)) (steps plant t m)
+      let frees : gather (λ j. free_lines t (step_section plant t m j) (freed_at plant t more m j)) (claims plant t m) ≡ gather (λ j. free_lines t (step_section plant t m j) (freed_at plant t adms m j)) (claims plant t m) =
+      gather_same (λ j. free_lines t (step_section plant t m j) (freed_at plant t more m j)) (λ j. free_lines t (step_section plant t m j) (freed_at plant t adms m j)) (claims plant t m)
       (λ j _.
-      let opens = is_open_agrees plant t more adms (length adms) m j agrees lt in
+      let unfreed = unfreed_agrees plant t more adms (length adms) m j agrees lt in
       let ends = end_agrees plant t more adms (length adms) m j agrees lt in
-      λ i. free_lines t (step_section plant t m j) (cond (opens i) None (Some (ends i)))) in
+      λ i. free_lines t (step_section plant t m j) (cond (unfreed i) None (Some (ends i)))) in
       λ i. enters i ++ at_time (arrives i) (Arrive t (suc m)) ∷ [] ++ frees i ++ cond (eqb (suc m) (moves plant t)) (at_time (arrives i + clearing plant t (step_section plant t m (steps plant t m - 1))) (Out t) ∷ []) []
 
-  -- the free line of one step of the move before
+  -- the free line of one needed step of the move before
   free_change : (m j : ℕ) → suc m ≡ length adms → suc m < moves plant t → j < steps plant t m
-      → tally p (free_lines t (step_section plant t m j) (end_of plant t more m j))
-      ≡ tally p (free_lines t (step_section plant t m j) (end_of plant t adms m j))
+      → tally p (free_lines t (step_section plant t m j) (freed_at plant t more m j))
+      ≡ tally p (free_lines t (step_section plant t m j) (freed_at plant t adms m j))
       + tally p
       (cond (does_stand plant t m j)
       (at_time (end_time plant t more m j) (Free (step_section plant t m j) t) ∷ [])
@@ -86,30 +91,43 @@ module _ (plant : Plant) (fine : IsWellFormed plant) (t : ℕ) (adms : List ℕ)
       let now : is_admitted (adms ++ a ∷ []) (suc m) ≡ true = subst P (sym last) (is_added adms a) in
       let before : is_admitted adms (suc m) ≡ false = not_admitted adms (suc m) (omega (arith, last)) in
       let closed_now : is_open plant t (adms ++ a ∷ []) m j ≡ false = and_right (does_stand plant t m j) (not (is_admitted (adms ++ a ∷ []) (suc m))) (not_from_true (is_admitted (adms ++ a ∷ []) (suc m)) now) in
-      let after_is : lines (end_of plant t (adms ++ a ∷ []) m j) ≡ one = ap lines (cond-false (is_open plant t (adms ++ a ∷ []) m j) None (Some (end_time plant t (adms ++ a ∷ []) m j)) closed_now) in
+      let freed_now : is_unfreed plant t (adms ++ a ∷ []) m j ≡ false = freed_from plant t (adms ++ a ∷ []) m j closed_now (needed_not_taken plant t (adms ++ a ∷ []) m j lt) in
+      let after_is : lines (freed_at plant t (adms ++ a ∷ []) m j) ≡ one = ap lines (cond-false (is_unfreed plant t (adms ++ a ∷ []) m j) None (Some (end_time plant t (adms ++ a ∷ []) m j)) freed_now) in
       ⊎_elim
       (λ stands.
       let opened : is_open plant t adms m j ≡ true = and_from (does_stand plant t m j) (not (is_admitted adms (suc m))) stands (not_from_false (is_admitted adms (suc m)) before) in
-      let before_is : lines (end_of plant t adms m j) ≡ [] = ap lines (cond-true (is_open plant t adms m j) None (Some (end_time plant t adms m j)) opened) in
+      let unfreed : is_unfreed plant t adms m j ≡ true = or_left (is_open plant t adms m j) (is_taken_over plant t adms m j) opened in
+      let before_is : lines (freed_at plant t adms m j) ≡ [] = ap lines (cond-true (is_unfreed plant t adms m j) None (Some (end_time plant t adms m j)) unfreed) in
       omega (arith, ap (tally p) after_is, ap (tally p) before_is, ap (tally p) (cond-true (does_stand plant t m j) one [] stands)))
       (λ runs.
       let closed : is_open plant t adms m j ≡ false = and_left (does_stand plant t m j) (not (is_admitted adms (suc m))) runs in
+      let freed : is_unfreed plant t adms m j ≡ false = freed_from plant t adms m j closed (needed_not_taken plant t adms m j lt) in
       let inner : suc j ≡ steps plant t m → ⊥ = λ is. false≢true (sym runs ∙ last_does_stand plant t fine m j room is) in
-      let time : end_time plant t (adms ++ a ∷ []) m j ≡ end_time plant t adms m j = end_inner_agrees plant t (adms ++ a ∷ []) adms (length adms) m j (agree_added adms a) (omega (arith, last)) inner runs in
-      let before_is : lines (end_of plant t adms m j) ≡ one = ap lines (cond-false (is_open plant t adms m j) None (Some (end_time plant t adms m j)) closed) ∙ ap (λ e. at_time e (Free (step_section plant t m j) t) ∷ []) (sym time) in
+      let time : end_time plant t (adms ++ a ∷ []) m j ≡ end_time plant t adms m j = end_inner_agrees plant t (adms ++ a ∷ []) adms (length adms) m j (agree_added adms a) (omega (arith, last)) lt inner runs in
+      let before_is : lines (freed_at plant t adms m j) ≡ one = ap lines (cond-false (is_unfreed plant t adms m j) None (Some (end_time plant t adms m j)) freed) ∙ ap (λ e. at_time e (Free (step_section plant t m j) t) ∷ []) (sym time) in
       omega (arith, ap (tally p) after_is, ap (tally p) before_is, ap (tally p) (cond-false (does_stand plant t m j) one [] runs)))
       (cases_Bool (does_stand plant t m j))
 
-  -- the lines of the move before: its arrival may change, and the sections on which the train stood are freed
-  before_change : (m : ℕ) → suc m ≡ length adms → suc m < moves plant t → tally p (move_events plant t more m) + tally p (arrive_line plant t adms m ∷ []) ≡ tally p (move_events plant t adms m) + tally p (arrive_line plant t more m ∷ []) + tally p (freed_before plant t more (suc m))
+  -- the free lines of a move are those of its needed sections and those of its overlap
+  frees_split : (list : List ℕ) (m : ℕ) → tally p (gather (λ j. free_lines t (step_section plant t m j) (freed_at plant t list m j)) (claims plant t m))
+      ≡ sum_below (λ j. tally p (free_lines t (step_section plant t m j) (freed_at plant t list m j))) (steps plant t m) + tally p (overlap_frees plant t list m)
+  frees_split list m =
+      let free : ℕ → List Entry = λ j. free_lines t (step_section plant t m j) (freed_at plant t list m j) in
+      tally-gather p free (claims plant t m)
+      ∙ ap (sum_below (λ j. tally p (free j))) (claims_are plant t m)
+      ∙ sum-split (λ j. tally p (free j)) (steps plant t m) (length (overlap plant t m))
+      ∙ ap (λ n. sum_below (λ j. tally p (free j)) (steps plant t m) + n) (sym (tally-gather p (λ i. free (steps plant t m + i)) (length (overlap plant t m))))
+
+  -- the lines of the move before: its arrival and the frees of its overlap may change, and the sections on which the train stood are freed
+  before_change : (m : ℕ) → suc m ≡ length adms → suc m < moves plant t → tally p (move_events plant t more m) + tally p (taken_back plant t adms (suc m)) ≡ tally p (move_events plant t adms m) + tally p (taken_back plant t more (suc m)) + tally p (freed_before plant t more (suc m))
   before_change m last room =
       let enters_now : List Entry = gather (λ j. enter_line plant t more m j ∷ []) (steps plant t m) in
       let enters : List Entry = gather (λ j. enter_line plant t adms m j ∷ []) (steps plant t m) in
       let enters_same : enters_now ≡ enters =
       gather_same (λ j. enter_line plant t more m j ∷ []) (λ j. enter_line plant t adms m j ∷ []) (steps plant t m)
       (λ j _. ap (λ time. at_time time (Enter t (suc m) (step_section plant t m j)) ∷ []) (enter_agrees plant t more adms (length adms) m j agrees (omega (arith, last)))) in
-      let free_now : ℕ → List Entry = λ j. free_lines t (step_section plant t m j) (end_of plant t more m j) in
-      let free : ℕ → List Entry = λ j. free_lines t (step_section plant t m j) (end_of plant t adms m j) in
+      let free_now : ℕ → List Entry = λ j. free_lines t (step_section plant t m j) (freed_at plant t more m j) in
+      let free : ℕ → List Entry = λ j. free_lines t (step_section plant t m j) (freed_at plant t adms m j) in
       let freed : ℕ → List Entry = λ j. cond (does_stand plant t m j) (at_time (end_time plant t more m j) (Free (step_section plant t m j) t) ∷ []) [] in
       let frees : sum_below (λ j. tally p (free_now j)) (steps plant t m) ≡ sum_below (λ j. tally p (free j)) (steps plant t m) + sum_below (λ j. tally p (freed j)) (steps plant t m) =
       sum-three (λ j. tally p (free_now j)) (λ j. tally p (free j)) (λ j. tally p (freed j)) (steps plant t m) (λ j lt. free_change m j last room lt) in
@@ -118,17 +136,17 @@ module _ (plant : Plant) (fine : IsWellFormed plant) (t : ℕ) (adms : List ℕ)
       let arrival : List Entry = arrive_line plant t adms m ∷ [] in
       omega (
         arith,
-        tally-append p (enters_now ++ arrival_now ++ gather free_now (steps plant t m)) (out_lines plant t more m),
-        tally-append p (enters_now ++ arrival_now) (gather free_now (steps plant t m)),
+        tally-append p (enters_now ++ arrival_now ++ gather free_now (claims plant t m)) (out_lines plant t more m),
+        tally-append p (enters_now ++ arrival_now) (gather free_now (claims plant t m)),
         tally-append p enters_now arrival_now,
-        tally-append p (enters ++ arrival ++ gather free (steps plant t m)) (out_lines plant t adms m),
-        tally-append p (enters ++ arrival) (gather free (steps plant t m)),
+        tally-append p (enters ++ arrival ++ gather free (claims plant t m)) (out_lines plant t adms m),
+        tally-append p (enters ++ arrival) (gather free (claims plant t m)),
         tally-append p enters arrival,
         ap (tally p) enters_same,
         ap (tally p) (out_is more),
         ap (tally p) (out_is adms),
-        tally-gather p free_now (steps plant t m),
-        tally-gather p free (steps plant t m),
+        frees_split more m,
+        frees_split adms m,
         tally-gather p freed (steps plant t m),
         frees,
       )

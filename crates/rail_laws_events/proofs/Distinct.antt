@@ -1,15 +1,16 @@
 -- No event line occurs twice among the event lines of a lawful front.
 use Rattle.std.proofs.Common.{◌≡◌, ℕ, suc, ◌<◌, ◌≤◌, min, Bool, true, false, eqb, List, [], ◌∷◌, ◌++◌, length, Option, Some, None, refl, sym, ap, ◌∙◌, subst, ◌⊎◌, inl, inr, ⊎_elim, arith}
 use Rattle.std.specs.List.{list_any}
-use Rattle.std.proofs.lemmas.Bool.{cases_Bool, false≢true, eqb-true, cond-true, cond-false}
+use Rattle.std.proofs.lemmas.Bool.{cases_Bool, or_parts, false≢true, eqb-true, cond-true, cond-false}
 use Rattle.rail_base.specs.declared.history.Entry.{Entry}
 use Rattle.rail_base.specs.declared.history.What.{What}
 use Rattle.rail_base.specs.declared.history.What.TheVariants.{Free, Arrive, Enter, Out, Ready}
 use Rattle.rail_rules.specs.Numbers.{gather}
-use Rattle.rail_rules.specs.Plant.{Plant, trains, moves, steps, step_section}
+use Rattle.rail_rules.specs.Plant.{Plant, trains, moves, steps, claims, step_section}
 use Rattle.rail_rules.specs.Fronts.{Front, at_time, admissions, same_entry}
 use Rattle.rail_rules.specs.Times.{out}
-use Rattle.rail_rules.specs.Intervals.{is_open, end_time, end_of}
+use Rattle.rail_rules.specs.Intervals.{is_open, is_taken_over, is_unfreed, end_time, freed_at}
+use Rattle.rail_rules.proofs.CallerLemmas.{steps_claimed}
 use Rattle.rail_rules.specs.Events.{enter_line, arrive_line, free_lines, out_lines, ready_line, move_events, moved_events, ready_events, train_events}
 use Rattle.rail_laws_front.specs.Premises.{IsWellFormed}
 use Rattle.rail_laws_front.proofs.CallerLemmas.{append_cases, gather_found, one_found, end_after_begin}
@@ -36,7 +37,7 @@ NamesTrain t _ = ⊥
 pub data OfMove (plant : Plant) (t : ℕ) (adms : List ℕ) (e : Entry) (m : ℕ) : Type 0 where
   enters : (j : ℕ) → j < steps plant t m → e.what ≡ Enter t (suc m) (step_section plant t m j) → OfMove plant t adms e m
   arrives : e.what ≡ Arrive t (suc m) → OfMove plant t adms e m
-  frees : (j : ℕ) → j < steps plant t m → is_open plant t adms m j ≡ false → e.what ≡ Free (step_section plant t m j) t → e.at ≡ end_time plant t adms m j → OfMove plant t adms e m
+  frees : (j : ℕ) → j < claims plant t m → is_unfreed plant t adms m j ≡ false → e.what ≡ Free (step_section plant t m j) t → e.at ≡ end_time plant t adms m j → OfMove plant t adms e m
   leaves : suc m ≡ moves plant t → e.what ≡ Out t → OfMove plant t adms e m
 
 module _ (plant : Plant)
@@ -44,27 +45,27 @@ module _ (plant : Plant)
     (t : ℕ)
     (adms : List ℕ)
     (admitted_known : length adms ≤ moves plant t)
-    (apart : (m j n i : ℕ) → m < length adms → n < length adms → j < steps plant t m → i < steps plant t n
-    → step_section plant t m j ≡ step_section plant t n i → is_open plant t adms m j ≡ false
-    → is_open plant t adms n i ≡ false → end_time plant t adms m j ≡ end_time plant t adms n i → m ≡ n)
+    (apart : (m j n i : ℕ) → m < length adms → n < length adms → j < claims plant t m → i < claims plant t n
+    → step_section plant t m j ≡ step_section plant t n i → is_unfreed plant t adms m j ≡ false
+    → is_unfreed plant t adms n i ≡ false → end_time plant t adms m j ≡ end_time plant t adms n i → m ≡ n)
     (e : Entry)
   where
     enters_of : ℕ → List Entry
     enters_of m = gather (λ j. enter_line plant t adms m j ∷ []) (steps plant t m)
 
     frees_of : ℕ → List Entry
-    frees_of m = gather (λ j. free_lines t (step_section plant t m j) (end_of plant t adms m j)) (steps plant t m)
+    frees_of m = gather (λ j. free_lines t (step_section plant t m j) (freed_at plant t adms m j)) (claims plant t m)
 
     is_line : (x : Entry) → list_any (same_entry e) (x ∷ []) ≡ true → e ≡ x
     is_line x h = one_entry e x (one_found (same_entry e) x h)
 
-    free_line : (m j : ℕ) → list_any (same_entry e) (free_lines t (step_section plant t m j) (end_of plant t adms m j)) ≡ true → (is_open plant t adms m j ≡ false) × (e ≡ at_time (end_time plant t adms m j) (Free (step_section plant t m j) t))
+    free_line : (m j : ℕ) → list_any (same_entry e) (free_lines t (step_section plant t m j) (freed_at plant t adms m j)) ≡ true → (is_unfreed plant t adms m j ≡ false) × (e ≡ at_time (end_time plant t adms m j) (Free (step_section plant t m j) t))
     free_line m j h =
         let P : Option ℕ → Type 0 = λ o. list_any (same_entry e) (free_lines t (step_section plant t m j) o) ≡ true in
         ⊎_elim
-        (λ opens. absurd (false≢true (subst P (cond-true (is_open plant t adms m j) None (Some (end_time plant t adms m j)) opens) h)))
-        (λ closed. (closed, is_line (at_time (end_time plant t adms m j) (Free (step_section plant t m j) t)) (subst P (cond-false (is_open plant t adms m j) None (Some (end_time plant t adms m j)) closed) h)))
-        (cases_Bool (is_open plant t adms m j))
+        (λ unfreed. absurd (false≢true (subst P (cond-true (is_unfreed plant t adms m j) None (Some (end_time plant t adms m j)) unfreed) h)))
+        (λ freed. (freed, is_line (at_time (end_time plant t adms m j) (Free (step_section plant t m j) t)) (subst P (cond-false (is_unfreed plant t adms m j) None (Some (end_time plant t adms m j)) freed) h)))
+        (cases_Bool (is_unfreed plant t adms m j))
 
     in_enters : (m : ℕ) → list_any (same_entry e) (enters_of m) ≡ true → (j : ℕ) × (j < steps plant t m) × (e.what ≡ Enter t (suc m) (step_section plant t m j))
     unfolding enters_of
@@ -72,10 +73,10 @@ module _ (plant : Plant)
         let found = gather_found (same_entry e) (λ j. enter_line plant t adms m j ∷ []) (steps plant t m) h in
         (found.0, found.1, ap (λ (x : Entry). x.what) (is_line (enter_line plant t adms m found.0) found.2))
 
-    in_frees : (m : ℕ) → list_any (same_entry e) (frees_of m) ≡ true → (j : ℕ) × (j < steps plant t m) × (is_open plant t adms m j ≡ false) × (e ≡ at_time (end_time plant t adms m j) (Free (step_section plant t m j) t))
+    in_frees : (m : ℕ) → list_any (same_entry e) (frees_of m) ≡ true → (j : ℕ) × (j < claims plant t m) × (is_unfreed plant t adms m j ≡ false) × (e ≡ at_time (end_time plant t adms m j) (Free (step_section plant t m j) t))
     unfolding frees_of
     in_frees m h =
-        let found = gather_found (same_entry e) (λ j. free_lines t (step_section plant t m j) (end_of plant t adms m j)) (steps plant t m) h in
+        let found = gather_found (same_entry e) (λ j. free_lines t (step_section plant t m j) (freed_at plant t adms m j)) (claims plant t m) h in
         let line = free_line m found.0 found.2 in
         (found.0, found.1, line.0, line.1)
 
@@ -138,10 +139,10 @@ module _ (plant : Plant)
         (λ j i lj li hj hi.
         let a : e.what ≡ Enter t (suc m) (step_section plant t m j) = ap (λ (x : Entry). x.what) (is_line (enter_line plant t adms m j) hj) in
         let b : e.what ≡ Enter t (suc m) (step_section plant t m i) = ap (λ (x : Entry). x.what) (is_line (enter_line plant t adms m i) hi) in
-        fine.distinct t m j i room lj li (same_enter (suc m) (step_section plant t m j) (step_section plant t m i) a b)) in
+        fine.distinct t m j i room (omega (arith, lj, steps_claimed plant t m)) (omega (arith, li, steps_claimed plant t m)) (same_enter (suc m) (step_section plant t m j) (step_section plant t m i) a b)) in
         let once_frees : tally (same_entry e) (frees_of m) ≤ 1 =
-        tally-gather_one (same_entry e) (λ j. free_lines t (step_section plant t m j) (end_of plant t adms m j)) (steps plant t m)
-        (λ j lj. once_free (end_of plant t adms m j) (step_section plant t m j))
+        tally-gather_one (same_entry e) (λ j. free_lines t (step_section plant t m j) (freed_at plant t adms m j)) (claims plant t m)
+        (λ j lj. once_free (freed_at plant t adms m j) (step_section plant t m j))
         (λ j i lj li hj hi.
         let a : e.what ≡ Free (step_section plant t m j) t = ap (λ (x : Entry). x.what) (free_line m j hj).1 in
         let b : e.what ≡ Free (step_section plant t m i) t = ap (λ (x : Entry). x.what) (free_line m i hi).1 in
@@ -243,20 +244,23 @@ names_one t u (Out v) a b = sym a ∙ b
 names_one t u (Ready v m) a b = sym a ∙ b
 names_one t u _ a b = absurd a
 
--- closed intervals of one section that end together are of one move
+-- intervals of one section that end together, each with its free line, are of one move
 pub ends_apart : (plant : Plant) → IsWellFormed plant → (front : Front) (t : ℕ) → t < trains plant
     → length (admissions front t) ≤ moves plant t → NeverOverlap plant front → (m j n i : ℕ)
-    → m < length (admissions front t) → n < length (admissions front t) → j < steps plant t m
-    → i < steps plant t n → step_section plant t m j ≡ step_section plant t n i
-    → is_open plant t (admissions front t) m j ≡ false → is_open plant t (admissions front t) n i ≡ false
+    → m < length (admissions front t) → n < length (admissions front t) → j < claims plant t m
+    → i < claims plant t n → step_section plant t m j ≡ step_section plant t n i
+    → is_unfreed plant t (admissions front t) m j ≡ false → is_unfreed plant t (admissions front t) n i ≡ false
     → end_time plant t (admissions front t) m j ≡ end_time plant t (admissions front t) n i → m ≡ n
 ends_apart plant fine front t known few never m j n i lm ln lj li same cj ci together =
     decide (never t m j t n i (record { known = known; admitted_move = lm; step = lj }) (record { known = known; admitted_move = ln; step = li }) same)
   where
+    untaken : (k l : ℕ) → is_unfreed plant t (admissions front t) k l ≡ false → is_taken_over plant t (admissions front t) k l ≡ false
+    untaken k l freed = (or_parts (is_open plant t (admissions front t) k l) (is_taken_over plant t (admissions front t) k l) freed).1
+
     decide : AreApart plant front t m j t n i → m ≡ n
     decide (one a b c) = b
-    decide (first h) = absurd (omega (arith, h.by, together, end_after_begin plant t fine (admissions front t) n i (omega (arith, few, ln)) li))
-    decide (second h) = absurd (omega (arith, h.by, together, end_after_begin plant t fine (admissions front t) m j (omega (arith, few, lm)) lj))
+    decide (first h) = absurd (omega (arith, h.by, together, end_after_begin plant t fine (admissions front t) n i (omega (arith, few, ln)) (untaken n i ci)))
+    decide (second h) = absurd (omega (arith, h.by, together, end_after_begin plant t fine (admissions front t) m j (omega (arith, few, lm)) (untaken m j cj)))
 
 pub once_among_events : (plant : Plant) → IsWellFormed plant → (front : Front) → ((t : ℕ) → t < trains plant → length (admissions front t) ≤ moves plant t) → NeverOverlap plant front → (e : Entry) → tally (same_entry e) (all_events plant front) ≤ 1
 once_among_events plant fine front few never e =

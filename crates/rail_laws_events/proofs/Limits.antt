@@ -4,9 +4,9 @@ use Rattle.std.proofs.lemmas.Bool.{ltb-true}
 use native.Mathlib.Nat.{div-le_self}
 use Rattle.rail_base.specs.declared.limits.TheConstants.{TRAINS, ITINERARY_ROUTES}
 use Rattle.rail_rules.specs.Numbers.{sum_below, quotient_up}
-use Rattle.rail_rules.specs.Plant.{Plant, section, train, trains, moves, move_row, needed, steps, step_section, call_after, dwell, departure, run_time, clear_time, run_over}
+use Rattle.rail_rules.specs.Plant.{Plant, section, train, trains, moves, move_row, claimed, steps, step_section, call_after, dwell, departure, run_time, clear_time, run_over}
 use Rattle.rail_rules.specs.Accepted.{is_accepted}
-use Rattle.rail_rules.proofs.CallerLemmas.{accepted_parts, IsRowInRange, row_in_range, IsMoveInRange, move_in_range, IsSectionInRange, section_in_range, IsKindInRange, list_all_get, IsCallInRange, call_in_range}
+use Rattle.rail_rules.proofs.CallerLemmas.{accepted_parts, steps_claimed, IsRowInRange, row_in_range, IsMoveInRange, move_in_range, IsSectionInRange, section_in_range, IsKindInRange, list_all_get, IsCallInRange, call_in_range}
 use Rattle.rail_laws_front.proofs.CallerLemmas.{known_train}
 
 quotient-le : (a b : ℕ) → quotient_up a b ≤ a + b
@@ -29,6 +29,7 @@ pub record IsLimited (plant : Plant) : Type 0 where
   pub runs : (t m j : ℕ) → m < moves plant t → j ≤ steps plant t m → run_over plant t m j ≤ 115232000
   pub clears : (t m j : ℕ) → m < moves plant t → j < steps plant t m → clear_time (train plant t).kind (section plant (step_section plant t m j)) ≤ 361000
   pub release : plant.tables.release ≤ 6000
+  pub overlap_time : plant.tables.overlap_time ≤ 6000
 
 pub limited : (plant : Plant) → is_accepted plant ≡ true → IsLimited plant
 limited plant accepted =
@@ -38,7 +39,7 @@ limited plant accepted =
     let of_move : (t m : ℕ) → m < moves plant t → IsMoveInRange (length plant.tables.sections) (move_row plant t m) = λ t m lm.
     move_in_range (length plant.tables.sections) (move_row plant t m) ((of_train t (known_train plant t m lm)).each_move m lm) in
     let of_section : (t m j : ℕ) → m < moves plant t → j < steps plant t m → IsSectionInRange (section plant (step_section plant t m j)) = λ t m j lm lj.
-    section_in_range plant h.sections (step_section plant t m j) (ltb-true (step_section plant t m j) (length plant.tables.sections) (list_all_get (λ y. ltb y (length plant.tables.sections)) (needed plant t m) j 0 (of_move t m lm).known lj)) in
+    section_in_range plant h.sections (step_section plant t m j) (ltb-true (step_section plant t m j) (length plant.tables.sections) (list_all_get (λ y. ltb y (length plant.tables.sections)) (claimed plant t m) j 0 (of_move t m lm).known (omega (arith, lj, steps_claimed plant t m)))) in
     let of_call : (t m : ℕ) → m < moves plant t → IsCallInRange (call_after plant t m) = λ t m lm. call_in_range plant h.calls t m (known_train plant t m lm) lm in
     record {
       few = h.few_trains;
@@ -56,4 +57,5 @@ limited plant accepted =
       clears = λ t m j lm lj.
           omega (arith, quotient-le (36 * (train plant t).kind.length) (min (train plant t).kind.speed (section plant (step_section plant t m j)).speed), (of_kind t (known_train plant t m lm)).length, (of_section t m j lm lj).speed);
       release = h.release;
+      overlap_time = h.overlap_time;
     }

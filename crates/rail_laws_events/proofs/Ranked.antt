@@ -1,13 +1,13 @@
 -- Two due lines with one time, class and number are one.
 use Rattle.std.proofs.Common.{◌≡◌, ℕ, suc, ◌<◌, ◌≤◌, Bool, true, false, not, ◌&&◌, ltb, List, [], ◌∷◌, ◌++◌, length, get_or, sym, ap, ◌∙◌, subst, ⊎_elim, arith}
-use Rattle.std.proofs.lemmas.Bool.{cases_eq, cases_lt, false≢true, and_parts}
+use Rattle.std.proofs.lemmas.Bool.{or_parts, cases_eq, cases_lt, false≢true, and_parts}
 use Rattle.rail_base.specs.declared.history.Entry.{Entry}
 use Rattle.rail_base.specs.declared.history.What.TheVariants.{Free, Out, Ready}
-use Rattle.rail_rules.specs.Plant.{Plant, trains, moves, steps, step_section}
+use Rattle.rail_rules.specs.Plant.{Plant, trains, moves, claims, step_section}
 use Rattle.rail_rules.specs.Fronts.{Front, at_time, admissions, is_admission, rank, stands}
 use Rattle.rail_rules.specs.Orders.{Input, told, is_cancelled}
 use Rattle.rail_rules.specs.Times.{out}
-use Rattle.rail_rules.specs.Intervals.{is_open, end_time}
+use Rattle.rail_rules.specs.Intervals.{is_open, is_taken_over, is_unfreed, end_time}
 use Rattle.rail_rules.specs.Events.{enter_line, arrive_line, ready_line}
 use Rattle.rail_rules.specs.Causes.{place, is_ready}
 use Rattle.rail_rules.specs.Lawful.{is_lawful}
@@ -140,13 +140,13 @@ pub record Frees (plant : Plant) (t : ℕ) (adms : List ℕ) (e : Entry) : Type 
   pub move : ℕ
   pub step : ℕ
   pub is_admitted_move : move < length adms
-  pub is_step : step < steps plant t move
-  pub closed : is_open plant t adms move step ≡ false
+  pub is_step : step < claims plant t move
+  pub freed : is_unfreed plant t adms move step ≡ false
   pub is : e ≡ at_time (end_time plant t adms move step) (Free (step_section plant t move step) t)
 
 frees_is : (plant : Plant) (t : ℕ) (adms : List ℕ) (c : Bool) (e : Entry) → IsEvent plant t adms c e → class e ≡ 0 → Frees plant t adms e
 unfolding class
-frees_is plant t adms c e (freeing m j lm lj closed is) h = record { move = m; step = j; is_admitted_move = lm; is_step = lj; closed = closed; is = is }
+frees_is plant t adms c e (freeing m j lm lj closed is) h = record { move = m; step = j; is_admitted_move = lm; is_step = lj; freed = closed; is = is }
 frees_is plant t adms c e (entering m j lm lj is) h = absurd (omega (arith, h, ap class is))
 frees_is plant t adms c e (arriving m lm is) h = absurd (omega (arith, h, ap class is))
 frees_is plant t adms c e (leaving m lm last is) h = absurd (omega (arith, h, ap class is))
@@ -180,11 +180,14 @@ one_rank input fine front lawful t u d e lt lu event_d event_e new_d new_e same 
     same_train input fine front lawful t lt (c t) d e new_d new_e time kind no_free event_d (subst P trains_same event_e))
     (cases_eq (class d) 0)
   where
+    untaken : (v m j : ℕ) → is_unfreed input.plant v (admissions front v) m j ≡ false → is_taken_over input.plant v (admissions front v) m j ≡ false
+    untaken v m j freed = (or_parts (is_open input.plant v (admissions front v) m j) (is_taken_over input.plant v (admissions front v) m j) freed).1
+
     decide : (fd : Frees input.plant t (admissions front t) d) (fe : Frees input.plant u (admissions front u) e)
         → end_time input.plant t (admissions front t) fd.move fd.step
         ≡ end_time input.plant u (admissions front u) fe.move fe.step
         → step_section input.plant t fd.move fd.step ≡ step_section input.plant u fe.move fe.step
         → AreApart input.plant front t fd.move fd.step u fe.move fe.step → d ≡ e
     decide fd fe ends section (one a b x) = fd.is ∙ (λ i. at_time (ends i) (Free (section i) (a i))) ∙ sym fe.is
-    decide fd fe ends section (first h) = absurd (omega (arith, h.by, ends, end_after_begin input.plant u fine (admissions front u) fe.move fe.step (omega (arith, fe.is_admitted_move, few_admissions input fine front lawful u lu)) fe.is_step))
-    decide fd fe ends section (second h) = absurd (omega (arith, h.by, ends, end_after_begin input.plant t fine (admissions front t) fd.move fd.step (omega (arith, fd.is_admitted_move, few_admissions input fine front lawful t lt)) fd.is_step))
+    decide fd fe ends section (first h) = absurd (omega (arith, h.by, ends, end_after_begin input.plant u fine (admissions front u) fe.move fe.step (omega (arith, fe.is_admitted_move, few_admissions input fine front lawful u lu)) (untaken u fe.move fe.step fe.freed)))
+    decide fd fe ends section (second h) = absurd (omega (arith, h.by, ends, end_after_begin input.plant t fine (admissions front t) fd.move fd.step (omega (arith, fd.is_admitted_move, few_admissions input fine front lawful t lt)) (untaken t fd.move fd.step fd.freed)))

@@ -1,7 +1,7 @@
 -- How far the times of a lawful front reach.
 use Rattle.std.proofs.Common.{◌≡◌, ℕ, zero, suc, ◌+◌, ◌*◌, ◌-◌, ◌<◌, ◌≤◌, ◌^◌, max, Bool, true, false, not, ◌&&◌, cond, eqb, leb, List, [], ◌∷◌, ◌++◌, length, Some, sym, ap, ◌∙◌, subst, ⊎_elim, arith}
 use Rattle.std.specs.List.{slice_get}
-use Rattle.std.proofs.lemmas.Bool.{cases_Bool, cases_eq, cases_lt, false≢true, and_parts, leb-true, ltb-true, cond_both}
+use Rattle.std.proofs.lemmas.Bool.{cases_Bool, cases_eq, cases_lt, false≢true, and_parts, or_parts, leb-true, ltb-true, cond_both}
 use Rattle.rail_base.specs.declared.history.Entry.{Entry}
 use Rattle.rail_base.specs.declared.history.Note.{Note}
 use Rattle.rail_base.specs.declared.orders.Command.{Command}
@@ -11,12 +11,12 @@ use Rattle.rail_rules.specs.Plant.{Plant, trains, moves, move_row, steps, is_for
 use Rattle.rail_rules.specs.Fronts.{Line, Front, instant, is_admission, admissions, same_entry}
 use Rattle.rail_rules.specs.Orders.{Input, told, is_cancelled}
 use Rattle.rail_rules.specs.Times.{stop_time, depart_time, signal_time, does_pass, start_time, start_loss, head_time, admitted, previous, is_admitted, free_run, ready, passes, go, enter, stop_at, arrive, leave, out}
-use Rattle.rail_rules.specs.Intervals.{does_stand, is_open, clears_from, end_time}
+use Rattle.rail_rules.specs.Intervals.{does_stand, is_open, clears_from, timer_end, is_taken_over, end_time}
 use Rattle.rail_rules.specs.Events.{command_line}
 use Rattle.rail_rules.specs.Causes.{place}
 use Rattle.rail_rules.specs.Lawful.{is_lawful}
 use Rattle.rail_rules.specs.Accepted.{is_accepted, is_order_in_range, are_commands_in_range, is_accepted_input}
-use Rattle.rail_rules.proofs.CallerLemmas.{sum_below_same, sum_below-lt, enter_before_run, admissions_kept}
+use Rattle.rail_rules.proofs.CallerLemmas.{sum_below_same, sum_below-lt, enter_before_run, admissions_kept, end_needed, end_taken, end_timed, taken_parts}
 use Rattle.rail_laws_front.specs.Premises.{IsWellFormed}
 use Rattle.rail_laws_front.specs.EventLines.{IsEvent}
 use Rattle.rail_laws_front.specs.EventLines.IsEvent.{entering, arriving, freeing, leaving, readying}
@@ -73,8 +73,13 @@ module _ (plant : Plant) (fine : IsWellFormed plant) (h : IsLimited plant) (t : 
   loss_within true m = omega arith
   loss_within false m = omega (arith, h.start t known)
 
-  pub end_within : (m j : ℕ) → m < length adms → j < steps plant t m → is_open plant t adms m j ≡ false → end_time plant t adms m j ≤ v + 8646000
-  end_within m j lt lj closed =
+  timer_within : (m : ℕ) → m < length adms → timer_end plant t adms m ≤ v + 12000
+  timer_within m lt = omega (arith, arrive_within m lt, h.overlap_time)
+
+  pub end_within : (m j : ℕ) → m < length adms → is_open plant t adms m j ≡ false → end_time plant t adms m j ≤ v + 8646000
+  end_within m j lt closed =
+      ⊎_elim
+      (λ lj.
       let clear = h.clears t m j (omega (arith, lt, few)) lj in
       let from : clears_from plant t adms m j ≤ v + 6000 =
       cond_both (does_stand plant t m j) (go plant t adms (suc m) + start_loss plant t (passes plant t adms (suc m))) (leave plant t adms m j) (λ x. x ≤ v + 6000)
@@ -86,7 +91,12 @@ module _ (plant : Plant) (fine : IsWellFormed plant) (h : IsLimited plant) (t : 
       (cases_Bool (is_admitted adms (suc m))) in
       omega (arith, go_within (suc m) next, loss_within (passes plant t adms (suc m)) m))
       (λ _. leave_within m j lt lj) in
-      omega (arith, from, clear, h.release)
+      omega (arith, end_needed plant t adms m j lj, from, clear, h.release))
+      (λ over. ⊎_elim
+      (λ taken. omega (arith, end_taken plant t adms m j taken, (taken_parts plant t adms m j taken).before, timer_within m lt))
+      (λ untaken. omega (arith, end_timed plant t adms m j over untaken, timer_within m lt))
+      (cases_Bool (is_taken_over plant t adms m j)))
+      (cases_lt j (steps plant t m))
 
   pub out_within : (m : ℕ) → m < length adms → out plant t adms m ≤ v + 8646000
   out_within m lt =
@@ -95,7 +105,7 @@ module _ (plant : Plant) (fine : IsWellFormed plant) (h : IsLimited plant) (t : 
   pub event_within : (c : Bool) (e : Entry) → ((m : ℕ) → m < length adms → admitted adms m ≤ v + 8646000) → IsEvent plant t adms c e → e.at ≤ v + 8646000
   event_within c e before (entering m j lm lj is) = omega (arith, ap (λ (x : Entry). x.at) is, enter_within m j lm (omega (arith, lj)))
   event_within c e before (arriving m lm is) = omega (arith, ap (λ (x : Entry). x.at) is, arrive_within m lm)
-  event_within c e before (freeing m j lm lj closed is) = omega (arith, ap (λ (x : Entry). x.at) is, end_within m j lm lj closed)
+  event_within c e before (freeing m j lm lj freed is) = omega (arith, ap (λ (x : Entry). x.at) is, end_within m j lm (or_parts (is_open plant t adms m j) (is_taken_over plant t adms m j) freed).0)
   event_within c e before (leaving m lm last is) = omega (arith, ap (λ (x : Entry). x.at) is, out_within m lm)
   event_within c e before (readying m lm lmoves run is) = omega (arith, ap (λ (x : Entry). x.at) is, ready_within m lm (at_previous m lm))
     where
@@ -137,8 +147,8 @@ record IsWithin (plant : Plant) (front : Front) : Type 0 where
 
 -- how far the times of any lawful front reach
 pub record Reaches (plant : Plant) (front : Front) : Type 0 where
-  pub admission : (t m : ℕ) → m < place front t → admitted (admissions front t) m ≤ 1015816640000 + 8646000
-  pub run : (t m : ℕ) → t < trains plant → m ≤ place front t → free_run plant t (admissions front t) m ≤ 1015816640000
+  pub admission : (t m : ℕ) → m < place front t → admitted (admissions front t) m ≤ 4063240640000 + 8646000
+  pub run : (t m : ℕ) → t < trains plant → m ≤ place front t → free_run plant t (admissions front t) m ≤ 4063240640000
 
 -- a command of an accepted input comes within the limit
 command_within : (plant : Plant) (earliest : ℕ) (commands : List Command) (k : ℕ) (command : Command) → are_commands_in_range plant earliest commands ≡ true → slice_get commands k ≡ Some command → command.at ≤ 8640000

@@ -6,10 +6,10 @@ use Rattle.rail_base.specs.declared.history.What.TheVariants.{Told}
 use Rattle.rail_rules.specs.Numbers.{or_else, first_below}
 use Rattle.rail_rules.specs.Places.{after, completes}
 use Rattle.rail_rules.specs.Analysis.{finds}
-use Rattle.rail_rules.specs.Plant.{trains, needed, moves_of}
+use Rattle.rail_rules.specs.Plant.{trains, claimed, moves_of}
 use Rattle.rail_rules.specs.Fronts.{Line, Front, instant, is_admission, admissions, places, kept, without_first, with_rest_of}
 use Rattle.rail_rules.specs.Orders.{Input, told}
-use Rattle.rail_rules.specs.Intervals.{blocks}
+use Rattle.rail_rules.specs.Intervals.{bars}
 use Rattle.rail_rules.specs.Causes.{place, stop_cause, closed_cause, blocked_cause, bar, is_repairable, cause}
 use Rattle.rail_rules.proofs.CallerLemmas.{admissions_kept, gather_same}
 use Rattle.rail_laws_front.proofs.CallerLemmas.{told_kept, kept_idle}
@@ -22,20 +22,20 @@ pub record AreAlike (input : Input) (first second : Front) : Type 0 where
   pub list : kept input.plant first ≡ kept input.plant second
 
 module _ (input : Input) (first second : Front) (h : AreAlike input first second) where
-  blocked_same : (sections : List ℕ) → blocked_cause input first sections ≡ blocked_cause input second sections
-  blocked_same [] = refl
-  blocked_same (x ∷ sections) =
-      let rest = blocked_same sections in
-      λ i. or_else (option_map (Blocked x) (first_below (λ u. blocks input.plant u (h.admitted u i) x (h.now i)) (trains input.plant))) (rest i)
+  blocked_same : (t : ℕ) (sections : List ℕ) → blocked_cause input first t sections ≡ blocked_cause input second t sections
+  blocked_same t [] = refl
+  blocked_same t (x ∷ sections) =
+      let rest = blocked_same t sections in
+      λ i. or_else (option_map (Blocked x) (first_below (λ u. bars input.plant t u (h.admitted u i) x (h.now i)) (trains input.plant))) (rest i)
 
   pub place_same : (t : ℕ) → place first t ≡ place second t
   place_same t = ap length (h.admitted t)
 
   pub bar_same : (t : ℕ) → bar input first t ≡ bar input second t
   bar_same t =
-      let sections : needed input.plant t (place first t) ≡ needed input.plant t (place second t) = ap (needed input.plant t) (place_same t) in
-      let blocked : blocked_cause input first (needed input.plant t (place first t)) ≡ blocked_cause input second (needed input.plant t (place second t)) =
-      ap (blocked_cause input first) sections ∙ blocked_same (needed input.plant t (place second t)) in
+      let sections : claimed input.plant t (place first t) ≡ claimed input.plant t (place second t) = ap (claimed input.plant t) (place_same t) in
+      let blocked : blocked_cause input first t (claimed input.plant t (place first t)) ≡ blocked_cause input second t (claimed input.plant t (place second t)) =
+      ap (blocked_cause input first t) sections ∙ blocked_same t (claimed input.plant t (place second t)) in
       λ i. or_else (stop_cause t (h.orders i)) (or_else (closed_cause (sections i) (h.orders i)) (blocked i))
 
   pub places_same : places input.plant first ≡ places input.plant second

@@ -1,15 +1,15 @@
 -- How many event lines a train has.
 use Rattle.std.proofs.Common.{◌≡◌, ℕ, suc, ◌+◌, ◌*◌, ◌<◌, ◌≤◌, min, Bool, true, false, not, cond, eqb, List, [], ◌∷◌, ◌++◌, length, Option, Some, None, refl, sym, ap, ◌∙◌, subst, ⊎_elim, arith, length-append}
-use Rattle.std.proofs.lemmas.Bool.{cases_Bool, cases_lt, cond-true, cond-false, and_left, and_right, le-ltb, lt-ltb, not_from_true}
+use Rattle.std.proofs.lemmas.Bool.{cases_Bool, cases_lt, cond-true, cond-false, and_left, and_right, or_right, le-ltb, lt-ltb, not_from_true}
 use Rattle.rail_base.specs.declared.history.Entry.{Entry}
 use Rattle.rail_base.specs.declared.history.What.TheVariants.{Out}
 use Rattle.rail_rules.specs.Numbers.{sum_below, gather, is_in}
-use Rattle.rail_rules.specs.Plant.{Plant, moves, moves_of, steps, step_section}
+use Rattle.rail_rules.specs.Plant.{Plant, moves, moves_of, steps, claims, step_section, move_lines}
 use Rattle.rail_rules.specs.Fronts.{at_time}
 use Rattle.rail_rules.specs.Times.{is_admitted, out}
-use Rattle.rail_rules.specs.Intervals.{does_stand, is_open, end_time, end_of}
+use Rattle.rail_rules.specs.Intervals.{does_stand, is_open, is_taken_over, is_unfreed, end_time, freed_at}
 use Rattle.rail_rules.specs.Events.{enter_line, arrive_line, free_lines, out_lines, ready_line, move_events, moved_events, ready_events, train_events}
-use Rattle.rail_rules.proofs.CallerLemmas.{sum_below-le, sum_below_same}
+use Rattle.rail_rules.proofs.CallerLemmas.{sum_below-le, sum_below_same, freed_from}
 use Rattle.rail_laws_events.specs.Accounts.{tally}
 use Rattle.rail_laws_events.proofs.Sums.{length-gather, sum-plus, sum-constant, sum-longer, sum-last, sum-whole}
 
@@ -19,29 +19,52 @@ tally_all (x ∷ xs) = omega (arith, tally_all xs)
 
 module _ (plant : Plant) (t : ℕ) (adms : List ℕ) where
   frees_of : ℕ → List Entry
-  frees_of m = gather (λ j. free_lines t (step_section plant t m j) (end_of plant t adms m j)) (steps plant t m)
+  frees_of m = gather (λ j. free_lines t (step_section plant t m j) (freed_at plant t adms m j)) (claims plant t m)
 
   few_frees : (o : Option ℕ) (x : ℕ) → length (free_lines t x o) ≤ 1
   few_frees None x = omega arith
   few_frees (Some time) x = omega arith
 
-  frees_bound : (m : ℕ) → length (frees_of m) ≤ steps plant t m
+  frees_bound : (m : ℕ) → length (frees_of m) ≤ claims plant t m
   unfolding frees_of
   frees_bound m =
       omega (
         arith,
-        length-gather (λ j. free_lines t (step_section plant t m j) (end_of plant t adms m j)) (steps plant t m),
-        sum_below-le (λ j. length (free_lines t (step_section plant t m j) (end_of plant t adms m j))) (λ _. 1) (steps plant t m) (λ j _. few_frees (end_of plant t adms m j) (step_section plant t m j)),
-        sum-constant 1 (steps plant t m),
+        length-gather (λ j. free_lines t (step_section plant t m j) (freed_at plant t adms m j)) (claims plant t m),
+        sum_below-le (λ j. length (free_lines t (step_section plant t m j) (freed_at plant t adms m j))) (λ _. 1) (claims plant t m) (λ j _. few_frees (freed_at plant t adms m j) (step_section plant t m j)),
+        sum-constant 1 (claims plant t m),
       )
 
-  frees_whole : (m : ℕ) → ((j : ℕ) → j < steps plant t m → is_open plant t adms m j ≡ false) → length (frees_of m) ≡ steps plant t m
+  -- each section that is claimed has its free line, or is taken over
+  frees_whole : (m : ℕ) → ((j : ℕ) → j < claims plant t m → is_open plant t adms m j ≡ false) → length (frees_of m) + sum_below (λ j. cond (is_taken_over plant t adms m j) 1 0) (claims plant t m) ≡ claims plant t m
   unfolding frees_of
   frees_whole m closed =
-      length-gather (λ j. free_lines t (step_section plant t m j) (end_of plant t adms m j)) (steps plant t m)
-      ∙ sum_below_same (λ j. length (free_lines t (step_section plant t m j) (end_of plant t adms m j))) (λ _. 1) (steps plant t m)
-      (λ j lj. ap (λ o. length (free_lines t (step_section plant t m j) o)) (cond-false (is_open plant t adms m j) None (Some (end_time plant t adms m j)) (closed j lj)))
-      ∙ sum-constant 1 (steps plant t m) ∙ omega arith
+      let free : ℕ → ℕ = λ j. length (free_lines t (step_section plant t m j) (freed_at plant t adms m j)) in
+      let taken : ℕ → ℕ = λ j. cond (is_taken_over plant t adms m j) 1 0 in
+      omega (
+        arith,
+        length-gather (λ j. free_lines t (step_section plant t m j) (freed_at plant t adms m j)) (claims plant t m),
+        sum-plus free taken (claims plant t m),
+        sum_below_same (λ j. free j + taken j) (λ _. 1) (claims plant t m) (λ j lj. one_each m j (closed j lj)),
+        sum-constant 1 (claims plant t m),
+      )
+    where
+      one_each : (m j : ℕ) → is_open plant t adms m j ≡ false → length (free_lines t (step_section plant t m j) (freed_at plant t adms m j)) + cond (is_taken_over plant t adms m j) 1 0 ≡ 1
+      one_each m j closed =
+          ⊎_elim
+          (λ taken.
+          omega (
+            arith,
+            ap (λ o. length (free_lines t (step_section plant t m j) o)) (cond-true (is_unfreed plant t adms m j) None (Some (end_time plant t adms m j)) (or_right (is_open plant t adms m j) (is_taken_over plant t adms m j) taken)),
+            cond-true {A = ℕ} (is_taken_over plant t adms m j) 1 0 taken,
+          ))
+          (λ untaken.
+          omega (
+            arith,
+            ap (λ o. length (free_lines t (step_section plant t m j) o)) (cond-false (is_unfreed plant t adms m j) None (Some (end_time plant t adms m j)) (freed_from plant t adms m j closed untaken)),
+            cond-false {A = ℕ} (is_taken_over plant t adms m j) 1 0 untaken,
+          ))
+          (cases_Bool (is_taken_over plant t adms m j))
 
   outs : (m : ℕ) → length (out_lines plant t adms m) ≡ cond (eqb (suc m) (moves plant t)) 1 0
   outs m = ⊎_elim
@@ -56,7 +79,7 @@ module _ (plant : Plant) (t : ℕ) (adms : List ℕ) where
   unfolding frees_of
   move_count m =
       let enters : List Entry = gather (λ j. enter_line plant t adms m j ∷ []) (steps plant t m) in
-      let frees : List Entry = gather (λ j. free_lines t (step_section plant t m j) (end_of plant t adms m j)) (steps plant t m) in
+      let frees : List Entry = gather (λ j. free_lines t (step_section plant t m j) (freed_at plant t adms m j)) (claims plant t m) in
       omega (
         arith,
         length-append (enters ++ arrive_line plant t adms m ∷ [] ++ frees) (out_lines plant t adms m),
@@ -69,47 +92,50 @@ module _ (plant : Plant) (t : ℕ) (adms : List ℕ) where
   ready_count : length (ready_events plant t adms) ≡ min (suc (length adms)) (moves plant t)
   ready_count = length-gather (λ m. ready_line plant t adms m ∷ []) (min (suc (length adms)) (moves plant t)) ∙ sum-constant 1 (min (suc (length adms)) (moves plant t)) ∙ omega arith
 
-  share : ℕ → ℕ
-  share m = 2 * steps plant t m + 1
-
   -- the share of a train in the bound
-  pub shares : sum_below (λ m. 2 * steps plant t m + 3) (moves plant t) ≡ sum_below (λ m. 2 * steps plant t m + 1) (moves plant t) + 2 * moves plant t
+  shares : sum_below (move_lines plant t) (moves plant t) ≡ sum_below (λ m. steps plant t m + claims plant t m + 1) (moves plant t) + 2 * moves plant t
   shares =
-      sum_below_same (λ m. 2 * steps plant t m + 3) (λ m. 2 * steps plant t m + 1 + 2) (moves plant t) (λ m _. omega arith)
-      ∙ sum-plus (λ m. 2 * steps plant t m + 1) (λ _. 2) (moves plant t)
+      sum_below_same (move_lines plant t) (λ m. steps plant t m + claims plant t m + 1 + 2) (moves plant t) (λ m _. omega arith)
+      ∙ sum-plus (λ m. steps plant t m + claims plant t m + 1) (λ _. 2) (moves plant t)
       ∙ omega (arith, sum-constant 2 (moves plant t))
 
-  pub train_bound : length adms ≤ moves plant t → length (train_events plant t adms false) + length adms ≤ sum_below (λ m. 2 * steps plant t m + 3) (moves plant t) + 1
+  pub train_bound : length adms ≤ moves plant t → length (train_events plant t adms false) + length adms ≤ sum_below (move_lines plant t) (moves plant t) + 1
   train_bound few =
       let p : ℕ = length adms in
       let last : ℕ → ℕ = λ m. cond (eqb (suc m) (moves plant t)) 1 0 in
+      let each : ℕ → ℕ = λ m. steps plant t m + claims plant t m + 1 in
       omega (
         arith,
         length-append (moved_events plant t adms) (ready_events plant t adms),
         ready_count,
         length-gather (move_events plant t adms) p,
-        sum_below-le (λ m. length (move_events plant t adms m)) (λ m. 2 * steps plant t m + 1 + last m) p (λ m _. omega (arith, move_count m, frees_bound m)),
-        sum-plus (λ m. 2 * steps plant t m + 1) last p,
+        sum_below-le (λ m. length (move_events plant t adms m)) (λ m. each m + last m) p (λ m _. omega (arith, move_count m, frees_bound m)),
+        sum-plus each last p,
         sum-last (moves plant t) p few,
-        sum-longer (λ m. 2 * steps plant t m + 1) p (moves plant t) few,
+        sum-longer each p (moves plant t) few,
         shares,
       )
 
-  -- a train that has made all its moves has all event lines
-  pub train_whole : length adms ≡ moves plant t → 0 < moves plant t → length (train_events plant t adms false) + length adms ≡ sum_below (λ m. 2 * steps plant t m + 3) (moves plant t) + 1
+  -- a train that has made all its moves has all event lines, but for the frees of what was taken over
+  pub train_whole : length adms ≡ moves plant t → 0 < moves plant t
+      → length (train_events plant t adms false) + length adms + sum_below (λ m. sum_below (λ j. cond (is_taken_over plant t adms m j) 1 0) (claims plant t m)) (length adms)
+      ≡ sum_below (move_lines plant t) (moves plant t) + 1
   train_whole all some =
       let p : ℕ = length adms in
       let last : ℕ → ℕ = λ m. cond (eqb (suc m) (moves plant t)) 1 0 in
+      let each : ℕ → ℕ = λ m. steps plant t m + claims plant t m + 1 in
+      let taken : ℕ → ℕ = λ m. sum_below (λ j. cond (is_taken_over plant t adms m j) 1 0) (claims plant t m) in
       let P : ℕ → Type 0 = λ k. sum_below last k ≡ 1 in
       omega (
         arith,
         length-append (moved_events plant t adms) (ready_events plant t adms),
         ready_count,
         length-gather (move_events plant t adms) p,
-        sum_below_same (λ m. length (move_events plant t adms m)) (λ m. 2 * steps plant t m + 1 + last m) p (λ m lm. omega (arith, move_count m, frees_whole m (λ j _. all_closed m j lm))),
-        sum-plus (λ m. 2 * steps plant t m + 1) last p,
+        sum-plus (λ m. length (move_events plant t adms m)) taken p,
+        sum_below_same (λ m. length (move_events plant t adms m) + taken m) (λ m. each m + last m) p (λ m lm. omega (arith, move_count m, frees_whole m (λ j _. all_closed m j lm))),
+        sum-plus each last p,
         subst P (sym all) (sum-whole (moves plant t) some),
-        ap (sum_below (λ m. 2 * steps plant t m + 1)) all,
+        ap (sum_below each) all,
         shares,
       )
     where

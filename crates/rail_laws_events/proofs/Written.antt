@@ -1,24 +1,25 @@
 -- What was written goes on being an event line of the admissions, and nothing is written twice.
-use Rattle.std.proofs.Common.{◌≡◌, ℕ, suc, ◌+◌, ◌-◌, ◌<◌, ◌≤◌, max, Bool, true, false, not, cond, eqb, List, [], ◌∷◌, ◌++◌, length, refl, sym, ap, ◌∙◌, subst, ◌⊎◌, inl, inr, ⊎_elim, arith}
+use Rattle.std.proofs.Common.{◌≡◌, ℕ, suc, ◌+◌, ◌<◌, ◌≤◌, Bool, true, false, cond, List, [], ◌∷◌, ◌++◌, length, refl, sym, ap, ◌∙◌, subst, ◌⊎◌, inl, inr, ⊎_elim, arith}
 use Rattle.std.specs.List.{list_any}
-use Rattle.std.proofs.lemmas.Bool.{and_parts, cases_Bool, cases_lt, cases_eq, false≢true, or_cases, eqb-true, cond-false, not-true}
+use Rattle.std.proofs.lemmas.Bool.{or_parts, cases_Bool, cases_lt, cases_eq, false≢true, or_cases}
 use Rattle.rail_base.specs.declared.history.Entry.{Entry}
 use Rattle.rail_base.specs.declared.history.What.{What}
 use Rattle.rail_base.specs.declared.history.What.TheVariants.{Free, Arrive, Enter, Out, Ready, Told, Untold, Admit, Hold, End}
 use Rattle.rail_base.specs.declared.history.Note.{Note}
-use Rattle.rail_rules.specs.Plant.{Plant, trains, moves, moves_of, move_row, step_section, is_forced}
+use Rattle.rail_rules.specs.Plant.{Plant, trains, moves, moves_of, step_section}
 use Rattle.rail_rules.specs.Fronts.{Line, Front, at_time, is_admission, admissions, same_entry, stands, places}
 use Rattle.rail_rules.specs.Orders.{Input, told, is_cancelled, takes_effect}
-use Rattle.rail_rules.specs.Times.{does_pass, depart_time, signal_time, ready_time, admitted, previous, is_admitted, free_run, passes, arrive, stop_at}
+use Rattle.rail_rules.specs.Times.{admitted, passes, arrive, stop_at}
 use Rattle.rail_rules.specs.Events.{train_events, command_line}
 use Rattle.rail_rules.specs.Lawful.{is_lawful}
-use Rattle.rail_rules.proofs.CallerLemmas.{admissions_kept, state_parts}
+use Rattle.rail_rules.proofs.CallerLemmas.{admissions_kept, state_parts, freed_from}
+use Rattle.rail_rules.specs.Intervals.{is_open, is_taken_over, end_time}
 use Rattle.rail_laws_front.specs.Premises.{IsWellFormed}
 use Rattle.rail_laws_front.specs.Views.{Happens, Admits, Follows, is_event}
 use Rattle.rail_laws_front.specs.Views.Follows.{by_event, by_admission, by_hold, by_end}
 use Rattle.rail_laws_front.specs.EventLines.{IsEvent}
 use Rattle.rail_laws_front.specs.EventLines.IsEvent.{entering, arriving, freeing, leaving, readying}
-use Rattle.rail_laws_front.proofs.CallerLemmas.{gather_found, gather_from, lawful_before, lawful_last, event_found, event_from, agree_added, admitted_added, length_added, ready_agrees, enter_agrees, arrive_agrees, stop_agrees, passes_unadmitted, arrives_stopping, go_after_admission, run_after_go, end_kept, admission_added, admission_of_other, event_admits_nothing, waiting_parts, due_found, timely, running_event, kept_completes, place_in, places_long, same_entry_refl}
+use Rattle.rail_laws_front.proofs.CallerLemmas.{gather_found, gather_from, lawful_before, lawful_last, event_found, event_from, agree_added, admitted_added, length_added, ready_agrees, enter_agrees, arrive_agrees, stop_agrees, passes_unadmitted, arrives_stopping, passes_before_stop, end_kept, admission_added, admission_of_other, event_admits_nothing, waiting_parts, due_found, timely, running_event, kept_completes, place_in, places_long, same_entry_refl}
 use Rattle.rail_laws_events.specs.Accounts.{is_train_event, all_events}
 use Rattle.rail_laws_events.proofs.Coding.{one_entry}
 
@@ -27,20 +28,6 @@ pub few_admissions : (input : Input) → IsWellFormed input.plant → (front : F
 few_admissions input fine front lawful t lt =
     let state = state_parts (moves_of input.plant) (places input.plant front) (kept_completes input fine front lawful).valid in
     omega (arith, place_in input.plant front t lt, state.within t (omega (arith, lt, places_long input.plant front)))
-
--- a train that passes is admitted before it would stop
-pub passes_before_stop : (plant : Plant) → IsWellFormed plant → (t : ℕ) (adms : List ℕ) (m : ℕ) → suc m < moves plant t → passes plant t adms (suc m) ≡ true → admitted adms (suc m) < stop_at plant t adms m
-passes_before_stop plant fine t adms m room passing =
-    let before : ℕ = previous adms (suc m) in
-    let run : ℕ = free_run plant t adms (suc m) in
-    let adm : ℕ = admitted adms (suc m) in
-    let forced : Bool = is_forced plant t (suc m) in
-    let pass = (and_parts (is_admitted adms (suc m)) (does_pass plant t (suc m) before run adm) passing).1 in
-    let parts = and_parts (not forced) (eqb adm (ready_time plant t (suc m) before run)) pass in
-    let at_ready : adm ≡ ready_time plant t (suc m) before run = eqb-true adm (ready_time plant t (suc m) before run) parts.1 in
-    let free : ready_time plant t (suc m) before run ≡ max before (run - (signal_time plant t (suc m) + (move_row plant t (suc m)).approach)) =
-    cond-false forced (max before (depart_time plant t (suc m) run - signal_time plant t (suc m))) (max before (run - (signal_time plant t (suc m) + (move_row plant t (suc m)).approach))) (not-true forced parts.0) in
-    omega (arith, at_ready, free, go_after_admission plant t fine adms m (omega arith), run_after_go plant t fine adms m (omega arith), fine.some_setting t (suc m) room)
 
 -- an event line stays one when the train is admitted again, or is later than that
 pub persists : (plant : Plant) → IsWellFormed plant → (t : ℕ) (adms : List ℕ) (a : ℕ) (c : Bool) (e : Entry) → length adms < moves plant t → IsEvent plant t adms c e → IsEvent plant t (adms ++ a ∷ []) c e ⊎ (a < e.at)
@@ -61,14 +48,21 @@ persists plant fine t adms a c e room (arriving m lm is) =
     let P : ℕ → Type 0 = λ k. admitted more k ≡ a in
     let adm : admitted more (suc m) ≡ a = subst P (sym next) (admitted_added adms a) in
     let Q : Entry → Type 0 = λ x. a < x.at in
-    inr (subst Q (sym is) (omega (arith, stopping, stop_same, adm, passes_before_stop plant fine t more m (omega arith) passing))))
+    inr (subst Q (sym is) (omega (arith, stopping, stop_same, adm, passes_before_stop plant t fine more m (omega arith) passing))))
     (λ no_pass.
     inl (arriving m (omega (arith, length_added adms a)) (is ∙ ap (λ n. at_time n (Arrive t (suc m))) (stopping ∙ sym stop_same ∙ sym (arrives_stopping plant t more m going no_pass)))))
     (cases_Bool (passes plant t more (suc m))))
     (cases_lt (suc m) (length adms))
-persists plant fine t adms a c e room (freeing m j lm lj closed is) =
-    let kept = end_kept plant t fine adms a m j room lm closed in
-    inl (freeing m j (omega (arith, length_added adms a)) lj kept.closed (is ∙ ap (λ n. at_time n (Free (step_section plant t m j) t)) (sym kept.same)))
+persists plant fine t adms a c e room (freeing m j lm lj freed is) =
+    let more : List ℕ = adms ++ a ∷ [] in
+    let parts = or_parts (is_open plant t adms m j) (is_taken_over plant t adms m j) freed in
+    ⊎_elim
+    (λ to_come. let Q : Entry → Type 0 = λ x. a < x.at in inr (subst Q (sym is) to_come))
+    (λ past.
+    let kept = end_kept plant t fine adms a m j room lm lj parts.0 past in
+    inl (freeing m j (omega (arith, length_added adms a)) lj (freed_from plant t more m j kept.closed (kept.taken ∙ parts.1))
+    (is ∙ ap (λ n. at_time n (Free (step_section plant t m j) t)) (sym kept.same))))
+    (cases_lt a (end_time plant t adms m j))
 persists plant fine t adms a c e room (leaving m lm last is) = absurd (omega arith)
 persists plant fine t adms a c e room (readying m lm lmoves runs is) =
     inl (readying m (omega (arith, length_added adms a)) lmoves runs (is ∙ ap (λ n. at_time n (Ready t (suc m))) (sym (ready_agrees plant t (adms ++ a ∷ []) adms (length adms) m (agree_added adms a) lm))))

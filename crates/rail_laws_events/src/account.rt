@@ -43,9 +43,9 @@ pub fn an_event_line_is_no_longer_to_come()
         → tally p (to_come input.plant (line ∷ front)) + tally p (line.entry ∷ []) ≡ tally p (to_come input.plant front) }
 {}
 
-/// An admission takes the arrival before it out of the lines to come and adds what comes with its move:
-/// the arrival as it now is, the free lines of the sections on which the train stood, the lines of the
-/// move, and the next ready line.
+/// An admission takes the arrival before it and the free lines of the overlap before it out of the lines to
+/// come and adds what comes with its move: both as they now are, without the sections that it takes over, the
+/// free lines of the sections on which the train stood, the lines of the move, and the next ready line.
 pub fn an_admission_adds_the_lines_of_its_move()
     ensures { (input : Input) → IsWellFormed input.plant → (line : Line) (front : Front)
         → IsTrue (is_lawful input (line ∷ front)) → (t m : ℕ) (note : Note)

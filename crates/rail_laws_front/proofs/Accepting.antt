@@ -4,17 +4,12 @@ use Rattle.std.proofs.lemmas.Bool.{and_parts, or_right, cases_Bool, cases_lt, fa
 use Rattle.std.proofs.lemmas.Nat.{le-div}
 use Rattle.rail_base.specs.declared.plant.TurnRow.{TurnRow}
 use Rattle.rail_rules.specs.Numbers.{is_in, quotient_up}
-use Rattle.rail_rules.specs.Plant.{Plant, section, trains, train, moves, move_row, needed, step_section, shortest_end, from_turn, longer}
+use Rattle.rail_rules.specs.Plant.{Plant, section, trains, train, moves, move_row, needed, claimed, steps, step_section, standing_after, shortest_end, from_turn, longer}
 use Rattle.rail_rules.specs.Accepted.{are_distinct_numbers, is_accepted}
-use Rattle.rail_rules.proofs.CallerLemmas.{is_in-head, IsMoveInRange, accepted_parts, list_all_get, move_in_range, row_in_range, section_in_range}
+use Rattle.rail_rules.proofs.CallerLemmas.{is_in-head, needed_section, steps_claimed, IsMoveInRange, accepted_parts, list_all_get, move_in_range, row_in_range, section_in_range}
 use Rattle.rail_laws_front.specs.Premises.{IsWellFormed}
 use Rattle.rail_laws_front.proofs.Viewing.{no_moves}
-
--- the item at an index is in the list
-pub get_or_is_in : (xs : List ℕ) (i : ℕ) → i < length xs → is_in (get_or xs i 0) xs ≡ true
-get_or_is_in [] i lt = absurd (omega arith)
-get_or_is_in (x ∷ xs) zero lt = is_in-head x xs
-get_or_is_in (x ∷ xs) (suc i) lt = or_right (eqb x (get_or xs i 0)) (is_in (get_or xs i 0) xs) (get_or_is_in xs i (omega arith))
+use Rattle.rail_laws_front.proofs.Claimed.{get_or_is_in}
 
 -- in a list without repetition an item has one index
 pub distinct_indexes : (xs : List ℕ) (i j : ℕ) → are_distinct_numbers xs ≡ true → i < length xs → j < length xs → get_or xs i 0 ≡ get_or xs j 0 → i ≡ j
@@ -99,17 +94,19 @@ well_formed_from_accepted plant accepted =
       some_move = λ t lt. (row_in_range plant h.trains_in_range t lt).some_move;
       some_step = λ t m lm. (row t m lm).some_step;
       some_setting = λ t m lm. (row t m lm).some_setting;
-      distinct = λ t m i j lm li lj same. distinct_indexes (needed plant t m) i j (row t m lm).distinct li lj same;
+      distinct = λ t m i j lm li lj same. distinct_indexes (claimed plant t m) i j (row t m lm).distinct li lj same;
       last_stands = λ t m more.
           let here = row t m (omega arith) in
           let kind = (row_in_range plant h.trains_in_range t (known_train plant t m (omega arith))).kind in
-          last_in_longer (get_or (needed plant t m) (length (needed plant t m) - 1) 0) (shortest_end plant (train plant t).kind.length (needed plant t m)) (from_turn (move_row plant t m).turn (needed plant t m))
+          let P : ℕ → Type 0 = λ x. is_in x (standing_after plant t m) ≡ true in
+          subst P (sym (needed_section plant t m (steps plant t m - 1) (omega (arith, here.some_step))))
+          (last_in_longer (get_or (needed plant t m) (length (needed plant t m) - 1) 0) (shortest_end plant (train plant t).kind.length (needed plant t m)) (from_turn (move_row plant t m).turn (needed plant t m))
           (last_in_end plant (train plant t).kind.length (needed plant t m) kind.some_length here.some_step)
-          (λ some. last_in_turn (move_row plant t m).turn (needed plant t m) some);
+          (λ some. last_in_turn (move_row plant t m).turn (needed plant t m) some));
       some_run = λ t m j lm lj.
           let here = row t m lm in
           let kind = (row_in_range plant h.trains_in_range t (known_train plant t m lm)).kind in
           let x : ℕ = step_section plant t m j in
-          let place = section_in_range plant h.sections x (ltb-true x (length plant.tables.sections) (list_all_get (λ y. ltb y (length plant.tables.sections)) (needed plant t m) j 0 here.known lj)) in
+          let place = section_in_range plant h.sections x (ltb-true x (length plant.tables.sections) (list_all_get (λ y. ltb y (length plant.tables.sections)) (claimed plant t m) j 0 here.known (omega (arith, lj, steps_claimed plant t m)))) in
           quotient_up-positive (36 * (section plant x).length) (min (train plant t).kind.speed (section plant x).speed) (omega (arith, place.some_length)) (omega (arith, kind.some_speed, place.some_speed));
     }

@@ -1,19 +1,21 @@
 -- What one more admission of a train adds to its event lines and leaves of its intervals.
 use Rattle.std.proofs.Common.{◌≡◌, ℕ, suc, ◌+◌, ◌-◌, ◌<◌, ◌≤◌, max, Bool, true, false, not, cond, eqb, ltb, List, [], ◌∷◌, ◌++◌, length, sym, ap, ◌∙◌, subst, inl, inr, ◌⊎◌, ⊎_elim, arith}
-use Rattle.std.proofs.lemmas.Bool.{cases_Bool, cases_lt, false≢true, and_left, and_from, ne_eqb, lt-ltb, le-ltb, cond-true, cond-false, cond_both, not_from_false}
+use Rattle.std.proofs.lemmas.Bool.{and_parts, or_parts, cases_Bool, cases_lt, false≢true, and_left, and_from, eqb-true, not-true, ne_eqb, lt-ltb, le-ltb, cond-true, cond-false, cond_both, not_from_false}
 use Rattle.rail_base.specs.declared.history.Entry.{Entry}
 use Rattle.rail_base.specs.declared.history.What.TheVariants.{Free, Out, Enter, Arrive, Ready}
 use Rattle.rail_rules.specs.Numbers.{is_in}
-use Rattle.rail_rules.specs.Plant.{Plant, moves, move_row, steps, step_section, standing_after, is_forced}
+use Rattle.rail_rules.specs.Plant.{Plant, moves, move_row, steps, claims, claimed, step_section, standing_after, is_forced}
 use Rattle.rail_rules.specs.Fronts.{at_time}
-use Rattle.rail_rules.specs.Times.{does_pass, depart_time, signal_time, start_loss, admitted, previous, is_admitted, free_run, ready, passes, go, enter, stop_at, arrive, leave, out}
-use Rattle.rail_rules.specs.Intervals.{does_stand, is_open, end_time}
+use Rattle.rail_rules.specs.Times.{does_pass, depart_time, ready_time, signal_time, start_loss, admitted, previous, is_admitted, free_run, ready, passes, go, enter, stop_at, arrive, leave, out}
+use Rattle.rail_rules.specs.Intervals.{does_stand, is_open, timer_end, is_taken_over, end_time}
 use Rattle.rail_rules.specs.Events.{enter_line, arrive_line, ready_line}
-use Rattle.rail_rules.proofs.CallerLemmas.{start_after_signal, head_time-begun, arrive_after_run, enter_before_run, enter_before_leave, leave_before_clearing}
+use Rattle.rail_rules.proofs.CallerLemmas.{start_after_signal, head_time-begun, arrive_after_run, enter_before_run, enter_before_leave, leave_before_clearing, end_needed, end_timed, end_taken, freed_from, last_not_taken, needed_not_taken, taken_from, taken_parts}
+use Rattle.rail_rules.specs.Overlaps.{HasEnded}
+use Rattle.rail_laws_front.proofs.Standing.{over_not_open}
 use Rattle.rail_laws_front.specs.Premises.{IsWellFormed}
 use Rattle.rail_laws_front.specs.EventLines.{IsEvent}
 use Rattle.rail_laws_front.specs.EventLines.IsEvent.{entering, arriving, freeing, leaving, readying}
-use Rattle.rail_laws_front.proofs.Agreeing.{agree_added, admitted_added, length_added, ready_agrees, enter_agrees, arrive_agrees, stop_agrees, is_open_agrees, end_agrees, end_inner_agrees}
+use Rattle.rail_laws_front.proofs.Agreeing.{agree_added, admitted_added, length_added, ready_agrees, enter_agrees, arrive_agrees, stop_agrees, is_open_agrees, taken_agrees, unfreed_agrees, end_agrees, end_inner_agrees}
 
 pub not_admitted : (adms : List ℕ) (m : ℕ) → length adms ≤ m → is_admitted adms m ≡ false
 not_admitted adms m past = le-ltb m (length adms) past
@@ -53,18 +55,22 @@ module _ (plant : Plant) (t : ℕ) where
   pub leave_after_go : (adms : List ℕ) (m j : ℕ) → j < steps plant t m → go plant t adms m ≤ leave plant t adms m j
   leave_after_go adms m j lt = omega (arith, enter_after_go adms m j, enter_before_leave plant t adms m j lt)
 
-  -- an interval ends after its move begins
-  pub end_after_go : (adms : List ℕ) (m j : ℕ) → j < steps plant t m → go plant t adms m ≤ end_time plant t adms m j
-  end_after_go adms m j lt = omega (arith, leave_after_go adms m j lt, leave_before_clearing plant t adms m j lt)
+  -- an interval that isn't taken over ends after its move begins
+  pub end_after_go : (fine : IsWellFormed plant) (adms : List ℕ) (m j : ℕ) → m < moves plant t → is_taken_over plant t adms m j ≡ false → go plant t adms m ≤ end_time plant t adms m j
+  end_after_go fine adms m j lm untaken =
+      ⊎_elim
+      (λ need. omega (arith, end_needed plant t adms m j need, leave_after_go adms m j need, leave_before_clearing plant t adms m j need))
+      (λ over. omega (arith, end_timed plant t adms m j over untaken, arrive_after_go fine adms m lm))
+      (cases_lt j (steps plant t m))
 
   -- and so it isn't empty
-  pub end_after_begin : (fine : IsWellFormed plant) (adms : List ℕ) (m j : ℕ) → m < moves plant t → j < steps plant t m → admitted adms m < end_time plant t adms m j
-  end_after_begin fine adms m j lm lj = omega (arith, go_after_admission fine adms m lm, end_after_go adms m j lj)
+  pub end_after_begin : (fine : IsWellFormed plant) (adms : List ℕ) (m j : ℕ) → m < moves plant t → is_taken_over plant t adms m j ≡ false → admitted adms m < end_time plant t adms m j
+  end_after_begin fine adms m j lm untaken = omega (arith, go_after_admission fine adms m lm, end_after_go fine adms m j lm untaken)
 
   -- a standing section is given free after the next move begins
-  pub standing_end : (adms : List ℕ) (m j : ℕ) → does_stand plant t m j ≡ true → go plant t adms (suc m) ≤ end_time plant t adms m j
-  standing_end adms m j stands =
-      omega (arith, cond-true {A = ℕ} (does_stand plant t m j) (go plant t adms (suc m) + start_loss plant t (passes plant t adms (suc m))) (leave plant t adms m j) stands)
+  pub standing_end : (adms : List ℕ) (m j : ℕ) → j < steps plant t m → does_stand plant t m j ≡ true → go plant t adms (suc m) ≤ end_time plant t adms m j
+  standing_end adms m j lj stands =
+      omega (arith, end_needed plant t adms m j lj, cond-true {A = ℕ} (does_stand plant t m j) (go plant t adms (suc m) + start_loss plant t (passes plant t adms (suc m))) (leave plant t adms m j) stands)
 
   -- a ready time isn't before the admission before it
   pub ready_after_previous : (adms : List ℕ) (m : ℕ) → previous adms m ≤ ready plant t adms m
@@ -94,26 +100,97 @@ module _ (plant : Plant) (t : ℕ) where
       (cases_Bool (does_stand plant t m j)) in
       (runs, λ end. false≢true (sym runs ∙ last_does_stand fine m j more end))
 
-  -- the end of an interval, once it has one, stays
+  -- a train that passes is admitted before it would stop
+  pub passes_before_stop : (fine : IsWellFormed plant) (adms : List ℕ) (m : ℕ) → suc m < moves plant t → passes plant t adms (suc m) ≡ true → admitted adms (suc m) < stop_at plant t adms m
+  passes_before_stop fine adms m room passing =
+      let before : ℕ = previous adms (suc m) in
+      let run : ℕ = free_run plant t adms (suc m) in
+      let adm : ℕ = admitted adms (suc m) in
+      let forced : Bool = is_forced plant t (suc m) in
+      let pass = (and_parts (is_admitted adms (suc m)) (does_pass plant t (suc m) before run adm) passing).1 in
+      let parts = and_parts (not forced) (eqb adm (ready_time plant t (suc m) before run)) pass in
+      let at_ready : adm ≡ ready_time plant t (suc m) before run = eqb-true adm (ready_time plant t (suc m) before run) parts.1 in
+      let free : ready_time plant t (suc m) before run ≡ max before (run - (signal_time plant t (suc m) + (move_row plant t (suc m)).approach)) =
+      cond-false forced (max before (depart_time plant t (suc m) run - signal_time plant t (suc m))) (max before (run - (signal_time plant t (suc m) + (move_row plant t (suc m)).approach))) (not-true forced parts.0) in
+      omega (arith, at_ready, free, go_after_admission fine adms m (omega arith), run_after_go fine adms m (omega arith), fine.some_setting t (suc m) room)
+
+  -- the end of an interval that has ended by the next admission stays, and it isn't taken over any more
   pub record KeepsEnd (adms : List ℕ) (a m j : ℕ) : Type 0 where
     pub closed : is_open plant t (adms ++ a ∷ []) m j ≡ false
     pub same : end_time plant t (adms ++ a ∷ []) m j ≡ end_time plant t adms m j
+    pub taken : is_taken_over plant t (adms ++ a ∷ []) m j ≡ is_taken_over plant t adms m j
 
-  pub end_kept : (fine : IsWellFormed plant) (adms : List ℕ) (a m j : ℕ) → length adms < moves plant t → m < length adms → is_open plant t adms m j ≡ false → KeepsEnd adms a m j
-  end_kept fine adms a m j room lm closed =
+  -- an overlap of the last admitted move that has ended by then
+  over_kept : (fine : IsWellFormed plant) (adms : List ℕ) (a m j : ℕ) → length adms < moves plant t → m < length adms → j < claims plant t m → end_time plant t adms m j ≤ a → length adms ≤ suc m → steps plant t m ≤ j → KeepsEnd adms a m j
+  over_kept fine adms a m j room lm lj past last over =
+      let more : List ℕ = adms ++ a ∷ [] in
+      let next : suc m ≡ length adms = omega (arith, lm, last) in
+      let going : suc m ≡ moves plant t → ⊥ = λ end. omega (arith, end, next, room) in
+      let untaken : is_taken_over plant t adms m j ≡ false = last_not_taken plant t adms m j last in
+      let ends : end_time plant t adms m j ≡ timer_end plant t adms m = end_timed plant t adms m j over untaken in
+      let stops : arrive plant t adms m ≡ stop_at plant t adms m = arrives_stopping adms m going (passes_unadmitted adms (suc m) last) in
+      let stop_same : stop_at plant t more m ≡ stop_at plant t adms m = stop_agrees plant t more adms (length adms) m (agree_added adms a) lm in
+      let P : ℕ → Type 0 = λ k. admitted more k ≡ a in
+      let at : admitted more (suc m) ≡ a = subst P (sym next) (admitted_added adms a) in
+      let arrives_same : arrive plant t more m ≡ arrive plant t adms m =
+      ⊎_elim
+      (λ passing. absurd (omega (arith, past, ends, stops, stop_same, at, passes_before_stop fine more m (omega (arith, next, room)) passing)))
+      (λ stopping. arrives_stopping more m going stopping ∙ stop_same ∙ sym stops)
+      (cases_Bool (passes plant t more (suc m))) in
+      let untaken_now : is_taken_over plant t more m j ≡ false =
+      ⊎_elim
+      (λ taken. absurd (omega (arith, past, ends, at, arrives_same, (taken_parts plant t more m j taken).before)))
+      (λ no. no)
+      (cases_Bool (is_taken_over plant t more m j)) in
+      record {
+        closed = over_not_open plant fine t m j over lj more;
+        same = end_timed plant t more m j over untaken_now ∙ ap (λ n. n + plant.tables.overlap_time) arrives_same ∙ sym ends;
+        taken = untaken_now ∙ sym untaken;
+      }
+
+  pub end_kept : (fine : IsWellFormed plant) (adms : List ℕ) (a m j : ℕ) → length adms < moves plant t → m < length adms → j < claims plant t m → is_open plant t adms m j ≡ false → end_time plant t adms m j ≤ a → KeepsEnd adms a m j
+  end_kept fine adms a m j room lm lj closed past =
       let agree = agree_added adms a in
       ⊎_elim
       (λ inner. record {
         closed = is_open_agrees plant t (adms ++ a ∷ []) adms (length adms) m j agree inner ∙ closed;
         same = end_agrees plant t (adms ++ a ∷ []) adms (length adms) m j agree inner;
+        taken = taken_agrees plant t (adms ++ a ∷ []) adms (length adms) m j agree inner;
       })
-      (λ last.
+      (λ last. ⊎_elim
+      (λ need.
       let runs = closed_runs fine adms m j last (omega arith) closed in
       record {
         closed = and_left (does_stand plant t m j) (not (is_admitted (adms ++ a ∷ []) (suc m))) runs.0;
-        same = end_inner_agrees plant t (adms ++ a ∷ []) adms (length adms) m j agree lm runs.1 runs.0;
+        same = end_inner_agrees plant t (adms ++ a ∷ []) adms (length adms) m j agree lm need runs.1 runs.0;
+        taken = needed_not_taken plant t (adms ++ a ∷ []) m j need ∙ sym (needed_not_taken plant t adms m j need);
       })
+      (λ over. over_kept fine adms a m j room lm lj past last over)
+      (cases_lt j (steps plant t m)))
       (cases_lt (suc m) (length adms))
+
+  -- the interval of an overlap of the last admitted move on a section that the next move claims has ended with its admission
+  pub own_overlap_ended : (fine : IsWellFormed plant) (adms : List ℕ) (a m j : ℕ) → suc m ≡ length adms → steps plant t m ≤ j → j < claims plant t m → is_in (step_section plant t m j) (claimed plant t (suc m)) ≡ true → HasEnded plant t (adms ++ a ∷ []) m j a
+  own_overlap_ended fine adms a m j next over lj claiming =
+      let more : List ℕ = adms ++ a ∷ [] in
+      let P : ℕ → Type 0 = λ k. admitted more k ≡ a in
+      let at : admitted more (suc m) ≡ a = subst P (sym next) (admitted_added adms a) in
+      let closed : is_open plant t more m j ≡ false = over_not_open plant fine t m j over lj more in
+      ⊎_elim
+      (λ taken. record { closed = closed; by = omega (arith, end_taken plant t more m j taken, at) })
+      (λ untaken. record {
+        closed = closed;
+        by = ⊎_elim
+            (λ before. absurd (false≢true (sym untaken ∙ taken_from plant t more m j (record {
+              over = over;
+              more = omega (arith, next, length_added adms a);
+              claiming = claiming;
+              before = before;
+            }))))
+            (λ past. omega (arith, end_timed plant t more m j over untaken, at, past))
+            (cases_lt (admitted more (suc m)) (timer_end plant t more m));
+      })
+      (cases_Bool (is_taken_over plant t more m j))
 
   -- an event line with one more admission is an old one, or later than the admission, or the train's next ready line
   abbrev pub Adds : (adms : List ℕ) (a : ℕ) (cancelled : Bool) (e : Entry) → Type 0
@@ -175,28 +252,48 @@ module _ (plant : Plant) (fine : IsWellFormed plant) (t : ℕ) (adms : List ℕ)
       later_as e (arrive_line plant t more m) is (subst P (sym new) (omega (arith, new_go, arrive_after_go plant t fine more (length adms) room))))
       (cases_lt m (length adms)))
       (cases_lt (suc m) (length adms))
-  added e (freeing m j lm lj closed is) =
+  added e (freeing m j lm lj freed is) =
+      let line : ℕ → Entry = λ time. at_time time (Free (step_section plant t m j) t) in
+      let parts = or_parts (is_open plant t more m j) (is_taken_over plant t more m j) freed in
       ⊎_elim
       (λ inner.
       let agree = agree_added adms a in
-      old e (freeing m j (omega arith) lj (sym (is_open_agrees plant t more adms (length adms) m j agree inner) ∙ closed)
-      (is ∙ ap (λ n. at_time n (Free (step_section plant t m j) t)) (end_agrees plant t more adms (length adms) m j agree inner))))
+      old e (freeing m j (omega arith) lj (sym (unfreed_agrees plant t more adms (length adms) m j agree inner) ∙ freed)
+      (is ∙ ap line (end_agrees plant t more adms (length adms) m j agree inner))))
       (λ outer. ⊎_elim
       (λ before.
       let next : suc m ≡ length adms = omega arith in
-      ⊎_elim
-      (λ stands.
+      let going : suc m ≡ moves plant t → ⊥ = λ end. omega arith in
       let P : ℕ → Type 0 = λ k. a < go plant t more k in
-      later_as e (at_time (end_time plant t more m j) (Free (step_section plant t m j) t)) is (omega (arith, standing_end plant t more m j stands, subst P (sym next) new_go)))
+      let new_go_next : a < go plant t more (suc m) = subst P (sym next) new_go in
+      let untaken : is_taken_over plant t adms m j ≡ false = last_not_taken plant t adms m j (omega arith) in
+      ⊎_elim
+      (λ need. ⊎_elim
+      (λ stands. later_as e (line (end_time plant t more m j)) is (omega (arith, standing_end plant t more m j need stands, new_go_next)))
       (λ runs.
       let inner : suc j ≡ steps plant t m → ⊥ = λ end. false≢true (sym runs ∙ last_does_stand plant t fine m j (omega arith) end) in
-      old e (freeing m j before lj (and_left (does_stand plant t m j) (not (is_admitted adms (suc m))) runs)
-      (is ∙ ap (λ n. at_time n (Free (step_section plant t m j) t)) (end_inner_agrees plant t more adms (length adms) m j (agree_added adms a) before inner runs))))
+      old e (freeing m j before lj
+      (freed_from plant t adms m j (and_left (does_stand plant t m j) (not (is_admitted adms (suc m))) runs) untaken)
+      (is ∙ ap line (end_inner_agrees plant t more adms (length adms) m j (agree_added adms a) before need inner runs))))
       (cases_Bool (does_stand plant t m j)))
+      (λ over.
+      let ends : end_time plant t more m j ≡ timer_end plant t more m = end_timed plant t more m j over parts.1 in
+      ⊎_elim
+      (λ passing. later_as e (line (end_time plant t more m j)) is (omega (arith, ends, arrives_passing plant t more m going passing, new_go_next)))
+      (λ stopping.
+      let same : arrive plant t more m ≡ arrive plant t adms m =
+      arrives_stopping plant t more m going stopping
+      ∙ stop_agrees plant t more adms (length adms) m (agree_added adms a) before
+      ∙ sym (arrives_stopping plant t adms m going (passes_unadmitted plant t adms (suc m) (omega arith))) in
+      old e (freeing m j before lj
+      (freed_from plant t adms m j (over_not_open plant fine t m j over lj adms) untaken)
+      (is ∙ ap line (ends ∙ ap (λ n. n + plant.tables.overlap_time) same ∙ sym (end_timed plant t adms m j over untaken)))))
+      (cases_Bool (passes plant t more (suc m))))
+      (cases_lt j (steps plant t m)))
       (λ last.
       let new : m ≡ length adms = omega (arith, size) in
       let P : ℕ → Type 0 = λ k. a < go plant t more k in
-      later_as e (at_time (end_time plant t more m j) (Free (step_section plant t m j) t)) is (omega (arith, subst P (sym new) new_go, end_after_go plant t more m j lj)))
+      later_as e (line (end_time plant t more m j)) is (omega (arith, subst P (sym new) new_go, end_after_go plant t fine more m j (omega (arith, new, room)) parts.1)))
       (cases_lt m (length adms)))
       (cases_lt (suc m) (length adms))
   added e (leaving m lm end is) =

@@ -1,10 +1,12 @@
 -- The times of a move depend on the admissions so far alone.
-use Rattle.std.proofs.Common.{◌≡◌, ℕ, zero, suc, ◌+◌, ◌<◌, ◌≤◌, Bool, true, false, not, ◌&&◌, cond, eqb, List, [], ◌∷◌, ◌++◌, length, refl, sym, ap, ◌∙◌, arith, length-append}
+use Rattle.std.proofs.Common.{◌≡◌, ℕ, zero, suc, ◌+◌, ◌<◌, ◌≤◌, Bool, true, false, not, ◌&&◌, ◌||◌, cond, eqb, ltb, List, [], ◌∷◌, ◌++◌, length, refl, sym, ap, ◌∙◌, arith, length-append}
 use Rattle.std.proofs.lemmas.Bool.{ne_eqb, lt-ltb, cond-false}
 use Rattle.std.proofs.lemmas.List.{get_or_append_left, get_or_push}
-use Rattle.rail_rules.specs.Plant.{Plant, moves, steps, step_section}
+use Rattle.rail_rules.specs.Plant.{Plant, moves, steps, claimed, step_section}
 use Rattle.rail_rules.specs.Times.{does_pass, start_time, head_time, ready_time, stop_time, start_loss, admitted, previous, is_admitted, free_run, ready, passes, go, enter, stop_at, arrive, leave, clearing}
-use Rattle.rail_rules.specs.Intervals.{does_stand, is_open, end_time}
+use Rattle.rail_rules.specs.Intervals.{does_stand, is_over, is_open, is_taken_over, is_unfreed, end_time}
+use Rattle.rail_rules.specs.Numbers.{is_in}
+use Rattle.rail_rules.proofs.CallerLemmas.{end_needed}
 
 -- two lists of admissions have the same first k admissions
 pub record Agree (adms other : List ℕ) (k : ℕ) : Type 0 where
@@ -99,17 +101,37 @@ module _ (plant : Plant) (t : ℕ) (adms other : List ℕ) where
   pub is_open_agrees : (k m j : ℕ) → Agree adms other k → suc m < k → is_open plant t adms m j ≡ is_open plant t other m j
   is_open_agrees k m j h lt = ap (λ b. does_stand plant t m j && not b) (h.known (suc m) lt)
 
+  -- whether the next move took over
+  pub taken_agrees : (k m j : ℕ) → Agree adms other k → suc m < k → is_taken_over plant t adms m j ≡ is_taken_over plant t other m j
+  taken_agrees k m j h lt =
+      let arrives = arrive_agrees k m h lt in
+      let is = h.known (suc m) lt in
+      let at = h.same (suc m) lt in
+      λ i. is_over plant t m j && is i && is_in (step_section plant t m j) (claimed plant t (suc m)) && ltb (at i) (arrives i + plant.tables.overlap_time)
+
+  pub unfreed_agrees : (k m j : ℕ) → Agree adms other k → suc m < k → is_unfreed plant t adms m j ≡ is_unfreed plant t other m j
+  unfreed_agrees k m j h lt =
+      let opens = is_open_agrees k m j h lt in
+      let taken = taken_agrees k m j h lt in
+      λ i. opens i || taken i
+
   pub end_agrees : (k m j : ℕ) → Agree adms other k → suc m < k → end_time plant t adms m j ≡ end_time plant t other m j
   end_agrees k m j h lt =
       let start = go_agrees k (suc m) h lt in
       let passing = passes_agree k (suc m) h lt in
       let leaves = leave_agrees k m j h lt in
-      λ i. cond (does_stand plant t m j) (start i + start_loss plant t (passing i)) (leaves i) + clearing plant t (step_section plant t m j) + plant.tables.release
+      let arrives = arrive_agrees k m h lt in
+      let at = h.same (suc m) lt in
+      let taken = taken_agrees k m j h lt in
+      λ i. cond (is_over plant t m j) (cond (taken i) (at i) (arrives i + plant.tables.overlap_time))
+      (cond (does_stand plant t m j) (start i + start_loss plant t (passing i)) (leaves i) + clearing plant t (step_section plant t m j) + plant.tables.release)
 
   -- the end of an inner section that the train runs through
-  pub end_inner_agrees : (k m j : ℕ) → Agree adms other k → m < k → (suc j ≡ steps plant t m → ⊥) → does_stand plant t m j ≡ false → end_time plant t adms m j ≡ end_time plant t other m j
-  end_inner_agrees k m j h lt inner runs =
-      ap (λ n. n + clearing plant t (step_section plant t m j) + plant.tables.release)
+  pub end_inner_agrees : (k m j : ℕ) → Agree adms other k → m < k → j < steps plant t m → (suc j ≡ steps plant t m → ⊥) → does_stand plant t m j ≡ false → end_time plant t adms m j ≡ end_time plant t other m j
+  end_inner_agrees k m j h lt lj inner runs =
+      end_needed plant t adms m j lj
+      ∙ ap (λ n. n + clearing plant t (step_section plant t m j) + plant.tables.release)
       (cond-false (does_stand plant t m j) (go plant t adms (suc m) + start_loss plant t (passes plant t adms (suc m))) (leave plant t adms m j) runs
       ∙ leave_inner_agrees k m j h lt inner
       ∙ sym (cond-false (does_stand plant t m j) (go plant t other (suc m) + start_loss plant t (passes plant t other (suc m))) (leave plant t other m j) runs))
+      ∙ sym (end_needed plant t other m j lj)

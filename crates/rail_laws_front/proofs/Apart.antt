@@ -1,9 +1,9 @@
 -- Blocking intervals of one section never overlap.
-use Rattle.std.proofs.Common.{◌≡◌, ℕ, ◌<◌, true, false, List, [], ◌∷◌, ◌++◌, length, sym, ap, ◌∙◌, subst, ◌⊎◌, inl, inr, ⊎_elim, arith}
+use Rattle.std.proofs.Common.{◌≡◌, ℕ, suc, ◌<◌, ◌≤◌, true, false, List, [], ◌∷◌, ◌++◌, length, sym, ap, ◌∙◌, subst, ◌⊎◌, inl, inr, ⊎_elim, arith}
 use Rattle.std.proofs.lemmas.Bool.{cases_lt, cases_eq}
 use Rattle.rail_base.specs.declared.history.Note.{Note}
 use Rattle.rail_rules.specs.Numbers.{is_in}
-use Rattle.rail_rules.specs.Plant.{Plant, moves, needed, steps, step_section}
+use Rattle.rail_rules.specs.Plant.{Plant, moves, claimed, steps, claims, step_section}
 use Rattle.rail_rules.specs.Fronts.{Line, Front, instant, is_admission, admissions}
 use Rattle.rail_rules.specs.Orders.{Input}
 use Rattle.rail_rules.specs.Times.{admitted}
@@ -15,12 +15,14 @@ use Rattle.rail_laws_front.specs.Views.{Admits, Follows}
 use Rattle.rail_laws_front.specs.Views.Follows.{by_event, by_admission, by_hold, by_end}
 use Rattle.rail_laws_front.proofs.Viewing.{lawful_before, lawful_last}
 use Rattle.rail_laws_front.proofs.Agreeing.{agree_added, admitted_added, length_added}
-use Rattle.rail_laws_front.proofs.Adding.{end_kept}
+use Rattle.rail_laws_front.proofs.Adding.{end_kept, own_overlap_ended}
 use Rattle.rail_laws_front.specs.Invariant.{IsTimely}
 use Rattle.rail_rules.specs.Overlaps.AreApart.{one, first, second}
 use Rattle.rail_laws_front.proofs.Growing.{admission_added, admission_of_other, event_admits_nothing, waiting_parts}
 use Rattle.rail_laws_front.proofs.Timely.{timely}
-use Rattle.rail_laws_front.proofs.Unblocked.{ended_on_needed, step_needed}
+use Rattle.rail_laws_front.proofs.Unblocked.{ended_on_claimed, needed_bars, other_bars}
+use Rattle.rail_laws_front.proofs.Claimed.{step_claimed}
+use Rattle.rail_rules.specs.Intervals.{barring}
 use Rattle.rail_rules.specs.Overlaps.{HasEnded, IsStep, AreApart, NeverOverlap}
 
 -- where a line is no admission, steps and intervals are those before it
@@ -72,16 +74,19 @@ module _ (input : Input) (fine : IsWellFormed input.plant) (line : Line) (front 
       (λ other. ap (λ adms. admitted adms m) (admission_of_other line front t0 m0 note t admits.what other))
       (cases_eq t t0)
 
+  by_now : (t m : ℕ) → m < length (admissions front t) → admitted (admissions (line ∷ front) t) m ≤ line.entry.at
+  by_now t m lt = omega (arith, admitted_kept t m lt, timely_front.admitted_by t m lt, admits.now)
+
   -- intervals that have ended keep their ends
-  ended_kept : (t m j time : ℕ) → m < length (admissions front t) → HasEnded input.plant t (admissions front t) m j time → HasEnded input.plant t (admissions (line ∷ front) t) m j time
-  ended_kept t m j time lt e =
+  ended_kept : (t m j time : ℕ) → m < length (admissions front t) → j < claims input.plant t m → time ≤ line.entry.at → HasEnded input.plant t (admissions front t) m j time → HasEnded input.plant t (admissions (line ∷ front) t) m j time
+  ended_kept t m j time lt lj past e =
       ⊎_elim
       (λ same.
       let S : ℕ → Type 0 = λ v. admissions (line ∷ front) v ≡ admissions front v ++ line.entry.at ∷ [] in
       let grown = subst S (sym same) (admission_added line front t0 m0 note admits.what) in
       let T : ℕ → Type 0 = λ v. length (admissions front v) < moves input.plant v in
       let room = subst T (sym same) (waiting_parts input front t0 admits.waiting).room in
-      let kept = end_kept input.plant t fine (admissions front t) line.entry.at m j room lt e.closed in
+      let kept = end_kept input.plant t fine (admissions front t) line.entry.at m j room lt lj e.closed (omega (arith, e.by, past)) in
       let P : List ℕ → Type 0 = λ adms. HasEnded input.plant t adms m j time in
       subst P (sym grown) (record { closed = kept.closed; by = omega (arith, kept.same, e.by) }))
       (λ other.
@@ -95,18 +100,49 @@ module _ (input : Input) (fine : IsWellFormed input.plant) (line : Line) (front 
       ap (λ adms. admitted adms (place front t0)) (admission_added line front t0 m0 note admits.what)
       ∙ admitted_added (admissions front t0) line.entry.at
 
-  -- an old interval on a section of the admitted move ended before the admission
-  ended_for_new : (u n i j : ℕ) → IsStep input.plant front u n i → j < steps input.plant t0 (place front t0)
+  -- which old intervals bar the admission: all but those of the overlap of the train's own last move
+  own_or_bars : (u n i : ℕ) → i < claims input.plant u n → (i < barring input.plant t0 u (place front u) n) ⊎ ((u ≡ t0) × (suc n ≡ place front t0) × (steps input.plant u n ≤ i))
+  own_or_bars u n i li =
+      ⊎_elim
+      (λ train_same. ⊎_elim
+      (λ last. ⊎_elim
+      (λ need. inl (needed_bars input.plant t0 u (place front u) n i need))
+      (λ over. inr (train_same, last, over))
+      (cases_lt i (steps input.plant u n)))
+      (λ earlier. inl (other_bars input.plant t0 u (place front u) n i (λ _ is. earlier (is ∙ ap (place front) train_same)) li))
+      (cases_eq (suc n) (place front t0)))
+      (λ other. inl (other_bars input.plant t0 u (place front u) n i (λ is _. other is) li))
+      (cases_eq u t0)
+
+  -- an old interval on a section of the admitted move ended before the admission, or by it where the move takes it over
+  ended_for_new : (u n i j : ℕ) → IsStep input.plant front u n i → j < claims input.plant t0 (place front t0)
       → step_section input.plant u n i ≡ step_section input.plant t0 (place front t0) j
       → HasEnded input.plant u (admissions (line ∷ front) u)
       n i
       (admitted (admissions (line ∷ front) t0) (place front t0))
   ended_for_new u n i j step lj same =
-      let P : ℕ → Type 0 = λ x. is_in x (needed input.plant t0 (place front t0)) ≡ true in
-      let need = subst P (sym same) (step_needed input.plant t0 (place front t0) j lj) in
-      let over = ended_on_needed input front t0 u n i admits.unbarred step need (timely_front.admitted_by u n step.admitted_move) in
+      let P : ℕ → Type 0 = λ x. is_in x (claimed input.plant t0 (place front t0)) ≡ true in
+      let claim = subst P (sym same) (step_claimed input.plant t0 (place front t0) j lj) in
       let Q : ℕ → Type 0 = λ time. HasEnded input.plant u (admissions (line ∷ front) u) n i time in
-      subst Q (sym (admitted_new ∙ admits.now)) (ended_kept u n i (instant front) step.admitted_move over)
+      ⊎_elim
+      (λ may_bar.
+      let over = ended_on_claimed input front t0 u n i admits.unbarred step may_bar claim (timely_front.admitted_by u n step.admitted_move) in
+      subst Q (sym (admitted_new ∙ admits.now)) (ended_kept u n i (instant front) step.admitted_move step.step (omega (arith, admits.now)) over))
+      (λ own.
+      let R : ℕ → Type 0 = λ v. suc n ≡ place front t0 → steps input.plant v n ≤ i → i < claims input.plant v n
+      → is_in (step_section input.plant v n i) (claimed input.plant t0 (place front t0)) ≡ true
+      → HasEnded input.plant v (admissions (line ∷ front) v) n i line.entry.at in
+      subst Q (sym admitted_new) (subst R (sym own.0) own_ended own.1 own.2 step.step claim))
+      (own_or_bars u n i step.step)
+    where
+      own_ended : suc n ≡ place front t0 → steps input.plant t0 n ≤ i → i < claims input.plant t0 n
+          → is_in (step_section input.plant t0 n i) (claimed input.plant t0 (place front t0)) ≡ true
+          → HasEnded input.plant t0 (admissions (line ∷ front) t0) n i line.entry.at
+      own_ended last over li claim =
+          let S : List ℕ → Type 0 = λ adms. HasEnded input.plant t0 adms n i line.entry.at in
+          let T : ℕ → Type 0 = λ k. is_in (step_section input.plant t0 n i) (claimed input.plant t0 k) ≡ true in
+          subst S (sym (admission_added line front t0 m0 note admits.what))
+          (own_overlap_ended input.plant t0 fine (admissions front t0) line.entry.at n i last over li (subst T (sym last) claim))
 
   admission_apart : NeverOverlap input.plant front → NeverOverlap input.plant (line ∷ front)
   admission_apart h t m j u n i first_step second_step same =
@@ -114,14 +150,14 @@ module _ (input : Input) (fine : IsWellFormed input.plant) (line : Line) (front 
       (λ old_first. ⊎_elim
       (λ old_second. still old_first old_second (h t m j u n i old_first old_second same))
       (λ new_second.
-      let P : ℕ → ℕ → Type 0 = λ v k. i < steps input.plant v k → step_section input.plant t m j ≡ step_section input.plant v k i → AreApart input.plant (line ∷ front) t m j v k i in
+      let P : ℕ → ℕ → Type 0 = λ v k. i < claims input.plant v k → step_section input.plant t m j ≡ step_section input.plant v k i → AreApart input.plant (line ∷ front) t m j v k i in
       let Q : ℕ → Type 0 = λ k. P t0 k in
       let R : ℕ → Type 0 = λ v. P v n in
       subst R (sym new_second.0) (subst Q (sym new_second.1) (λ li is. first (ended_for_new t m j i old_first li is))) second_step.step same)
       (split_step u n i second_step))
       (λ new_first. ⊎_elim
       (λ old_second.
-      let P : ℕ → ℕ → Type 0 = λ v k. j < steps input.plant v k → step_section input.plant v k j ≡ step_section input.plant u n i → AreApart input.plant (line ∷ front) v k j u n i in
+      let P : ℕ → ℕ → Type 0 = λ v k. j < claims input.plant v k → step_section input.plant v k j ≡ step_section input.plant u n i → AreApart input.plant (line ∷ front) v k j u n i in
       let Q : ℕ → Type 0 = λ k. P t0 k in
       let R : ℕ → Type 0 = λ v. P v m in
       subst R (sym new_first.0) (subst Q (sym new_first.1) (λ lj is. second (ended_for_new u n i j old_second lj (sym is)))) first_step.step same)
@@ -133,10 +169,10 @@ module _ (input : Input) (fine : IsWellFormed input.plant) (line : Line) (front 
       still s1 s2 (one a b c) = one a b c
       still s1 s2 (first e) =
           let P : ℕ → Type 0 = λ time. HasEnded input.plant t (admissions front t) m j time in
-          first (ended_kept t m j (admitted (admissions (line ∷ front) u) n) s1.admitted_move (subst P (sym (admitted_kept u n s2.admitted_move)) e))
+          first (ended_kept t m j (admitted (admissions (line ∷ front) u) n) s1.admitted_move s1.step (by_now u n s2.admitted_move) (subst P (sym (admitted_kept u n s2.admitted_move)) e))
       still s1 s2 (second e) =
           let P : ℕ → Type 0 = λ time. HasEnded input.plant u (admissions front u) n i time in
-          second (ended_kept u n i (admitted (admissions (line ∷ front) t) m) s2.admitted_move (subst P (sym (admitted_kept t m s1.admitted_move)) e))
+          second (ended_kept u n i (admitted (admissions (line ∷ front) t) m) s2.admitted_move s2.step (by_now t m s1.admitted_move) (subst P (sym (admitted_kept t m s1.admitted_move)) e))
 
       both_new : (t ≡ t0) × (m ≡ place front t0) → (u ≡ t0) × (n ≡ place front t0) → AreApart input.plant (line ∷ front) t m j u n i
       both_new a b =
@@ -145,7 +181,7 @@ module _ (input : Input) (fine : IsWellFormed input.plant) (line : Line) (front 
           let P : ℕ → ℕ → Type 0 = λ v k. step_section input.plant t m j ≡ step_section input.plant v k i in
           let Q : ℕ → Type 0 = λ k. P t k in
           let R : ℕ → Type 0 = λ v. P v n in
-          let S : ℕ → ℕ → Type 0 = λ v k. i < steps input.plant v k in
+          let S : ℕ → ℕ → Type 0 = λ v k. i < claims input.plant v k in
           let T : ℕ → Type 0 = λ k. S t k in
           let U : ℕ → Type 0 = λ v. S v n in
           let li = subst T (sym moves_same) (subst U (sym trains_same) second_step.step) in

@@ -8,11 +8,12 @@ use Rattle.rail_base.specs.declared.history.What.TheVariants.{Free, Told, Untold
 use Rattle.rail_base.specs.declared.history.Note.{Note}
 use Rattle.rail_rules.specs.Numbers.{same_numbers, is_in}
 use Rattle.rail_rules.specs.Moves.{stand}
-use Rattle.rail_rules.specs.Plant.{Plant, trains, moves, moves_of, steps, step_section}
+use Rattle.rail_rules.specs.Plant.{Plant, trains, moves, moves_of, claims, step_section}
 use Rattle.rail_rules.specs.Fronts.{Line, Front, at_time, instant, has_ended, admissions, code_of, same_entry, stands}
 use Rattle.rail_rules.specs.Orders.{Input, told, is_cancelled}
 use Rattle.rail_rules.specs.Times.{is_admitted}
-use Rattle.rail_rules.specs.Intervals.{does_stand, is_open, end_time}
+use Rattle.rail_rules.specs.Intervals.{does_stand, is_open, is_taken_over, end_time}
+use Rattle.rail_rules.proofs.CallerLemmas.{end_taken, freed_from, taken_parts}
 use Rattle.rail_rules.specs.Events.{command_line, due_lines, is_quiet, ready_line}
 use Rattle.rail_rules.specs.Causes.{place, is_deciding}
 use Rattle.rail_laws_front.specs.Premises.{IsWellFormed}
@@ -49,10 +50,15 @@ pub free_due : (input : Input) (front : Front) (t m j : ℕ) → IsTimely input 
     ≡ true
 free_due input front t m j h step closed later =
     let line : Entry = at_time (end_time input.plant t (admissions front t) m j) (Free (step_section input.plant t m j) t) in
+    let untaken : is_taken_over input.plant t (admissions front t) m j ≡ false =
+    ⊎_elim
+    (λ taken. absurd (omega (arith, later, end_taken input.plant t (admissions front t) m j taken, h.admitted_by t (suc m) (taken_parts input.plant t (admissions front t) m j taken).more)))
+    (λ no. no)
+    (cases_Bool (is_taken_over input.plant t (admissions front t) m j)) in
     ⊎_elim
     (λ stood. absurd (omega (arith, h.past line stood)))
     (λ due. due)
-    (stands_or_due input front t line step.known (freeing m j step.admitted_move step.step closed refl))
+    (stands_or_due input front t line step.known (freeing m j step.admitted_move step.step (freed_from input.plant t (admissions front t) m j closed untaken) refl))
 
 -- the ready line of the next move of a train that isn't cancelled stands or is due
 pub ready_stands_or_due : (input : Input) (front : Front) (t : ℕ) → t < trains input.plant
@@ -88,7 +94,7 @@ are_standing input fine front =
           let last_first = open_move plant t (admissions front t) m j first.admitted_move opens_first in
           let last_second = open_move plant t (admissions front t) n i second.admitted_move opens_second in
           let moves_same : m ≡ n = omega (arith, last_first.0, last_second.0) in
-          let P : ℕ → Type 0 = λ k. i < steps plant t k → step_section plant t m j ≡ step_section plant t k i → j ≡ i in
+          let P : ℕ → Type 0 = λ k. i < claims plant t k → step_section plant t m j ≡ step_section plant t k i → j ≡ i in
           let room : m < moves plant t = standing_room t m j last_first.1 in
           (moves_same, subst P moves_same (λ li is. fine.distinct t m j i room first.step li is) second.step same);
     }

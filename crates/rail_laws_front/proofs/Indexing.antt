@@ -5,11 +5,11 @@ use Rattle.std.proofs.lemmas.Bool.{cases_Bool, false≢true, eqb-true, eq-eqb, c
 use Rattle.rail_base.specs.declared.history.Entry.{Entry}
 use Rattle.rail_base.specs.declared.history.What.TheVariants.{Free, Out}
 use Rattle.rail_rules.specs.Numbers.{gather}
-use Rattle.rail_rules.specs.Plant.{Plant, trains, moves, steps, step_section}
+use Rattle.rail_rules.specs.Plant.{Plant, trains, moves, steps, claims, step_section}
 use Rattle.rail_rules.specs.Fronts.{Front, at_time, admissions}
 use Rattle.rail_rules.specs.Orders.{Input, told, is_cancelled}
 use Rattle.rail_rules.specs.Times.{out}
-use Rattle.rail_rules.specs.Intervals.{is_open, end_time, end_of}
+use Rattle.rail_rules.specs.Intervals.{is_unfreed, end_time, freed_at}
 use Rattle.rail_rules.specs.Events.{enter_line, arrive_line, free_lines, out_lines, ready_line, move_events, moved_events, ready_events, train_events, events}
 use Rattle.rail_laws_front.specs.EventLines.{IsEvent}
 use Rattle.rail_laws_front.specs.EventLines.IsEvent.{entering, arriving, freeing, leaving, readying}
@@ -26,23 +26,23 @@ module _ (plant : Plant) (t : ℕ) (adms : List ℕ) (cancelled : Bool) (p : Ent
   enters m = gather (λ j. enter_line plant t adms m j ∷ []) (steps plant t m)
 
   frees : ℕ → List Entry
-  frees m = gather (λ j. free_lines t (step_section plant t m j) (end_of plant t adms m j)) (steps plant t m)
+  frees m = gather (λ j. free_lines t (step_section plant t m j) (freed_at plant t adms m j)) (claims plant t m)
 
-  free_found : (m j : ℕ) → m < length adms → j < steps plant t m → list_any p (free_lines t (step_section plant t m j) (end_of plant t adms m j)) ≡ true → Passes plant t adms cancelled p
+  free_found : (m j : ℕ) → m < length adms → j < claims plant t m → list_any p (free_lines t (step_section plant t m j) (freed_at plant t adms m j)) ≡ true → Passes plant t adms cancelled p
   free_found m j lm lj h =
       ⊎_elim
-      (λ opens.
+      (λ unfreed.
       let P : Option ℕ → Type 0 = λ o. list_any p (free_lines t (step_section plant t m j) o) ≡ true in
-      absurd (false≢true (subst P (cond-true (is_open plant t adms m j) None (Some (end_time plant t adms m j)) opens) h)))
+      absurd (false≢true (subst P (cond-true (is_unfreed plant t adms m j) None (Some (end_time plant t adms m j)) unfreed) h)))
       (λ closed.
       let P : Option ℕ → Type 0 = λ o. list_any p (free_lines t (step_section plant t m j) o) ≡ true in
       let line : Entry = at_time (end_time plant t adms m j) (Free (step_section plant t m j) t) in
       record {
         entry = line;
         event = freeing m j lm lj closed refl;
-        passing = one_found p line (subst P (cond-false (is_open plant t adms m j) None (Some (end_time plant t adms m j)) closed) h);
+        passing = one_found p line (subst P (cond-false (is_unfreed plant t adms m j) None (Some (end_time plant t adms m j)) closed) h);
       })
-      (cases_Bool (is_open plant t adms m j))
+      (cases_Bool (is_unfreed plant t adms m j))
 
   out_found : (m : ℕ) → m < length adms → list_any p (out_lines plant t adms m) ≡ true → Passes plant t adms cancelled p
   out_found m lm h =
@@ -73,7 +73,7 @@ module _ (plant : Plant) (t : ℕ) (adms : List ℕ) (cancelled : Bool) (p : Ent
       (λ one. record { entry = arrive_line plant t adms m; event = arriving m lm refl; passing = one_found p (arrive_line plant t adms m) one })
       (append_cases p (enters m) (arrive_line plant t adms m ∷ []) two))
       (λ two.
-      let found = gather_found p (λ j. free_lines t (step_section plant t m j) (end_of plant t adms m j)) (steps plant t m) two in
+      let found = gather_found p (λ j. free_lines t (step_section plant t m j) (freed_at plant t adms m j)) (claims plant t m) two in
       free_found m found.0 lm found.1 found.2)
       (append_cases p (enters m ++ arrive_line plant t adms m ∷ []) (frees m) three))
       (λ three. out_found m lm three)
@@ -122,8 +122,8 @@ module _ (plant : Plant) (t : ℕ) (adms : List ℕ) (cancelled : Bool) (p : Ent
       in_moved m lm
       (append_left p (enters m ++ arrive_line plant t adms m ∷ [] ++ frees m) (out_lines plant t adms m)
       (append_right p (enters m ++ arrive_line plant t adms m ∷ []) (frees m)
-      (gather_from p (λ i. free_lines t (step_section plant t m i) (end_of plant t adms m i)) (steps plant t m) j lj
-      (subst P (sym (cond-false (is_open plant t adms m j) None (Some (end_time plant t adms m j)) closed))
+      (gather_from p (λ i. free_lines t (step_section plant t m i) (freed_at plant t adms m i)) (claims plant t m) j lj
+      (subst P (sym (cond-false (is_unfreed plant t adms m j) None (Some (end_time plant t adms m j)) closed))
       (one_from p (at_time (end_time plant t adms m j) (Free (step_section plant t m j) t)) (sym (ap p is) ∙ h))))))
   event_from e (leaving m lm last is) h =
       let line : Entry = at_time (out plant t adms m) (Out t) in

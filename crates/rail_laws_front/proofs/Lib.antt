@@ -5,6 +5,8 @@ mod Growing
 mod DueFound
 mod Timely
 mod Unblocked
+mod Claimed
+mod Standing
 mod Apart
 mod PlacesKept
 mod Due

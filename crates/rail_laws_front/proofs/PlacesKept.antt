@@ -9,14 +9,14 @@ use Rattle.rail_base.specs.declared.history.What.TheVariants.{Free, Arrive, Ente
 use Rattle.rail_rules.specs.Numbers.{listed, is_in, any_below, are_apart}
 use Rattle.rail_rules.specs.Moves.{Moves, stand}
 use Rattle.rail_rules.specs.Places.{place_of, is_inside, holds, is_held, is_legal, after, is_valid_state, completes}
-use Rattle.rail_rules.specs.Plant.{Plant, trains, moves, moves_of, needed, step_section}
+use Rattle.rail_rules.specs.Plant.{Plant, trains, moves, moves_of, claimed, steps, step_section}
 use Rattle.rail_rules.specs.Fronts.{Line, Front, is_admission, admissions, places, kept, kept_after}
 use Rattle.rail_rules.specs.Orders.{Input}
 use Rattle.rail_rules.specs.Times.{is_admitted}
 use Rattle.rail_rules.specs.Intervals.{is_open, does_stand}
 use Rattle.rail_rules.specs.Causes.{place, bar}
 use Rattle.rail_rules.specs.Lawful.{is_lawful}
-use Rattle.rail_rules.proofs.CallerLemmas.{any_below_none, list_any_none, state_from_parts, stand_needed, legal_move_kept, admissions_kept, gather_same}
+use Rattle.rail_rules.proofs.CallerLemmas.{any_below_none, list_any_none, state_from_parts, steps_claimed, legal_move_kept, admissions_kept, gather_same}
 use Rattle.rail_laws_front.specs.Premises.{IsWellFormed}
 use Rattle.rail_laws_front.specs.Views.{Admits, Follows}
 use Rattle.rail_laws_front.specs.Views.Follows.{by_event, by_admission, by_hold, by_end}
@@ -25,7 +25,9 @@ use Rattle.rail_laws_front.proofs.Adding.{not_admitted}
 use Rattle.rail_laws_front.specs.Invariant.{IsTimely}
 use Rattle.rail_laws_front.proofs.Growing.{admission_added, admission_of_other, event_admits_nothing, waiting_parts}
 use Rattle.rail_laws_front.proofs.Timely.{timely}
-use Rattle.rail_laws_front.proofs.Unblocked.{ended_on_needed, needed_step}
+use Rattle.rail_laws_front.proofs.Unblocked.{ended_on_claimed, needed_bars}
+use Rattle.rail_laws_front.proofs.Claimed.{needed_step}
+use Rattle.rail_laws_front.proofs.Standing.{stands_inside, stands_needed}
 use Rattle.rail_rules.specs.Overlaps.{IsStep}
 
 -- how many items are listed, and which
@@ -85,23 +87,24 @@ waiting_known plant t p lt = ⊎_elim (λ known. known) (λ past. absurd (omega 
 pub standing_is_open : (input : Input) → IsWellFormed input.plant → (front : Front) (t x : ℕ)
     → t < trains input.plant → is_in x (stand (moves_of input.plant) t (place front t)) ≡ true
     → (m : ℕ) × (j : ℕ) × IsStep input.plant front t m j × (suc m ≡ place front t)
-    × (step_section input.plant t m j ≡ x) × (is_open input.plant t (admissions front t) m j ≡ true)
+    × (step_section input.plant t m j ≡ x) × (is_open input.plant t (admissions front t) m j ≡ true) × (j < steps input.plant t m)
 standing_is_open input fine front t x lt is = at_place (place front t) refl is
   where
-    at_place : (p : ℕ) → place front t ≡ p → is_in x (stand (moves_of input.plant) t p) ≡ true → (m : ℕ) × (j : ℕ) × IsStep input.plant front t m j × (suc m ≡ place front t) × (step_section input.plant t m j ≡ x) × (is_open input.plant t (admissions front t) m j ≡ true)
+    at_place : (p : ℕ) → place front t ≡ p → is_in x (stand (moves_of input.plant) t p) ≡ true → (m : ℕ) × (j : ℕ) × IsStep input.plant front t m j × (suc m ≡ place front t) × (step_section input.plant t m j ≡ x) × (is_open input.plant t (admissions front t) m j ≡ true) × (j < steps input.plant t m)
     at_place zero here is = absurd (false≢true is)
     at_place (suc m) here is =
-        let need = stand_needed (moves_of input.plant) t m x fine.valid lt is in
+        let need = stands_needed input.plant t m x (stands_inside input.plant t m x is).1 in
         let found = needed_step input.plant t m x need in
         let P : ℕ → Type 0 = λ y. is_in y (stand (moves_of input.plant) t (suc m)) ≡ true in (
           m,
           found.0,
-          record { known = lt; admitted_move = omega (arith, here); step = found.1 },
+          record { known = lt; admitted_move = omega (arith, here); step = omega (arith, found.1, steps_claimed input.plant t m) },
           sym here,
           found.2,
           and_from (does_stand input.plant t m found.0) (not (is_admitted (admissions front t) (suc m)))
               (subst P (sym found.2) is)
               (not_from_false (is_admitted (admissions front t) (suc m)) (not_admitted (admissions front t) (suc m) (omega (arith, here)))),
+          found.1,
         )
 
 -- a move that nothing bars is legal
@@ -111,23 +114,23 @@ unbarred_legal input fine front t h unbarred room =
     let s : List ℕ = places input.plant front in
     let known = waiting_known input.plant t (place front t) room in
     let here = place_in input.plant front t known in
-    let nobody : (x : ℕ) → is_in x (needed input.plant t (place front t)) ≡ true → is_held plan s x ≡ false = λ x need.
+    let nobody : (x : ℕ) → is_in x (claimed input.plant t (place front t)) ≡ true → is_held plan s x ≡ false = λ x need.
     any_below_none (λ u. holds plan s u x) (length s) (λ u lu.
     let u_known : u < trains input.plant = omega (arith, lu, places_long input.plant front) in
     ⊎_elim
     (λ held.
     let P : ℕ → Type 0 = λ p. is_in x (stand plan u p) ≡ true in
     let found = standing_is_open input fine front u x u_known (subst P (place_in input.plant front u u_known) held) in
-    let Q : ℕ → Type 0 = λ y. is_in y (needed input.plant t (place front t)) ≡ true in
-    let over = ended_on_needed input front t u found.0 found.1 unbarred found.2 (subst Q (sym found.4) need) (h.admitted_by u found.0 found.2.admitted_move) in
+    let Q : ℕ → Type 0 = λ y. is_in y (claimed input.plant t (place front t)) ≡ true in
+    let over = ended_on_claimed input front t u found.0 found.1 unbarred found.2 (needed_bars input.plant t u (place front u) found.0 found.1 found.6) (subst Q (sym found.4) need) (h.admitted_by u found.0 found.2.admitted_move) in
     absurd (false≢true (sym over.closed ∙ found.5)))
     (λ free. free)
     (cases_Bool (holds plan s u x))) in
-    let R : ℕ → Type 0 = λ p. (ltb p (moves input.plant t) && not (list_any (is_held plan s) (needed input.plant t p))) ≡ true in
+    let R : ℕ → Type 0 = λ p. (ltb p (moves input.plant t) && not (list_any (is_held plan s) (claimed input.plant t p))) ≡ true in
     subst R (sym here)
-    (and_from (ltb (place front t) (moves input.plant t)) (not (list_any (is_held plan s) (needed input.plant t (place front t))))
+    (and_from (ltb (place front t) (moves input.plant t)) (not (list_any (is_held plan s) (claimed input.plant t (place front t))))
     (lt-ltb (place front t) (moves input.plant t) room)
-    (not_from_false (list_any (is_held plan s) (needed input.plant t (place front t))) (list_any_none (is_held plan s) (needed input.plant t (place front t)) nobody)))
+    (not_from_false (list_any (is_held plan s) (claimed input.plant t (place front t))) (list_any_none (is_held plan s) (claimed input.plant t (place front t)) nobody)))
 
 -- nobody is inside at the beginning
 start_place : (plant : Plant) (t : ℕ) → place_of (places plant []) t ≡ 0

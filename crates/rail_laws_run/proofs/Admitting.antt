@@ -20,7 +20,7 @@ use Rattle.rail_laws_run.proofs.Staying.{tally_both}
 use Rattle.rail_laws_run.proofs.Commands.{commands_left}
 use Rattle.rail_laws_run.proofs.Split.{due_split}
 use Rattle.rail_laws_run.proofs.Sorts.{tells_none}
-use Rattle.rail_laws_run.proofs.DueAndToCome.{arrival_stays, gained_stays}
+use Rattle.rail_laws_run.proofs.DueAndToCome.{taken_back_stays, gained_stays}
 
 -- the due lines after an admission
 pub admission_due : (input : Input) → IsWellFormed input.plant → (line : Line) (front : Front) → is_lawful input (line ∷ front) ≡ true → (t m : ℕ) (note : Note) → Admits input front line t m note → (p : Entry → Bool) → IsBlind p
@@ -37,6 +37,6 @@ admission_due input fine line front lawful t m note admits p blind =
       ap (λ os. tally (λ e. is_kept os e.what && p e) (to_come input.plant (line ∷ front))) (tells_none input line front no_command),
       commands_left p blind input line front no_command,
       admission_change input fine line front lawful t m note admits (λ e. k e && p e),
-      tally_both k p (taken_back input.plant t (admissions front t) (place front t)) (arrival_stays input.plant t (admissions front t) orders runs (place front t)),
+      tally_both k p (taken_back input.plant t (admissions front t) (place front t)) (taken_back_stays input.plant t (admissions front t) orders runs (place front t)),
       tally_both k p (gained input.plant t (admissions (line ∷ front) t) (place front t)) (gained_stays input.plant t (admissions (line ∷ front) t) orders runs (place front t)),
     )

@@ -45,3 +45,30 @@ sum-none p f (suc n) each h =
     let before : any_below p n ≡ false = ⊎_elim (λ some. absurd (false≢true (sym h ∙ or_left (any_below p n) (p n) some))) (λ none. none) (cases_Bool (any_below p n)) in
     let here : p n ≡ false = ⊎_elim (λ some. absurd (false≢true (sym h ∙ or_right (any_below p n) (p n) some))) (λ none. none) (cases_Bool (p n)) in
     omega (arith, sum-none p f n (λ i lt. each i (omega (arith, lt))) before, each n (omega arith) here)
+
+-- each number of a sum is no more than the sum
+pub sum-at : (f : ℕ → ℕ) (n k : ℕ) → k < n → f k ≤ sum_below f n
+sum-at f zero k lt = absurd (omega (arith, lt))
+sum-at f (suc n) k lt =
+    ⊎_elim
+    (λ below. omega (arith, sum-at f n k below))
+    (λ above.
+    let here : n ≡ k = omega (arith, lt, above) in
+    omega (arith, ap f here))
+    (cases_lt k n)
+
+-- a sum over more numbers is no less
+pub sum-more : (f : ℕ → ℕ) (n more : ℕ) → sum_below f n ≤ sum_below f (n + more)
+sum-more f n zero = let same : n ≡ n + 0 = omega arith in omega (arith, ap (sum_below f) same)
+sum-more f n (suc more) = let same : suc (n + more) ≡ n + suc more = omega arith in omega (arith, ap (sum_below f) same, sum-more f n more)
+
+-- a sum of numbers, each of which is shared out in as many shares, is no more than the sum of the shares' sums
+pub sum-shared : (g : ℕ → ℕ) (f : ℕ → ℕ → ℕ) (n s : ℕ) → ((i : ℕ) → i < n → g i ≤ sum_below (λ x. f x i) s) → sum_below g n ≤ sum_below (λ x. sum_below (f x) n) s
+sum-shared g f zero s each = omega arith
+sum-shared g f (suc n) s each =
+    omega (
+      arith,
+      sum-shared g f n s (λ i lt. each i (omega (arith, lt))),
+      each n (omega arith),
+      sum-two (λ x. sum_below (f x) (suc n)) (λ x. sum_below (f x) n) (λ x. f x n) s (λ x lt. refl),
+    )

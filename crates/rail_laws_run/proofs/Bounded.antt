@@ -27,7 +27,7 @@ stays_below input accepted front t lawful known =
     let h : IsLimited plant = limited plant accepts in
     let far : Reaches plant front = reaches input accepted front lawful in
     let few : length adms ≤ moves plant t = few_admissions input fine front lawful t known in
-    let v : ℕ = 1015816640000 in
+    let v : ℕ = 4063240640000 in
     let high : 8640000 ≤ v = omega arith in
     let runs : (m : ℕ) → m ≤ length adms → free_run plant t adms m ≤ v = λ m le. far.run t m known le in
     let admission : (m : ℕ) → admitted adms m ≤ v + 8646000 = λ m.
@@ -42,6 +42,6 @@ stays_below input accepted front t lawful known =
       enters = λ m j lt le. omega (arith, enter_within plant fine h t known adms few v high runs m j lt le);
       stops = λ m lt. omega (arith, runs (suc m) (omega (arith, lt)), h.stop t known);
       arrives = λ m lt. omega (arith, arrive_within plant fine h t known adms few v high runs m lt);
-      ends = λ m j lt lj closed. omega (arith, end_within plant fine h t known adms few v high runs m j lt lj closed);
+      ends = λ m j lt lj closed. omega (arith, end_within plant fine h t known adms few v high runs m j lt closed);
       leaves = λ m lt. omega (arith, out_within plant fine h t known adms few v high runs m lt);
     }

@@ -22,10 +22,10 @@ pub use Rattle.rail_laws_run.proofs.Telling.{command_gone}
 
 -- An admission takes the arrival before it out of the due lines and adds what comes with its move.
 pub use Rattle.rail_laws_run.proofs.Admitting.{admission_due}
--- Bounding: how many lines are due at most.
+-- Pending: how many lines are due at once.
 
--- No more lines are due than the bound allows lines of a history.
-pub use Rattle.rail_laws_run.proofs.Bounding.{due_bound}
+-- No more lines are due than three for each section, two for each train and one for each command.
+pub use Rattle.rail_laws_run.proofs.Pending.{few_due}
 -- HoldersKept: the table of holders from line to line.
 
 -- Before the first line nobody holds a section.
@@ -34,14 +34,34 @@ pub use Rattle.rail_laws_run.proofs.HoldersKept.{at_first}
 pub use Rattle.rail_laws_run.proofs.HoldersKept.{frees_one}
 -- Lines that are neither free lines nor admissions leave the holders as they are.
 pub use Rattle.rail_laws_run.proofs.HoldersKept.{kept}
--- An admission over sections that nobody holds makes its train their holder.
-pub use Rattle.rail_laws_run.proofs.HoldersKept.{takes}
 -- The table after a train takes sections: it is as long as before, and the holders of other sections stay.
 pub use Rattle.rail_laws_run.proofs.HoldersKept.{taken_long, taken_out}
 -- Blocking: at a decision the holders are the blockers.
 
--- So the first needed section that is blocked, and by whom, is told by the table of holders.
+-- So the first section that is blocked for a train, and by whom, is told by the table of holders and the train's own overlap.
 pub use Rattle.rail_laws_run.proofs.Blocking.{blocked_is}
+-- Owning: the overlap of a train's last admitted move, and that admissions come in order.
+
+-- Admissions of a train come in the order of its moves.
+pub use Rattle.rail_laws_run.proofs.Owning.{admissions_rise}
+-- An interval that there is isn't empty.
+pub use Rattle.rail_laws_run.proofs.Owning.{interval_lasts}
+-- A section of a train's own overlap is that of a step behind the needed ones of its last admitted move.
+pub use Rattle.rail_laws_run.proofs.Owning.{IsOwnStep, own_step}
+-- Taking: the table of holders after an admission.
+
+-- An admission over sections whose holders don't bar its train makes the train their holder.
+pub use Rattle.rail_laws_run.proofs.Taking.{takes}
+-- A section of the own overlap is taken over exactly where the move claims it and the table says that the train holds it.
+pub use Rattle.rail_laws_run.proofs.Taking.{taken_over_is}
+-- A train that passes still holds its whole own overlap.
+pub use Rattle.rail_laws_run.proofs.Taking.{passing_holds}
+-- So the free lines of the own overlap after an admission are those of the sections that aren't taken over, at the end of the timer.
+pub use Rattle.rail_laws_run.proofs.Taking.{overlap_frees_after}
+-- OneFree: the free line of an overlap that is still held.
+
+-- Of a section of its own overlap that a train still holds, the free line is the only one of the section that is due.
+pub use Rattle.rail_laws_run.proofs.OneFree.{one_free_due}
 -- Coming: without commands what is due is what is to come; how much that is, and what it is.
 
 -- Only event lines of trains are to come: tests that agree on these count the same.

@@ -5,8 +5,8 @@ use Rattle.rail_base.specs.declared.history.Entry.{Entry}
 use Rattle.rail_base.specs.declared.history.What.TheVariants.{Free, Out}
 use Rattle.rail_base.specs.declared.orders.Order.{Order}
 use Rattle.rail_rules.specs.Numbers.{gather}
-use Rattle.rail_rules.specs.Plant.{Plant, moves, steps, step_section}
-use Rattle.rail_rules.specs.Intervals.{does_stand, end_time, end_of}
+use Rattle.rail_rules.specs.Plant.{Plant, moves, overlap, steps, claims, step_section}
+use Rattle.rail_rules.specs.Intervals.{does_stand, end_time, freed_at}
 use Rattle.rail_rules.specs.Fronts.{at_time}
 use Rattle.rail_rules.specs.Orders.{is_cancelled}
 use Rattle.rail_rules.specs.Events.{arrive_line, enter_line, free_lines, move_events, out_lines, ready_line}
@@ -24,9 +24,15 @@ module _ (plant : Plant) (t : ℕ) (adms : List ℕ) (orders : List Order) (runs
   abbrev lost : Entry → Bool
   lost e = not (is_kept orders e.what)
 
-  pub arrival_stays : (m : ℕ) → list_any lost (taken_back plant t adms m) ≡ false
-  arrival_stays zero = refl
-  arrival_stays (suc m) = refl
+  free_stays : (x : ℕ) (o : Option ℕ) → list_any lost (free_lines t x o) ≡ false
+  free_stays x None = refl
+  free_stays x (Some at) = refl
+
+  pub taken_back_stays : (m : ℕ) → list_any lost (taken_back plant t adms m) ≡ false
+  taken_back_stays zero = refl
+  taken_back_stays (suc m) =
+      gather_none lost (λ i. free_lines t (step_section plant t m (steps plant t m + i)) (freed_at plant t adms m (steps plant t m + i))) (length (overlap plant t m))
+      (λ i. free_stays (step_section plant t m (steps plant t m + i)) (freed_at plant t adms m (steps plant t m + i)))
 
   freed_stays : (m : ℕ) → list_any lost (freed_before plant t adms m) ≡ false
   freed_stays zero = refl
@@ -35,10 +41,6 @@ module _ (plant : Plant) (t : ℕ) (adms : List ℕ) (orders : List Order) (runs
       of : (b : Bool) (at x : ℕ) → list_any lost (cond b (at_time at (Free x t) ∷ []) []) ≡ false
       of true at x = refl
       of false at x = refl
-
-  free_stays : (x : ℕ) (o : Option ℕ) → list_any lost (free_lines t x o) ≡ false
-  free_stays x None = refl
-  free_stays x (Some at) = refl
 
   out_stays : (m : ℕ) → list_any lost (out_lines plant t adms m) ≡ false
   out_stays m = of (Rattle.std.proofs.Common.eqb (suc m) (moves plant t))
@@ -51,7 +53,7 @@ module _ (plant : Plant) (t : ℕ) (adms : List ℕ) (orders : List Order) (runs
   enters m = gather (λ j. enter_line plant t adms m j ∷ []) (steps plant t m)
 
   frees : ℕ → List Entry
-  frees m = gather (λ j. free_lines t (step_section plant t m j) (end_of plant t adms m j)) (steps plant t m)
+  frees m = gather (λ j. free_lines t (step_section plant t m j) (freed_at plant t adms m j)) (claims plant t m)
 
   move_stays : (m : ℕ) → list_any lost (move_events plant t adms m) ≡ false
   unfolding enters frees
@@ -59,7 +61,7 @@ module _ (plant : Plant) (t : ℕ) (adms : List ℕ) (orders : List Order) (runs
       append_none lost (enters m ++ arrive_line plant t adms m ∷ [] ++ frees m) (out_lines plant t adms m)
       (append_none lost (enters m ++ arrive_line plant t adms m ∷ []) (frees m)
       (append_none lost (enters m) (arrive_line plant t adms m ∷ []) (gather_none lost (λ j. enter_line plant t adms m j ∷ []) (steps plant t m) (λ j. refl)) refl)
-      (gather_none lost (λ j. free_lines t (step_section plant t m j) (end_of plant t adms m j)) (steps plant t m) (λ j. free_stays (step_section plant t m j) (end_of plant t adms m j))))
+      (gather_none lost (λ j. free_lines t (step_section plant t m j) (freed_at plant t adms m j)) (claims plant t m) (λ j. free_stays (step_section plant t m j) (freed_at plant t adms m j))))
       (out_stays m)
 
   ready_stays : (m : ℕ) → list_any lost (ready_after plant t adms m) ≡ false
@@ -73,6 +75,6 @@ module _ (plant : Plant) (t : ℕ) (adms : List ℕ) (orders : List Order) (runs
   gained_stays m =
       append_none lost (taken_back plant t adms m ++ freed_before plant t adms m ++ move_events plant t adms m) (ready_after plant t adms m)
       (append_none lost (taken_back plant t adms m ++ freed_before plant t adms m) (move_events plant t adms m)
-      (append_none lost (taken_back plant t adms m) (freed_before plant t adms m) (arrival_stays m) (freed_stays m))
+      (append_none lost (taken_back plant t adms m) (freed_before plant t adms m) (taken_back_stays m) (freed_stays m))
       (move_stays m))
       (ready_stays m)

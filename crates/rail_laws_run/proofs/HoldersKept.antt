@@ -1,25 +1,21 @@
 -- The table of holders from line to line.
-use Rattle.std.proofs.Common.{◌≡◌, ℕ, zero, suc, ◌+◌, ◌<◌, ◌≤◌, Bool, true, false, ◌&&◌, cond, eqb, ltb, List, [], ◌∷◌, length, get_or, set, replicate, Option, Some, None, refl, sym, ap, ◌∙◌, subst, ⊎_elim, arith}
-use Rattle.std.specs.List.{list_all}
-use Rattle.std.proofs.lemmas.Bool.{and_left, and_from, and_parts, cases_Bool, cases_lt, cond-true, cond-false, eqb-true, eq-eqb, ne_eqb, ltb-true, false≢true, or_cases, or_left, or_right}
+use Rattle.std.proofs.Common.{◌≡◌, ℕ, zero, suc, ◌+◌, ◌<◌, ◌≤◌, Bool, true, false, not, ◌&&◌, ◌||◌, cond, eqb, List, [], ◌∷◌, length, get_or, set, replicate, Option, Some, None, refl, sym, ap, ◌∙◌, subst, ⊎_elim, arith}
+use Rattle.std.proofs.lemmas.Bool.{and_left, and_from, cases_Bool, cases_lt, cond-true, cond-false, eqb-true, eq-eqb, ne_eqb, false≢true, or_cases, or_left, or_right}
 use Rattle.std.proofs.lemmas.List.{length-set, get_or-set_same, get_or-set_other, get_or_past}
 use Rattle.std.proofs.lemmas.Option.{none-some}
 use Rattle.rail_base.specs.declared.history.Entry.{Entry}
-use Rattle.rail_base.specs.declared.history.Note.{Note}
 use Rattle.rail_base.specs.declared.history.What.{What}
 use Rattle.rail_base.specs.declared.history.What.TheVariants.{Free, Arrive, Enter, Out, Ready, Told, Untold, Admit, Hold, End}
 use Rattle.rail_rules.specs.Accepted.{is_accepted}
 use Rattle.rail_rules.specs.Numbers.{is_in, sum_below}
 use Rattle.rail_rules.specs.Orders.{Input}
-use Rattle.rail_rules.specs.Plant.{Plant, move_row, moves, needed, steps, step_section, trains}
+use Rattle.rail_rules.specs.Plant.{Plant, claims, step_section, trains}
 use Rattle.rail_rules.specs.Fronts.{Front, Line, admissions, is_admission, same_entry}
-use Rattle.rail_rules.specs.Intervals.{end_time, is_open}
-use Rattle.rail_rules.specs.Causes.{place}
+use Rattle.rail_rules.specs.Intervals.{end_time, is_open, is_taken_over}
 use Rattle.rail_rules.specs.Lawful.{is_lawful}
-use Rattle.rail_rules.proofs.CallerLemmas.{admissions_kept, accepted_parts, move_in_range, row_in_range}
+use Rattle.rail_rules.proofs.CallerLemmas.{admissions_kept}
 use Rattle.rail_laws_front.specs.Premises.{IsWellFormed}
-use Rattle.rail_laws_front.specs.Views.{Admits}
-use Rattle.rail_laws_front.proofs.CallerLemmas.{well_formed_from_accepted, length_added, lawful_before, admission_added, admission_of_other, waiting_parts, waiting_known, needed_step, step_needed, same_entry_refl}
+use Rattle.rail_laws_front.proofs.CallerLemmas.{well_formed_from_accepted, lawful_before, same_entry_refl}
 use Rattle.rail_laws_events.specs.Accounts.{all_events, is_train_event, tally, written}
 use Rattle.rail_laws_events.proofs.CallerLemmas.{account, one_entry, train_event_change, tally-append, tally-same}
 use Rattle.rail_laws_front.specs.EventLines.{IsEvent}
@@ -27,7 +23,7 @@ use Rattle.rail_laws_front.specs.EventLines.IsEvent.{entering, arriving, freeing
 use Rattle.rail_laws_run.specs.LinesToCome.{ToCome}
 use Rattle.rail_laws_run.proofs.Coming.{to_come_found}
 use Rattle.rail_laws_run.specs.HolderTables.{AreHolders, frees, frees_for, is_train, taken, taken_by}
-use Rattle.rail_laws_run.proofs.Amounts.{sum-le, sum-only, sum-zero}
+use Rattle.rail_laws_run.proofs.Amounts.{sum-le}
 use Rattle.rail_laws_run.proofs.Frees.{all_freed, freed, freed_one, frees_by}
 
 -- nobody holds any of so many sections
@@ -54,10 +50,10 @@ at_first plant = record {
 }
 
 -- the lines written after a line
-written_after : (p : Entry → Bool) (line : Line) (front : Front) → tally p (written (line ∷ front)) ≡ tally p (cond (is_train_event line.entry.what) (line.entry ∷ []) []) + tally p (written front)
+pub written_after : (p : Entry → Bool) (line : Line) (front : Front) → tally p (written (line ∷ front)) ≡ tally p (cond (is_train_event line.entry.what) (line.entry ∷ []) []) + tally p (written front)
 written_after p line front = tally-append p (cond (is_train_event line.entry.what) (line.entry ∷ []) []) (written front)
 
-one_line : (p : Entry → Bool) (b : Bool) (e : Entry) → p e ≡ false → tally p (cond b (e ∷ []) []) ≡ 0
+pub one_line : (p : Entry → Bool) (b : Bool) (e : Entry) → p e ≡ false → tally p (cond b (e ∷ []) []) ≡ 0
 one_line p true e none = omega (arith, cond-false {A = ℕ} (p e) 1 0 none)
 one_line p false e none = refl
 
@@ -87,20 +83,22 @@ kept plant line front idle other h are = record {
   known = are.known;
 }
 
--- the closed intervals of a train on a section are at most all of them
-freed_few : (plant : Plant) (t : ℕ) (adms : List ℕ) (x : ℕ) (by : ℕ → Bool) → freed plant t adms x by ≤ taken plant t adms x
+-- the free lines of a train on a section are at most as many as it took it
+pub freed_few : (plant : Plant) (t : ℕ) (adms : List ℕ) (x : ℕ) (by : ℕ → Bool) → freed plant t adms x by ≤ taken plant t adms x
 freed_few plant t adms x by =
-    sum-le (λ m. sum_below (freed_one plant t adms x by m) (steps plant t m)) (λ m. sum_below (λ j. cond (eqb (step_section plant t m j) x) 1 0) (steps plant t m)) (length adms)
-    (λ m lt. sum-le (freed_one plant t adms x by m) (λ j. cond (eqb (step_section plant t m j) x) 1 0) (steps plant t m)
-    (λ j lj. of (is_open plant t adms m j) (eqb (step_section plant t m j) x) (by (end_time plant t adms m j))))
+    let took : ℕ → ℕ → ℕ = λ m j. cond (eqb (step_section plant t m j) x && not (is_taken_over plant t adms m j)) 1 0 in
+    sum-le (λ m. sum_below (freed_one plant t adms x by m) (claims plant t m)) (λ m. sum_below (took m) (claims plant t m)) (length adms)
+    (λ m lt. sum-le (freed_one plant t adms x by m) (took m) (claims plant t m)
+    (λ j lj. of (is_open plant t adms m j) (is_taken_over plant t adms m j) (eqb (step_section plant t m j) x) (by (end_time plant t adms m j))))
   where
-    of : (open_still here passes : Bool) → cond open_still 0 (cond (here && passes) 1 0) ≤ cond here 1 0
-    of true here passes = omega arith
-    of false true true = omega arith
-    of false true false = omega arith
-    of false false passes = omega arith
+    of : (open_still taken_there here passes : Bool) → cond (open_still || taken_there) 0 (cond (here && passes) 1 0) ≤ cond (here && not taken_there) 1 0
+    of true taken_there here passes = omega arith
+    of false true here passes = omega arith
+    of false false true true = omega arith
+    of false false true false = omega arith
+    of false false false passes = omega arith
 
-is_one : (t : ℕ) (o : Option ℕ) → 0 < cond (is_train t o) 1 0 → o ≡ Some t
+pub is_one : (t : ℕ) (o : Option ℕ) → 0 < cond (is_train t o) 1 0 → o ≡ Some t
 is_one t None h = absurd (omega (arith, h))
 is_one t (Some u) h =
     ⊎_elim
@@ -232,137 +230,3 @@ taken_in h (x ∷ xs) t y lt there =
 pub taken_long : (h : List (Option ℕ)) (xs : List ℕ) (t : ℕ) → length (taken_by h xs t) ≡ length h
 taken_long h [] t = refl
 taken_long h (x ∷ xs) t = taken_long (set h x (Some t)) xs t ∙ length-set h x (Some t)
-
--- how often a move runs over a section: once or never
-move_takes : (plant : Plant) → IsWellFormed plant → (t m : ℕ) → m < moves plant t → (x : ℕ) → sum_below (λ j. cond (eqb (step_section plant t m j) x) 1 0) (steps plant t m) ≡ cond (is_in x (needed plant t m)) 1 0
-move_takes plant fine t m lt x =
-    ⊎_elim
-    (λ there.
-    let found = needed_step plant t m x there in
-    let j : ℕ = found.0 in
-    sum-only (λ i. cond (eqb (step_section plant t m i) x) 1 0) (steps plant t m) j found.1
-    (λ i li other. cond-false {A = ℕ} (eqb (step_section plant t m i) x) 1 0 (ne_eqb (step_section plant t m i) x (λ e. other (fine.distinct t m i j lt li found.1 (e ∙ sym found.2)))))
-    ∙ cond-true {A = ℕ} (eqb (step_section plant t m j) x) 1 0 (eq-eqb (step_section plant t m j) x found.2)
-    ∙ sym (cond-true {A = ℕ} (is_in x (needed plant t m)) 1 0 there))
-    (λ not_there.
-    sum-zero (λ i. cond (eqb (step_section plant t m i) x) 1 0) (steps plant t m)
-    (λ i li. cond-false {A = ℕ} (eqb (step_section plant t m i) x) 1 0 (ne_eqb (step_section plant t m i) x (λ e. false≢true (sym not_there ∙ subst (λ y. is_in y (needed plant t m) ≡ true) e (step_needed plant t m i li)))))
-    ∙ sym (cond-false {A = ℕ} (is_in x (needed plant t m)) 1 0 not_there))
-    (cases_Bool (is_in x (needed plant t m)))
-
--- a number of the list passes where all do
-all_of : (p : ℕ → Bool) (xs : List ℕ) (y : ℕ) → list_all p xs ≡ true → is_in y xs ≡ true → p y ≡ true
-all_of p [] y all there = absurd (false≢true there)
-all_of p (z ∷ zs) y all there =
-    let both = and_parts (p z) (list_all p zs) all in
-    ⊎_elim
-    (λ here. subst (λ w. p w ≡ true) (eqb-true z y here) both.0)
-    (λ later. all_of p zs y both.1 later)
-    (or_cases (eqb z y) (is_in y zs) there)
-
--- the needed sections are known
-in_range : (plant : Plant) → is_accepted plant ≡ true → (t m : ℕ) → m < moves plant t → t < trains plant → (x : ℕ) → is_in x (needed plant t m) ≡ true → x < length plant.tables.sections
-in_range plant accepted t m lt known x there =
-    let row = row_in_range plant (accepted_parts plant accepted).trains_in_range t known in
-    let move = move_in_range (length plant.tables.sections) (move_row plant t m) (row.each_move m lt) in
-    ltb-true x (length plant.tables.sections) (all_of (λ y. ltb y (length plant.tables.sections)) (needed plant t m) x move.known there)
-
-pub takes : (input : Input) → is_accepted input.plant ≡ true → (line : Line) (front : Front)
-    → (t m : ℕ) (note : Note) → Admits input front line t m note → (h : List (Option ℕ))
-    → ((x : ℕ) → is_in x (needed input.plant t (place front t)) ≡ true → get_or h x None ≡ None)
-    → AreHolders input.plant front h
-    → AreHolders input.plant (line ∷ front) (taken_by h (needed input.plant t (place front t)) t)
-takes input accepted line front t m note admits h free are = record {
-  long = taken_long h (needed plant t (place front t)) t ∙ are.long;
-  each = λ u x lt.
-      ⊎_elim
-      (λ there. taken_each u x lt there (eqb u t) refl)
-      (λ not_there. untaken_each u x lt not_there (eqb u t) refl)
-      (cases_Bool (is_in x (needed plant t (place front t))));
-  known = λ u x is.
-      ⊎_elim
-      (λ there. subst (λ v. v < trains plant) (some_same (sym (taken_in h (needed plant t (place front t)) t x (section_in x there) there) ∙ is)) train_known)
-      (λ not_there. are.known u x (sym (taken_out h (needed plant t (place front t)) t x not_there) ∙ is))
-      (cases_Bool (is_in x (needed plant t (place front t))));
-}
-  where
-    plant : Plant
-    plant = input.plant
-
-    left : place front t < moves input.plant t
-    left = (waiting_parts input front t admits.waiting).room
-
-    train_known : t < trains input.plant
-    train_known = waiting_known input.plant t (place front t) left
-
-    fine : IsWellFormed input.plant
-    fine = well_formed_from_accepted input.plant accepted
-
-    section_in : (x : ℕ) → is_in x (needed input.plant t (place front t)) ≡ true → x < length h
-    section_in x there = omega (arith, in_range input.plant accepted t (place front t) left train_known x there, are.long)
-
-    some_same : {a b : ℕ} → Some a ≡ Some b → a ≡ b
-    some_same e = ap (λ o. Rattle.std.specs.Option.option_map_or (λ n. n) o 0) e
-
-    same_written : (x u : ℕ) → tally (frees x u) (written (line ∷ front)) ≡ tally (frees x u) (written front)
-    same_written x u = omega (arith, written_after (frees x u) line front, one_line (frees x u) (is_train_event line.entry.what) line.entry (ap (frees_for x u) admits.what))
-
-    more : (x : ℕ) → taken input.plant t (admissions (line ∷ front) t) x ≡ taken input.plant t (admissions front t) x + cond (is_in x (needed input.plant t (place front t))) 1 0
-    more x =
-        ap (λ adms. taken input.plant t adms x) (admission_added line front t m note admits.what)
-        ∙ ap (λ n. sum_below (λ k. sum_below (λ j. cond (eqb (step_section input.plant t k j) x) 1 0) (steps input.plant t k)) n) (length_added (admissions front t) line.entry.at)
-        ∙ ap (λ n. taken input.plant t (admissions front t) x + n) (move_takes input.plant fine t (place front t) left x)
-
-    taken_each : (u x : ℕ) → u < trains input.plant → is_in x (needed input.plant t (place front t)) ≡ true
-        → (b : Bool) → eqb u t ≡ b
-        → cond (is_train u (get_or (taken_by h (needed input.plant t (place front t)) t) x None)) 1 0
-        + tally (frees x u) (written (line ∷ front)) ≡ taken input.plant u (admissions (line ∷ front) u) x
-    taken_each u x lt there true same =
-        let e : t ≡ u = sym (eqb-true u t same) in
-        subst (λ v. cond (is_train v (get_or (taken_by h (needed input.plant t (place front t)) t) x None)) 1 0 + tally (frees x v) (written (line ∷ front)) ≡ taken input.plant v (admissions (line ∷ front) v) x) e
-        (omega (
-          arith,
-          are.each t x train_known,
-          same_written x t,
-          more x,
-          cond-true {A = ℕ} (is_in x (needed input.plant t (place front t))) 1 0 there,
-          ap {B = ℕ} (λ o. cond (is_train t o) 1 0) (free x there),
-          ap {B = ℕ} (λ o. cond (is_train t o) 1 0) (taken_in h (needed input.plant t (place front t)) t x (section_in x there) there),
-          cond-true {A = ℕ} (eqb t t) 1 0 (eq-eqb t t refl),
-        ))
-    taken_each u x lt there false other =
-        let apart : u ≡ t → ⊥ = λ e. false≢true (sym other ∙ eq-eqb u t e) in
-        omega (
-          arith,
-          are.each u x lt,
-          same_written x u,
-          ap (λ adms. taken input.plant u adms x) (admission_of_other line front t m note u admits.what apart),
-          ap {B = ℕ} (λ o. cond (is_train u o) 1 0) (free x there),
-          ap {B = ℕ} (λ o. cond (is_train u o) 1 0) (taken_in h (needed input.plant t (place front t)) t x (section_in x there) there),
-          cond-false {A = ℕ} (eqb t u) 1 0 (ne_eqb t u (λ e. apart (sym e))),
-        )
-
-    untaken_each : (u x : ℕ) → u < trains input.plant → is_in x (needed input.plant t (place front t)) ≡ false
-        → (b : Bool) → eqb u t ≡ b
-        → cond (is_train u (get_or (taken_by h (needed input.plant t (place front t)) t) x None)) 1 0
-        + tally (frees x u) (written (line ∷ front)) ≡ taken input.plant u (admissions (line ∷ front) u) x
-    untaken_each u x lt not_there true same =
-        let e : t ≡ u = sym (eqb-true u t same) in
-        subst (λ v. cond (is_train v (get_or (taken_by h (needed input.plant t (place front t)) t) x None)) 1 0 + tally (frees x v) (written (line ∷ front)) ≡ taken input.plant v (admissions (line ∷ front) v) x) e
-        (omega (
-          arith,
-          are.each t x train_known,
-          same_written x t,
-          more x,
-          cond-false {A = ℕ} (is_in x (needed input.plant t (place front t))) 1 0 not_there,
-          ap {B = ℕ} (λ o. cond (is_train t o) 1 0) (taken_out h (needed input.plant t (place front t)) t x not_there),
-        ))
-    untaken_each u x lt not_there false other =
-        let apart : u ≡ t → ⊥ = λ e. false≢true (sym other ∙ eq-eqb u t e) in
-        omega (
-          arith,
-          are.each u x lt,
-          same_written x u,
-          ap (λ adms. taken input.plant u adms x) (admission_of_other line front t m note u admits.what apart),
-          ap {B = ℕ} (λ o. cond (is_train u o) 1 0) (taken_out h (needed input.plant t (place front t)) t x not_there),
-        )

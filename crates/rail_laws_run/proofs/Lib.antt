@@ -8,14 +8,18 @@ mod Happening
 mod Telling
 mod DueAndToCome
 mod Admitting
-mod Bounding
 -- Lemmas on the holders of sections, which the laws cite.
 mod Amounts
 mod Frees
 mod HoldersKept
+mod Owning
 mod Blocking
--- Lemmas on lines to come and on the heads of trains, which the laws above cite.
+mod Taking
+mod HoldersThere
+-- Lemmas on lines to come, how many are due at once, and the heads of trains, which the laws above cite.
 mod Coming
+mod Pending
+mod OneFree
 mod Heads
 -- Lemmas on which trains are ready, what hold lines say and which line may follow, which the laws above cite.
 mod ReadyLines

@@ -1,5 +1,6 @@
--- Due lines with commands.
+-- Due lines with commands, and how many are due at once.
 pub mod KeptLines
+pub mod MostDue
 -- The holders of sections.
 pub mod HolderTables
 -- Lines to come, and which section a train's head enters next.

@@ -9,12 +9,12 @@ use Rattle.rail_base.specs.declared.history.Cause.TheVariants.{Stopped, Closed, 
 use Rattle.rail_base.specs.declared.orders.Order.{Order}
 use Rattle.rail_rules.specs.Accepted.{is_accepted}
 use Rattle.rail_rules.specs.Numbers.{first_below, or_else}
-use Rattle.rail_rules.specs.Plant.{Plant, trains, moves, needed}
+use Rattle.rail_rules.specs.Plant.{Plant, trains, moves, claimed}
 use Rattle.rail_rules.specs.Fronts.{Front, option_code, same_cause}
 use Rattle.rail_rules.specs.Orders.{Input, told, is_closed, is_stopped}
 use Rattle.rail_rules.specs.Causes.{place, blocker, stop_cause, closed_cause, blocked_cause, bar, list_cause, cause}
 use Rattle.rail_rules.specs.Writable.{is_known_train, is_known_section, is_writable_cause}
-use Rattle.rail_laws_text.proofs.Known.{train_known, needs_known}
+use Rattle.rail_laws_text.proofs.Known.{train_known, claims_known}
 
 -- the cause, if there is one, can be written
 abbrev pub names_known : Plant → Option Cause → Bool
@@ -46,13 +46,13 @@ blocker_known plant test x ok (suc n) le =
     (λ _. refl) in
     either_blocker plant x (first_below test n) (cond (test n) (Some n) None) (blocker_known plant test x ok n (omega arith)) last
 
-blocked_known : (input : Input) (front : Front) (sections : List ℕ) → list_all (is_known_section input.plant) sections ≡ true → names_known input.plant (blocked_cause input front sections) ≡ true
-blocked_known input front [] ok = refl
-blocked_known input front (x ∷ sections) ok =
+blocked_known : (input : Input) (front : Front) (t : ℕ) (sections : List ℕ) → list_all (is_known_section input.plant) sections ≡ true → names_known input.plant (blocked_cause input front t sections) ≡ true
+blocked_known input front t [] ok = refl
+blocked_known input front t (x ∷ sections) ok =
     let both = and_parts (is_known_section input.plant x) (list_all (is_known_section input.plant) sections) ok in
-    either input.plant (option_map (Blocked x) (blocker input front x)) (blocked_cause input front sections)
+    either input.plant (option_map (Blocked x) (blocker input front t x)) (blocked_cause input front t sections)
     (blocker_known input.plant _ x both.0 (trains input.plant) (omega arith))
-    (blocked_known input front sections both.1)
+    (blocked_known input front t sections both.1)
 
 stop_known : (plant : Plant) (t : ℕ) (orders : List Order) → names_known plant (stop_cause t orders) ≡ true
 stop_known plant t orders = cond_both (is_stopped t orders) (Some Stopped) None (λ why. names_known plant why ≡ true) (λ _. refl) (λ _. refl)
@@ -64,11 +64,11 @@ no_list_known plant b = cond_both b None (Some NoList) (λ why. names_known plan
 pub cause_known : (input : Input) → is_accepted input.plant ≡ true → (front : Front) (t : ℕ) → place front t < moves input.plant t → names_known input.plant (cause input front t) ≡ true
 cause_known input ok front t lt =
     let orders : List Order = told input.commands front in
-    let sections : List ℕ = needed input.plant t (place front t) in
-    let known : list_all (is_known_section input.plant) sections ≡ true = needs_known input.plant ok t (place front t) lt in
+    let sections : List ℕ = claimed input.plant t (place front t) in
+    let known : list_all (is_known_section input.plant) sections ≡ true = claims_known input.plant ok t (place front t) lt in
     either input.plant (bar input front t) (list_cause input front t)
-    (either input.plant (stop_cause t orders) (or_else (closed_cause sections orders) (blocked_cause input front sections)) (stop_known input.plant t orders)
-    (either input.plant (closed_cause sections orders) (blocked_cause input front sections) (closed_known input.plant orders sections known) (blocked_known input front sections known)))
+    (either input.plant (stop_cause t orders) (or_else (closed_cause sections orders) (blocked_cause input front t sections)) (stop_known input.plant t orders)
+    (either input.plant (closed_cause sections orders) (blocked_cause input front t sections) (closed_known input.plant orders sections known) (blocked_known input front t sections known)))
     (no_list_known input.plant _)
 
 -- what the numbers of a cause say

@@ -21,6 +21,7 @@ use Rattle.rail_rules.specs.Orders.{Input, told, is_cancelled}
 use Rattle.rail_rules.specs.Causes.{place, is_ready, is_deciding, cause, is_told_so, places_after}
 use Rattle.rail_rules.specs.Lawful.{is_bare, is_lawful, remaining}
 use Rattle.rail_rules.specs.Writable.{does_fit_counter, is_known_move, is_known_train, is_writable, is_writable_what, is_writable_note, is_writable_cause}
+use Rattle.rail_rules.proofs.CallerLemmas.{steps_claimed}
 use Rattle.rail_laws_front.specs.EventLines.{IsEvent}
 use Rattle.rail_laws_front.specs.EventLines.IsEvent.{entering, arriving, freeing, leaving, readying}
 use Rattle.rail_laws_front.specs.Views.{Admits, Follows}
@@ -52,7 +53,7 @@ event_known : (plant : Plant) → is_accepted plant ≡ true
     → is_writable_what plant line e.what ≡ true
 event_known plant ok t adms cancelled line lt few bare e (entering m j lm step is) =
     let P : Entry → Type 0 = λ e. is_writable_what plant line e.what ≡ true in
-    subst P (sym is) (and_from _ _ (and_from _ _ (move_known plant ok t (suc m) lt (omega arith)) (step_known plant ok t m j (omega arith) step)) bare)
+    subst P (sym is) (and_from _ _ (and_from _ _ (move_known plant ok t (suc m) lt (omega arith)) (step_known plant ok t m j (omega arith) (omega (arith, step, steps_claimed plant t m)))) bare)
 event_known plant ok t adms cancelled line lt few bare e (arriving m lm is) =
     let P : Entry → Type 0 = λ e. is_writable_what plant line e.what ≡ true in
     subst P (sym is) (and_from _ _ (move_known plant ok t (suc m) lt (omega arith)) bare)

@@ -10,13 +10,13 @@ use Rattle.rail_base.specs.declared.history.What.TheVariants.{Admit}
 use Rattle.rail_rules.specs.Moves.{Moves}
 use Rattle.rail_rules.specs.Numbers.{sum_below}
 use Rattle.rail_rules.specs.Places.{after, completes, holds, is_legal, place_of}
-use Rattle.rail_rules.specs.Plant.{moves, moves_of, needed, trains}
+use Rattle.rail_rules.specs.Plant.{moves, moves_of, claimed, trains}
 use Rattle.rail_rules.specs.Fronts.{Front, Line, has_ended, has_held, instant, kept, kept_after, places, with_rest_of, without_first}
 use Rattle.rail_rules.specs.Orders.{told}
 use Rattle.rail_rules.specs.Causes.{closed_cause, is_deciding, is_ready, place, stop_cause, waits}
 use Rattle.rail_rules.specs.Lawful.{is_bare, may_follow, note_fits}
 use Rattle.rail_laws_front.proofs.CallerLemmas.{place_in, places_raised, unbarred_legal, timely}
-use Rattle.rail_laws_run.specs.HolderTables.{held_cause}
+use Rattle.rail_laws_run.specs.HolderTables.{held_cause, own_overlap}
 use Rattle.rail_judging.specs.Verdicts.{broken_law, is_forbidden, is_misplaced, is_occupied}
 use Rattle.rail_place.specs.Made.{State, IsMadeFor}
 use Rattle.rail_place.specs.Tables.{moves_in, MoveLists}
@@ -147,23 +147,23 @@ module _ (front : Front) (ledger : Ledger) (at : IsAt front ledger) (going : led
     known : t < trains ledger.input.plant
     known = known_of front ledger at t f.waits_it
 
-    all_known : list_all (λ x. nat_lt x (length ledger.input.plant.tables.sections)) (needed ledger.input.plant t (place front t)) ≡ true
+    all_known : list_all (λ x. nat_lt x (length ledger.input.plant.tables.sections)) (claimed ledger.input.plant t (place front t)) ≡ true
     all_known = sections_known ledger.input.plant at.rep.accepted t known (place front t) (left_of front ledger at t f.waits_it)
 
     stop_now : stop_in ledger.orders t ≡ stop_cause t (told ledger.input.commands.items front)
     stop_now = stop_is ledger.input.plant ledger.input.deck.items ledger.input.force (told ledger.input.commands.items front) ledger.orders t at.ordered known
 
-    closed_now : closed_in ledger.orders (needed ledger.input.plant t train_state.place) ≡ closed_cause (needed ledger.input.plant t (place front t)) (told ledger.input.commands.items front)
-    closed_now = ap (λ p. closed_in ledger.orders (needed ledger.input.plant t p)) place_same
-        ∙ closed_is ledger.input.plant ledger.input.deck.items ledger.input.force (told ledger.input.commands.items front) ledger.orders (needed ledger.input.plant t (place front t)) at.ordered all_known
+    closed_now : closed_in ledger.orders (claimed ledger.input.plant t train_state.place) ≡ closed_cause (claimed ledger.input.plant t (place front t)) (told ledger.input.commands.items front)
+    closed_now = ap (λ p. closed_in ledger.orders (claimed ledger.input.plant t p)) place_same
+        ∙ closed_is ledger.input.plant ledger.input.deck.items ledger.input.force (told ledger.input.commands.items front) ledger.orders (claimed ledger.input.plant t (place front t)) at.ordered all_known
 
-    forbidden_is : is_forbidden (input_in ledger.input) front t ≡ is_forbidden_by ledger.orders t (needed ledger.input.plant t train_state.place)
+    forbidden_is : is_forbidden (input_in ledger.input) front t ≡ is_forbidden_by ledger.orders t (claimed ledger.input.plant t train_state.place)
     forbidden_is = (λ i. is_some (sym stop_now i) || is_some (sym closed_now i))
 
-    occupied_is : is_occupied (input_in ledger.input) front t ≡ is_some (held_cause ledger.state.holders (needed ledger.input.plant t train_state.place))
+    occupied_is : is_occupied (input_in ledger.input) front t ≡ is_some (held_cause ledger.state.holders t (own_overlap ledger.input.plant t train_state.place) (claimed ledger.input.plant t train_state.place))
     occupied_is =
-        ap is_some (holders_block (input_in ledger.input) at.rep.accepted front at.rep.lawful decides ledger.state.holders at.rep.holders (needed ledger.input.plant t (place front t)))
-        ∙ ap (λ p. is_some (held_cause ledger.state.holders (needed ledger.input.plant t p))) (sym place_same)
+        ap is_some (holders_block (input_in ledger.input) at.rep.accepted front at.rep.lawful decides ledger.state.holders at.rep.holders t (claimed ledger.input.plant t (place front t)))
+        ∙ ap (λ p. is_some (held_cause ledger.state.holders t (own_overlap ledger.input.plant t p) (claimed ledger.input.plant t p))) (sym place_same)
 
   law_is : broken_law (input_in ledger.input) front line ≡ cond (is_misplaced (input_in ledger.input) front line t m) 2 (cond (is_forbidden (input_in ledger.input) front t) 3 (cond (is_occupied (input_in ledger.input) front t) 4 5))
   law_is = cond-false (has_ended front) 1 _ still
@@ -171,8 +171,8 @@ module _ (front : Front) (ledger : Ledger) (at : IsAt front ledger) (going : led
   -- what a line that may follow says of what is kept
   record Fits : Type 0 where
     place_fits : InPlace
-    allowed : is_forbidden_by ledger.orders t (needed ledger.input.plant t train_state.place) ≡ false
-    free : is_some (held_cause ledger.state.holders (needed ledger.input.plant t train_state.place)) ≡ false
+    allowed : is_forbidden_by ledger.orders t (claimed ledger.input.plant t train_state.place) ≡ false
+    free : is_some (held_cause ledger.state.holders t (own_overlap ledger.input.plant t train_state.place) (claimed ledger.input.plant t train_state.place)) ≡ false
     given : may_be_given (moves_of ledger.input.plant) (places ledger.input.plant front) (kept ledger.input.plant front) t note list ≡ true
 
   fits : may_follow (input_in ledger.input) front line ≡ true → Fits
@@ -182,28 +182,28 @@ module _ (front : Front) (ledger : Ledger) (at : IsAt front ledger) (going : led
       let p5 = and_parts _ (note_fits line train_state.place note) p6.0 in
       let p4 = and_parts _ (not held) p5.0 in
       let p3 = and_parts _ (eqb m (suc train_state.place)) p4.0 in
-      let p2 = and_parts _ (not (is_some (seen_bar (told ledger.input.commands.items front) ledger.state.holders t (needed ledger.input.plant t train_state.place)))) p3.0 in
+      let p2 = and_parts _ (not (is_some (seen_bar (told ledger.input.commands.items front) ledger.state.holders t (own_overlap ledger.input.plant t train_state.place) (claimed ledger.input.plant t train_state.place)))) p3.0 in
       let p1 = and_parts (eqb when ledger.state.instant) (not (is_due_now ledger.state) && train_state.waits) p2.0 in
       let q = and_parts (not (is_due_now ledger.state)) train_state.waits p1.1 in
       let f : InPlace = record { now = eqb-true when ledger.state.instant p1.0; not_due = not-true (is_due_now ledger.state) q.0; waits_it = q.1; next = eqb-true m (suc train_state.place) p3.1; unheld = not-true held p4.1 } in
       record {
         place_fits = f;
-        allowed = ap (λ o. is_some o || is_some (closed_in ledger.orders (needed ledger.input.plant t train_state.place))) (stop_now f)
+        allowed = ap (λ o. is_some o || is_some (closed_in ledger.orders (claimed ledger.input.plant t train_state.place))) (stop_now f)
             ∙ ap (λ o. is_some (stop_cause t (told ledger.input.commands.items front)) || is_some o) (closed_now f)
-            ∙ (λ i. (bars f p2.1).0 i || is_some (closed_cause (needed ledger.input.plant t (sym (place_same f) i)) (told ledger.input.commands.items front)))
+            ∙ (λ i. (bars f p2.1).0 i || is_some (closed_cause (claimed ledger.input.plant t (sym (place_same f) i)) (told ledger.input.commands.items front)))
             ∙ (bars f p2.1).1;
         free = (bars f p2.1).2;
         given = by_note f note p5.1 p6.1;
       }
     where
       -- what bars nothing is neither a stop nor a closed section nor a held one
-      bars : InPlace → not (is_some (seen_bar (told ledger.input.commands.items front) ledger.state.holders t (needed ledger.input.plant t train_state.place))) ≡ true
+      bars : InPlace → not (is_some (seen_bar (told ledger.input.commands.items front) ledger.state.holders t (own_overlap ledger.input.plant t train_state.place) (claimed ledger.input.plant t train_state.place))) ≡ true
           → (is_some (stop_cause t (told ledger.input.commands.items front)) ≡ false)
-          × (is_some (closed_cause (needed ledger.input.plant t train_state.place) (told ledger.input.commands.items front)) ≡ false)
-          × (is_some (held_cause ledger.state.holders (needed ledger.input.plant t train_state.place)) ≡ false)
+          × (is_some (closed_cause (claimed ledger.input.plant t train_state.place) (told ledger.input.commands.items front)) ≡ false)
+          × (is_some (held_cause ledger.state.holders t (own_overlap ledger.input.plant t train_state.place) (claimed ledger.input.plant t train_state.place)) ≡ false)
       bars f none =
           let first = neither (stop_cause t (told ledger.input.commands.items front)) _ (not-true _ none) in
-          let second = neither (closed_cause (needed ledger.input.plant t train_state.place) (told ledger.input.commands.items front)) (held_cause ledger.state.holders (needed ledger.input.plant t train_state.place)) first.1 in
+          let second = neither (closed_cause (claimed ledger.input.plant t train_state.place) (told ledger.input.commands.items front)) (held_cause ledger.state.holders t (own_overlap ledger.input.plant t train_state.place) (claimed ledger.input.plant t train_state.place)) first.1 in
           (first.0, second.0, second.1)
 
       by_note : InPlace → (n : Note) → note_fits (admission when t m n list) train_state.place n ≡ true
@@ -243,21 +243,21 @@ module _ (front : Front) (ledger : Ledger) (at : IsAt front ledger) (going : led
             unheld = held_is ∙ not-true (has_held front) p3.1;
           }))))
 
-  pub refused_forbidden : is_in_place ledger when t m held ≡ true → is_forbidden_by ledger.orders t (needed ledger.input.plant t train_state.place) ≡ true → (may_follow (input_in ledger.input) front line ≡ false) × (broken_law (input_in ledger.input) front line ≡ 3)
+  pub refused_forbidden : is_in_place ledger when t m held ≡ true → is_forbidden_by ledger.orders t (claimed ledger.input.plant t train_state.place) ≡ true → (may_follow (input_in ledger.input) front line ≡ false) × (broken_law (input_in ledger.input) front line ≡ 3)
   refused_forbidden here barred =
       let f = in_place here in (
         false_from_ne_true (may_follow (input_in ledger.input) front line) (λ may. false≢true (sym (fits may).allowed ∙ barred)),
         law_is ∙ cond-false (is_misplaced (input_in ledger.input) front line t m) 2 _ (placed f) ∙ cond-true (is_forbidden (input_in ledger.input) front t) 3 _ (forbidden_is f ∙ barred),
       )
 
-  pub refused_occupied : is_in_place ledger when t m held ≡ true → is_forbidden_by ledger.orders t (needed ledger.input.plant t train_state.place) ≡ false → is_some (held_cause ledger.state.holders (needed ledger.input.plant t train_state.place)) ≡ true → (may_follow (input_in ledger.input) front line ≡ false) × (broken_law (input_in ledger.input) front line ≡ 4)
+  pub refused_occupied : is_in_place ledger when t m held ≡ true → is_forbidden_by ledger.orders t (claimed ledger.input.plant t train_state.place) ≡ false → is_some (held_cause ledger.state.holders t (own_overlap ledger.input.plant t train_state.place) (claimed ledger.input.plant t train_state.place)) ≡ true → (may_follow (input_in ledger.input) front line ≡ false) × (broken_law (input_in ledger.input) front line ≡ 4)
   refused_occupied here allowed taken =
       let f = in_place here in (
         false_from_ne_true (may_follow (input_in ledger.input) front line) (λ may. false≢true (sym (fits may).free ∙ taken)),
         law_is ∙ cond-false (is_misplaced (input_in ledger.input) front line t m) 2 _ (placed f) ∙ cond-false (is_forbidden (input_in ledger.input) front t) 3 _ (forbidden_is f ∙ allowed) ∙ cond-true (is_occupied (input_in ledger.input) front t) 4 5 (occupied_is f ∙ taken),
       )
 
-  pub refused_list : is_in_place ledger when t m held ≡ true → is_forbidden_by ledger.orders t (needed ledger.input.plant t train_state.place) ≡ false → is_some (held_cause ledger.state.holders (needed ledger.input.plant t train_state.place)) ≡ false
+  pub refused_list : is_in_place ledger when t m held ≡ true → is_forbidden_by ledger.orders t (claimed ledger.input.plant t train_state.place) ≡ false → is_some (held_cause ledger.state.holders t (own_overlap ledger.input.plant t train_state.place) (claimed ledger.input.plant t train_state.place)) ≡ false
       → may_be_given (moves_of ledger.input.plant) (places ledger.input.plant front) (kept ledger.input.plant front) t note list ≡ false
       → (may_follow (input_in ledger.input) front line ≡ false) × (broken_law (input_in ledger.input) front line ≡ 5)
   refused_list here allowed free none =
@@ -269,7 +269,7 @@ module _ (front : Front) (ledger : Ledger) (at : IsAt front ledger) (going : led
   pub waits_in_place : is_in_place ledger when t m held ≡ true → train_state.waits ≡ true
   waits_in_place here = (in_place here).waits_it
 
-  pub admissible_in_place : is_in_place ledger when t m held ≡ true → is_forbidden_by ledger.orders t (needed ledger.input.plant t train_state.place) ≡ false → is_some (held_cause ledger.state.holders (needed ledger.input.plant t train_state.place)) ≡ false
+  pub admissible_in_place : is_in_place ledger when t m held ≡ true → is_forbidden_by ledger.orders t (claimed ledger.input.plant t train_state.place) ≡ false → is_some (held_cause ledger.state.holders t (own_overlap ledger.input.plant t train_state.place) (claimed ledger.input.plant t train_state.place)) ≡ false
       → (is_deciding (input_in ledger.input) front ≡ true) × IsAdmissible (dispatch_in ledger.input) ledger.input.plant front ledger.state.holders ledger.state.trains t
   admissible_in_place here allowed free =
       let f = in_place here in (
@@ -280,12 +280,12 @@ module _ (front : Front) (ledger : Ledger) (at : IsAt front ledger) (going : led
           unheld = sym held_is
               ∙ f.unheld;
           free =
-              ap (λ c. or_else c (or_else (closed_cause (needed ledger.input.plant t (place front t)) (told ledger.input.commands.items front)) (held_cause ledger.state.holders (needed ledger.input.plant t (place front t)))))
-              (sym (stop_now f) ∙ none_of (stop_in ledger.orders t) (or_parts (is_some (stop_in ledger.orders t)) (is_some (closed_in ledger.orders (needed ledger.input.plant t train_state.place))) allowed).0)
-              ∙ ap (λ c. or_else c (held_cause ledger.state.holders (needed ledger.input.plant t (place front t))))
-              (sym (closed_now f) ∙ none_of (closed_in ledger.orders (needed ledger.input.plant t train_state.place)) (or_parts (is_some (stop_in ledger.orders t)) (is_some (closed_in ledger.orders (needed ledger.input.plant t train_state.place))) allowed).1)
-              ∙ none_of (held_cause ledger.state.holders (needed ledger.input.plant t (place front t)))
-              (ap (λ p. is_some (held_cause ledger.state.holders (needed ledger.input.plant t p))) (sym (place_same f)) ∙ free);
+              ap (λ c. or_else c (or_else (closed_cause (claimed ledger.input.plant t (place front t)) (told ledger.input.commands.items front)) (held_cause ledger.state.holders t (own_overlap ledger.input.plant t (place front t)) (claimed ledger.input.plant t (place front t)))))
+              (sym (stop_now f) ∙ none_of (stop_in ledger.orders t) (or_parts (is_some (stop_in ledger.orders t)) (is_some (closed_in ledger.orders (claimed ledger.input.plant t train_state.place))) allowed).0)
+              ∙ ap (λ c. or_else c (held_cause ledger.state.holders t (own_overlap ledger.input.plant t (place front t)) (claimed ledger.input.plant t (place front t))))
+              (sym (closed_now f) ∙ none_of (closed_in ledger.orders (claimed ledger.input.plant t train_state.place)) (or_parts (is_some (stop_in ledger.orders t)) (is_some (closed_in ledger.orders (claimed ledger.input.plant t train_state.place))) allowed).1)
+              ∙ none_of (held_cause ledger.state.holders t (own_overlap ledger.input.plant t (place front t)) (claimed ledger.input.plant t (place front t)))
+              (ap (λ p. is_some (held_cause ledger.state.holders t (own_overlap ledger.input.plant t p) (claimed ledger.input.plant t p))) (sym (place_same f)) ∙ free);
         },
       )
     where
@@ -296,7 +296,7 @@ module _ (front : Front) (ledger : Ledger) (at : IsAt front ledger) (going : led
   abbrev new_list : List ℕ
   new_list = given_list (moves_of ledger.input.plant) (kept ledger.input.plant front) t note list
 
-  module _ (here : is_in_place ledger when t m held ≡ true) (allowed : is_forbidden_by ledger.orders t (needed ledger.input.plant t train_state.place) ≡ false) (free : is_some (held_cause ledger.state.holders (needed ledger.input.plant t train_state.place)) ≡ false) (may : may_be_given (moves_of ledger.input.plant) (places ledger.input.plant front) (kept ledger.input.plant front) t note list ≡ true) where
+  module _ (here : is_in_place ledger when t m held ≡ true) (allowed : is_forbidden_by ledger.orders t (claimed ledger.input.plant t train_state.place) ≡ false) (free : is_some (held_cause ledger.state.holders t (own_overlap ledger.input.plant t train_state.place) (claimed ledger.input.plant t train_state.place)) ≡ false) (may : may_be_given (moves_of ledger.input.plant) (places ledger.input.plant front) (kept ledger.input.plant front) t note list ≡ true) where
     pub may_keep_it : MayKeep (moves_of ledger.input.plant) (places ledger.input.plant front) (kept ledger.input.plant front) t note new_list
     may_keep_it = of note may
       where

@@ -34,7 +34,7 @@ settled_at front ledger at known told = record {
 pub held_at : (front : Front) (ledger : Ledger) → IsAt front ledger → ledger.state.has_ended ≡ false → is_deciding (input_in ledger.input) front ≡ true → AreAllKnown ledger.input.plant ledger.state.trains
     → (t : ℕ) → t < length ledger.state.trains → lacks_hold_line (state_of ledger.state.trains t) ≡ true → ((u : ℕ) → u < t → lacks_hold_line (state_of ledger.state.trains u) ≡ false)
     → (why : Cause) → (state_of ledger.state.trains t).known ≡ Some why
-    → (after : RunState) → IsHoldLine t ledger.state after
+    → (after : RunState) → IsHoldLine ledger.input.plant t ledger.state after
     → length after.queue.events + after.queue.spare ≡ length ledger.state.queue.events + ledger.state.queue.spare
     → IsAt (bare_at ledger.state.instant (Hold t ((state_of ledger.state.trains t).place + 1) why) ∷ front) (record ledger { state = after })
 held_at front ledger at going deciding known t in_list lacks first why is after has room =

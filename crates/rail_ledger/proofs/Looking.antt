@@ -4,7 +4,8 @@ use Rattle.std.specs.Prelude.{IfSome, MatchOption}
 use Rattle.std.proofs.lemmas.Bool.{and_parts, cases_Bool, cond-true, cond-false, false≢true, not-true}
 use Rattle.rail_base.specs.declared.history.Cause.{Cause}
 use Rattle.rail_rules.specs.Numbers.{sum_below}
-use Rattle.rail_rules.specs.Plant.{Plant, needed, trains}
+use Rattle.rail_rules.specs.Plant.{Plant, claimed, trains}
+use Rattle.rail_laws_run.specs.HolderTables.{own_overlap}
 use Rattle.rail_rules.specs.Fronts.{Front}
 use Rattle.rail_rules.specs.Causes.{place}
 use Rattle.rail_state.specs.declared.train.TrainState.{TrainState}
@@ -20,14 +21,15 @@ use Rattle.rail_ledger.proofs.Admissions.{left_of}
 use Rattle.rail_ledger.proofs.Ordered.{bar_is, input_parts, sections_known}
 
 -- what bars the next move is the same by both, where the train is untried
-same_look : (plant : Plant) (one two : ℕ → List ℕ → Option Cause) (t : ℕ) (r : TrainState)
-    → (is_untried r ≡ true → one t (needed plant t r.place) ≡ two t (needed plant t r.place)) → looked_at plant one t r ≡ looked_at plant two t r
+same_look : (plant : Plant) (one two : ℕ → List ℕ → List ℕ → Option Cause) (t : ℕ) (r : TrainState)
+    → (is_untried r ≡ true → one t (own_overlap plant t r.place) (claimed plant t r.place) ≡ two t (own_overlap plant t r.place) (claimed plant t r.place)) → looked_at plant one t r ≡ looked_at plant two t r
 same_look plant one two t r same =
-    let sections : List ℕ = needed plant t r.place in
+    let sections : List ℕ = claimed plant t r.place in
+    let own : List ℕ = own_overlap plant t r.place in
     let by : Bool → Option Cause → TrainState = λ b bar. record r { known = cond b bar r.known; at_first = cond b (is_at_first bar sections) r.at_first } in
     ⊎_elim
     (λ untried. ap (by (is_untried r)) (same untried))
-    (λ tried. ap (λ (b : Bool). by b (one t sections)) tried ∙ sym (ap (λ (b : Bool). by b (two t sections)) tried))
+    (λ tried. ap (λ (b : Bool). by b (one t own sections)) tried ∙ sym (ap (λ (b : Bool). by b (two t own sections)) tried))
     (cases_Bool (is_untried r))
 
 -- a look by the tables is one by the orders that were told
@@ -39,7 +41,7 @@ looked_same front ledger at t lt =
     same_look ledger.input.plant (bar_by ledger.orders ledger.state.holders) (seen_bar (told ledger.input.commands.items front) ledger.state.holders) t train_state
     (λ untried.
     let waits = (and_parts train_state.waits (not (is_some train_state.known)) untried).0 in
-    bar_is front ledger at t lt (needed ledger.input.plant t train_state.place)
+    bar_is front ledger at t lt (own_overlap ledger.input.plant t train_state.place) (claimed ledger.input.plant t train_state.place)
     (sections_known ledger.input.plant (input_parts (input_in ledger.input) at.accepted).plant t lt train_state.place (omega (arith, at.rep.times.places t lt, left_of front ledger at t waits))))
 
 pub looked : (front : Front) (ledger : Ledger) → IsAt front ledger → (states : List TrainState) → length states ≡ length ledger.state.trains
@@ -59,14 +61,14 @@ looked front ledger at states many each = record {
 }
 
 -- who is untried after the look was so before, and no held section bars the train
-untried_before : (plant : Plant) (bar : ℕ → List ℕ → Option Cause) (t : ℕ) (old new : TrainState) → new ≡ looked_at plant bar t old → is_untried new ≡ true → (is_untried old ≡ true) × (bar t (needed plant t old.place) ≡ None)
+untried_before : (plant : Plant) (bar : ℕ → List ℕ → List ℕ → Option Cause) (t : ℕ) (old new : TrainState) → new ≡ looked_at plant bar t old → is_untried new ≡ true → (is_untried old ≡ true) × (bar t (own_overlap plant t old.place) (claimed plant t old.place) ≡ None)
 untried_before plant bar t old new is untried_now =
     ⊎_elim
     (λ before.
-    let known : new.known ≡ bar t (needed plant t old.place) = ap (λ (r : TrainState). r.known) is ∙ cond-true (is_untried old) (bar t (needed plant t old.place)) old.known before in
-    (before, none_of (bar t (needed plant t old.place)) (ap is_some (sym known) ∙ not-true (is_some new.known) (and_parts new.waits (not (is_some new.known)) untried_now).1)))
+    let known : new.known ≡ bar t (own_overlap plant t old.place) (claimed plant t old.place) = ap (λ (r : TrainState). r.known) is ∙ cond-true (is_untried old) (bar t (own_overlap plant t old.place) (claimed plant t old.place)) old.known before in
+    (before, none_of (bar t (own_overlap plant t old.place) (claimed plant t old.place)) (ap is_some (sym known) ∙ not-true (is_some new.known) (and_parts new.waits (not (is_some new.known)) untried_now).1)))
     (λ not_before.
-    let known : new.known ≡ old.known = ap (λ (r : TrainState). r.known) is ∙ cond-false (is_untried old) (bar t (needed plant t old.place)) old.known not_before in
+    let known : new.known ≡ old.known = ap (λ (r : TrainState). r.known) is ∙ cond-false (is_untried old) (bar t (own_overlap plant t old.place) (claimed plant t old.place)) old.known not_before in
     let waits : new.waits ≡ old.waits = ap (λ (r : TrainState). r.waits) is in
     absurd (false≢true (sym not_before ∙ (λ i. sym waits i && not (is_some (sym known i))) ∙ untried_now)))
     (cases_Bool (is_untried old))
@@ -86,10 +88,10 @@ next_found ledger states many each (Some t) first = λ front at.
     record {
       known_train = known;
       untried = first.1.untried;
-      free = sym (bar_is front (record ledger { state = record ledger.state { trains = states } }) at t known (needed ledger.input.plant t (place front t))
+      free = sym (bar_is front (record ledger { state = record ledger.state { trains = states } }) at t known (own_overlap ledger.input.plant t (place front t)) (claimed ledger.input.plant t (place front t))
           (sections_known ledger.input.plant (input_parts (input_in ledger.input) at.accepted).plant t known (place front t)
           (left_of front (record ledger { state = record ledger.state { trains = states } }) at t (and_parts (state_of states t).waits (not (is_some (state_of states t).known)) first.1.untried).0)))
-          ∙ ap (λ p. bar_by ledger.orders ledger.state.holders t (needed ledger.input.plant t p)) (sym (at.rep.times.places t known) ∙ ap (λ (r : TrainState). r.place) (each t lt)) ∙ before.1;
+          ∙ ap (λ p. bar_by ledger.orders ledger.state.holders t (own_overlap ledger.input.plant t p) (claimed ledger.input.plant t p)) (sym (at.rep.times.places t known) ∙ ap (λ (r : TrainState). r.place) (each t lt)) ∙ before.1;
     }
 
 pub first_found : (states : List TrainState) (o : Option ℕ) → MatchOption o ((t : ℕ) → is_untried (state_of states t) ≡ false) (λ t. (t < length states) × IsReadyFirst states t) → IfSome o (IsReadyFirst states)
@@ -100,7 +102,7 @@ sum_le : (f g : ℕ → ℕ) (n : ℕ) → ((i : ℕ) → i < n → f i ≤ g i)
 sum_le f g zero each = omega arith
 sum_le f g (suc n) each = omega (arith, sum_le f g n (λ i lt. each i (omega (arith, lt))), each n (omega arith))
 
-pub no_more_untried : (plant : Plant) (bar : ℕ → List ℕ → Option Cause) (old new : List TrainState) → length new ≡ length old → ((t : ℕ) → t < length old → state_of new t ≡ looked_at plant bar t (state_of old t)) → untried new ≤ untried old
+pub no_more_untried : (plant : Plant) (bar : ℕ → List ℕ → List ℕ → Option Cause) (old new : List TrainState) → length new ≡ length old → ((t : ℕ) → t < length old → state_of new t ≡ looked_at plant bar t (state_of old t)) → untried new ≤ untried old
 no_more_untried plant bar old new many each =
     subst (λ n. sum_below (λ t. cond (is_untried (state_of new t)) 1 0) n ≤ untried old) (sym many)
     (sum_le (λ t. cond (is_untried (state_of new t)) 1 0) (λ t. cond (is_untried (state_of old t)) 1 0) (length old) (λ t lt. one t lt (cases_Bool (is_untried (state_of new t)))))
@@ -118,8 +120,8 @@ pub unbarred_found : (ledger : Ledger) (states : List TrainState) → length sta
     → AreUnbarred (record ledger { state = record ledger.state { trains = states } })
 unbarred_found ledger states many each = λ t lt untried.
     let here : t < length ledger.state.trains = omega (arith, lt, many) in
-    let bar : ℕ → List ℕ → Option Cause = bar_by ledger.orders ledger.state.holders in
-    ap (λ (r : TrainState). bar t (needed ledger.input.plant t r.place)) (each t here)
+    let bar : ℕ → List ℕ → List ℕ → Option Cause = bar_by ledger.orders ledger.state.holders in
+    ap (λ (r : TrainState). bar t (own_overlap ledger.input.plant t r.place) (claimed ledger.input.plant t r.place)) (each t here)
     ∙ (untried_before ledger.input.plant bar t (state_of ledger.state.trains t) (state_of states t) (each t here) untried).1
 
 -- a train that waits without a known cause and that nothing bars is next
@@ -130,7 +132,7 @@ next_unbarred ledger t lt untried unbarred = λ front at.
     record {
       known_train = known;
       untried = untried;
-      free = sym (bar_is front ledger at t known (needed ledger.input.plant t (place front t))
+      free = sym (bar_is front ledger at t known (own_overlap ledger.input.plant t (place front t)) (claimed ledger.input.plant t (place front t))
           (sections_known ledger.input.plant (input_parts (input_in ledger.input) at.accepted).plant t known (place front t) (left_of front ledger at t waits)))
-          ∙ ap (λ p. bar_by ledger.orders ledger.state.holders t (needed ledger.input.plant t p)) (sym (at.rep.times.places t known)) ∙ unbarred;
+          ∙ ap (λ p. bar_by ledger.orders ledger.state.holders t (own_overlap ledger.input.plant t p) (claimed ledger.input.plant t p)) (sym (at.rep.times.places t known)) ∙ unbarred;
     }

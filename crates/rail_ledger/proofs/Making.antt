@@ -1,12 +1,12 @@
 -- The admission of a move.
-use Rattle.std.proofs.Common.{◌≡◌, ℕ, zero, suc, ◌+◌, ◌<◌, ◌≤◌, true, false, List, [], ◌∷◌, ◌++◌, length, Option, refl, sym, ap, ◌∙◌, subst, arith}
+use Rattle.std.proofs.Common.{◌≡◌, ℕ, zero, suc, ◌+◌, ◌<◌, ◌≤◌, true, false, List, [], ◌∷◌, ◌++◌, length, Option, Some, refl, sym, ap, ◌∙◌, subst, arith}
 use Rattle.std.specs.Prelude.{◌^◌, nat_lt}
 use Rattle.std.proofs.lemmas.Bool.{ltb-true, cond_both, false≢true}
 use Rattle.rail_base.specs.declared.history.Note.{Note}
 use Rattle.rail_base.specs.declared.history.Note.TheVariants.{Pulled, Appended, Fresh}
 use Rattle.rail_rules.specs.Accepted.{is_accepted_input}
-use Rattle.rail_rules.specs.Plant.{Plant, moves, moves_of}
-use Rattle.rail_rules.specs.Times.{free_run, ready}
+use Rattle.rail_rules.specs.Plant.{Plant, moves, moves_of, trains}
+use Rattle.rail_rules.specs.Times.{free_run, ready, stop_time}
 use Rattle.rail_rules.specs.Fronts.{Front, Line, admissions, has_ended, instant, kept, places}
 use Rattle.rail_rules.specs.Causes.{is_deciding, place}
 use Rattle.rail_rules.specs.Lawful.{is_lawful}
@@ -23,6 +23,7 @@ use Rattle.rail_state.specs.Representation.{IsAdmissible, IsAdmitLine, MayKeep, 
 use Rattle.rail_state.proofs.CallerLemmas.{admitted_line, kept_is, lawful_line, left_of_ready, ready_it, well_formed_plant, carried_ready}
 use Rattle.rail_ledger.specs.declared.ledger.Ledger.{Ledger}
 use Rattle.rail_state.specs.Admissions.{IsGivable}
+use Rattle.rail_state.specs.TrainStates.{state_of}
 use Rattle.rail_ledger.specs.Ledgers.{AreAlike, HasList, IsAt, list_with, listed_in}
 use Rattle.rail_ledger.proofs.Room.{moves_fit}
 use Rattle.rail_rules.specs.Orders.{Input}
@@ -44,6 +45,23 @@ below_of plant t adms (suc m) le some stays = record {
       (λ left. stays.readies (suc m) le (ltb-true (suc m) (moves plant t) left))
       (λ last. stays.run (suc m) le);
 }
+
+-- an arrival that is deferred is small
+pub deferred_soon : (front : Front) (ledger : Ledger) → IsAt front ledger → (t at : ℕ) → t < trains ledger.input.plant → (state_of ledger.state.trains t).deferred ≡ Some at → at < 2 ^ 53
+deferred_soon front ledger here t at known held = of (place front t) refl
+  where
+    below : StaysBelow (2 ^ 51) ledger.input.plant t (admissions front t)
+    below = stays_below (input_in ledger.input) here.accepted front t here.rep.lawful known
+
+    of : (p : ℕ) → place front t ≡ p → at < 2 ^ 53
+    of zero is = absurd (omega (arith, (here.rep.pending.deferred t at known held).begun, here.rep.times.places t known, is))
+    of (suc m) is =
+        omega (
+          arith,
+          (here.rep.pending.deferred t at known held).stops,
+          ap (λ (ts : MoveTimes). stop_time ledger.input.plant t ts.free_run) (here.rep.times.times t known ∙ ap (times_at ledger.input.plant t (admissions front t)) is),
+          below.stops m (omega (arith, is)),
+        )
 
 -- the instant of a decision is small
 instant_small : (input : Input) (front : Front) → is_accepted_input input ≡ true → is_lawful input front ≡ true → is_deciding input front ≡ true → instant front < 2 ^ 50

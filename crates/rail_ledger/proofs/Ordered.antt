@@ -18,7 +18,7 @@ use Rattle.rail_rules.specs.Events.{commands_due}
 use Rattle.rail_rules.specs.Fronts.{Front, admissions}
 use Rattle.rail_rules.specs.Numbers.{or_else}
 use Rattle.rail_rules.specs.Orders.{Input, takes_effect, told}
-use Rattle.rail_rules.specs.Plant.{Plant, move_row, moves, needed, trains}
+use Rattle.rail_rules.specs.Plant.{Plant, move_row, moves, claimed, trains}
 use Rattle.rail_rules.proofs.CallerLemmas.{accepted_parts, move_in_range, row_in_range}
 use Rattle.rail_laws_events.specs.Accounts.{tally}
 use Rattle.rail_laws_run.specs.HolderTables.{held_cause}
@@ -58,19 +58,19 @@ command_in_range plant earliest (first ∷ rest) zero command all is =
 command_in_range plant earliest (first ∷ rest) (suc k) command all is =
     command_in_range plant first.at rest k command (and_parts _ (are_commands_in_range plant first.at rest) all).1 is
 
--- the needed sections of a move are sections of the plant; behind the last move there are none
+-- the sections that a move claims are sections of the plant; behind the last move there are none
 pub sections_known : (plant : Plant) → is_accepted plant ≡ true → (t : ℕ) → t < trains plant → (m : ℕ) → m < moves plant t
-    → list_all (λ x. nat_lt x (length plant.tables.sections)) (needed plant t m) ≡ true
+    → list_all (λ x. nat_lt x (length plant.tables.sections)) (claimed plant t m) ≡ true
 sections_known plant accepted t known m left =
     (move_in_range (length plant.tables.sections) (move_row plant t m) ((row_in_range plant (accepted_parts plant accepted).trains_in_range t known).each_move m left)).known
 
 -- what bars a move, by the tables
-pub bar_is : (front : Front) (ledger : Ledger) → IsAt front ledger → (t : ℕ) → t < trains ledger.input.plant → (sections : List ℕ)
+pub bar_is : (front : Front) (ledger : Ledger) → IsAt front ledger → (t : ℕ) → t < trains ledger.input.plant → (own sections : List ℕ)
     → list_all (λ x. nat_lt x (length ledger.input.plant.tables.sections)) sections ≡ true
-    → bar_by ledger.orders ledger.state.holders t sections ≡ seen_bar (told ledger.input.commands.items front) ledger.state.holders t sections
-bar_is front ledger at t known sections all =
+    → bar_by ledger.orders ledger.state.holders t own sections ≡ seen_bar (told ledger.input.commands.items front) ledger.state.holders t own sections
+bar_is front ledger at t known own sections all =
     let orders : List Order = told ledger.input.commands.items front in
-    let held : Option Cause = held_cause ledger.state.holders sections in
+    let held : Option Cause = held_cause ledger.state.holders t own sections in
     ap (λ c. or_else c (or_else (closed_in ledger.orders sections) held)) (stop_is ledger.input.plant ledger.input.deck.items ledger.input.force orders ledger.orders t at.ordered known)
     ∙ ap (λ c. or_else (stop_cause t orders) (or_else c held)) (closed_is ledger.input.plant ledger.input.deck.items ledger.input.force orders ledger.orders sections at.ordered all)
 
@@ -122,8 +122,8 @@ effective front ledger at (Go t) known = refl
 effective front ledger at (Priority t n) known = refl
 
 -- where nothing bars a move none of its sections is held
-pub held_free : (orders : List Order) (holders : List (Option ℕ)) (t : ℕ) (sections : List ℕ) → seen_bar orders holders t sections ≡ None → held_cause holders sections ≡ None
-held_free orders holders t sections free = last (closed_cause sections orders) _ (last (stop_cause t orders) _ free)
+pub held_free : (orders : List Order) (holders : List (Option ℕ)) (t : ℕ) (own sections : List ℕ) → seen_bar orders holders t own sections ≡ None → held_cause holders t own sections ≡ None
+held_free orders holders t own sections free = last (closed_cause sections orders) _ (last (stop_cause t orders) _ free)
   where
     last : (a b : Option Cause) → or_else a b ≡ None → b ≡ None
     last None b none = none

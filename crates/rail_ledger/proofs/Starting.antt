@@ -11,7 +11,8 @@ use Rattle.rail_ledger.proofs.Ordered.{input_parts}
 use Rattle.rail_rules.specs.Moves.{Moves}
 use Rattle.rail_rules.specs.Numbers.{listed, sum_below}
 use Rattle.rail_rules.specs.Places.{holds}
-use Rattle.rail_rules.specs.Plant.{bound, moves_of, trains}
+use Rattle.rail_rules.specs.Plant.{moves_of, trains}
+use Rattle.rail_laws_run.specs.MostDue.{most_due}
 use Rattle.rail_consequence.specs.Kept.{IsAnalystFor}
 use Rattle.rail_list.specs.KeptLists.{HasRoomFor}
 use Rattle.rail_place.specs.Made.{IsMadeFor}
@@ -32,7 +33,7 @@ pub record IsNew (ledger : Ledger) (table : List MoveLists) : Type 0 where
   pub list : ledger.kept.trains ≡ []
   pub list_fits : HasRoomFor table ledger.kept
   pub begins : IsBeginning (dispatch_in ledger.input) ledger.input.plant ledger.state
-  pub queue_room : length ledger.state.queue.events + ledger.state.queue.spare ≡ bound ledger.input.plant (length ledger.input.commands.items) + MOVE_EVENTS
+  pub queue_room : length ledger.state.queue.events + ledger.state.queue.spare ≡ most_due ledger.input.plant (length ledger.input.commands.items) + MOVE_EVENTS
   pub remaining_room : TRAINS ≤ vec_capacity ledger.remaining
   pub remaining : ledger.remaining.items ≡ []
   pub analyst : IsAnalystFor (moves_in table) ledger.analyst

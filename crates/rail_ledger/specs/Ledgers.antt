@@ -10,7 +10,7 @@ use Rattle.rail_base.specs.declared.history.Note.TheVariants.{Pulled, Appended, 
 use Rattle.rail_list.specs.Repairs.{IsNoted}
 use Rattle.rail_list.specs.GivenLists.{given_list}
 use Rattle.rail_rules.specs.Places.{after, holds}
-use Rattle.rail_rules.specs.Plant.{Plant, bound, claimed, moves, moves_of, trains}
+use Rattle.rail_rules.specs.Plant.{Plant, claimed, moves, moves_of, trains}
 use Rattle.rail_rules.specs.Causes.{could_go, is_deciding}
 use Rattle.rail_rules.specs.Fronts.{Front, Line, has_ended, has_held, is_admission, is_hold, kept, places}
 use Rattle.rail_rules.specs.Lawful.{is_lawful, may_follow}
@@ -21,6 +21,8 @@ use Rattle.rail_consequence.specs.Kept.{IsAnalystFor}
 use Rattle.rail_list.specs.KeptLists.{Kept}
 use Rattle.rail_queue.specs.Order.{first_time_of}
 use Rattle.rail_state.specs.declared.train.TrainState.{TrainState}
+use Rattle.rail_laws_run.specs.HolderTables.{own_overlap}
+use Rattle.rail_laws_run.specs.MostDue.{most_due}
 use Rattle.rail_state.specs.TrainStates.{bar_by, is_untried, lacks_hold_line, state_of, state_told}
 use Rattle.rail_state.specs.Representation.{AreAllKnown, IsAdmissible, IsNext, Represents, admit_line, is_due_now, list_for}
 use Rattle.rail_ledger.specs.declared.ledger.Ledger.{Ledger}
@@ -57,7 +59,7 @@ pub record IsAt (front : Front) (ledger : Ledger) : Type 0 where
   pub rep : Represents (dispatch_in ledger.input) ledger.input.plant front ledger.state
   pub placed : ArePlaces ledger.input.plant front ledger.places
   pub keeps : IsKept ledger.input.plant front ledger.kept
-  pub queue_room : length ledger.state.queue.events + ledger.state.queue.spare ≡ bound ledger.input.plant (length ledger.input.commands.items) + MOVE_EVENTS
+  pub queue_room : length ledger.state.queue.events + ledger.state.queue.spare ≡ most_due ledger.input.plant (length ledger.input.commands.items) + MOVE_EVENTS
   pub list_room : has_ended front ≡ false → TRAINS ≤ vec_capacity ledger.remaining
   pub list_empty : has_ended front ≡ false → ledger.remaining.items ≡ []
   pub analyst : IsAnalystFor (moves_of ledger.input.plant) ledger.analyst
@@ -167,7 +169,8 @@ pub record IsHoldDue (ledger : Ledger) (t : ℕ) : Type 0 where
 -- nothing bars the next move of the train, by what is kept
 abbrev pub IsUnbarred : Ledger → ℕ → Type 0
 IsUnbarred ledger t =
-    bar_by ledger.orders ledger.state.holders t (claimed ledger.input.plant t (state_of ledger.state.trains t).place) ≡ None
+    bar_by ledger.orders ledger.state.holders t (own_overlap ledger.input.plant t (state_of ledger.state.trains t).place)
+    (claimed ledger.input.plant t (state_of ledger.state.trains t).place) ≡ None
 
 -- nothing bars the next moves of the trains that wait without a known cause
 abbrev pub AreUnbarred : Ledger → Type 0

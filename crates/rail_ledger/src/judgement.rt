@@ -6,16 +6,16 @@ ghost use Rattle.rail_ledger.specs.declared.judgement.Left.TheVariants.{Admissio
 ghost use Rattle.rail_ledger.specs.declared.ledger.Listed.TheVariants as which;
 ghost use Rattle.rail_queue.specs.Order.{first_time_of, is_sorted};
 ghost use Rattle.rail_rules.specs.Fronts.{Front, Line, is_admission, is_hold, kept, places};
-ghost use Rattle.rail_laws_run.specs.HolderTables.{held_cause};
+ghost use Rattle.rail_laws_run.specs.HolderTables.{held_cause, own_overlap};
 ghost use Rattle.rail_list.specs.GivenLists.{may_be_given};
 ghost use Rattle.rail_state.specs.Representation.{AreAllKnown};
 ghost use Rattle.rail_state.specs.TrainStates.{state_of};
-ghost use Rattle.rail_rules.specs.Plant.{moves_of, needed};
+ghost use Rattle.rail_rules.specs.Plant.{claimed, moves_of};
 
 use crate::ledger::{Ledger, Listed, list_with};
 use rail_base::{Entry, Note, Time, TrainNo, What};
 use rail_list::admit_given;
-use rail_state::held_cause;
+use rail_state::{claimed_sections, held_cause, overlap_behind};
 
 /// What is left to decide at an instant at which nothing is pending.
 #[derive(Clone, Copy, Debug, PartialEq, Eq)]
@@ -299,24 +299,25 @@ impl Ledger {
         requires running { IsSomewhere self.now }
         requires waits { (state_of self.now.state.trains train).waits ≡ true }
         ensures { result ≡ is_forbidden_by self.now.orders train
-            (needed self.now.input.plant train (state_of self.now.state.trains train).place) }
+            (claimed self.now.input.plant train (state_of self.now.state.trains train).place) }
     {
         let place = self.state.trains.get(train).place;
-        let row = self.input.plant.move_row(train, place + 1);
-        self.orders.stop_cause(train).is_some()
-            || self.orders.closed_cause(row.sections.as_slice()).is_some()
+        let sections = claimed_sections(&self.input.plant, train, place + 1);
+        self.orders.stop_cause(train).is_some() || self.orders.closed_cause(sections).is_some()
     }
 
-    /// Whether a needed section of the train's next move is held.
+    /// Whether the holder of a section that the train's next move claims bars the train.
     fn is_occupied(&self, train: TrainNo) -> bool
         requires running { IsSomewhere self.now }
         requires waits { (state_of self.now.state.trains train).waits ≡ true }
-        ensures { result ≡ is_some (held_cause self.now.state.holders
-            (needed self.now.input.plant train (state_of self.now.state.trains train).place)) }
+        ensures { result ≡ is_some (held_cause self.now.state.holders train
+            (own_overlap self.now.input.plant train (state_of self.now.state.trains train).place)
+            (claimed self.now.input.plant train (state_of self.now.state.trains train).place)) }
     {
         let place = self.state.trains.get(train).place;
-        let row = self.input.plant.move_row(train, place + 1);
-        held_cause(&self.state.holders, row.sections.as_slice()).is_some()
+        let own = overlap_behind(&self.input.plant, train, place);
+        let sections = claimed_sections(&self.input.plant, train, place + 1);
+        held_cause(&self.state.holders, train, own, sections).is_some()
     }
 
     /// Makes the train's next move on the places, and keeps the list that its admission with this note keeps,

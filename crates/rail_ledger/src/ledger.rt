@@ -282,7 +282,7 @@ impl Ledger {
         ensures kind { (is_hold result.what ≡ true) × (self.new.listed ≡ which.Nothing) }
         ensures line { GivesEntry self.old self.new result }
     {
-        let what = self.state.hold(train);
+        let what = self.state.hold(&self.input.plant, train);
         Entry {
             at: self.state.instant,
             what,

@@ -65,7 +65,7 @@ fn does_need_one(moves: &Moves, train: TrainNo, place: u16, sections: &[SectionN
     ensures { result ≡ not (are_apart sections.now ((moves_in moves.now).claim train (place - 1))) }
 {
     for section in sections {
-        if moves.needs(train, place, *section) {
+        if moves.claims(train, place, *section) {
             return true;
         }
     }

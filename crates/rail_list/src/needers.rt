@@ -43,7 +43,7 @@ pub fn does_need_from(moves: &Moves, train: TrainNo, place: u16, sections: &[Sec
         ((moves_in moves.now).moves train) }
 {
     for section in sections {
-        if moves.needs_after(train, place, *section) {
+        if moves.claims_after(train, place, *section) {
             return true;
         }
     }

@@ -1,4 +1,4 @@
--- The last move that needs a section: one move more, and what it says of the moves before and after it.
+-- The last move that claims a section: one move more, and what it says of the moves before and after it.
 use Rattle.std.proofs.Common.{◌≡◌, ℕ, zero, suc, ◌+◌, ◌<◌, ◌≤◌, Bool, true, false, ◌&&◌, ◌||◌, ltb, leb, List, [], length, get_or, sym, ap, ◌∙◌, ⊎_elim, arith}
 use Rattle.std.proofs.lemmas.Bool.{and_from, and_left, and_right, cases_Bool, cases_lt, cond-true, cond-false, lt-ltb, le-ltb, le-leb, lt-leb}
 use Rattle.rail_base.specs.declared.limits.TheConstants.{SECTIONS}
@@ -9,12 +9,12 @@ use Rattle.rail_place.specs.Owners.{given}
 use Rattle.rail_place.proofs.Giving.{given-named, given-other}
 
 -- one move more, whose sections are noted
-pub noted_on : (needs : List (List ℕ)) (lasts sections : List ℕ) (n : ℕ) → length lasts ≡ SECTIONS
-    → ((x : ℕ) → x < SECTIONS → get_or lasts x 0 ≡ last_below (λ m. is_in x (get_or needs m [])) n)
-    → sections ≡ get_or needs n []
-    → (x : ℕ) → x < SECTIONS → get_or (given lasts sections (n + 1)) x 0 ≡ last_below (λ m. is_in x (get_or needs m [])) (n + 1)
-noted_on needs lasts sections n wide told here x lt =
-    let test : ℕ → Bool = λ m. is_in x (get_or needs m []) in
+pub noted_on : (claims : List (List ℕ)) (lasts sections : List ℕ) (n : ℕ) → length lasts ≡ SECTIONS
+    → ((x : ℕ) → x < SECTIONS → get_or lasts x 0 ≡ last_below (λ m. is_in x (get_or claims m [])) n)
+    → sections ≡ get_or claims n []
+    → (x : ℕ) → x < SECTIONS → get_or (given lasts sections (n + 1)) x 0 ≡ last_below (λ m. is_in x (get_or claims m [])) (n + 1)
+noted_on claims lasts sections n wide told here x lt =
+    let test : ℕ → Bool = λ m. is_in x (get_or claims m []) in
     let next : n + 1 ≡ suc n = omega arith in
     ⊎_elim
     (λ is.

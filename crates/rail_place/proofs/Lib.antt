@@ -9,3 +9,4 @@ mod Making
 mod Playing
 mod Taking
 mod LastMoves
+mod Joining

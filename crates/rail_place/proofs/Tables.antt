@@ -3,7 +3,7 @@ use Rattle.std.proofs.Common.{◌≡◌, ℕ, zero, suc, ◌+◌, ◌-◌, ◌<�
 use Rattle.std.proofs.lemmas.Bool.{and_parts, cases_lt, cases_eq, false≢true, ltb-true, lt-ltb, cond-true}
 use Rattle.std.proofs.lemmas.List.{get_or_past, get_or_push, get_or_append_left, get_or-map, length-map, length_push}
 use Rattle.std.specs.List.{list_all}
-use Rattle.rail_base.specs.declared.limits.TheConstants.{ITINERARY_ROUTES, ROUTE_SECTIONS, SECTIONS, TRAINS}
+use Rattle.rail_base.specs.declared.limits.TheConstants.{ITINERARY_ROUTES, OVERLAP_SECTIONS, ROUTE_SECTIONS, SECTIONS, TRAINS}
 use Rattle.rail_rules.specs.Numbers.{all_below, is_in, are_apart}
 use Rattle.rail_rules.specs.Moves.{Moves, stand, is_valid_move, is_valid}
 use Rattle.rail_rules.proofs.CallerLemmas.{all_below_at, all_below_from, stand_needed}
@@ -12,7 +12,7 @@ use Rattle.rail_place.specs.declared.moves.Row.{Row}
 
 -- a row as contracts see it
 abbrev pub row_of : Row → MoveLists
-row_of row = record { needs = row.needs; stands = row.stands }
+row_of row = record { claims = row.claims; overs = row.overs; stands = row.stands }
 
 -- what the code reads of a row
 pub row_read : (rows : List Row) (t : ℕ) (row : Row) → t < length rows → row ≡ get_or rows t row → get_or (map row_of rows) t no_lists ≡ row_of row
@@ -57,12 +57,12 @@ stand_in_range table t (suc m) x h lt is = h.in_range t m x (stand_needed (moves
 
 -- the test of a move looks at the train's row alone
 move_test : List (List ℕ) → List (List ℕ) → ℕ → Bool
-move_test needs stands m =
-    let sections : List ℕ = cond (ltb (suc m) (length needs)) (get_or stands m []) [] in
-    ltb 0 (length sections) && list_all (λ x. is_in x (get_or needs m [])) sections && are_apart (get_or needs (suc m) []) sections
+move_test claims stands m =
+    let sections : List ℕ = cond (ltb (suc m) (length claims)) (get_or stands m []) [] in
+    ltb 0 (length sections) && list_all (λ x. is_in x (get_or claims m [])) sections && are_apart (get_or claims (suc m) []) sections
 
 row_test : MoveLists → Bool
-row_test row = all_below (move_test row.needs row.stands) (length row.needs - 1)
+row_test row = all_below (move_test row.claims row.stands) (length row.claims - 1)
 
 valid_by_rows : (table : List MoveLists) → is_valid (moves_in table) ≡ all_below (λ t. row_test (get_or table t no_lists)) (length table)
 unfolding row_test move_test
@@ -70,8 +70,8 @@ valid_by_rows table = refl
 
 -- a train added last
 pub table_pushed : (table : List MoveLists) (row : MoveLists) → IsTable table → length table < TRAINS
-    → length row.needs ≤ ITINERARY_ROUTES → ((m : ℕ) → length (get_or row.needs m []) ≤ ROUTE_SECTIONS)
-    → ((m x : ℕ) → is_in x (get_or row.needs m []) ≡ true → x < SECTIONS)
+    → length row.claims ≤ ITINERARY_ROUTES → ((m : ℕ) → length (get_or row.claims m []) ≤ ROUTE_SECTIONS + OVERLAP_SECTIONS)
+    → ((m x : ℕ) → is_in x (get_or row.claims m []) ≡ true → x < SECTIONS)
     → is_valid (moves_in (row ∷ [])) ≡ true → IsTable (table ++ row ∷ [])
 table_pushed table row h room short narrow in_range valid =
     let whole : List MoveLists = table ++ row ∷ [] in
@@ -91,18 +91,18 @@ table_pushed table row h room short narrow in_range valid =
       few = omega arith;
       short = λ t.
           ⊎_elim
-          (λ below. omega (arith, ap (λ (r : MoveLists). length r.needs) (old t below), h.short t))
+          (λ below. omega (arith, ap (λ (r : MoveLists). length r.claims) (old t below), h.short t))
           (λ above. ⊎_elim
           (λ same.
           let at : get_or whole t no_lists ≡ row = ap (λ k. get_or whole k no_lists) same ∙ last in
-          omega (arith, ap (λ (r : MoveLists). length r.needs) at))
+          omega (arith, ap (λ (r : MoveLists). length r.claims) at))
           (λ other.
           let none : get_or whole t no_lists ≡ no_lists = get_or_past whole t no_lists (omega arith) in
-          omega (arith, ap (λ (r : MoveLists). length r.needs) none))
+          omega (arith, ap (λ (r : MoveLists). length r.claims) none))
           (cases_eq t (length table)))
           (cases_lt t (length table));
       narrow = λ t m.
-          let wide : MoveLists → ℕ = λ r. length (get_or r.needs m []) in
+          let wide : MoveLists → ℕ = λ r. length (get_or r.claims m []) in
           ⊎_elim
           (λ below. omega (arith, ap wide (old t below), h.narrow t m))
           (λ above. ⊎_elim
@@ -115,7 +115,7 @@ table_pushed table row h room short narrow in_range valid =
           (cases_eq t (length table)))
           (cases_lt t (length table));
       in_range = λ t m x is.
-          let read : MoveLists → Bool = λ r. is_in x (get_or r.needs m []) in
+          let read : MoveLists → Bool = λ r. is_in x (get_or r.claims m []) in
           ⊎_elim
           (λ below. h.in_range t m x (ap read (sym (old t below)) ∙ is))
           (λ above. ⊎_elim
@@ -139,24 +139,24 @@ pub table_at : (now : List MoveLists) (rows : List Row) → map row_of rows ≡ 
 table_at now rows view h = let P : List MoveLists → Type 0 = λ n. IsTable n in subst P view h
 
 -- the moves of a train, as its row tells them
-pub moves_at : (now : List MoveLists) (t : ℕ) (row : Row) → get_or now t no_lists ≡ row_of row → (moves_in now).moves t ≡ length row.needs
-moves_at now t row at = ap (λ (r : MoveLists). length r.needs) at
+pub moves_at : (now : List MoveLists) (t : ℕ) (row : Row) → get_or now t no_lists ≡ row_of row → (moves_in now).moves t ≡ length row.claims
+moves_at now t row at = ap (λ (r : MoveLists). length r.claims) at
 
-pub need_at : (now : List MoveLists) (t m : ℕ) (row : Row) (sections : List ℕ) → get_or now t no_lists ≡ row_of row → sections ≡ get_or row.needs m [] → sections ≡ (moves_in now).claim t m
-need_at now t m row sections at is = is ∙ ap (λ (r : MoveLists). get_or r.needs m []) (sym at)
+pub claim_at : (now : List MoveLists) (t m : ℕ) (row : Row) (sections : List ℕ) → get_or now t no_lists ≡ row_of row → sections ≡ get_or row.claims m [] → sections ≡ (moves_in now).claim t m
+claim_at now t m row sections at is = is ∙ ap (λ (r : MoveLists). get_or r.claims m []) (sym at)
 
-pub need_range : (now : List MoveLists) (t m : ℕ) (row : Row) (sections : List ℕ) → IsTable now → get_or now t no_lists ≡ row_of row → sections ≡ get_or row.needs m [] → (x : ℕ) → is_in x sections ≡ true → x < SECTIONS
-need_range now t m row sections h at is x stands = h.in_range t m x (ap (is_in x) (sym (need_at now t m row sections at is)) ∙ stands)
+pub claim_range : (now : List MoveLists) (t m : ℕ) (row : Row) (sections : List ℕ) → IsTable now → get_or now t no_lists ≡ row_of row → sections ≡ get_or row.claims m [] → (x : ℕ) → is_in x sections ≡ true → x < SECTIONS
+claim_range now t m row sections h at is x stands = h.in_range t m x (ap (is_in x) (sym (claim_at now t m row sections at is)) ∙ stands)
 
 -- the standing set at a place inside, as the train's row tells it
 pub stand_at : (now : List MoveLists) (t p : ℕ) (row : Row) (sections : List ℕ)
-    → get_or now t no_lists ≡ row_of row → 0 < p → p < length row.needs → sections ≡ get_or row.stands (p - 1) []
+    → get_or now t no_lists ≡ row_of row → 0 < p → p < length row.claims → sections ≡ get_or row.stands (p - 1) []
     → sections ≡ stand (moves_in now) t p
 stand_at now t p row sections at low high is =
     is
     ∙ ap (λ (r : MoveLists). get_or r.stands (p - 1) []) (sym at)
     ∙ sym (stand-inner (moves_in now) t p low (omega (arith, moves_at now t row at)))
 
-pub stand_room : (now : List MoveLists) (t p : ℕ) (row : Row) → IsTable now → t < length now → get_or now t no_lists ≡ row_of row → 0 < p → p < length row.needs → p - 1 < length row.stands
+pub stand_room : (now : List MoveLists) (t p : ℕ) (row : Row) → IsTable now → t < length now → get_or now t no_lists ≡ row_of row → 0 < p → p < length row.claims → p - 1 < length row.stands
 stand_room now t p row h lt at low high =
     omega (arith, stand_listed now t p h lt low (omega (arith, moves_at now t row at)), ap (λ (r : MoveLists). length r.stands) at)

@@ -22,7 +22,7 @@ abbrev pub first_held : Moves → List ℕ → List ℕ → Option Barred
 first_held plan s [] = None
 first_held plan s (x ∷ xs) = or_else (held_by x (holder_of plan s x)) (first_held plan s xs)
 
--- why the next move of the train is not legal: the train is out, or a needed section is held
+-- why the next move of the train is not legal: the train is out, or a claimed section is held
 abbrev pub bar_of : Moves → List ℕ → ℕ → Option Barred
 bar_of plan s t = cond (nat_lt (place_of s t) (plan.moves t)) (first_held plan s (plan.claim t (place_of s t))) (Some Out)
 

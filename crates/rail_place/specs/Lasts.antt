@@ -1,4 +1,4 @@
--- The last move of a train that needs a section.
+-- The last move of a train that claims a section.
 use Rattle.std.specs.Prelude.{◌≡◌, ℕ, zero, suc, ◌<◌, Bool, cond, List, [], length, get_or}
 use Rattle.rail_base.specs.declared.limits.TheConstants.{SECTIONS}
 use Rattle.rail_rules.specs.Numbers.{is_in}
@@ -9,11 +9,11 @@ abbrev pub last_below : (ℕ → Bool) → ℕ → ℕ
 last_below test zero = 0
 last_below test (suc n) = cond (test n) (suc n) (last_below test n)
 
--- the last move of the train that needs the section, counted from 1, and 0 where none does
-abbrev pub last_need : Moves → ℕ → ℕ → ℕ
-last_need plan t x = last_below (λ m. is_in x (plan.claim t m)) (plan.moves t)
+-- the last move of the train that claims the section, counted from 1, and 0 where none does
+abbrev pub last_claim : Moves → ℕ → ℕ → ℕ
+last_claim plan t x = last_below (λ m. is_in x (plan.claim t m)) (plan.moves t)
 
--- it is told for each section where these are the needed sections of the train's moves
-pub record TellsLasts (needs : List (List ℕ)) (lasts : List ℕ) : Type 0 where
+-- it is told for each section where these are the claimed sections of the train's moves
+pub record TellsLasts (claims : List (List ℕ)) (lasts : List ℕ) : Type 0 where
   pub wide : length lasts ≡ SECTIONS
-  pub told : (x : ℕ) → x < SECTIONS → get_or lasts x 0 ≡ last_below (λ m. is_in x (get_or needs m [])) (length needs)
+  pub told : (x : ℕ) → x < SECTIONS → get_or lasts x 0 ≡ last_below (λ m. is_in x (get_or claims m [])) (length claims)

@@ -10,7 +10,7 @@ pub enum Barred {
     Outside,
     /// The train has made all its moves.
     Out,
-    /// A needed section is held; this is the first such in route order.
+    /// A claimed section is held; this is the first such, the route before the overlap.
     Held { section: SectionNo, holder: TrainNo },
 }
 

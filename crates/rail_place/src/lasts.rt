@@ -1,4 +1,4 @@
-//! For each section the last move of a train that needs it.
+//! For each section the last move of a train that claims it.
 
 ghost use Rattle.std.specs.Prelude.{◌≡◌, ℕ, ◌<◌, ◌≤◌, [], length, get_or, IsTrue, IfOk};
 ghost use Rattle.rail_rules.specs.Numbers.{is_in};
@@ -10,15 +10,15 @@ use rail_base::SectionNo;
 use rail_base::limits::{ITINERARY_ROUTES, SECTIONS};
 use std::alloc::{AllocError, Global};
 
-/// The last of the moves that needs each section, counted from 1, and 0 where none does.
-pub fn last_needs(alloc: Global, need: &SectionLists) -> Result<Vec<u16>, AllocError>
-    requires short { length need.now ≤ ITINERARY_ROUTES }
-    requires in_range { (m x : ℕ) → IsTrue (is_in x (get_or need.now m [])) → x < SECTIONS }
-    ensures { IfOk result (λ lasts. TellsLasts need.now lasts.items) }
+/// The last of the moves that claims each section, counted from 1, and 0 where none does.
+pub fn last_claims(alloc: Global, claims: &SectionLists) -> Result<Vec<u16>, AllocError>
+    requires short { length claims.now ≤ ITINERARY_ROUTES }
+    requires in_range { (m x : ℕ) → IsTrue (is_in x (get_or claims.now m [])) → x < SECTIONS }
+    ensures { IfOk result (λ lasts. TellsLasts claims.now lasts.items) }
 {
     let mut lasts = vec![in alloc; 0u16; SECTIONS]?;
-    for made in 0..need.len() {
-        note(&mut lasts, need.at(made), made as u16 + 1);
+    for made in 0..claims.len() {
+        note(&mut lasts, claims.at(made), made as u16 + 1);
     }
     Ok(lasts)
 }

@@ -2,7 +2,7 @@
 //!
 //! This layer stands on the plain data of `rail_base` and on the definitions of `rail_rules`: what is
 //! held, legal and complete is defined there, and nothing here adds to it. `Moves` keeps which sections
-//! each move needs and where each train stands after it. `Places` keeps how many moves each train has
+//! each move claims, which of them are its overlap, and where each train stands after it. `Places` keeps how many moves each train has
 //! made, and a table from each section to the train that holds it, so that a move costs the sections
 //! that it names and no scan of the trains. `specs/` says which moves a table of rows spells, that
 //! places were made for moves, and what the player answers.
@@ -12,6 +12,7 @@
 #![tactic(auto)]
 
 mod barring;
+mod claims;
 mod holdings;
 mod lasts;
 mod moves;

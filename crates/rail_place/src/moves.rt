@@ -1,11 +1,12 @@
 ghost use Rattle.std.specs.Prelude.{◌≡◌, ℕ, ◌+◌, ◌-◌, ◌<◌, ◌≤◌, ◌&&◌, [], ◌∷◌, ◌++◌, nat_le, length, get_or, IsTrue, OnOk, OnErr};
 ghost use Rattle.rail_rules.specs.Numbers.{any_below, is_in};
 ghost use Rattle.rail_rules.specs.Moves.{is_valid, stand};
-ghost use Rattle.rail_place.specs.Lasts.{last_need};
+ghost use Rattle.rail_place.specs.Lasts.{last_claim};
 
-use crate::lasts::last_needs;
+use crate::claims::claims_of;
+use crate::lasts::last_claims;
 use crate::section_lists::SectionLists;
-use rail_base::limits::{ITINERARY_ROUTES, ROUTE_SECTIONS, SECTIONS, TRAINS};
+use rail_base::limits::{ITINERARY_ROUTES, OVERLAP_SECTIONS, ROUTE_SECTIONS, SECTIONS, TRAINS};
 use rail_base::{OutOfMemory, SectionNo, TrainNo};
 use std::alloc::Global;
 use std::marker::Model;
@@ -13,14 +14,15 @@ use std::marker::Model;
 /// The moves of one train.
 #[derive(Debug, Drop)]
 struct Row {
-    needs: SectionLists,
+    claims: SectionLists,
+    overs: SectionLists,
     stands: SectionLists,
-    /// For each section the last move that needs it, so that no moves are looked through for it.
+    /// For each section the last move that claims it, so that no moves are looked through for it.
     lasts: Vec<u16>,
 }
 
-/// The moves of all trains: the sections that each move needs, in route order, and the sections on
-/// which the train stands after it. Trains count from 0, places and moves from 1: the train at place
+/// The moves of all trains: the sections that each move claims, its route's in order and then those of the overlap, and
+/// the sections on which the train stands after it. Trains count from 0, places and moves from 1: the train at place
 /// `i` has made its moves 1 to `i`.
 #[derive(Debug)]
 pub struct Moves {
@@ -38,18 +40,19 @@ impl Model for Moves {
     ghost use Rattle.std.specs.Prelude.{map};
     ghost use Rattle.std.specs.List.{All};
     ghost use Rattle.rail_place.specs.Lasts.{TellsLasts};
-    ghost use Rattle.rail_place.specs.Tables.{IsTable, MoveLists, lists_of};
+    ghost use Rattle.rail_place.specs.Tables.{EndWith, IsTable, MoveLists, row_lists};
 
     ghost Value = { List MoveLists };
 
-    ghost view = { λ moves. map (λ row. lists_of row.needs row.stands) moves.rows.items };
+    ghost view = { λ moves. map (λ row. row_lists row.claims row.overs row.stands) moves.rows.items };
 
-    ghost invariant = { λ moves. IsTable (map (λ row. lists_of row.needs row.stands) moves.rows.items)
-        × All (λ row. TellsLasts row.needs row.lasts.items) moves.rows.items };
+    ghost invariant = { λ moves. IsTable (map (λ row. row_lists row.claims row.overs row.stands) moves.rows.items)
+        × All (λ row. TellsLasts row.claims row.lasts.items) moves.rows.items
+        × All (λ row. EndWith row.claims row.overs) moves.rows.items };
 }
 
 impl Moves {
-    ghost use Rattle.rail_place.specs.Tables.{IsTable, lists_of, moves_in};
+    ghost use Rattle.rail_place.specs.Tables.{EndsWith, IsTable, joined, lists_of, moves_in, over_of};
 
     /// No trains. It takes no memory.
     pub fn new(alloc: Global) -> Moves
@@ -60,28 +63,34 @@ impl Moves {
         }
     }
 
-    /// Adds a train as the last one: the needed sections of each of its moves, and the sections on
-    /// which it stands after each move. The last move leads out, and needs no standing set. Where
-    /// memory is not found nothing is changed.
+    /// Adds a train as the last one: the sections that each of its moves needs, those of each move's overlap, and the
+    /// sections on which it stands after each move. A move claims what it needs and then its overlap. The last move
+    /// leads out, and needs no standing set. Where memory is not found nothing is changed.
     pub fn push_train(
         &mut self,
         alloc: Global,
         need: SectionLists,
+        over: SectionLists,
         stand: SectionLists,
     ) -> Result<(), OutOfMemory>
         requires room { length self.old < TRAINS }
         requires short { length need ≤ ITINERARY_ROUTES }
-        requires narrow { (m : ℕ) → length (get_or need m []) ≤ ROUTE_SECTIONS }
-        requires in_range { (m x : ℕ) → IsTrue (is_in x (get_or need m [])) → x < SECTIONS }
-        requires valid { IsTrue (is_valid (moves_in (lists_of need stand ∷ []))) }
-        ensures ok { OnOk result (self.new ≡ self.old ++ lists_of need stand ∷ []) }
+        requires over { length over ≡ length need }
+        requires narrow { (m : ℕ) → length (get_or (joined need over) m []) ≤ ROUTE_SECTIONS + OVERLAP_SECTIONS }
+        requires in_range { (m x : ℕ) → IsTrue (is_in x (get_or (joined need over) m [])) → x < SECTIONS }
+        requires valid { IsTrue (is_valid (moves_in (lists_of need over stand ∷ []))) }
+        ensures ok { OnOk result (self.new ≡ self.old ++ lists_of need over stand ∷ []) }
         ensures err { OnErr result (self.new ≡ self.old) }
     {
-        let Ok(lasts) = last_needs(alloc, &need) else {
+        let Ok(claims) = claims_of(alloc, &need, &over) else {
+            return Err(OutOfMemory);
+        };
+        let Ok(lasts) = last_claims(alloc, &claims) else {
             return Err(OutOfMemory);
         };
         let Ok(()) = self.rows.push(Row {
-            needs: need,
+            claims,
+            overs: over,
             stands: stand,
             lasts,
         })
@@ -104,11 +113,11 @@ impl Moves {
         requires { train < length self.now }
         ensures { result ≡ (moves_in self.now).moves train }
     {
-        self.rows[usize::from(train.0)].needs.len() as u16
+        self.rows[usize::from(train.0)].claims.len() as u16
     }
 
-    /// The needed sections of the train's move to this place, in route order.
-    pub fn need(&self, train: TrainNo, place: u16) -> &[SectionNo]
+    /// The sections that the train's move to this place claims, in order: those that it needs, and then its overlap.
+    pub fn claim(&self, train: TrainNo, place: u16) -> &[SectionNo]
         requires train { train < length self.now }
         requires first { 1 ≤ place }
         requires last { place ≤ (moves_in self.now).moves train }
@@ -116,7 +125,33 @@ impl Moves {
         ensures in_range { (x : ℕ) → IsTrue (is_in x result.now) → x < SECTIONS }
     {
         self.rows[usize::from(train.0)]
-            .needs
+            .claims
+            .at(usize::from(place) - 1)
+    }
+
+    /// The sections that the train's move to this place needs, in route order: what it claims without its overlap.
+    pub fn need(&self, train: TrainNo, place: u16) -> &[SectionNo]
+        requires train { train < length self.now }
+        requires first { 1 ≤ place }
+        requires last { place ≤ (moves_in self.now).moves train }
+        ensures { (moves_in self.now).claim train (place - 1) ≡ result.now ++ over_of self.now train (place - 1) }
+    {
+        let claim = self.claim(train, place);
+        let over = self.over(train, place);
+        &claim[..claim.len() - over.len()]
+    }
+
+    /// The sections of the overlap of the train's move to this place, in order.
+    pub fn over(&self, train: TrainNo, place: u16) -> &[SectionNo]
+        requires train { train < length self.now }
+        requires first { 1 ≤ place }
+        requires last { place ≤ (moves_in self.now).moves train }
+        ensures sections { result.now ≡ over_of self.now train (place - 1) }
+        ensures fits { length result.now ≤ length ((moves_in self.now).claim train (place - 1)) }
+        ensures ends { EndsWith ((moves_in self.now).claim train (place - 1)) result.now }
+    {
+        self.rows[usize::from(train.0)]
+            .overs
             .at(usize::from(place) - 1)
     }
 
@@ -129,44 +164,44 @@ impl Moves {
     {
         let row = &self.rows[usize::from(train.0)];
         let place = usize::from(place);
-        if 0 < place && place < row.needs.len() {
+        if 0 < place && place < row.claims.len() {
             row.stands.at(place - 1)
         } else {
             &[]
         }
     }
 
-    /// Whether the train's move to this place needs the section. The sections of the move are looked at only
+    /// Whether the train's move to this place claims the section. The sections of the move are looked at only
     /// where the train makes this or a later move over the section.
-    pub fn needs(&self, train: TrainNo, place: u16, section: SectionNo) -> bool
+    pub fn claims(&self, train: TrainNo, place: u16, section: SectionNo) -> bool
         requires train { train < length self.now }
         requires first { 1 ≤ place }
         requires last { place ≤ (moves_in self.now).moves train }
         requires section { section < SECTIONS }
         ensures { result ≡ is_in section ((moves_in self.now).claim train (place - 1)) }
     {
-        place <= self.last_need(train, section)
+        place <= self.last_claim(train, section)
             && self
-                .need(train, place)
+                .claim(train, place)
                 .iter()
-                .any(|needed| *needed == section)
+                .any(|claimed| *claimed == section)
     }
 
-    /// Whether the train needs the section for a move that it has left at this place.
-    pub fn needs_after(&self, train: TrainNo, place: u16, section: SectionNo) -> bool
+    /// Whether the train claims the section for a move that it has left at this place.
+    pub fn claims_after(&self, train: TrainNo, place: u16, section: SectionNo) -> bool
         requires train { train < length self.now }
         requires section { section < SECTIONS }
         ensures { result ≡ any_below (λ m. nat_le place m && is_in section ((moves_in self.now).claim train m))
             ((moves_in self.now).moves train) }
     {
-        place < self.last_need(train, section)
+        place < self.last_claim(train, section)
     }
 
-    /// The last move of the train that needs the section, counted from 1, and 0 where none does.
-    fn last_need(&self, train: TrainNo, section: SectionNo) -> u16
+    /// The last move of the train that claims the section, counted from 1, and 0 where none does.
+    fn last_claim(&self, train: TrainNo, section: SectionNo) -> u16
         requires train { train < length self.now }
         requires section { section < SECTIONS }
-        ensures { result ≡ last_need (moves_in self.now) train section }
+        ensures { result ≡ last_claim (moves_in self.now) train section }
     {
         self.rows[usize::from(train.0)].lasts[usize::from(section.0)]
     }

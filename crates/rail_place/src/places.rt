@@ -117,7 +117,7 @@ impl Places {
     }
 
     /// Whether the train's next move is legal, and else why not: `Out` where the train has made all its
-    /// moves, and `Held` with the first needed section that is held, and its holder.
+    /// moves, and `Held` with the first claimed section that is held, and its holder.
     pub fn legal(&self, moves: &Moves, train: TrainNo) -> Result<(), Barred>
         requires made { IsMadeFor moves.now self.now }
         requires train { train < length moves.now }
@@ -130,7 +130,7 @@ impl Places {
         if place >= moves.places(train) {
             return Err(Barred::Out);
         }
-        match first_owned(&self.owners, moves.need(train, place + 1)) {
+        match first_owned(&self.owners, moves.claim(train, place + 1)) {
             Some(why) => Err(why),
             None => Ok(()),
         }

@@ -75,6 +75,11 @@ impl SectionLists {
         self.spans.len()
     }
 
+    /// How many sections the lists have together.
+    pub fn sections(&self) -> usize {
+        self.sections.len()
+    }
+
     /// The list at the index, which counts from 0.
     pub fn at(&self, index: usize) -> &[SectionNo]
         requires { index < length self.now }

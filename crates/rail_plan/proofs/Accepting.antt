@@ -2,7 +2,7 @@
 use Rattle.std.proofs.Common.{◌≡◌, ℕ, Bool, true, ◌&&◌, leb, List, [], length, map, Option, None, refl}
 use Rattle.std.specs.List.{list_all}
 use Rattle.std.proofs.lemmas.Bool.{and_from, le-leb}
-use Rattle.rail_base.specs.declared.limits.TheConstants.{SECTIONS, TRAINS, RELEASE, DEPTH}
+use Rattle.rail_base.specs.declared.limits.TheConstants.{SECTIONS, TRAINS, RELEASE, OVERLAP, DEPTH}
 use Rattle.rail_base.specs.declared.plant.Call.{Call}
 use Rattle.rail_base.specs.declared.plant.Tables.{Tables}
 use Rattle.rail_base.specs.declared.plant.SectionRow.{SectionRow}
@@ -29,23 +29,25 @@ accepted_from tables calls h f =
     let b1 : Bool = leb (length tables.sections) SECTIONS in
     let b2 : Bool = leb n TRAINS in
     let b3 : Bool = leb tables.release RELEASE in
-    let b4 : Bool = leb tables.depth DEPTH in
-    let b5 : Bool = list_all is_section_in_range tables.sections in
-    let b6 : Bool = are_distinct_names (map (λ (row : SectionRow). row.name) tables.sections) in
-    let b7 : Bool = are_distinct_names (map (λ (row : TrainRow). row.name) tables.trains) in
-    let b8 : Bool = all_below (is_train_in_range plant) n in
-    let b9 : Bool = all_below (does_fit plant) n in
-    let b10 : Bool = all_below (are_calls_in_range plant) n in
+    let b4 : Bool = leb tables.overlap_time OVERLAP in
+    let b5 : Bool = leb tables.depth DEPTH in
+    let b6 : Bool = list_all is_section_in_range tables.sections in
+    let b7 : Bool = are_distinct_names (map (λ (row : SectionRow). row.name) tables.sections) in
+    let b8 : Bool = are_distinct_names (map (λ (row : TrainRow). row.name) tables.trains) in
+    let b9 : Bool = all_below (is_train_in_range plant) n in
+    let b10 : Bool = all_below (does_fit plant) n in
+    let b11 : Bool = all_below (are_calls_in_range plant) n in
     let p2 = and_from b1 b2 (le-leb (length tables.sections) SECTIONS h.few_sections) (le-leb n TRAINS h.few_trains) in
     let p3 = and_from (b1 && b2) b3 p2 (le-leb tables.release RELEASE h.release) in
-    let p4 = and_from (b1 && b2 && b3) b4 p3 (le-leb tables.depth DEPTH h.depth) in
-    let p5 = and_from (b1 && b2 && b3 && b4) b5 p4 h.sections in
-    let p6 = and_from (b1 && b2 && b3 && b4 && b5) b6 p5 h.section_names in
-    let p7 = and_from (b1 && b2 && b3 && b4 && b5 && b6) b7 p6 h.train_names in
-    let p8 = and_from (b1 && b2 && b3 && b4 && b5 && b6 && b7) b8 p7 h.trains in
-    let p9 = and_from (b1 && b2 && b3 && b4 && b5 && b6 && b7 && b8) b9 p8 f.fits in
-    let p10 = and_from (b1 && b2 && b3 && b4 && b5 && b6 && b7 && b8 && b9) b10 p9 f.calls in
-    and_from (b1 && b2 && b3 && b4 && b5 && b6 && b7 && b8 && b9 && b10) (is_valid (moves_of plant)) p10 f.valid
+    let p4 = and_from (b1 && b2 && b3) b4 p3 (le-leb tables.overlap_time OVERLAP h.overlap_time) in
+    let p5 = and_from (b1 && b2 && b3 && b4) b5 p4 (le-leb tables.depth DEPTH h.depth) in
+    let p6 = and_from (b1 && b2 && b3 && b4 && b5) b6 p5 h.sections in
+    let p7 = and_from (b1 && b2 && b3 && b4 && b5 && b6) b7 p6 h.section_names in
+    let p8 = and_from (b1 && b2 && b3 && b4 && b5 && b6 && b7) b8 p7 h.train_names in
+    let p9 = and_from (b1 && b2 && b3 && b4 && b5 && b6 && b7 && b8) b9 p8 h.trains in
+    let p10 = and_from (b1 && b2 && b3 && b4 && b5 && b6 && b7 && b8 && b9) b10 p9 f.fits in
+    let p11 = and_from (b1 && b2 && b3 && b4 && b5 && b6 && b7 && b8 && b9 && b10) b11 p10 f.calls in
+    and_from (b1 && b2 && b3 && b4 && b5 && b6 && b7 && b8 && b9 && b10 && b11) (is_valid (moves_of plant)) p11 f.valid
 
 parts : (tables : Tables) (calls : List (List (Option Call))) → is_accepted (with_calls tables calls) ≡ true → IsPlannable tables × IsFaultless (with_calls tables calls)
 parts tables calls accepted =
@@ -54,6 +56,7 @@ parts tables calls accepted =
         few_sections = h.few_sections;
         few_trains = h.few_trains;
         release = h.release;
+        overlap_time = h.overlap_time;
         depth = h.depth;
         sections = h.sections;
         section_names = h.section_names;

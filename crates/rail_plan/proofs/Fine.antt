@@ -3,6 +3,7 @@ use Rattle.std.proofs.Common.{◌≡◌, ℕ, suc, ◌+◌, ◌*◌, ◌<◌, �
 use Rattle.std.specs.List.{list_all}
 use Rattle.std.proofs.lemmas.Bool.{and_parts, ltb-true}
 use Rattle.std.proofs.lemmas.List.{drop_more, get_or_read}
+use Rattle.std.proofs.lemmas.List.Folds.{list_all-append}
 use Rattle.std.proofs.lemmas.List.Sums.{sum_by-cons}
 use Rattle.rail_base.specs.declared.limits.TheConstants.{SECTION_LENGTH}
 use Rattle.rail_base.specs.declared.plant.Tables.{Tables}
@@ -42,6 +43,11 @@ item_read rows xs k i x d same at lt is =
 pub known_at : (n : ℕ) (xs : List ℕ) (i x : ℕ) → list_all (λ y. ltb y n) xs ≡ true → i < length xs → x ≡ get_or xs i x → x < n
 known_at n xs i x all lt is = omega (arith, ltb-true (get_or xs i x) n (list_all_get (λ y. ltb y n) xs i x all lt))
 
+-- the needed sections of a move are known
+known_steps : (n : ℕ) (row : MoveRow) → is_move_in_range n row ≡ true → list_all (λ y. ltb y n) row.sections ≡ true
+known_steps n row fine =
+    (and_parts (list_all (λ y. ltb y n) row.sections) (list_all (λ y. ltb y n) row.overlap) (sym (list_all-append (λ y. ltb y n) row.sections row.overlap) ∙ (move_in_range n row fine).known)).0
+
 -- what a loop over the sections of a move knows at one of them: the section is known, it is the first of the rest, and the sum up to it stays within the bound
 pub record IsAtSection (tables : Tables) (row : MoveRow) (i x : ℕ) : Type 0 where
   pub known : x < length tables.sections
@@ -56,16 +62,16 @@ at_section tables h row fine xs i x same lt is =
     let here : i < length row.sections = omega (arith, ap length same) in
     let item : x ≡ get_or row.sections i x = is ∙ ap (λ ys. get_or ys i x) same in
     record {
-      known = known_at (length tables.sections) row.sections i x facts.known here item;
+      known = known_at (length tables.sections) row.sections i x (known_steps (length tables.sections) row fine) here item;
       more = metres_more (bare tables) row.sections i x here item;
-      bound = omega (arith, metres_bound tables h row.sections facts.known, facts.few_steps);
+      bound = omega (arith, metres_bound tables h row.sections (known_steps (length tables.sections) row fine), facts.few_steps);
       within = here;
       is = item;
     }
 
 -- one line more in a sum
-pub sum_more : (f : ℕ → ℕ) (i lines steps : ℕ) → lines ≡ sum_below f i → 2 * steps + 3 ≡ f i → lines + (2 * steps + 3) ≡ sum_below f (i + 1)
-sum_more f i lines steps before here =
+pub sum_more : (f : ℕ → ℕ) (i lines more : ℕ) → lines ≡ sum_below f i → more ≡ f i → lines + more ≡ sum_below f (i + 1)
+sum_more f i lines more before here =
     let next : suc i ≡ i + 1 = omega arith in
-    let sum : lines + (2 * steps + 3) ≡ sum_below f i + f i = omega (arith, before, here) in
+    let sum : lines + more ≡ sum_below f i + f i = omega (arith, before, here) in
     sum ∙ ap (sum_below f) next

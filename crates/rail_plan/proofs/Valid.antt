@@ -1,14 +1,14 @@
 -- Tables without a fault give valid moves.
-use Rattle.std.proofs.Common.{◌≡◌, ℕ, zero, suc, ◌-◌, ◌<◌, min, Bool, true, false, ◌&&◌, ◌||◌, cond, leb, ltb, eqb, List, [], ◌∷◌, length, drop, Option, Some, None, refl, sym, ap, ◌∙◌, subst, ⊎_elim, arith}
+use Rattle.std.proofs.Common.{◌≡◌, ℕ, zero, suc, ◌-◌, ◌<◌, min, Bool, true, false, ◌&&◌, ◌||◌, cond, leb, ltb, eqb, List, [], ◌∷◌, ◌++◌, length, drop, Option, Some, None, refl, sym, ap, ◌∙◌, subst, ⊎_elim, arith}
 use Rattle.std.specs.List.{find, list_any, list_all}
-use Rattle.std.proofs.lemmas.Bool.{and_from, cases_Bool, cond-true, cond-false, lt-leb, lt-ltb, or_right, not-false, not_from_false}
+use Rattle.std.proofs.lemmas.Bool.{and_from, cases_Bool, cond-true, cond-false, false≢true, lt-leb, lt-ltb, or_cases, or_left, or_right, not-false, not_from_false}
 use Rattle.std.proofs.lemmas.List.{length-drop}
 use Rattle.rail_base.specs.declared.plant.Tables.{Tables}
 use Rattle.rail_base.specs.declared.plant.MoveRow.{MoveRow}
 use Rattle.rail_base.specs.declared.plant.TurnRow.{TurnRow}
 use Rattle.rail_rules.specs.Numbers.{all_below, is_in, are_apart}
 use Rattle.rail_rules.specs.Moves.{Moves, stand, is_valid_move, is_valid}
-use Rattle.rail_rules.specs.Plant.{Plant, train, moves, move_row, moves_of, needed, standing_after, shortest_end, from_turn, longer}
+use Rattle.rail_rules.specs.Plant.{Plant, train, moves, move_row, moves_of, needed, overlap, claimed, standing_after, shortest_end, from_turn, longer}
 use Rattle.rail_rules.specs.Accepted.{does_fit}
 use Rattle.rail_rules.proofs.CallerLemmas.{all_below_from, is_in-head, move_in_range, row_in_range}
 use Rattle.rail_plan.specs.declared.faults.PlanFault.{PlanFault}
@@ -30,6 +30,14 @@ is_in-drop : (x : ℕ) (xs : List ℕ) (k : ℕ) → is_in x (drop k xs) ≡ tru
 is_in-drop x xs zero is = is
 is_in-drop x [] (suc k) is = is
 is_in-drop x (y ∷ ys) (suc k) is = or_right (eqb y x) (is_in x ys) (is_in-drop x ys k is)
+
+is_in-joined : (x : ℕ) (xs ys : List ℕ) → is_in x xs ≡ true → is_in x (xs ++ ys) ≡ true
+is_in-joined x [] ys is = absurd (false≢true is)
+is_in-joined x (y ∷ xs) ys is =
+    ⊎_elim
+    (λ first. or_left (eqb y x) (is_in x (xs ++ ys)) first)
+    (λ later. or_right (eqb y x) (is_in x (xs ++ ys)) (is_in-joined x xs ys later))
+    (or_cases (eqb y x) (is_in x xs) is)
 
 list_all_from : (p : ℕ → Bool) (xs : List ℕ) → ((x : ℕ) → is_in x xs ≡ true → p x ≡ true) → list_all p xs ≡ true
 list_all_from p [] h = refl
@@ -73,12 +81,12 @@ no_block : (t place : ℕ) (o : Option ℕ) → blocked_by t place o ≡ None �
 no_block t place None none = refl
 no_block t place (Some x) none = absurd (cc)
 
-no_common : (plant : Plant) (t m : ℕ) → fault_at plant t m ≡ None → are_apart (needed plant t (suc m)) (standing_after plant t m) ≡ true
+no_common : (plant : Plant) (t m : ℕ) → fault_at plant t m ≡ None → are_apart (claimed plant t (suc m)) (standing_after plant t m) ≡ true
 no_common plant t m none =
     let fault : Option PlanFault = cond (is_too_long plant t m) (Some (TooLong t (suc m))) None in
     let second = (parts_none fault (blocked_by t (suc m) (blocking plant t m)) none).1 in
     let test : ℕ → Bool = λ x. is_in x (standing_after plant t m) in
-    not_from_false (list_any test (needed plant t (suc m))) (find-none test (needed plant t (suc m)) (no_block t (suc m) (blocking plant t m) second))
+    not_from_false (list_any test (claimed plant t (suc m))) (find-none test (claimed plant t (suc m)) (no_block t (suc m) (blocking plant t m) second))
 
 no_fault_at : (tables : Tables) (t m : ℕ) → fault_of tables ≡ None → t < length tables.trains → m < moves (bare tables) t - 1 → fault_at (bare tables) t m ≡ None
 no_fault_at tables t m none lt more =
@@ -99,12 +107,12 @@ valid_move tables h none t m lt more =
     let end = standing_is_drop plant (train plant t).kind.length (move_row plant t m) row.kind.some_length fine.some_step in
     let stands : List ℕ = standing_after plant t m in
     let some : 0 < length stands = omega (arith, ap length end.2, length-drop end.0 (needed plant t m), end.1) in
-    let inner : (x : ℕ) → is_in x stands ≡ true → is_in x (needed plant t m) ≡ true = λ x is. is_in-drop x (needed plant t m) end.0 (ap (is_in x) (sym end.2) ∙ is) in
+    let inner : (x : ℕ) → is_in x stands ≡ true → is_in x (claimed plant t m) ≡ true = λ x is. is_in-joined x (needed plant t m) (overlap plant t m) (is_in-drop x (needed plant t m) end.0 (ap (is_in x) (sym end.2) ∙ is)) in
     let there : stand (moves_of plant) t (suc m) ≡ stands = cond-true (ltb (suc m) (moves plant t)) stands [] (lt-ltb (suc m) (moves plant t) (omega arith)) in
-    let P : List ℕ → Type 0 = λ xs. (ltb 0 (length xs) && list_all (λ x. is_in x (needed plant t m)) xs && are_apart (needed plant t (suc m)) xs) ≡ true in
+    let P : List ℕ → Type 0 = λ xs. (ltb 0 (length xs) && list_all (λ x. is_in x (claimed plant t m)) xs && are_apart (claimed plant t (suc m)) xs) ≡ true in
     subst P (sym there)
-    (and_from (ltb 0 (length stands) && list_all (λ x. is_in x (needed plant t m)) stands) (are_apart (needed plant t (suc m)) stands)
-    (and_from (ltb 0 (length stands)) (list_all (λ x. is_in x (needed plant t m)) stands) (lt-ltb 0 (length stands) some) (list_all_from (λ x. is_in x (needed plant t m)) stands inner))
+    (and_from (ltb 0 (length stands) && list_all (λ x. is_in x (claimed plant t m)) stands) (are_apart (claimed plant t (suc m)) stands)
+    (and_from (ltb 0 (length stands)) (list_all (λ x. is_in x (claimed plant t m)) stands) (lt-ltb 0 (length stands) some) (list_all_from (λ x. is_in x (claimed plant t m)) stands inner))
     (no_common plant t m (no_fault_at tables t m none lt more)))
 
 pub valid : (tables : Tables) → IsPlannable tables → fault_of tables ≡ None → is_valid (moves_of (bare tables)) ≡ true

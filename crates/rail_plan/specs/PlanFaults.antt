@@ -2,13 +2,13 @@
 use Rattle.std.specs.Prelude.{ℕ, zero, suc, ◌-◌, ◌≤◌, Bool, not, cond, nat_le, List, [], length, map, sum_by, Option, Some, None, IsTrue}
 use Rattle.std.specs.List.{find, list_all}
 use Rattle.rail_base.specs.FirstRefusals.{IsFirstRefusal}
-use Rattle.rail_base.specs.Limits.{most, Sections, Trains, ReleaseTime, Depth}
+use Rattle.rail_base.specs.Limits.{most, Sections, Trains, ReleaseTime, OverlapTime, Depth}
 use Rattle.rail_base.specs.declared.plant.Tables.{Tables}
 use Rattle.rail_base.specs.declared.plant.SectionRow.{SectionRow}
 use Rattle.rail_base.specs.declared.plant.TrainRow.{TrainRow}
 use Rattle.rail_base.specs.declared.plant.MoveRow.{MoveRow}
 use Rattle.rail_rules.specs.Numbers.{all_below, is_in, or_else}
-use Rattle.rail_rules.specs.Plant.{Plant, section, train, moves, needed, standing_after, shortest_end, from_turn, longer}
+use Rattle.rail_rules.specs.Plant.{Plant, section, train, moves, needed, claimed, standing_after, shortest_end, from_turn, longer}
 use Rattle.rail_rules.specs.Accepted.{are_distinct_names, is_section_in_range, is_train_in_range}
 use Rattle.rail_plan.specs.declared.faults.PlanFault.{PlanFault}
 use Rattle.rail_plan.specs.declared.faults.PlanFault.TheVariants.{TooLong, SelfBlocked, OutOfMemory}
@@ -17,12 +17,13 @@ use Rattle.rail_plan.specs.declared.faults.PlanFault.TheVariants.{TooLong, SelfB
 abbrev pub bare : Tables → Plant
 bare tables = record { tables = tables; calls = [] }
 
--- tables within the limits and ranges, with distinct names of sections and of trains; each move runs over known
--- sections and none twice, each turn is at a step of its move, and none is after a train's last move
+-- tables within the limits and ranges, with distinct names of sections and of trains; each move claims known sections
+-- and none twice, each turn is at a step of its move, and no turn and no overlap is after a train's last move
 pub record IsPlannable (tables : Tables) : Type 0 where
   pub few_sections : length tables.sections ≤ most Sections
   pub few_trains : length tables.trains ≤ most Trains
   pub release : tables.release ≤ most ReleaseTime
+  pub overlap_time : tables.overlap_time ≤ most OverlapTime
   pub depth : tables.depth ≤ most Depth
   pub sections : IsTrue (list_all is_section_in_range tables.sections)
   pub section_names : IsTrue (are_distinct_names (map (λ (row : SectionRow). row.name) tables.sections))
@@ -41,9 +42,9 @@ standing_of plant metres row = longer (shortest_end plant metres row.sections) (
 abbrev pub is_too_long : Plant → ℕ → ℕ → Bool
 is_too_long plant t m = not (nat_le (train plant t).kind.length (metres_of plant (needed plant t m)))
 
--- the first needed section of the next move on which the train stands after its move m
+-- the first section that the next move claims on which the train stands after its move m
 abbrev pub blocking : Plant → ℕ → ℕ → Option ℕ
-blocking plant t m = find (λ x. is_in x (standing_after plant t m)) (needed plant t (suc m))
+blocking plant t m = find (λ x. is_in x (standing_after plant t m)) (claimed plant t (suc m))
 
 -- the fault that a blocking section is
 abbrev pub blocked_by : ℕ → ℕ → Option ℕ → Option PlanFault

@@ -23,8 +23,8 @@ pub fn event_bound(tables: &Tables, commands: u64) -> u64
     lines + trains as u64 + commands + 1
 }
 
-/// How many lines the moves of a train have: for each an admission, a ready line and an arrival, and for
-/// each needed section that it is entered and freed.
+/// How many lines the moves of a train have: for each an admission, a ready line and an arrival, for each needed
+/// section that it is entered, and for each that it claims that it is freed.
 fn train_lines(tables: &Tables, number: TrainNo) -> u64
     requires tables { IsPlannable tables.now }
     requires train { number < length tables.now.trains }
@@ -33,7 +33,9 @@ fn train_lines(tables: &Tables, number: TrainNo) -> u64
 {
     let mut lines = 0;
     for row in train_row(tables, number).moves.as_slice() {
-        lines += 2 * row.sections.as_slice().len() as u64 + 3;
+        let needed = row.sections.as_slice().len() as u64;
+        let claimed = needed + row.overlap.as_slice().len() as u64;
+        lines += needed + claimed + 3;
     }
     lines
 }

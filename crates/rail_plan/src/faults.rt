@@ -5,7 +5,7 @@ ghost use Rattle.rail_rules.specs.Plant.{moves};
 ghost use Rattle.rail_plan.specs.PlanFaults.{IsPlannable, bare, fault_at, fault_of, fault_of_train};
 
 use crate::rows::{move_row, train_row};
-use crate::standing::{first_common, route_length, standing};
+use crate::standing::{first_claimed, route_length, standing};
 use rail_base::{OutOfMemory, SectionNo, Tables, TrainNo};
 use std::alloc::AllocError;
 
@@ -17,8 +17,8 @@ pub enum PlanFault {
         train: TrainNo,
         place: u16,
     },
-    /// At this place the train would stand on this section, which its next move needs; it is the first
-    /// such in route order.
+    /// At this place the train would stand on this section, which its next move claims; it is the first
+    /// such of its route and its overlap, in order.
     SelfBlocked {
         train: TrainNo,
         place: u16,
@@ -93,7 +93,7 @@ fn place_fault(tables: &Tables, train: TrainNo, place: u16) -> Option<PlanFault>
         return Some(PlanFault::TooLong { train, place });
     }
     let stand = standing(tables, metres, before);
-    let section = first_common(next.sections.as_slice(), stand)?;
+    let section = first_claimed(next, stand)?;
     Some(PlanFault::SelfBlocked {
         train,
         place,

@@ -1,6 +1,6 @@
 //! What a plant keeps beside its tables: the moves and the names that they spell.
 
-ghost use Rattle.std.specs.Prelude.{◌≡◌, ◌-◌, ◌<◌, ◌^◌, List, Option, None, IsTrue, IfOk, length, map, min, sum_by};
+ghost use Rattle.std.specs.Prelude.{◌≡◌, ◌+◌, ◌-◌, ◌<◌, ◌^◌, ◌++◌, List, Option, None, IsTrue, IfOk, length, map, min, sum_by};
 ghost use Rattle.rail_base.specs.declared.plant.MoveRow.{MoveRow};
 ghost use Rattle.rail_base.specs.declared.plant.SectionRow.{SectionRow};
 ghost use Rattle.rail_base.specs.declared.plant.TrainRow.{TrainRow};
@@ -12,11 +12,13 @@ ghost use Rattle.rail_plan.specs.PlanFaults.{IsPlannable, bare, fault_of, standi
 use crate::rows::train_row;
 use crate::standing::standing;
 use indexmap::IndexSet;
-use rail_base::{MoveRow, Name, Names, OutOfMemory, SectionRow, Tables, TrainNo, TrainRow};
+use rail_base::{
+    MoveRow, Name, Names, OutOfMemory, SectionNo, SectionRow, Tables, TrainNo, TrainRow,
+};
 use rail_place::{Moves, SectionLists};
 use std::alloc::{AllocError, Global};
 
-/// The moves of the trains: the needed sections of each, and where the train stands after it. Nothing is
+/// The moves of the trains: the sections that each needs, its overlap, and where the train stands after it. Nothing is
 /// said of a standing set after a train's last move, so it is kept as for the others.
 pub fn moves_of(alloc: Global, tables: &Tables) -> Result<Moves, OutOfMemory>
     requires tables { IsPlannable tables.now }
@@ -26,23 +28,35 @@ pub fn moves_of(alloc: Global, tables: &Tables) -> Result<Moves, OutOfMemory>
     let mut moves = Moves::new(alloc);
     for index in 0..tables.trains.as_slice().len() {
         let train = TrainNo(index as u16);
-        let need = needs_of(alloc, train_row(tables, train))?;
+        let rows = train_row(tables, train).moves.as_slice();
+        let need = needs_of(alloc, rows)?;
+        let over = overs_of(alloc, rows)?;
         let stand = stands_of(alloc, tables, train)?;
-        moves.push_train(alloc, need, stand)?;
+        moves.push_train(alloc, need, over, stand)?;
     }
     Ok(moves)
 }
 
-/// The needed sections of each move of the train.
-fn needs_of(alloc: Global, train: &TrainRow) -> Result<SectionLists, AllocError>
-    ensures { IfOk result (λ needs. needs ≡ map (λ (row : MoveRow). row.sections) train.now.moves) }
+/// The sections that each move of the train needs, those of its route in order.
+fn needs_of(alloc: Global, moves: &[MoveRow]) -> Result<SectionLists, AllocError>
+    ensures { IfOk result (λ needs. needs ≡ map (λ (row : MoveRow). row.sections) moves.now) }
 {
-    let moves = train.moves.as_slice();
     let mut needs = SectionLists::with_capacity(alloc, moves.len(), sections_in(moves))?;
     for row in moves {
         needs.push(row.sections.as_slice())?;
     }
     Ok(needs)
+}
+
+/// The sections of the overlap of each move of the train.
+fn overs_of(alloc: Global, moves: &[MoveRow]) -> Result<SectionLists, AllocError>
+    ensures { IfOk result (λ overs. overs ≡ map (λ (row : MoveRow). row.overlap) moves.now) }
+{
+    let mut overs = SectionLists::with_capacity(alloc, moves.len(), 0)?;
+    for row in moves {
+        overs.push(row.overlap.as_slice())?;
+    }
+    Ok(overs)
 }
 
 /// Where the train stands after each of its moves.

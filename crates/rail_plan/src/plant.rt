@@ -56,7 +56,7 @@ impl Plant {
     ///
     /// It is refused, train by train and place by place before the last, by the first of these that
     /// holds: as too long, where the train is longer than the sections of the route that leads to the
-    /// place; as self-blocked, where the train would stand there on a section that its next move needs.
+    /// place; as self-blocked, where the train would stand there on a section that its next move claims.
     pub fn new(alloc: Global, tables: Tables) -> Result<Plant, PlanFault>
         requires { IsPlannable tables }
         ensures accepted { OnOk result (fault_of tables ≡ None) }
@@ -108,7 +108,7 @@ impl Plant {
         &self.names
     }
 
-    /// The moves of the trains: the sections that each needs, and where the train stands after it.
+    /// The moves of the trains: the sections that each claims, and where the train stands after it.
     pub fn moves(&self) -> &Moves
         ensures moves { moves_in result.now ≡ moves_of self.now }
         ensures trains { length result.now ≡ trains self.now }
@@ -168,6 +168,13 @@ impl Plant {
         ensures { result ≡ self.now.tables.release }
     {
         self.tables.release
+    }
+
+    /// How long after its arrival a train still holds the overlap of a route, in tenths of a second, one for the whole plant.
+    pub fn overlap_time(&self) -> u32
+        ensures { result ≡ self.now.tables.overlap_time }
+    {
+        self.tables.overlap_time
     }
 
     /// The greatest number of free legs in a list that the analysis looks for.

@@ -1,6 +1,6 @@
-//! Where a train stands after a move, and what its next move needs.
+//! Where a train stands after a move, and what its next move claims.
 
-ghost use Rattle.std.specs.Prelude.{◌≡◌, ◌≤◌, IsTrue, length, drop};
+ghost use Rattle.std.specs.Prelude.{◌≡◌, ◌≤◌, ◌++◌, IsTrue, length, drop};
 ghost use Rattle.std.specs.List.{find};
 ghost use Rattle.rail_rules.specs.Numbers.{is_in};
 ghost use Rattle.rail_rules.specs.Plant.{shortest_end};
@@ -57,10 +57,20 @@ pub fn route_length(tables: &Tables, row: &MoveRow) -> u32
     metres
 }
 
-/// The first needed section on which the train stands. Both lists have the sections of one route at
-/// most, so each needed section is looked for in the whole of the other list.
-pub fn first_common(need: &[SectionNo], stand: &[SectionNo]) -> Option<SectionNo>
-    ensures { result ≡ find (λ x. is_in x stand.now) need.now }
+/// The first section that the move claims and that stands in the list.
+pub fn first_claimed(row: &MoveRow, stand: &[SectionNo]) -> Option<SectionNo>
+    ensures { result ≡ find (λ x. is_in x stand.now) (row.now.sections ++ row.now.overlap) }
 {
-    need.iter().copied().find(|section| stand.contains(section))
+    first_common(row.sections.as_slice(), stand).or(first_common(row.overlap.as_slice(), stand))
+}
+
+/// The first claimed section on which the train stands. Both lists have the sections of one route at
+/// most, so each claimed section is looked for in the whole of the other list.
+fn first_common(claim: &[SectionNo], stand: &[SectionNo]) -> Option<SectionNo>
+    ensures { result ≡ find (λ x. is_in x stand.now) claim.now }
+{
+    claim
+        .iter()
+        .copied()
+        .find(|section| stand.contains(section))
 }

@@ -1,7 +1,7 @@
 use rail_base::{Interval, Parts, SectionNo, Time, TrainNo};
 use rail_capacity::{CapacityFault, Compressed, Shift, Tight, Window, compress};
 
-const NO_PARTS: Parts = Parts {
+pub(crate) const NO_PARTS: Parts = Parts {
     setting: None,
     watching: None,
     approach: None,

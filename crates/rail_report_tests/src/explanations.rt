@@ -71,7 +71,7 @@ const TOLD: [(Reason, Part, u32, &str); 46] = [
         Reason::Range,
         Part::Train,
         5,
-        "train 2: key 5 \"routes\" must have 1 to 64 names",
+        "train 2: key 5 \"routes\" must have 1 to 128 names",
     ),
     (
         Reason::JointCrowded,
@@ -201,9 +201,9 @@ const TOLD: [(Reason, Part, u32, &str); 46] = [
     ),
     (
         Reason::NoPath,
-        Part::Train,
+        Part::Word,
         0,
-        "train 2: no path is free between the paths of the other trains",
+        "word 2, TRAIN, has no whole path in the run to be copied: it was not admitted, or stands somewhere at the end",
     ),
     (
         Reason::EditForm,
@@ -257,7 +257,7 @@ const TOLD: [(Reason, Part, u32, &str); 46] = [
         Reason::NotYet,
         Part::Root,
         0,
-        "the root: a run over routes with overlaps is not built",
+        "the root: the command has a form that is not built",
     ),
     (
         Reason::Range,
@@ -275,7 +275,7 @@ const TOLD: [(Reason, Part, u32, &str); 46] = [
         Reason::Unknown,
         Part::Word,
         1,
-        "word 2: piece 1 of LINE names no section of the scene",
+        "word 2: piece 1 names nothing of the scene: LINE takes sections, TRAIN a train",
     ),
     (
         Reason::Repeated,

@@ -19,7 +19,7 @@ const FILES: &str = "
 00:01:48.0 hold A 1 stopped|00:01:48.0 hold A 1 closed X|00:01:48.0 hold A 1 blocked X B|00:01:48.0 hold A 1 nolist| = 4 0 0
 00:01:48.0 admit A 1 pulled|00:01:48.0 admit A 1 appended|00:01:48.0 admit A 1 fresh B A*3 B|00:01:48.0 end A| = 4 2 6
 00:01:48.0 admit A 1 fresh A*2 B| = 1 1 3
-00:01:48.0 admit A 1 fresh A*8191 B| = 1 1 8192
+00:01:48.0 admit A 1 fresh A*32767 B| = 1 1 32768
 ";
 
 // Two trains that pass each other at a station with two tracks.

@@ -1,5 +1,5 @@
 //! Tests of the public calls that read command files, timetables and history files, and of those that tell of a run:
-//! its delays, how full a line is, and refusals in a planner's words. Each call on its happy path, and the refusals
+//! its delays, how full a line is, where further trains fit, and refusals in a planner's words. Each call on its happy path, and the refusals
 //! that no worked row shows.
 //!
 //! They stand here and not beside the calls because a crate with tests is proved twice, and every test

@@ -11,7 +11,7 @@ fn words_of(alloc: Global, line: &str) -> Result<Vec<Word>, AllocError> {
 }
 
 // Each line, and its form, if it has one.
-const LINES: [(&str, Option<Form>); 23] = [
+const LINES: [(&str, Option<Form>); 28] = [
     ("", None),
     ("run", None),
     ("run S", Some(Form::Run)),
@@ -28,6 +28,11 @@ const LINES: [(&str, Option<Form>); 23] = [
     ("capacity X1 00:01:00 00:11:00.0 S", Some(Form::Capacity)),
     ("capacity X1 00:01:00 0:11:00 S", None),
     ("capacity X1 00:01:00 00:11:00", None),
+    ("insert A 00:01:00 00:11:00.0 128 S", Some(Form::Insert)),
+    ("insert A 00:01:00 00:11:00 0 S", None),
+    ("insert A 00:01:00 00:11:00 129 S", None),
+    ("insert A 00:01:00 00:11:00 01 S", None),
+    ("insert A 00:01:00 00:11:00 1", None),
     ("edit S E", Some(Form::Edit)),
     ("migrate S", Some(Form::Migrate)),
     ("gen 18446744073709551615", Some(Form::Gen)),

@@ -1,5 +1,5 @@
 -- The faults of tables in which the row of one train is changed.
-use Rattle.std.proofs.Common.{◌≡◌, ℕ, zero, suc, ◌-◌, ◌<◌, ◌≤◌, Bool, true, false, not, cond, List, [], ◌∷◌, length, get_or, set, Option, Some, None, refl, sym, ap, ◌∙◌, subst, ⊎_elim, arith}
+use Rattle.std.proofs.Common.{◌++◌, ◌≡◌, ℕ, zero, suc, ◌-◌, ◌<◌, ◌≤◌, Bool, true, false, not, cond, List, [], ◌∷◌, length, get_or, set, Option, Some, None, refl, sym, ap, ◌∙◌, subst, ⊎_elim, arith}
 use Rattle.std.specs.Prelude.{nat_le, sum_by}
 use Rattle.std.specs.List.{find}
 use Rattle.std.proofs.lemmas.Bool.{cases_eq}
@@ -77,7 +77,7 @@ module _ (tables : Tables) (t : ℕ) (row : TrainRow) where
   abbrev fault_by : ℕ → ℕ → TrainRow → Option PlanFault
   fault_by u m r = or_else (cond (not (nat_le r.kind.length (metres_of (bare tables) (get_or r.moves m no_move).sections))) (Some (TooLong u (suc m))) None)
       (blocked_by u (suc m) (find (λ x. is_in x (longer (shortest_end (bare tables) r.kind.length (get_or r.moves m no_move).sections) (from_turn (get_or r.moves m no_move).turn (get_or r.moves m no_move).sections)))
-      (get_or r.moves (suc m) no_move).sections))
+      ((get_or r.moves (suc m) no_move).sections ++ (get_or r.moves (suc m) no_move).overlap)))
 
   of_tables : (u m : ℕ) → fault_at (bare tables) u m ≡ fault_by u m (get_or tables.trains u no_train)
   of_tables u m = refl
@@ -86,7 +86,7 @@ module _ (tables : Tables) (t : ℕ) (row : TrainRow) where
   of_other u m =
       let r : TrainRow = get_or (set tables.trains t row) u no_train in
       ap (λ (end : List ℕ). or_else (cond (not (nat_le r.kind.length (metres_of (bare tables) (get_or r.moves m no_move).sections))) (Some (TooLong u (suc m))) None)
-      (blocked_by u (suc m) (find (λ x. is_in x (longer end (from_turn (get_or r.moves m no_move).turn (get_or r.moves m no_move).sections))) (get_or r.moves (suc m) no_move).sections)))
+      (blocked_by u (suc m) (find (λ x. is_in x (longer end (from_turn (get_or r.moves m no_move).turn (get_or r.moves m no_move).sections))) ((get_or r.moves (suc m) no_move).sections ++ (get_or r.moves (suc m) no_move).overlap))))
       (end_same r.kind.length (get_or r.moves m no_move).sections)
 
   -- where the tables have no fault, the first one of the changed tables is of the changed train

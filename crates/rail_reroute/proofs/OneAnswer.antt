@@ -10,7 +10,7 @@ use Rattle.rail_rules.specs.Plant.{moves_of}
 use Rattle.rail_place.specs.Overlaps.{IsOverlap}
 use Rattle.rail_scene.specs.declared.scene.Scene.{Scene}
 use Rattle.rail_compile.specs.Itineraries.{plant_of_scene}
-use Rattle.rail_compile.specs.Refusals.{plan_refusal, of_train}
+use Rattle.rail_compile.specs.Refusals.{compile_refusal, of_train}
 use Rattle.rail_reroute.specs.Judgements.{IsJudged, IsRefusedItinerary, IsRerouted, IsTooMany, is_out_at, is_too_many, rerouted, without_list}
 use Rattle.rail_reroute.specs.declared.judgements.Judged.{Judged}
 use Rattle.rail_reroute.specs.declared.judgements.Judged.TheVariants.{Out, Refused, Overlap, NoList, List as Listed}
@@ -51,7 +51,7 @@ module _ (scene : Scene) (s : List ℕ) (t : ℕ) (routes : List (List ℕ)) whe
   same_refusal why other place step (inl many) (inl more) = λ i. Refused ((many.told ∙ sym more.told) i) ((many.nowhere ∙ sym more.nowhere) i)
   same_refusal why other place step (inl many) (inr refused) = both_ways (is_too_many s t routes) many.many refused.few
   same_refusal why other place step (inr refused) (inl many) = both_ways (is_too_many s t routes) many.many refused.few
-  same_refusal why other place step (inr refused) (inr again) = same_told (plan_refusal (rerouted scene s t routes)) why other place step refused.refused.told again.refused.told
+  same_refusal why other place step (inr refused) (inr again) = same_told (compile_refusal (rerouted scene s t routes)) why other place step refused.refused.told again.refused.told
 
   -- where the rerouted scene has a plant, the itinerary is not refused
   not_refused : {X : Type 0} (why : Reason) (place : ℕ) → IsTooMany s t routes why place ⊎ IsRefusedItinerary scene s t routes why place → IsRerouted scene s t routes → X

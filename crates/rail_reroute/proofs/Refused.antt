@@ -20,7 +20,7 @@ use Rattle.rail_routes.specs.declared.items.Route.{Route}
 use Rattle.rail_scene.specs.declared.scene.Scene.{Scene}
 use Rattle.rail_scene.specs.declared.scene.SceneTrain.{SceneTrain}
 use Rattle.rail_compile.specs.Itineraries.{plant_of_scene, route_of, routes_of, tables_of, train_row}
-use Rattle.rail_compile.specs.Refusals.{are_known, plan_refusal, fault_for, is_known, route_tests, trains_tests}
+use Rattle.rail_compile.specs.Refusals.{are_known, compile_refusal, fault_for, is_known, route_tests, trains_tests}
 use Rattle.rail_compile.proofs.CallerLemmas.{IsUnrefused, length-moves_over, train_is, unrefused_at}
 use Rattle.rail_reroute.specs.Judgements.{IsItineraryRefusal, IsProposed, no_scene_train, rerouted, rerouted_train}
 use Rattle.rail_reroute.proofs.Changed.{IsFaultOf, changed_train, fault_told, fault_within, with_row}
@@ -121,5 +121,5 @@ module _ (scene : Scene) (s : List ℕ) (t : ℕ) (routes : List (List ℕ)) (h 
   told_by r None (Some OutOfMemory) tests faults is = absurd (faults OutOfMemory refl)
 
   -- where the scene with the new itinerary is refused, the train is, for it
-  pub refused : (r : Refusal) → plan_refusal changed ≡ Some r → IsItineraryRefusal t r
+  pub refused : (r : Refusal) → compile_refusal changed ≡ Some r → IsItineraryRefusal t r
   refused r is = told_by r (first_failing (trains_tests changed 1 changed.trains)) (fault_of (tables_of changed)) (tests_told r) fault_own is

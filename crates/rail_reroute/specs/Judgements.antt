@@ -12,7 +12,7 @@ use Rattle.rail_scene.specs.declared.scene.Scene.{Scene}
 use Rattle.rail_scene.specs.declared.scene.SceneTrain.{SceneTrain}
 use Rattle.rail_scene.specs.Scenes.{IsScene}
 use Rattle.rail_compile.specs.Itineraries.{plant_of_scene, with_trains}
-use Rattle.rail_compile.specs.Refusals.{are_known, plan_refusal, of_train}
+use Rattle.rail_compile.specs.Refusals.{are_known, compile_refusal, of_train}
 use Rattle.rail_reroute.specs.declared.judgements.Judged.{Judged}
 use Rattle.rail_reroute.specs.declared.judgements.Judged.TheVariants as judged
 
@@ -44,7 +44,7 @@ is_too_many s t routes = nat_lt (most ItineraryRoutes) (place_of s t + length ro
 -- where the new itinerary begins, the places are within the moves of the trains, and the routes are some and known
 pub record IsProposed (scene : Scene) (s : List ℕ) (t : ℕ) (routes : List (List ℕ)) : Type 0 where
   pub kept : IsScene scene
-  pub compiled : plan_refusal scene ≡ None
+  pub compiled : compile_refusal scene ≡ None
   pub train : t < length scene.trains
   pub long : length s ≡ length scene.trains
   pub within : (u : ℕ) → u < length scene.trains → place_of s u ≤ moves (plant_of_scene scene) u
@@ -82,13 +82,13 @@ pub record IsTooMany (s : List ℕ) (t : ℕ) (routes : List (List ℕ)) (why : 
 -- the new itinerary has not too many routes, and the rerouted scene is refused for it
 pub record IsRefusedItinerary (scene : Scene) (s : List ℕ) (t : ℕ) (routes : List (List ℕ)) (why : Reason) (place : ℕ) : Type 0 where
   pub few : is_too_many s t routes ≡ false
-  pub refused : IsRefusedFor (plan_refusal (rerouted scene s t routes)) t why place
+  pub refused : IsRefusedFor (compile_refusal (rerouted scene s t routes)) t why place
 
 -- the train is not out, and the rerouted scene has a plant
 pub record IsRerouted (scene : Scene) (s : List ℕ) (t : ℕ) (routes : List (List ℕ)) : Type 0 where
   pub inside : is_out_at scene s t ≡ false
   pub few : is_too_many s t routes ≡ false
-  pub compiles : plan_refusal (rerouted scene s t routes) ≡ None
+  pub compiles : compile_refusal (rerouted scene s t routes) ≡ None
 
 -- what a state of a plant leads to, by its answer: two trains hold one section; no list of legs brings every train
 -- inside to its exit; or this list does

@@ -4,7 +4,7 @@ ghost use Rattle.std.specs.Prelude.{◌≡◌, ◌≤◌, ◌<◌, ◌^◌, ◌+
 ghost use Rattle.rail_base.specs.declared.limits.TheConstants.{ITINERARY_ROUTES};
 ghost use Rattle.rail_base.specs.Refusals.{refusal_in};
 ghost use Rattle.rail_compile.specs.Itineraries.{plant_of_scene};
-ghost use Rattle.rail_compile.specs.Refusals.{are_known, plan_refusal};
+ghost use Rattle.rail_compile.specs.Refusals.{are_known, compile_refusal};
 ghost use Rattle.rail_compile.specs.Ways.{AreLookups};
 ghost use Rattle.rail_rules.specs.Places.{is_valid_state};
 ghost use Rattle.rail_rules.specs.Plant.{moves, moves_of};
@@ -56,7 +56,7 @@ pub fn judge(
     routes: &[Name],
 ) -> Result<Judged, OutOfMemory>
     requires kept { IsScene scene.now }
-    requires compiled { plan_refusal scene.now ≡ None }
+    requires compiled { compile_refusal scene.now ≡ None }
     requires train { train < length scene.now.trains }
     requires long { length positions.now ≡ length scene.now.trains }
     requires within { (t : ℕ) → t < length scene.now.trains → slice_index positions.now t ≤ moves (plant_of_scene scene.now) t }
@@ -80,7 +80,7 @@ pub fn judge_with(
 ) -> Result<Judged, OutOfMemory>
     requires lookups { AreLookups scene.now lookups.now }
     requires kept { IsScene scene.now }
-    requires compiled { plan_refusal scene.now ≡ None }
+    requires compiled { compile_refusal scene.now ≡ None }
     requires train { train < length scene.now.trains }
     requires long { length positions.now ≡ length scene.now.trains }
     requires within { (t : ℕ) → t < length scene.now.trains → slice_index positions.now t ≤ moves (plant_of_scene scene.now) t }

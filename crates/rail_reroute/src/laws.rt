@@ -2,7 +2,7 @@
 
 ghost use Rattle.std.specs.Prelude.{◌≡◌, ℕ, List as ListOf, Some};
 ghost use Rattle.rail_base.specs.declared.refusals.Refusal.{Refusal};
-ghost use Rattle.rail_compile.specs.Refusals.{plan_refusal};
+ghost use Rattle.rail_compile.specs.Refusals.{compile_refusal};
 ghost use Rattle.rail_scene.specs.declared.scene.Scene.{Scene};
 ghost use Rattle.rail_reroute.specs.Judgements.{IsItineraryRefusal, IsJudged, IsProposed, rerouted, without_list};
 ghost use Rattle.rail_reroute.specs.declared.judgements.Judged.{Judged};
@@ -18,5 +18,5 @@ pub fn a_proposal_has_one_answer()
 /// train and no unknown name is told.
 pub fn a_refused_rerouting_is_refused_for_its_itinerary()
     ensures { (scene : Scene) (s : ListOf ℕ) (t : ℕ) (routes : ListOf (ListOf ℕ)) (refusal : Refusal) → IsProposed scene s t routes
-        → plan_refusal (rerouted scene s t routes) ≡ Some refusal → IsItineraryRefusal t refusal }
+        → compile_refusal (rerouted scene s t routes) ≡ Some refusal → IsItineraryRefusal t refusal }
 {}

@@ -1,10 +1,10 @@
 -- A plant that may be run, part by part: what the tests of its limits and ranges say.
-use Rattle.std.proofs.Common.{◌≡◌, ℕ, zero, suc, ◌-◌, ◌<◌, ◌≤◌, Bool, true, not, ◌&&◌, eqb, ltb, leb, List, [], ◌∷◌, length, get_or, map, is_some, Option, Some, None, arith}
+use Rattle.std.proofs.Common.{◌≡◌, ℕ, zero, suc, ◌-◌, ◌<◌, ◌≤◌, Bool, true, not, ◌&&◌, eqb, ltb, leb, List, [], ◌∷◌, ◌++◌, length, get_or, map, is_some, Option, Some, None, arith}
 use Rattle.std.specs.List.{list_all}
 use Rattle.std.specs.Option.{option_map_or}
-use Rattle.std.proofs.lemmas.Bool.{and_parts, ltb-true, leb-true}
+use Rattle.std.proofs.lemmas.Bool.{and_parts, eqb-true, leb-true}
 use Rattle.rail_base.specs.NameForms.{is_name}
-use Rattle.rail_base.specs.declared.limits.TheConstants.{SECTIONS, TRAINS, ROUTE_SECTIONS, ITINERARY_ROUTES, DEPTH, INPUT_TIME, SECTION_LENGTH, TRAIN_LENGTH, SPEED, SETTING, WATCHING, APPROACH, RELEASE, START, STOP, TURN_TIME}
+use Rattle.rail_base.specs.declared.limits.TheConstants.{SECTIONS, TRAINS, ROUTE_SECTIONS, OVERLAP_SECTIONS, ITINERARY_ROUTES, DEPTH, INPUT_TIME, SECTION_LENGTH, TRAIN_LENGTH, SPEED, SETTING, WATCHING, APPROACH, RELEASE, OVERLAP, START, STOP, TURN_TIME}
 use Rattle.rail_base.specs.declared.plant.Call.{Call}
 use Rattle.rail_base.specs.declared.plant.SectionRow.{SectionRow}
 use Rattle.rail_base.specs.declared.plant.TrainRow.{TrainRow}
@@ -13,7 +13,7 @@ use Rattle.rail_base.specs.declared.plant.MoveRow.{MoveRow}
 use Rattle.rail_base.specs.declared.plant.TurnRow.{TurnRow}
 use Rattle.rail_rules.specs.Numbers.{all_below}
 use Rattle.rail_rules.specs.Moves.{is_valid}
-use Rattle.rail_rules.specs.Plant.{Plant, no_move, no_section, section, trains, train, moves, move_row, moves_of, call_after}
+use Rattle.rail_rules.specs.Plant.{Plant, no_move, no_section, section, trains, train, moves, move_row, overlap, moves_of, call_after}
 use Rattle.rail_base.specs.Limits.{is_from_one}
 use Rattle.rail_rules.specs.Accepted.{are_distinct_numbers, are_distinct_names, is_section_in_range, is_kind_in_range, is_turn_in_range, is_move_in_range, is_train_in_range, is_time_in_range, is_call_in_range, does_fit, are_calls_in_range, is_accepted}
 use Rattle.rail_rules.proofs.Below.{all_below_at}
@@ -33,6 +33,7 @@ pub record IsAccepted (plant : Plant) : Type 0 where
   pub few_sections : length plant.tables.sections ≤ SECTIONS
   pub few_trains : trains plant ≤ TRAINS
   pub release : plant.tables.release ≤ RELEASE
+  pub overlap_time : plant.tables.overlap_time ≤ OVERLAP
   pub depth : plant.tables.depth ≤ DEPTH
   pub sections : list_all is_section_in_range plant.tables.sections ≡ true
   pub section_names : are_distinct_names (map (λ (row : SectionRow). row.name) plant.tables.sections) ≡ true
@@ -47,14 +48,16 @@ accepted_parts plant h =
     let a1 : Bool = leb (length plant.tables.sections) SECTIONS in
     let a2 : Bool = leb (trains plant) TRAINS in
     let a3 : Bool = leb plant.tables.release RELEASE in
-    let a4 : Bool = leb plant.tables.depth DEPTH in
-    let a5 : Bool = list_all is_section_in_range plant.tables.sections in
-    let a6 : Bool = are_distinct_names (map (λ (row : SectionRow). row.name) plant.tables.sections) in
-    let a7 : Bool = are_distinct_names (map (λ (row : TrainRow). row.name) plant.tables.trains) in
-    let a8 : Bool = all_below (is_train_in_range plant) (trains plant) in
-    let a9 : Bool = all_below (does_fit plant) (trains plant) in
-    let a10 : Bool = all_below (are_calls_in_range plant) (trains plant) in
-    let p10 = and_parts (a1 && a2 && a3 && a4 && a5 && a6 && a7 && a8 && a9 && a10) (is_valid (moves_of plant)) h in
+    let a4 : Bool = leb plant.tables.overlap_time OVERLAP in
+    let a5 : Bool = leb plant.tables.depth DEPTH in
+    let a6 : Bool = list_all is_section_in_range plant.tables.sections in
+    let a7 : Bool = are_distinct_names (map (λ (row : SectionRow). row.name) plant.tables.sections) in
+    let a8 : Bool = are_distinct_names (map (λ (row : TrainRow). row.name) plant.tables.trains) in
+    let a9 : Bool = all_below (is_train_in_range plant) (trains plant) in
+    let a10 : Bool = all_below (does_fit plant) (trains plant) in
+    let a11 : Bool = all_below (are_calls_in_range plant) (trains plant) in
+    let p11 = and_parts (a1 && a2 && a3 && a4 && a5 && a6 && a7 && a8 && a9 && a10 && a11) (is_valid (moves_of plant)) h in
+    let p10 = and_parts (a1 && a2 && a3 && a4 && a5 && a6 && a7 && a8 && a9 && a10) a11 p11.0 in
     let p9 = and_parts (a1 && a2 && a3 && a4 && a5 && a6 && a7 && a8 && a9) a10 p10.0 in
     let p8 = and_parts (a1 && a2 && a3 && a4 && a5 && a6 && a7 && a8) a9 p9.0 in
     let p7 = and_parts (a1 && a2 && a3 && a4 && a5 && a6 && a7) a8 p8.0 in
@@ -68,14 +71,15 @@ accepted_parts plant h =
       few_sections = leb-true (length plant.tables.sections) SECTIONS p1.0;
       few_trains = leb-true (trains plant) TRAINS p1.1;
       release = leb-true plant.tables.release RELEASE p2.1;
-      depth = leb-true plant.tables.depth DEPTH p3.1;
-      sections = p4.1;
-      section_names = p5.1;
-      train_names = p6.1;
-      trains_in_range = p7.1;
-      fitting = p8.1;
-      calls = p9.1;
-      valid = p10.1;
+      overlap_time = leb-true plant.tables.overlap_time OVERLAP p3.1;
+      depth = leb-true plant.tables.depth DEPTH p4.1;
+      sections = p5.1;
+      section_names = p6.1;
+      train_names = p7.1;
+      trains_in_range = p8.1;
+      fitting = p9.1;
+      calls = p10.1;
+      valid = p11.1;
     }
 
 -- a section within the ranges
@@ -132,6 +136,7 @@ pub record IsRowInRange (plant : Plant) (t : ℕ) : Type 0 where
   pub some_move : 0 < moves plant t
   pub few_moves : moves plant t ≤ ITINERARY_ROUTES
   pub each_move : (m : ℕ) → m < moves plant t → is_move_in_range (length plant.tables.sections) (move_row plant t m) ≡ true
+  pub no_last_overlap : length (overlap plant t (moves plant t - 1)) ≡ 0
 
 pub row_in_range : (plant : Plant) → all_below (is_train_in_range plant) (trains plant) ≡ true → (t : ℕ) → t < trains plant → IsRowInRange plant t
 row_in_range plant h t lt =
@@ -142,7 +147,9 @@ row_in_range plant h t lt =
     let b5 : Bool = is_from_one ITINERARY_ROUTES (moves plant t) in
     let b6 : Bool = list_all (is_move_in_range (length plant.tables.sections)) (train plant t).moves in
     let b7 : Bool = not (is_some (move_row plant t (moves plant t - 1)).turn) in
-    let p6 = and_parts (b1 && b2 && b3 && b4 && b5 && b6) b7 (all_below_at (is_train_in_range plant) (trains plant) t h lt) in
+    let b8 : Bool = eqb (length (overlap plant t (moves plant t - 1))) 0 in
+    let p7 = and_parts (b1 && b2 && b3 && b4 && b5 && b6 && b7) b8 (all_below_at (is_train_in_range plant) (trains plant) t h lt) in
+    let p6 = and_parts (b1 && b2 && b3 && b4 && b5 && b6) b7 p7.0 in
     let p5 = and_parts (b1 && b2 && b3 && b4 && b5) b6 p6.0 in
     let p4 = and_parts (b1 && b2 && b3 && b4) b5 p5.0 in
     let p3 = and_parts (b1 && b2 && b3) b4 p4.0 in
@@ -156,6 +163,7 @@ row_in_range plant h t lt =
       some_move = count.0;
       few_moves = count.1;
       each_move = λ m lm. list_all_get (is_move_in_range (length plant.tables.sections)) (train plant t).moves m no_move p5.1 lm;
+      no_last_overlap = eqb-true (length (overlap plant t (moves plant t - 1))) 0 p7.1;
     }
 
 turn_time : (n : ℕ) (o : Option TurnRow) → is_turn_in_range n o ≡ true → option_map_or (λ (turn : TurnRow). turn.time) o 0 ≤ TURN_TIME
@@ -166,8 +174,9 @@ turn_time n (Some turn) h = leb-true turn.time TURN_TIME (and_parts _ (leb turn.
 pub record IsMoveInRange (sections : ℕ) (row : MoveRow) : Type 0 where
   pub some_step : 0 < length row.sections
   pub few_steps : length row.sections ≤ ROUTE_SECTIONS
-  pub known : list_all (λ x. ltb x sections) row.sections ≡ true
-  pub distinct : are_distinct_numbers row.sections ≡ true
+  pub few_over : length row.overlap ≤ OVERLAP_SECTIONS
+  pub known : list_all (λ x. ltb x sections) (row.sections ++ row.overlap) ≡ true
+  pub distinct : are_distinct_numbers (row.sections ++ row.overlap) ≡ true
   pub some_setting : 0 < row.setting
   pub setting : row.setting ≤ SETTING
   pub watching : row.watching ≤ WATCHING
@@ -178,31 +187,34 @@ pub record IsMoveInRange (sections : ℕ) (row : MoveRow) : Type 0 where
 pub move_in_range : (sections : ℕ) (row : MoveRow) → is_move_in_range sections row ≡ true → IsMoveInRange sections row
 move_in_range sections row h =
     let c1 : Bool = is_from_one ROUTE_SECTIONS (length row.sections) in
-    let c2 : Bool = list_all (λ x. ltb x sections) row.sections in
-    let c3 : Bool = are_distinct_numbers row.sections in
-    let c4 : Bool = is_from_one SETTING row.setting in
-    let c5 : Bool = leb row.watching WATCHING in
-    let c6 : Bool = leb row.approach APPROACH in
-    let c7 : Bool = is_turn_in_range (length row.sections) row.turn in
-    let p6 = and_parts (c1 && c2 && c3 && c4 && c5 && c6) c7 h in
+    let c2 : Bool = leb (length row.overlap) OVERLAP_SECTIONS in
+    let c3 : Bool = list_all (λ x. ltb x sections) (row.sections ++ row.overlap) in
+    let c4 : Bool = are_distinct_numbers (row.sections ++ row.overlap) in
+    let c5 : Bool = is_from_one SETTING row.setting in
+    let c6 : Bool = leb row.watching WATCHING in
+    let c7 : Bool = leb row.approach APPROACH in
+    let c8 : Bool = is_turn_in_range (length row.sections) row.turn in
+    let p7 = and_parts (c1 && c2 && c3 && c4 && c5 && c6 && c7) c8 h in
+    let p6 = and_parts (c1 && c2 && c3 && c4 && c5 && c6) c7 p7.0 in
     let p5 = and_parts (c1 && c2 && c3 && c4 && c5) c6 p6.0 in
     let p4 = and_parts (c1 && c2 && c3 && c4) c5 p5.0 in
     let p3 = and_parts (c1 && c2 && c3) c4 p4.0 in
     let p2 = and_parts (c1 && c2) c3 p3.0 in
     let p1 = and_parts c1 c2 p2.0 in
     let steps_are = from_one ROUTE_SECTIONS (length row.sections) p1.0 in
-    let setting_is = from_one SETTING row.setting p3.1 in
+    let setting_is = from_one SETTING row.setting p4.1 in
     record {
       some_step = steps_are.0;
       few_steps = steps_are.1;
-      known = p1.1;
-      distinct = p2.1;
+      few_over = leb-true (length row.overlap) OVERLAP_SECTIONS p1.1;
+      known = p2.1;
+      distinct = p3.1;
       some_setting = setting_is.0;
       setting = setting_is.1;
-      watching = leb-true row.watching WATCHING p4.1;
-      approach = leb-true row.approach APPROACH p5.1;
-      turn = p6.1;
-      turn_time = turn_time (length row.sections) row.turn p6.1;
+      watching = leb-true row.watching WATCHING p5.1;
+      approach = leb-true row.approach APPROACH p6.1;
+      turn = p7.1;
+      turn_time = turn_time (length row.sections) row.turn p7.1;
     }
 
 -- a call within the ranges

@@ -20,6 +20,12 @@ pub use Rattle.rail_rules.proofs.Parts.{enter_before_run}
 pub use Rattle.rail_rules.proofs.Parts.{go_after_arrive}
 -- a move begins after its signal
 pub use Rattle.rail_rules.proofs.Parts.{start_after_signal}
+-- Claiming: the sections that a move claims, and when their intervals end.
+pub use Rattle.rail_rules.proofs.Claiming.{claims_are, end_needed, end_over, end_taken, end_timed, freed_from, is_over_from, needed_section, not_over, steps_claimed, taken_from, taken_parts}
+-- the next move takes over: it is admitted before the timer runs out, and claims the section
+pub use Rattle.rail_rules.proofs.Claiming.{IsTakenOver}
+-- a needed section isn't taken over, and nothing is where the next move isn't admitted
+pub use Rattle.rail_rules.proofs.Claiming.{last_not_taken, needed_not_taken}
 -- Found: trying every list of so many legs finds one exactly where there is one.
 pub use Rattle.rail_rules.proofs.Found.{finds_exactly, leg_parts}
 -- Unchanged: a line that is no admission changes no event line of an admitted move.

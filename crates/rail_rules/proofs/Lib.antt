@@ -9,3 +9,4 @@ mod Parts
 mod Found
 mod Unchanged
 mod Accepting
+mod Claiming

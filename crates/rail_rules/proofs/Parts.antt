@@ -5,6 +5,7 @@ use Rattle.rail_rules.specs.Numbers.{is_in}
 use Rattle.rail_rules.specs.Plant.{Plant, moves, moves_of, move_row, steps, step_section, is_forced, dwell, departure, run_over}
 use Rattle.rail_rules.specs.Times.{stop_time, depart_time, signal_time, ready_time, does_pass, start_time, start_loss, head_time, admitted, previous, is_admitted, free_run, passes, go, enter, stop_at, arrive, leave}
 use Rattle.rail_rules.specs.Intervals.{does_stand, is_open, clears_from, end_time, signalled, standing_part, is_undecided, parts_of, decided, parts_sum, IsInOrder}
+use Rattle.rail_rules.proofs.Claiming.{end_needed}
 
 -- running over more steps takes no less time
 pub run_over-le : (plant : Plant) (t m i j : ℕ) → i ≤ j → run_over plant t m i ≤ run_over plant t m j
@@ -148,4 +149,4 @@ parts_sum_is plant t adms m j lt closed =
       cond-false {A = ℕ} (does_stand plant t m j) (go plant t adms (suc m) + start_loss plant t (passes plant t adms (suc m))) (leave plant t adms m j) isnt,
     ))
     (cases_Bool (does_stand plant t m j)) in
-    omega (arith, running, standing, stood, order.signal, order.begun, order.entered, order.left)
+    omega (arith, end_needed plant t adms m j lt, running, standing, stood, order.signal, order.begun, order.entered, order.left)

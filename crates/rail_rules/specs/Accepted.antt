@@ -1,9 +1,9 @@
 -- Plants and inputs that may be run.
-use Rattle.std.specs.Prelude.{ℕ, suc, ◌-◌, ◌==◌, Bool, true, not, ◌&&◌, ◌||◌, nat_lt, nat_le, is_some, List, [], ◌∷◌, length, map, sum_by, Option, Some, None}
+use Rattle.std.specs.Prelude.{ℕ, suc, ◌-◌, ◌==◌, Bool, true, not, ◌&&◌, ◌||◌, nat_lt, nat_le, is_some, List, [], ◌∷◌, ◌++◌, length, map, sum_by, Option, Some, None}
 use Rattle.std.specs.List.{list_all}
 use Rattle.rail_base.specs.NameForms.{is_name}
 use Rattle.rail_base.specs.Lists.{are_distinct}
-use Rattle.rail_base.specs.Limits.{is_from_one, most, Sections, Trains, RouteSections, ItineraryRoutes, Commands, Policies, Depth, InputTime, SectionLength, TrainLength, Speed, SettingTime, WatchingTime, ApproachTime, TurnTime, ReleaseTime, StartSupplement, StopSupplement}
+use Rattle.rail_base.specs.Limits.{is_from_one, most, Sections, Trains, RouteSections, OverlapSections, ItineraryRoutes, Commands, Policies, Depth, InputTime, SectionLength, TrainLength, Speed, SettingTime, WatchingTime, ApproachTime, TurnTime, ReleaseTime, OverlapTime, StartSupplement, StopSupplement}
 use Rattle.rail_base.specs.declared.plant.SectionRow.{SectionRow}
 use Rattle.rail_base.specs.declared.plant.TrainRow.{TrainRow}
 use Rattle.rail_base.specs.declared.plant.TrainKind.{TrainKind}
@@ -15,7 +15,7 @@ use Rattle.rail_base.specs.declared.orders.Order.{Order}
 use Rattle.rail_base.specs.declared.orders.Order.TheVariants.{Policy, Retire, Close, Reopen, Stop, Go, Cancel, Priority}
 use Rattle.rail_rules.specs.Numbers.{all_below, same_numbers}
 use Rattle.rail_rules.specs.Moves.{is_valid}
-use Rattle.rail_rules.specs.Plant.{Plant, section, trains, train, moves, move_row, moves_of, call_after}
+use Rattle.rail_rules.specs.Plant.{Plant, section, trains, train, moves, move_row, overlap, moves_of, call_after}
 use Rattle.rail_rules.specs.Orders.{Input}
 
 -- no number stands twice
@@ -40,19 +40,20 @@ abbrev pub is_turn_in_range : ℕ → Option TurnRow → Bool
 is_turn_in_range steps None = true
 is_turn_in_range steps (Some turn) = is_from_one steps turn.step && nat_le turn.time (most TurnTime)
 
--- a move over known sections, none of them twice, within the ranges
+-- a move over known sections, none of them twice in its path and overlap together, within the ranges
 abbrev pub is_move_in_range : ℕ → MoveRow → Bool
 is_move_in_range sections row = is_from_one (most RouteSections) (length row.sections)
-    && list_all (λ x. nat_lt x sections) row.sections && are_distinct_numbers row.sections
+    && nat_le (length row.overlap) (most OverlapSections)
+    && list_all (λ x. nat_lt x sections) (row.sections ++ row.overlap) && are_distinct_numbers (row.sections ++ row.overlap)
     && is_from_one (most SettingTime) row.setting && nat_le row.watching (most WatchingTime) && nat_le row.approach (most ApproachTime)
     && is_turn_in_range (length row.sections) row.turn
 
--- a train within the ranges, without a turn after its last move
+-- a train within the ranges, without a turn and an overlap after its last move
 abbrev pub is_train_in_range : Plant → ℕ → Bool
 is_train_in_range plant t = is_name (train plant t).name && is_kind_in_range (train plant t).kind
     && nat_le (train plant t).entry (most InputTime) && nat_le (train plant t).priority 255
     && is_from_one (most ItineraryRoutes) (moves plant t) && list_all (is_move_in_range (length plant.tables.sections)) (train plant t).moves
-    && not (is_some (move_row plant t (moves plant t - 1)).turn)
+    && not (is_some (move_row plant t (moves plant t - 1)).turn) && (length (overlap plant t (moves plant t - 1)) == 0)
 
 -- the train is no longer than the sections of each of its routes before the last one
 abbrev pub does_fit : Plant → ℕ → Bool
@@ -80,10 +81,10 @@ are_calls_in_range plant t = all_below
     (moves plant t)
 
 -- a plant that may be run: within the limits and ranges, with distinct names; each train fits its
--- routes, and no train would stand on a section that its next move needs
+-- routes, and no train would stand on a section that its next move claims
 abbrev pub is_accepted : Plant → Bool
 is_accepted plant = nat_le (length plant.tables.sections) (most Sections) && nat_le (trains plant) (most Trains)
-    && nat_le plant.tables.release (most ReleaseTime) && nat_le plant.tables.depth (most Depth)
+    && nat_le plant.tables.release (most ReleaseTime) && nat_le plant.tables.overlap_time (most OverlapTime) && nat_le plant.tables.depth (most Depth)
     && list_all is_section_in_range plant.tables.sections
     && are_distinct_names (map (λ (row : SectionRow). row.name) plant.tables.sections)
     && are_distinct_names (map (λ (row : TrainRow). row.name) plant.tables.trains)

@@ -20,12 +20,12 @@ is_leg plan s leg = is_inside plan s leg.train
 abbrev pub after_leg : List ℕ → Leg → List ℕ
 after_leg s leg = set s leg.train leg.place
 
--- a train inside needs one of the sections for a move that it has left
+-- a train inside claims one of the sections for a move that it has left
 abbrev pub needs_later : Moves → List ℕ → List ℕ → ℕ → Bool
 needs_later plan s sections u = is_inside plan s u
     && any_below (λ i. nat_le (place_of s u) i && not (are_apart (plan.claim u i) sections)) (plan.moves u)
 
--- a leg is safe where it ends out, or where no other train inside needs its last standing set later; every other leg is free
+-- a leg is safe where it ends out, or where no other train inside claims a section of its last standing set later; every other leg is free
 abbrev pub is_safe : Moves → List ℕ → Leg → Bool
 is_safe plan s leg = (leg.place == plan.moves leg.train)
     || not (any_below (λ u. not (u == leg.train) && needs_later plan s (stand plan leg.train leg.place) u) (length s))

@@ -10,7 +10,7 @@ use Rattle.rail_rules.specs.Analysis.{finds}
 use Rattle.rail_rules.specs.Plant.{trains, moves, claimed, moves_of}
 use Rattle.rail_rules.specs.Fronts.{Front, instant, has_ended, admissions, places, kept, without_first, with_rest_of, same_cause, hold_of, stands}
 use Rattle.rail_rules.specs.Orders.{Input, told, is_closed, is_stopped, is_cancelled}
-use Rattle.rail_rules.specs.Intervals.{blocks}
+use Rattle.rail_rules.specs.Intervals.{bars}
 use Rattle.rail_rules.specs.Events.{ready_line, due_lines, is_quiet}
 
 -- the place of a train in a front: how many of its moves are admitted
@@ -32,29 +32,29 @@ is_deciding input (line ∷ before) = not (has_ended (line ∷ before)) && is_qu
 abbrev pub waits : Input → Front → ℕ → Bool
 waits input front t = is_deciding input front && is_ready input front t
 
--- the train with an interval on the section that contains the instant of the front
-abbrev pub blocker : Input → Front → ℕ → Option ℕ
-blocker input front x = first_below (λ u. blocks input.plant u (admissions front u) x (instant front)) (trains input.plant)
+-- the train with an interval on the section that contains the instant of the front and bars the train
+abbrev pub blocker : Input → Front → ℕ → ℕ → Option ℕ
+blocker input front t x = first_below (λ u. bars input.plant t u (admissions front u) x (instant front)) (trains input.plant)
 
 -- a stop command for the train is in force
 abbrev pub stop_cause : ℕ → List Order → Option Cause
 stop_cause t orders = cond (is_stopped t orders) (Some Stopped) None
 
--- the first needed section that is closed
+-- the first of the sections that is closed
 abbrev pub closed_cause : List ℕ → List Order → Option Cause
 closed_cause sections orders = option_map Closed (find (λ x. is_closed x orders) sections)
 
--- the first needed section that is blocked, and by which train
-abbrev pub blocked_cause : Input → Front → List ℕ → Option Cause
-blocked_cause input front [] = None
-blocked_cause input front (x ∷ sections) = or_else (option_map (Blocked x) (blocker input front x)) (blocked_cause input front sections)
+-- the first of the sections that is blocked for the train, and by which train
+abbrev pub blocked_cause : Input → Front → ℕ → List ℕ → Option Cause
+blocked_cause input front t [] = None
+blocked_cause input front t (x ∷ sections) = or_else (option_map (Blocked x) (blocker input front t x)) (blocked_cause input front t sections)
 
 -- what bars the next move of the train at once
 abbrev pub bar : Input → Front → ℕ → Option Cause
 bar input front t =
     let orders : List Order = told input.commands front in
     let sections : List ℕ = claimed input.plant t (place front t) in
-    or_else (stop_cause t orders) (or_else (closed_cause sections orders) (blocked_cause input front sections))
+    or_else (stop_cause t orders) (or_else (closed_cause sections orders) (blocked_cause input front t sections))
 
 -- the kept list as an admission of the train would repair it: pulled for a train inside, appended for an entering one
 abbrev pub repaired : Input → Front → ℕ → List ℕ

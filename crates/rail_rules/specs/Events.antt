@@ -5,11 +5,11 @@ use Rattle.rail_base.specs.declared.history.Entry.{Entry}
 use Rattle.rail_base.specs.declared.history.What.TheVariants.{Free, Arrive, Enter, Out, Ready, Told, Untold}
 use Rattle.rail_base.specs.declared.orders.Command.{Command}
 use Rattle.rail_rules.specs.Numbers.{gather, comes_before}
-use Rattle.rail_rules.specs.Plant.{Plant, trains, moves, steps, step_section}
+use Rattle.rail_rules.specs.Plant.{Plant, trains, moves, steps, claims, step_section}
 use Rattle.rail_rules.specs.Fronts.{Front, at_time, instant, admissions, rank, same_entry, stands}
 use Rattle.rail_rules.specs.Orders.{Input, told, is_cancelled, takes_effect}
 use Rattle.rail_rules.specs.Times.{ready, enter, arrive, out}
-use Rattle.rail_rules.specs.Intervals.{end_of}
+use Rattle.rail_rules.specs.Intervals.{freed_at}
 
 -- Lines of a train, with its admissions; moves and steps are counted from 0 here and from 1 in the lines.
 
@@ -21,10 +21,10 @@ enter_line plant t adms m j = at_time (enter plant t adms m j) (Enter t (suc m) 
 abbrev pub arrive_line : Plant → ℕ → List ℕ → ℕ → Entry
 arrive_line plant t adms m = at_time (arrive plant t adms m) (Arrive t (suc m))
 
--- the free line of an interval that has an end
+-- the free line of a section, where it is given free
 abbrev pub free_lines : ℕ → ℕ → Option ℕ → List Entry
 free_lines t x None = []
-free_lines t x (Some end_time) = at_time end_time (Free x t) ∷ []
+free_lines t x (Some time) = at_time time (Free x t) ∷ []
 
 -- the out line, after the last move
 abbrev pub out_lines : Plant → ℕ → List ℕ → ℕ → List Entry
@@ -38,7 +38,7 @@ ready_line plant t adms m = at_time (ready plant t adms m) (Ready t (suc m))
 abbrev pub move_events : Plant → ℕ → List ℕ → ℕ → List Entry
 move_events plant t adms m = gather (λ j. enter_line plant t adms m j ∷ []) (steps plant t m)
     ++ arrive_line plant t adms m ∷ []
-    ++ gather (λ j. free_lines t (step_section plant t m j) (end_of plant t adms m j)) (steps plant t m)
+    ++ gather (λ j. free_lines t (step_section plant t m j) (freed_at plant t adms m j)) (claims plant t m)
     ++ out_lines plant t adms m
 
 -- the event lines of the admitted moves of a train

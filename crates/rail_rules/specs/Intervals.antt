@@ -4,10 +4,15 @@ use Rattle.rail_base.specs.declared.intervals.Interval.{Interval}
 use Rattle.rail_base.specs.declared.intervals.Parts.{Parts}
 use Rattle.rail_rules.specs.Numbers.{any_below, is_in}
 use Rattle.rail_rules.specs.Moves.{stand}
-use Rattle.rail_rules.specs.Plant.{Plant, moves_of, move_row, steps, step_section, is_forced}
-use Rattle.rail_rules.specs.Times.{admitted, is_admitted, passes, go, enter, leave, start_loss, clearing}
+use Rattle.rail_rules.specs.Plant.{Plant, moves_of, move_row, steps, claims, claimed, step_section, is_forced}
+use Rattle.rail_rules.specs.Times.{admitted, is_admitted, passes, go, enter, arrive, leave, start_loss, clearing}
 
--- Of a move of a train and one of its steps, both counted from 0.
+-- Of a move of a train and one of its steps, both counted from 0. The steps behind the needed sections are those of the
+-- overlap, on which no train stands.
+
+-- the step is one of the overlap
+abbrev pub is_over : Plant → ℕ → ℕ → ℕ → Bool
+is_over plant t m j = nat_le (steps plant t m) j
 
 -- the train stands on the section of the step after the move
 abbrev pub does_stand : Plant → ℕ → ℕ → ℕ → Bool
@@ -23,13 +28,42 @@ clears_from plant t adms m j = cond (does_stand plant t m j)
     (go plant t adms (suc m) + start_loss plant t (passes plant t adms (suc m)))
     (leave plant t adms m j)
 
+-- when a needed section is free again: cleared and released
+abbrev pub clear_end : Plant → ℕ → List ℕ → ℕ → ℕ → ℕ
+clear_end plant t adms m j = clears_from plant t adms m j + clearing plant t (step_section plant t m j) + plant.tables.release
+
+-- when the timer of an overlap runs out: so long after the arrival at the end of its move
+abbrev pub timer_end : Plant → ℕ → List ℕ → ℕ → ℕ
+timer_end plant t adms m = arrive plant t adms m + plant.tables.overlap_time
+
+-- the next move takes a section of the overlap over: it claims it, and is admitted before the timer runs out
+abbrev pub is_taken_over : Plant → ℕ → List ℕ → ℕ → ℕ → Bool
+is_taken_over plant t adms m j = is_over plant t m j && is_admitted adms (suc m)
+    && is_in (step_section plant t m j) (claimed plant t (suc m)) && nat_lt (admitted adms (suc m)) (timer_end plant t adms m)
+
+-- when the interval of a section of the overlap ends: as the next move takes it over, else with the timer
+abbrev pub overlap_end : Plant → ℕ → List ℕ → ℕ → ℕ → ℕ
+overlap_end plant t adms m j = cond (is_taken_over plant t adms m j) (admitted adms (suc m)) (timer_end plant t adms m)
+
 -- when an interval that isn't open ends
 abbrev pub end_time : Plant → ℕ → List ℕ → ℕ → ℕ → ℕ
-end_time plant t adms m j = clears_from plant t adms m j + clearing plant t (step_section plant t m j) + plant.tables.release
+end_time plant t adms m j = cond (is_over plant t m j) (overlap_end plant t adms m j) (clear_end plant t adms m j)
 
 -- the end of the interval, where it has one
 abbrev pub end_of : Plant → ℕ → List ℕ → ℕ → ℕ → Option ℕ
 end_of plant t adms m j = cond (is_open plant t adms m j) None (Some (end_time plant t adms m j))
+
+-- the section isn't given free: the interval is open, or the next move takes it over
+abbrev pub is_unfreed : Plant → ℕ → List ℕ → ℕ → ℕ → Bool
+is_unfreed plant t adms m j = is_open plant t adms m j || is_taken_over plant t adms m j
+
+-- when the section is given free, where it is
+abbrev pub freed_at : Plant → ℕ → List ℕ → ℕ → ℕ → Option ℕ
+freed_at plant t adms m j = cond (is_unfreed plant t adms m j) None (Some (end_time plant t adms m j))
+
+-- the step has an interval: a section of the overlap that is taken over at its admission itself has none
+abbrev pub has_interval : Plant → ℕ → List ℕ → ℕ → ℕ → Bool
+has_interval plant t adms m j = not (is_taken_over plant t adms m j && (admitted adms (suc m) == admitted adms m))
 
 -- the interval contains the instant: it has begun, and hasn't ended
 abbrev pub contains_instant : Plant → ℕ → List ℕ → ℕ → ℕ → ℕ → Bool
@@ -39,7 +73,16 @@ contains_instant plant t adms m j instant = nat_le (admitted adms m) instant
 -- the train has an interval on the section that contains the instant
 abbrev pub blocks : Plant → ℕ → List ℕ → ℕ → ℕ → Bool
 blocks plant t adms x instant = any_below (λ m. any_below (λ j.
-    (step_section plant t m j == x) && contains_instant plant t adms m j instant) (steps plant t m)) (length adms)
+    (step_section plant t m j == x) && contains_instant plant t adms m j instant) (claims plant t m)) (length adms)
+
+-- how many sections of a move of the train u bar the train t: all that it claims, but not the overlap of t's own last admitted move
+abbrev pub barring : Plant → ℕ → ℕ → ℕ → ℕ → ℕ
+barring plant t u made m = cond ((u == t) && (suc m == made)) (steps plant u m) (claims plant u m)
+
+-- the train u has an interval on the section that contains the instant and bars the train t
+abbrev pub bars : Plant → ℕ → ℕ → List ℕ → ℕ → ℕ → Bool
+bars plant t u adms x instant = any_below (λ m. any_below (λ j.
+    (step_section plant u m j == x) && contains_instant plant u adms m j instant) (barring plant t u (length adms) m)) (length adms)
 
 -- the approach is a part of the intervals of a move only where the train passes
 abbrev pub approach_part : Plant → ℕ → List ℕ → ℕ → ℕ
@@ -90,6 +133,20 @@ pub record IsInOrder (plant : Plant) (t : ℕ) (adms : List ℕ) (m j : ℕ) : T
   pub entered : enter plant t adms m j ≤ leave plant t adms m j
   pub left : leave plant t adms m j ≤ clears_from plant t adms m j
 
+-- the parts of an interval of the overlap: none
+abbrev pub no_parts : Parts
+no_parts = record {
+  setting = None;
+  watching = None;
+  approach = None;
+  waiting = None;
+  earlier = None;
+  running = None;
+  standing = None;
+  clearing = None;
+  release = None;
+}
+
 -- the blocking interval of an admitted move and a step of it
 abbrev pub interval_of : Plant → ℕ → List ℕ → ℕ → ℕ → Interval
 interval_of plant t adms m j = record {
@@ -98,5 +155,5 @@ interval_of plant t adms m j = record {
   place = suc m;
   begin = admitted adms m;
   «end» = end_of plant t adms m j;
-  parts = parts_of plant t adms m j;
+  parts = cond (is_over plant t m j) no_parts (parts_of plant t adms m j);
 }

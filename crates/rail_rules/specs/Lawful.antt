@@ -29,7 +29,7 @@ note_fits line place Pulled = is_bare line && nat_lt 0 place
 note_fits line place Appended = is_bare line && (place == 0)
 note_fits line place Fresh = not (is_bare line)
 
--- an admit line at the instant: its train waits and isn't stopped, and no needed section is closed or blocked; it is
+-- an admit line at the instant: its train waits and isn't stopped, and no section that it claims is closed or blocked; it is
 -- the train's next move; no hold line stands before it; and the kept list completes after it
 abbrev pub may_admit : Input → Front → Line → ℕ → ℕ → Note → Bool
 may_admit input front line t m note = (line.entry.at == instant front) && waits input front t && not (is_some (bar input front t))

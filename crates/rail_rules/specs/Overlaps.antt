@@ -1,6 +1,6 @@
 -- Blocking intervals of one section, and that they never overlap.
 use Rattle.std.specs.Prelude.{◌≡◌, ℕ, ◌<◌, ◌≤◌, false, List, length}
-use Rattle.rail_rules.specs.Plant.{Plant, trains, steps, step_section}
+use Rattle.rail_rules.specs.Plant.{Plant, trains, claims, step_section}
 use Rattle.rail_rules.specs.Fronts.{Front, admissions}
 use Rattle.rail_rules.specs.Times.{admitted}
 use Rattle.rail_rules.specs.Intervals.{is_open, end_time}
@@ -10,11 +10,11 @@ pub record HasEnded (plant : Plant) (t : ℕ) (adms : List ℕ) (m j time : ℕ)
   pub closed : is_open plant t adms m j ≡ false
   pub by : end_time plant t adms m j ≤ time
 
--- a step of an admitted move of a train
+-- a step of an admitted move of a train, or one of its overlap
 pub record IsStep (plant : Plant) (front : Front) (t m j : ℕ) : Type 0 where
   pub known : t < trains plant
   pub admitted_move : m < length (admissions front t)
-  pub step : j < steps plant t m
+  pub step : j < claims plant t m
 
 -- two steps are one, or one's interval ended before the other's began
 pub data AreApart (plant : Plant) (front : Front) (t m j u n i : ℕ) : Type 0 where

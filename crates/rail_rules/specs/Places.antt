@@ -20,7 +20,7 @@ holds plan s t x = is_in x (stand plan t (place_of s t))
 abbrev pub is_held : Moves → List ℕ → ℕ → Bool
 is_held plan s x = any_below (λ u. holds plan s u x) (length s)
 
--- the next move of a train is legal: the train isn't out, and nobody holds a needed section
+-- the next move of a train is legal: the train isn't out, and nobody holds a section that it claims
 abbrev pub is_legal : Moves → List ℕ → ℕ → Bool
 is_legal plan s t = nat_lt (place_of s t) (plan.moves t) && not (list_any (is_held plan s) (plan.claim t (place_of s t)))
 

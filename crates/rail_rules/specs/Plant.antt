@@ -1,5 +1,5 @@
 -- A plant with its calls, and what its moves need.
-use Rattle.std.specs.Prelude.{ℕ, zero, suc, ◌+◌, ◌-◌, ◌*◌, min, max, Bool, false, ◌&&◌, ◌||◌, cond, nat_lt, nat_le, is_some, List, [], ◌∷◌, length, get_or, drop, sum_by, Option, Some, None}
+use Rattle.std.specs.Prelude.{◌≡◌, ℕ, zero, suc, ◌+◌, ◌-◌, ◌*◌, min, max, Bool, false, ◌&&◌, ◌||◌, cond, nat_lt, nat_le, is_some, List, [], ◌∷◌, ◌++◌, length, get_or, drop, sum_by, Option, Some, None}
 use Rattle.std.specs.Option.{option_map_or}
 use Rattle.rail_base.specs.declared.plant.Tables.{Tables}
 use Rattle.rail_base.specs.declared.plant.SectionRow.{SectionRow}
@@ -30,7 +30,7 @@ no_train = record { name = []; kind = no_kind; entry = 0; priority = 0; moves = 
 
 -- what stands for a move that a train doesn't have
 abbrev pub no_move : MoveRow
-no_move = record { sections = []; setting = 0; watching = 0; approach = 0; turn = None }
+no_move = record { sections = []; overlap = []; setting = 0; watching = 0; approach = 0; turn = None }
 
 -- a section by its number
 abbrev pub section : Plant → ℕ → SectionRow
@@ -56,17 +56,29 @@ move_row plant t m = get_or (train plant t).moves m no_move
 abbrev pub needed : Plant → ℕ → ℕ → List ℕ
 needed plant t m = (move_row plant t m).sections
 
--- the sections that the move takes as a whole: those that it needs
+-- the sections of the overlap beyond the end of its route, in order
+abbrev pub overlap : Plant → ℕ → ℕ → List ℕ
+overlap plant t m = (move_row plant t m).overlap
+
+-- the sections that the move takes as a whole: those that it needs, and then those of the overlap
 abbrev pub claimed : Plant → ℕ → ℕ → List ℕ
-claimed plant t m = needed plant t m
+claimed plant t m = needed plant t m ++ overlap plant t m
+
+-- no route has an overlap
+abbrev pub HasNoOverlaps : Plant → Type 0
+HasNoOverlaps plant = (t m : ℕ) → overlap plant t m ≡ []
 
 -- how many steps the move has
 abbrev pub steps : Plant → ℕ → ℕ → ℕ
 steps plant t m = length (needed plant t m)
 
--- the section of a step of the move, counted from 0
+-- how many sections the move claims
+abbrev pub claims : Plant → ℕ → ℕ → ℕ
+claims plant t m = length (claimed plant t m)
+
+-- the section of a step of the move, counted from 0; behind its steps come those of the overlap
 abbrev pub step_section : Plant → ℕ → ℕ → ℕ → ℕ
-step_section plant t m j = get_or (needed plant t m) j 0
+step_section plant t m j = get_or (claimed plant t m) j 0
 
 -- the shortest end of the sections that is at least as long as the train
 abbrev pub shortest_end : Plant → ℕ → List ℕ → List ℕ
@@ -126,10 +138,10 @@ clear_time kind row = quotient_up (36 * kind.length) (min kind.speed row.speed)
 abbrev pub run_over : Plant → ℕ → ℕ → ℕ → ℕ
 run_over plant t m steps = sum_below (λ j. run_time (train plant t).kind (section plant (step_section plant t m j))) steps
 
--- how many lines a move has at most, hold lines aside: its head enters and its tail
--- frees each section, and it is ready, admitted and arrives
+-- how many lines a move has at most, hold lines aside: its head enters each section, each one that
+-- it claims is freed, and it is ready, admitted and arrives
 abbrev pub move_lines : Plant → ℕ → ℕ → ℕ
-move_lines plant t m = 2 * steps plant t m + 3
+move_lines plant t m = steps plant t m + claims plant t m + 3
 
 -- how many lines a history has at most, hold lines aside: those of all moves, that a train is out, those of the commands, and the end line
 abbrev pub bound : Plant → ℕ → ℕ

@@ -1,11 +1,11 @@
-ghost use Rattle.std.specs.Prelude.{◌≡◌, ℕ, ◌+◌, ◌-◌, ◌<◌, ◌↔◌, ◌∷◌, List, IsTrue, false, ◌==◌, count_by, if◌then◌else◌};
+ghost use Rattle.std.specs.Prelude.{◌≡◌, ℕ, ◌+◌, ◌*◌, ◌-◌, ◌<◌, ◌↔◌, ◌∷◌, List, IsTrue, false, ◌==◌, count_by, if◌then◌else◌};
 ghost use Rattle.rail_rules.specs.Analysis.{Finds, finds};
 ghost use Rattle.rail_rules.specs.Events.{moved_lines};
 ghost use Rattle.rail_rules.specs.Fronts.{Front, Line, is_admission};
-ghost use Rattle.rail_rules.specs.Intervals.{IsInOrder, end_time, is_open, parts_of, parts_sum};
+ghost use Rattle.rail_rules.specs.Intervals.{IsInOrder, bars, blocks, clear_end, end_time, is_open, is_taken_over, parts_of, parts_sum};
 ghost use Rattle.rail_rules.specs.Moves.{Moves, is_valid};
 ghost use Rattle.rail_rules.specs.Places.{after, completes, is_inside, is_legal, is_valid_state, place_of};
-ghost use Rattle.rail_rules.specs.Plant.{Plant, steps};
+ghost use Rattle.rail_rules.specs.Plant.{HasNoOverlaps, Plant, claimed, claims, move_lines, needed, steps};
 ghost use Rattle.rail_rules.specs.Times.{admitted};
 
 /// In a valid plant a legal move leads from a valid state to a valid state: no two trains ever hold
@@ -52,4 +52,17 @@ pub fn only_admissions_change_event_lines()
     ensures { (plant : Plant) (line : Line) (front : Front)
         → is_admission line.entry.what ≡ false
         → moved_lines plant (line ∷ front) ≡ moved_lines plant front }
+{}
+
+/// In a plant without overlaps a move claims what it needs, nothing is taken over, each interval ends as its section
+/// is cleared and released, and an interval that contains the instant bars every train.
+pub fn without_overlaps_nothing_is_taken_over()
+    ensures claims { (plant : Plant) → HasNoOverlaps plant → (t m : ℕ) → claimed plant t m ≡ needed plant t m }
+    ensures lines { (plant : Plant) → HasNoOverlaps plant → (t m : ℕ) → move_lines plant t m ≡ 2 * steps plant t m + 3 }
+    ensures taken { (plant : Plant) → HasNoOverlaps plant → (t : ℕ) (adms : List ℕ) (m j : ℕ)
+        → j < claims plant t m → is_taken_over plant t adms m j ≡ false }
+    ensures ends { (plant : Plant) → HasNoOverlaps plant → (t : ℕ) (adms : List ℕ) (m j : ℕ)
+        → j < claims plant t m → end_time plant t adms m j ≡ clear_end plant t adms m j }
+    ensures bars { (plant : Plant) → HasNoOverlaps plant → (t u : ℕ) (adms : List ℕ) (x instant : ℕ)
+        → bars plant t u adms x instant ≡ blocks plant u adms x instant }
 {}

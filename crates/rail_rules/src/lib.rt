@@ -14,4 +14,5 @@ pub use laws::{
     a_completing_list_counts_the_moves_left, a_legal_move_keeps_a_valid_state,
     only_admissions_change_event_lines, the_computed_search_is_exact,
     the_parts_of_an_interval_are_in_order, the_parts_of_an_interval_sum_to_its_length,
+    without_overlaps_nothing_is_taken_over,
 };

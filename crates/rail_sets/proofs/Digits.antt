@@ -5,8 +5,10 @@ use Rattle.std.specs.Cmp.{both_ways}
 use Rattle.std.specs.Int.{bit_at, bit_not, trailing_zeros}
 use Rattle.std.proofs.lemmas.Bool.{cases_Bool, cases_eq, cases_lt, eq-eqb, eqb-true, false≢true, le-leb, leb-false, leb-true}
 use Rattle.std.proofs.lemmas.List.{get_or_past, get_or-set_same, get_or-set_other, length-set}
-use Rattle.std.proofs.lemmas.Nat.{and_le_l, or_lt}
+use Rattle.std.proofs.lemmas.Nat.{and_le_l, pow_pos}
 use Rattle.std.proofs.lemmas.Nat.Bits.{bit_at_and, bit_at_not, bit_at_or, bit_at_xor, bit_at-lt, bit_at-trailing_zeros, bit_at-zero}
+use Rattle.rail_base.specs.declared.limits.TheConstants.{TRAINS}
+use Rattle.rail_sets.specs.declared.counts.TheConstants.{DIGITS}
 use Rattle.rail_sets.specs.Counts.{Columns, column, count_of, digits_below, one_if}
 use Rattle.rail_sets.specs.Sets.{has}
 use Rattle.rail_sets.proofs.Words.{IsMade, bit_section, has_bit, has_past, made_more, or_out, same_word}
@@ -63,6 +65,24 @@ pub record IsBorrow (old new : List ℕ) (less borrowed n : ℕ) : Type 0 where
   pub long : length new ≡ length old
   pub sum : (bit : ℕ) → bit < 64 → digits_below new n bit + bit_at less bit ≡ digits_below old n bit + 2 ^ n * bit_at borrowed bit
   pub rest : (m : ℕ) → n ≤ m → get_or new m 0 ≡ get_or old m 0
+
+-- where nothing is carried any more all digits make up the sum
+pub carried_out : (old new : List ℕ) (more carried n m : ℕ) → n ≤ m → carried ≡ 0 → IsCarry old new more carried n → (bit : ℕ) → bit < 64 → digits_below new m bit ≡ digits_below old m bit + bit_at more bit
+carried_out old new more carried n m within none is bit low =
+    let all : n + (m - n) ≡ m = omega (arith, within) in
+    let nothing : 2 ^ n * bit_at carried bit ≡ 0 = ap (λ w. 2 ^ n * bit_at w bit) none ∙ ap (λ b. 2 ^ n * b) (bit_at-zero bit) ∙ omega arith in
+    let ahead = digits_ahead new old n (m - n) bit is.rest in
+    let sum = is.sum bit low in
+    subst (λ k. digits_below new k bit ≡ digits_below old k bit + bit_at more bit) all (omega (arith, ahead, sum, nothing))
+
+-- and where nothing is borrowed any more, the difference
+pub borrowed_out : (old new : List ℕ) (less borrowed n m : ℕ) → n ≤ m → borrowed ≡ 0 → IsBorrow old new less borrowed n → (bit : ℕ) → bit < 64 → digits_below new m bit + bit_at less bit ≡ digits_below old m bit
+borrowed_out old new less borrowed n m within none is bit low =
+    let all : n + (m - n) ≡ m = omega (arith, within) in
+    let nothing : 2 ^ n * bit_at borrowed bit ≡ 0 = ap (λ w. 2 ^ n * bit_at w bit) none ∙ ap (λ b. 2 ^ n * b) (bit_at-zero bit) ∙ omega arith in
+    let ahead = digits_ahead new old n (m - n) bit is.rest in
+    let sum = is.sum bit low in
+    subst (λ k. digits_below new k bit + bit_at less bit ≡ digits_below old k bit) all (omega (arith, ahead, sum, nothing))
 
 -- one digit more
 module _ (old new : List ℕ) (n d : ℕ) (within : n < length new) where
@@ -122,70 +142,106 @@ module _ (old new : List ℕ) (n d : ℕ) (within : n < length new) where
     rest = rest_same is.rest;
   }
 
--- a bit of the digits from the third one on
-highest : (d : List ℕ) (bit : ℕ) → bit_at (bit_or (bit_or (bit_or (bit_or (bit_or (get_or d 2 0) (get_or d 3 0)) (get_or d 4 0)) (get_or d 5 0)) (get_or d 6 0)) (get_or d 7 0)) bit
-    ≡ max (max (max (max (max (bit_at (get_or d 2 0) bit) (bit_at (get_or d 3 0) bit)) (bit_at (get_or d 4 0) bit)) (bit_at (get_or d 5 0) bit)) (bit_at (get_or d 6 0) bit)) (bit_at (get_or d 7 0) bit)
-highest d bit =
-    bit_at_or _ (get_or d 7 0) bit
-    ∙ ap (λ k. max k (bit_at (get_or d 7 0) bit)) (bit_at_or _ (get_or d 6 0) bit
-    ∙ ap (λ k. max k (bit_at (get_or d 6 0) bit)) (bit_at_or _ (get_or d 5 0) bit
-    ∙ ap (λ k. max k (bit_at (get_or d 5 0) bit)) (bit_at_or _ (get_or d 4 0) bit
-    ∙ ap (λ k. max k (bit_at (get_or d 4 0) bit)) (bit_at_or (get_or d 2 0) (get_or d 3 0) bit))))
+-- the word of the digits from the third one on, so many of them, has a section exactly where they make up something
+pub record IsHigh (d : List ℕ) (high n : ℕ) : Type 0 where
+  pub some : (bit : ℕ) → digits_below d 2 bit + 4 * bit_at high bit ≤ digits_below d (2 + n) bit
+  pub none : (bit : ℕ) → bit_at high bit ≡ 0 → digits_below d (2 + n) bit ≡ digits_below d 2 bit
 
--- such a word fits
-pub high_fits : (d : List ℕ) → get_or d 2 0 < 2 ^ 64 → get_or d 3 0 < 2 ^ 64 → get_or d 4 0 < 2 ^ 64 → get_or d 5 0 < 2 ^ 64 → get_or d 6 0 < 2 ^ 64 → get_or d 7 0 < 2 ^ 64
-    → bit_or (bit_or (bit_or (bit_or (bit_or (get_or d 2 0) (get_or d 3 0)) (get_or d 4 0)) (get_or d 5 0)) (get_or d 6 0)) (get_or d 7 0) < 2 ^ 64
-high_fits d f2 f3 f4 f5 f6 f7 = or_lt 64 _ _ (or_lt 64 _ _ (or_lt 64 _ _ (or_lt 64 _ _ (or_lt 64 _ _ f2 f3) f4) f5) f6) f7
+pub no_high : (d : List ℕ) → IsHigh d 0 0
+no_high d = record {
+  some = λ bit. let none = bit_at-zero bit in omega (arith, none);
+  none = λ bit zero_bit. refl;
+}
+
+-- four times a power of 2 is the second one after it
+four_more : (n : ℕ) → 2 ^ (2 + n) ≡ 4 * 2 ^ n
+four_more n = let more : 2 + n ≡ suc (suc n) = omega arith in ap (λ m. 2 ^ m) more ∙ omega (arith, pow-suc 2 n, pow-suc 2 (suc n))
+
+digit_more : (p b h : ℕ) → 1 ≤ p → b < 2 → h < 2 → (k low : ℕ) → low + 4 * h ≤ k → low + 4 * max h b ≤ k + 4 * p * b
+digit_more p b h some low_b low_h k low is =
+    ⊎_elim
+    (λ (zero_b : b ≡ 0). omega (arith, is, zero_b))
+    (λ (one : b ≢ 0). let is_one : b ≡ 1 = omega (arith, one, low_b) in subst (λ x. low + 4 * max h x ≤ k + 4 * p * x) (sym is_one) (omega (arith, is, some, low_h)))
+    (cases_eq b 0)
+
+-- a digit more
+pub high_more : (d : List ℕ) (high n : ℕ) → IsHigh d high n → IsHigh d (bit_or high (get_or d (2 + n) 0)) (n + 1)
+high_more d high n is =
+    let one : 2 + (n + 1) ≡ suc (2 + n) = omega arith in
+    let here : (bit : ℕ) → digits_below d (2 + (n + 1)) bit ≡ digits_below d (2 + n) bit + 4 * 2 ^ n * bit_at (get_or d (2 + n) 0) bit =
+    λ bit. ap (λ m. digits_below d m bit) one ∙ ap (λ p. digits_below d (2 + n) bit + p * bit_at (get_or d (2 + n) 0) bit) (four_more n) in
+    let either : (bit : ℕ) → bit_at (bit_or high (get_or d (2 + n) 0)) bit ≡ max (bit_at high bit) (bit_at (get_or d (2 + n) 0) bit) = λ bit. bit_at_or high (get_or d (2 + n) 0) bit in
+    record {
+      some = λ bit.
+          let more = digit_more (2 ^ n) (bit_at (get_or d (2 + n) 0) bit) (bit_at high bit) (omega (arith, pow_pos n)) (bit_at-lt (get_or d (2 + n) 0) bit) (bit_at-lt high bit) (digits_below d (2 + n) bit) (digits_below d 2 bit) (is.some bit) in
+          omega (arith, here bit, either bit, more);
+      none = λ bit none.
+          let zero_bit : bit_at (get_or d (2 + n) 0) bit ≡ 0 = omega (arith, none, either bit) in
+          here bit ∙ omega (arith, ap (λ b. 4 * 2 ^ n * b) zero_bit, is.none bit (omega (arith, none, either bit)));
+    }
 
 -- tests on two numbers are the same where each is so exactly where the other is
 same_test : (a b m n : ℕ) → ((a ≡ m) → (b ≡ n)) → ((b ≡ n) → (a ≡ m)) → (a == m) ≡ (b == n)
 same_test a b m n there back = both_ways (a == m) (b == n) (λ is. eq-eqb b n (there (eqb-true a m is))) (λ is. eq-eqb a m (back (eqb-true b n is)))
 
-twice_of : (b0 b1 b2 b3 b4 b5 b6 b7 o : ℕ) → b0 < 2 → b1 < 2 → b2 < 2 → b3 < 2 → b4 < 2 → b5 < 2 → b6 < 2 → b7 < 2
-    → o ≡ min (min b1 (1 - b0)) (1 - max (max (max (max (max b2 b3) b4) b5) b6) b7)
-    → (o == 1) ≡ (0 + 1 * b0 + 2 * b1 + 4 * b2 + 8 * b3 + 16 * b4 + 32 * b5 + 64 * b6 + 128 * b7 == 2)
-twice_of b0 b1 b2 b3 b4 b5 b6 b7 o l0 l1 l2 l3 l4 l5 l6 l7 made = same_test o (0 + 1 * b0 + 2 * b1 + 4 * b2 + 8 * b3 + 16 * b4 + 32 * b5 + 64 * b6 + 128 * b7) 1 2 (λ is. omega (arith, is)) (λ is. omega (arith, is))
+twice_of : (ones twos high count o : ℕ) → ones < 2 → twos < 2 → high < 2 → ones + 2 * twos + 4 * high ≤ count → ((high ≡ 0) → count ≡ ones + 2 * twos)
+    → o ≡ min (min twos (1 - ones)) (1 - high) → (o == 1) ≡ (count == 2)
+twice_of ones twos high count o low_ones low_twos low_high some none made =
+    same_test o count 1 2
+    (λ is. omega (arith, none (omega (arith, is, made, low_high)), is, made, low_ones, low_twos))
+    (λ is. let zero_high : high ≡ 0 = omega (arith, some, is, low_high) in omega (arith, none zero_high, zero_high, is, made, low_ones, low_twos))
 
-pub twice_by : (d : List ℕ) (bit : ℕ) → bit < 64 → get_or d 0 0 < 2 ^ 64 → bit_or (bit_or (bit_or (bit_or (bit_or (get_or d 2 0) (get_or d 3 0)) (get_or d 4 0)) (get_or d 5 0)) (get_or d 6 0)) (get_or d 7 0) < 2 ^ 64
-    → (bit_at (bit_and (bit_and (get_or d 1 0) (bit_not w64 (get_or d 0 0))) (bit_not w64 (bit_or (bit_or (bit_or (bit_or (bit_or (get_or d 2 0) (get_or d 3 0)) (get_or d 4 0)) (get_or d 5 0)) (get_or d 6 0)) (get_or d 7 0)))) bit == 1) ≡ (digits_below d 8 bit == 2)
-twice_by d bit low fits fits_high =
-    let h : ℕ = bit_or (bit_or (bit_or (bit_or (bit_or (get_or d 2 0) (get_or d 3 0)) (get_or d 4 0)) (get_or d 5 0)) (get_or d 6 0)) (get_or d 7 0) in
+many_of : (ones twos high count o : ℕ) → ones < 2 → twos < 2 → high < 2 → ones + 2 * twos + 4 * high ≤ count → ((high ≡ 0) → count ≡ ones + 2 * twos)
+    → o ≡ max twos high → (o == 1) ≡ nat_le 2 count
+many_of ones twos high count o low_ones low_twos low_high some none made =
+    both_ways (o == 1) (nat_le 2 count)
+    (λ is. le-leb 2 count (omega (arith, eqb-true o 1 is, some, made)))
+    (λ is.
+    eq-eqb o 1 (⊎_elim
+    (λ (zero_high : high ≡ 0). omega (arith, none zero_high, leb-true 2 count is, low_ones, low_twos, made, zero_high))
+    (λ (one : high ≢ 0). omega (arith, one, low_high, low_twos, made))
+    (cases_eq high 0)))
+
+low_digits : (d : List ℕ) (bit : ℕ) → digits_below d 2 bit ≡ bit_at (get_or d 0 0) bit + 2 * bit_at (get_or d 1 0) bit
+low_digits d bit = omega arith
+
+pub twice_by : (d : List ℕ) (high n bit : ℕ) → bit < 64 → get_or d 0 0 < 2 ^ 64 → high < 2 ^ 64 → IsHigh d high n
+    → (bit_at (bit_and (bit_and (get_or d 1 0) (bit_not w64 (get_or d 0 0))) (bit_not w64 high)) bit == 1) ≡ (digits_below d (2 + n) bit == 2)
+twice_by d high n bit low fits fits_high is =
     let c : ℕ = bit_at (get_or d 1 0) bit in
-    twice_of (bit_at (get_or d 0 0) bit) (bit_at (get_or d 1 0) bit) (bit_at (get_or d 2 0) bit) (bit_at (get_or d 3 0) bit) (bit_at (get_or d 4 0) bit) (bit_at (get_or d 5 0) bit) (bit_at (get_or d 6 0) bit) (bit_at (get_or d 7 0) bit)
-    (bit_at (bit_and (bit_and (get_or d 1 0) (bit_not w64 (get_or d 0 0))) (bit_not w64 h)) bit)
-    (bit_at-lt (get_or d 0 0) bit) (bit_at-lt (get_or d 1 0) bit) (bit_at-lt (get_or d 2 0) bit) (bit_at-lt (get_or d 3 0) bit) (bit_at-lt (get_or d 4 0) bit) (bit_at-lt (get_or d 5 0) bit) (bit_at-lt (get_or d 6 0) bit) (bit_at-lt (get_or d 7 0) bit)
-    (bit_at_and (bit_and (get_or d 1 0) (bit_not w64 (get_or d 0 0))) (bit_not w64 h) bit
-    ∙ ap (λ k. min k (bit_at (bit_not w64 h) bit)) (bit_at_and (get_or d 1 0) (bit_not w64 (get_or d 0 0)) bit ∙ ap (min c) (bit_at_not w64 (get_or d 0 0) bit fits low))
-    ∙ ap (min (min c (1 - bit_at (get_or d 0 0) bit))) (bit_at_not w64 h bit fits_high low ∙ ap (λ k. 1 - k) (highest d bit)))
+    twice_of (bit_at (get_or d 0 0) bit) c (bit_at high bit) (digits_below d (2 + n) bit) (bit_at (bit_and (bit_and (get_or d 1 0) (bit_not w64 (get_or d 0 0))) (bit_not w64 high)) bit)
+    (bit_at-lt (get_or d 0 0) bit) (bit_at-lt (get_or d 1 0) bit) (bit_at-lt high bit)
+    (omega (arith, is.some bit, low_digits d bit))
+    (λ zero_high. is.none bit zero_high ∙ low_digits d bit)
+    (bit_at_and (bit_and (get_or d 1 0) (bit_not w64 (get_or d 0 0))) (bit_not w64 high) bit
+    ∙ ap (λ k. min k (bit_at (bit_not w64 high) bit)) (bit_at_and (get_or d 1 0) (bit_not w64 (get_or d 0 0)) bit ∙ ap (min c) (bit_at_not w64 (get_or d 0 0) bit fits low))
+    ∙ ap (min (min c (1 - bit_at (get_or d 0 0) bit))) (bit_at_not w64 high bit fits_high low))
 
-many_of : (b0 b1 b2 b3 b4 b5 b6 b7 o : ℕ) → b0 < 2 → b1 < 2 → b2 < 2 → b3 < 2 → b4 < 2 → b5 < 2 → b6 < 2 → b7 < 2
-    → o ≡ max b1 (max (max (max (max (max b2 b3) b4) b5) b6) b7)
-    → (o == 1) ≡ nat_le 2 (0 + 1 * b0 + 2 * b1 + 4 * b2 + 8 * b3 + 16 * b4 + 32 * b5 + 64 * b6 + 128 * b7)
-many_of b0 b1 b2 b3 b4 b5 b6 b7 o l0 l1 l2 l3 l4 l5 l6 l7 made =
-    let all : ℕ = 0 + 1 * b0 + 2 * b1 + 4 * b2 + 8 * b3 + 16 * b4 + 32 * b5 + 64 * b6 + 128 * b7 in
-    both_ways (o == 1) (nat_le 2 all)
-    (λ is. le-leb 2 all (omega (arith, eqb-true o 1 is, l0, l1, l2, l3, l4, l5, l6, l7, made)))
-    (λ is. eq-eqb o 1 (omega (arith, leb-true 2 all is, l0, l1, l2, l3, l4, l5, l6, l7, made)))
+pub many_by : (d : List ℕ) (high n bit : ℕ) → IsHigh d high n → (bit_at (bit_or (get_or d 1 0) high) bit == 1) ≡ nat_le 2 (digits_below d (2 + n) bit)
+many_by d high n bit is =
+    many_of (bit_at (get_or d 0 0) bit) (bit_at (get_or d 1 0) bit) (bit_at high bit) (digits_below d (2 + n) bit) (bit_at (bit_or (get_or d 1 0) high) bit)
+    (bit_at-lt (get_or d 0 0) bit) (bit_at-lt (get_or d 1 0) bit) (bit_at-lt high bit)
+    (omega (arith, is.some bit, low_digits d bit))
+    (λ zero_high. is.none bit zero_high ∙ low_digits d bit)
+    (bit_at_or (get_or d 1 0) high bit)
 
-pub many_by : (d : List ℕ) (bit : ℕ) → (bit_at (bit_or (get_or d 1 0) (bit_or (bit_or (bit_or (bit_or (bit_or (get_or d 2 0) (get_or d 3 0)) (get_or d 4 0)) (get_or d 5 0)) (get_or d 6 0)) (get_or d 7 0))) bit == 1) ≡ nat_le 2 (digits_below d 8 bit)
-many_by d bit =
-    let h : ℕ = bit_or (bit_or (bit_or (bit_or (bit_or (get_or d 2 0) (get_or d 3 0)) (get_or d 4 0)) (get_or d 5 0)) (get_or d 6 0)) (get_or d 7 0) in
-    let b : ℕ = bit_at (get_or d 1 0) bit in
-    many_of (bit_at (get_or d 0 0) bit) (bit_at (get_or d 1 0) bit) (bit_at (get_or d 2 0) bit) (bit_at (get_or d 3 0) bit) (bit_at (get_or d 4 0) bit) (bit_at (get_or d 5 0) bit) (bit_at (get_or d 6 0) bit) (bit_at (get_or d 7 0) bit)
-    (bit_at (bit_or (get_or d 1 0) h) bit)
-    (bit_at-lt (get_or d 0 0) bit) (bit_at-lt (get_or d 1 0) bit) (bit_at-lt (get_or d 2 0) bit) (bit_at-lt (get_or d 3 0) bit) (bit_at-lt (get_or d 4 0) bit) (bit_at-lt (get_or d 5 0) bit) (bit_at-lt (get_or d 6 0) bit) (bit_at-lt (get_or d 7 0) bit)
-    (bit_at_or (get_or d 1 0) h bit ∙ ap (max b) (highest d bit))
+digit_fits : (p b : ℕ) → b < 2 → p * b ≤ p
+digit_fits p b low =
+    ⊎_elim
+    (λ (zero_b : b ≡ 0). subst (λ x. p * x ≤ p) (sym zero_b) (omega arith))
+    (λ (one : b ≢ 0). let is_one : b ≡ 1 = omega (arith, one, low) in subst (λ x. p * x ≤ p) (sym is_one) (omega arith))
+    (cases_eq b 0)
 
-fits_of : (b0 b1 b2 b3 b4 b5 b6 b7 : ℕ) → b0 < 2 → b1 < 2 → b2 < 2 → b3 < 2 → b4 < 2 → b5 < 2 → b6 < 2 → b7 < 2 → 0 + 1 * b0 + 2 * b1 + 4 * b2 + 8 * b3 + 16 * b4 + 32 * b5 + 64 * b6 + 128 * b7 < 256
-fits_of b0 b1 b2 b3 b4 b5 b6 b7 l0 l1 l2 l3 l4 l5 l6 l7 = omega (arith, l0, l1, l2, l3, l4, l5, l6, l7)
+-- so many digits make up less than their power of 2
+pub digits_fit : (d : List ℕ) (n bit : ℕ) → digits_below d n bit < 2 ^ n
+digits_fit d zero bit = omega arith
+digits_fit d (suc n) bit = omega (arith, digits_fit d n bit, digit_fits (2 ^ n) (bit_at (get_or d n 0) bit) (bit_at-lt (get_or d n 0) bit), pow-suc 2 n)
 
--- a count is below 256
-pub column_fits : (d : List ℕ) (bit : ℕ) → column d bit < 256
-column_fits d bit =
-    fits_of (bit_at (get_or d 0 0) bit) (bit_at (get_or d 1 0) bit) (bit_at (get_or d 2 0) bit) (bit_at (get_or d 3 0) bit) (bit_at (get_or d 4 0) bit) (bit_at (get_or d 5 0) bit) (bit_at (get_or d 6 0) bit) (bit_at (get_or d 7 0) bit)
-    (bit_at-lt (get_or d 0 0) bit) (bit_at-lt (get_or d 1 0) bit) (bit_at-lt (get_or d 2 0) bit) (bit_at-lt (get_or d 3 0) bit) (bit_at-lt (get_or d 4 0) bit) (bit_at-lt (get_or d 5 0) bit) (bit_at-lt (get_or d 6 0) bit) (bit_at-lt (get_or d 7 0) bit)
+-- a count is below the power of all digits
+pub column_fits : (d : List ℕ) (bit : ℕ) → column d bit < 2 ^ DIGITS
+column_fits d bit = digits_fit d DIGITS bit
 
-pub count_fits : (columns : Columns) (x : ℕ) → count_of columns x < 256
+pub count_fits : (columns : Columns) (x : ℕ) → count_of columns x < 2 ^ DIGITS
 count_fits columns x = column_fits (get_or columns (x / 64) []) (x % 64)
 
 -- where there are no digits, nothing is counted
@@ -315,7 +371,7 @@ down_all old new one other n all is x =
 
 -- no count is too large for one more
 pub few_at : (old new : Columns) (one other : List ℕ) (n w : ℕ) (col : List ℕ) → n < length new → get_or other n 0 < 2 ^ 64 → w ≡ bit_and (get_or one n 0) (bit_not w64 (get_or other n 0)) → IsUp old new one other n → col ≡ get_or new n []
-    → ((x : ℕ) → (has one x && not (has other x)) ≡ true → count_of old x < 255) → (bit : ℕ) → bit < 64 → column col bit + bit_at w bit < 256
+    → ((x : ℕ) → (has one x && not (has other x)) ≡ true → count_of old x ≤ TRAINS) → (bit : ℕ) → bit < 64 → column col bit + bit_at w bit < 2 ^ DIGITS
 few_at old new one other n w col within fits is_word before is few bit low =
     let x : ℕ = 64 * n + bit in
     let at : x / 64 ≡ n = omega (arith, low) in

@@ -1,6 +1,7 @@
 -- How often each section is counted.
 use Rattle.std.specs.Prelude.{ℕ, ◌+◌, ◌*◌, ◌/◌, ◌%◌, ◌^◌, zero, suc, Bool, cond, List, [], get_or}
 use Rattle.std.specs.Int.{bit_at}
+use Rattle.rail_sets.specs.declared.counts.TheConstants.{DIGITS}
 
 -- for each 64 sections the digits of their counts in base 2: a word for each digit, the lowest first
 abbrev pub Columns : Type 0
@@ -13,7 +14,7 @@ digits_below words (suc n) bit = digits_below words n bit + 2 ^ n * bit_at (get_
 
 -- how often the section at the bit is counted
 abbrev pub column : List ℕ → ℕ → ℕ
-column words bit = digits_below words 8 bit
+column words bit = digits_below words DIGITS bit
 
 -- how often the section is counted
 abbrev pub count_of : Columns → ℕ → ℕ

@@ -3,17 +3,22 @@
 ghost use Rattle.std.specs.Prelude.{◌≡◌, ℕ, ◌+◌, ◌*◌, ◌^◌, ◌<◌, ◌≤◌, ◌&&◌, ◌||◌, ◌==◌, not, nat_le, false, length, get_or, IfOk, IsTrue};
 ghost use Rattle.std.specs.Int.{bit_at};
 ghost use Rattle.rail_sets.specs.Sets.{has};
+ghost use Rattle.rail_base.specs.declared.limits.TheConstants.{TRAINS};
+ghost use Rattle.rail_sets.specs.declared.counts.TheConstants.{DIGITS};
 ghost use Rattle.rail_sets.specs.Counts.{column, count_of, one_if};
 
 use crate::sets::WORDS;
 use rail_base::OutOfMemory;
+use rail_base::limits::TRAINS;
 use std::alloc::Global;
 use std::marker::Model;
 
-/// The digits of a count, in base 2.
-const DIGITS: usize = 8;
+/// The digits of a count, in base 2: enough for each train, and one more.
+const DIGITS: usize = 9;
 
-/// How often each of 64 sections is counted: a number below 256. A word has one digit of all these counts, so that
+const _: () = prove!(TRAINS + 1 < 1 << DIGITS);
+
+/// How often each of 64 sections is counted. A word has one digit of all these counts, so that
 /// a set of sections is counted as a whole.
 #[derive(Debug, Drop)]
 struct Column {
@@ -60,7 +65,7 @@ impl Column {
 
     /// Counts the sections once more whose bits are set.
     fn count_up(&mut self, more: u64)
-        requires { (bit : ℕ) → bit < 64 → column self.old bit + bit_at more bit < 256 }
+        requires { (bit : ℕ) → bit < 64 → column self.old bit + bit_at more bit < 2 ^ DIGITS }
         ensures { (bit : ℕ) → bit < 64 → column self.new bit ≡ column self.old bit + bit_at more bit }
     {
         carry(&mut self.digits, more);
@@ -91,7 +96,7 @@ impl Column {
     }
 }
 
-/// How often each section is counted: a number below 256.
+/// How often each section is counted: for each train at most, and once more.
 #[derive(Debug, Drop)]
 pub struct Counts {
     columns: Vec<Column>,
@@ -134,7 +139,7 @@ impl Counts {
     pub fn count_up(&mut self, set: &[u64], other: &[u64])
         requires set { length set.now ≤ WORDS }
         requires other { length other.now ≡ length set.now }
-        requires few { (x : ℕ) → IsTrue (has set.now x && not (has other.now x)) → count_of self.old x < 255 }
+        requires few { (x : ℕ) → IsTrue (has set.now x && not (has other.now x)) → count_of self.old x ≤ TRAINS }
         ensures { (x : ℕ) → count_of self.new x ≡ count_of self.old x + one_if (has set.now x && not (has other.now x)) }
     {
         for (index, word) in set.iter().enumerate() {
@@ -245,7 +250,7 @@ impl Counts {
 
 /// Adds 1 to the counts of the sections whose bits are set.
 fn carry(digits: &mut [u64; DIGITS], more: u64)
-    requires { (bit : ℕ) → bit < 64 → column digits.old bit + bit_at more bit < 256 }
+    requires { (bit : ℕ) → bit < 64 → column digits.old bit + bit_at more bit < 2 ^ DIGITS }
     ensures { (bit : ℕ) → bit < 64 → column digits.new bit ≡ column digits.old bit + bit_at more bit }
 {
     let mut carried = more;
@@ -280,8 +285,10 @@ fn note(digits: &[u64; DIGITS], many: &mut u64, twice: &mut u64)
     ensures many { (bit : ℕ) → bit < 64 → (bit_at many.new bit == 1) ≡ nat_le 2 (column digits.now bit) }
     ensures twice { (bit : ℕ) → bit < 64 → (bit_at twice.new bit == 1) ≡ (column digits.now bit == 2) }
 {
-    let [ones, twos, fours, eights, d4, d5, d6, d7] = *digits;
-    let high = fours | eights | d4 | d5 | d6 | d7;
-    *many = twos | high;
-    *twice = twos & !ones & !high;
+    let mut high = 0;
+    for digit in &digits[2..] {
+        high |= *digit;
+    }
+    *many = digits[1] | high;
+    *twice = digits[1] & !digits[0] & !high;
 }

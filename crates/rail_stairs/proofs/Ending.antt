@@ -1,5 +1,5 @@
 -- Blocking intervals at the end of a lawful history.
-use Rattle.std.proofs.Common.{◌≡◌, ℕ, ◌<◌, ◌≤◌, Bool, true, false, cond, List, [], ◌∷◌, length, ⊎_elim, Some, None, refl, sym, ap, ◌∙◌, arith}
+use Rattle.std.proofs.Common.{◌≡◌, ℕ, suc, ◌<◌, ◌≤◌, Bool, true, false, cond, List, [], ◌∷◌, length, ⊎_elim, Some, None, refl, sym, ap, ◌∙◌, arith}
 use Rattle.std.specs.Prelude.{◌⊎◌, ◌^◌, unwrap_or}
 use Rattle.std.proofs.Common.{inl, inr}
 use Rattle.std.specs.List.{list_any}
@@ -10,21 +10,22 @@ use Rattle.rail_base.specs.declared.history.What.TheVariants.{Free, End}
 use Rattle.rail_rules.specs.Accepted.{is_accepted_input}
 use Rattle.rail_rules.specs.Events.{due_lines, enter_line}
 use Rattle.rail_rules.specs.Fronts.{Front, Line, admissions, at_time, has_ended, is_admission, is_end, same_entry}
-use Rattle.rail_rules.specs.Intervals.{end_time, is_open}
+use Rattle.rail_rules.specs.Intervals.{end_time, has_interval, is_open, is_taken_over}
 use Rattle.rail_rules.specs.Lawful.{is_complete, is_lawful}
 use Rattle.rail_rules.specs.Orders.{Input, is_cancelled, told}
 use Rattle.rail_rules.specs.Overlaps.{IsStep, AreApart}
 use Rattle.rail_rules.specs.Overlaps.AreApart.{one, first, second}
 use Rattle.rail_rules.specs.Plant.{Plant, moves, step_section, trains}
 use Rattle.rail_rules.specs.Times.{admitted}
-use Rattle.rail_rules.proofs.CallerLemmas.{admissions_kept}
+use Rattle.rail_rules.proofs.CallerLemmas.{admissions_kept, end_taken, freed_from, taken_parts}
 use Rattle.rail_laws_front.specs.EventLines.{IsEvent}
 use Rattle.rail_laws_front.specs.EventLines.IsEvent.{entering, freeing}
 use Rattle.rail_laws_front.specs.Premises.{IsWellFormed}
 use Rattle.rail_laws_front.specs.Views.{Ends, Follows, is_event}
 use Rattle.rail_laws_front.specs.Views.Follows.{by_event, by_admission, by_hold, by_end}
-use Rattle.rail_laws_front.proofs.CallerLemmas.{end_after_begin, go_after_admission, lawful_before, lawful_last, never_overlap, stands_or_due, timely, well_formed_from_accepted}
+use Rattle.rail_laws_front.proofs.CallerLemmas.{go_after_admission, lawful_before, lawful_last, never_overlap, stands_or_due, timely, well_formed_from_accepted}
 use Rattle.rail_laws_events.proofs.CallerLemmas.{few_admissions, input_parts, times_below}
+use Rattle.rail_laws_run.proofs.CallerLemmas.{interval_lasts}
 use Rattle.rail_stairs.specs.Ended.{AreDisjoint, IsPositive, end_in, interval_in}
 use Rattle.rail_stairs.specs.Stairways.{ended_at}
 
@@ -76,8 +77,8 @@ module _ (input : Input) (accepted : is_accepted_input input ≡ true) (line : L
   same : (t : ℕ) → admissions (line ∷ before) t ≡ admissions before t
   same t = admissions_kept line before t (ap is_admission ends.what)
 
-  pub positive : (t m j : ℕ) → IsStep input.plant (line ∷ before) t m j → IsPositive (line ∷ before) (interval_in input.plant (line ∷ before) t m j)
-  positive t m j step =
+  pub positive : (t m j : ℕ) → IsStep input.plant (line ∷ before) t m j → has_interval input.plant t (admissions (line ∷ before) t) m j ≡ true → IsPositive (line ∷ before) (interval_in input.plant (line ∷ before) t m j)
+  positive t m j step there =
       ⊎_elim
       (λ opened.
       let still : end_in front (interval_in plant front t m j) ≡ line.entry.at =
@@ -87,11 +88,9 @@ module _ (input : Input) (accepted : is_accepted_input input ≡ true) (line : L
       record { positive = omega (arith, still, entered, begun, ap (λ l. admitted l m) (same t)); small = omega (arith, still, small) })
       (λ closed.
       let ended = end_closed plant front t m j closed in
-      let freed = past t (at_time (end_time plant t (admissions before t) m j) (Free (step_section plant t m j) t)) step.known
-      (freeing m j was step.step (sym (ap (λ l. is_open plant t l m j) (same t)) ∙ closed) refl) in
       record {
-        positive = omega (arith, ended, end_after_begin plant t fine adms m j within step.step);
-        small = omega (arith, ended, freed, ap (λ l. end_time plant t l m j) (same t), small);
+        positive = omega (arith, ended, interval_lasts input fine front lawful t m j step there);
+        small = omega (arith, ended, ap (λ l. end_time plant t l m j) (same t), end_past closed, small);
       })
       (cases_Bool (is_open plant t adms m j))
     where
@@ -107,16 +106,30 @@ module _ (input : Input) (accepted : is_accepted_input input ≡ true) (line : L
       was : m < length (admissions before t)
       was = omega (arith, step.admitted_move, ap (length {A = ℕ}) (same t))
 
+      -- an interval that isn't open has ended by the end line: its section was given free, or the next move has taken it over
+      end_past : is_open plant t adms m j ≡ false → end_time plant t (admissions before t) m j ≤ line.entry.at
+      end_past closed =
+          ⊎_elim
+          (λ taken. omega (
+            arith,
+            end_taken plant t (admissions before t) m j taken,
+            (timely input fine before earlier).admitted_by t (suc m) (taken_parts plant t (admissions before t) m j taken).more,
+            ends.now,
+          ))
+          (λ untaken. past t (at_time (end_time plant t (admissions before t) m j) (Free (step_section plant t m j) t)) step.known
+          (freeing m j was step.step (freed_from plant t (admissions before t) m j (sym (ap (λ l. is_open plant t l m j) (same t)) ∙ closed) untaken) refl))
+          (cases_Bool (is_taken_over plant t (admissions before t) m j))
+
       within : m < moves input.plant t
       within = omega (arith, was, few_admissions input fine before earlier t step.known)
 
 -- at the end of a lawful history
 pub positive_at_end : (input : Input) → is_accepted_input input ≡ true → (front : Front) → is_complete input front ≡ true → (t m j : ℕ) → IsStep input.plant front t m j
-    → IsPositive front (interval_in input.plant front t m j)
-positive_at_end input accepted [] complete t m j step = absurd (false≢true (and_parts (is_lawful input []) (has_ended []) complete).1)
-positive_at_end input accepted (line ∷ before) complete t m j step =
+    → has_interval input.plant t (admissions front t) m j ≡ true → IsPositive front (interval_in input.plant front t m j)
+positive_at_end input accepted [] complete t m j step there = absurd (false≢true (and_parts (is_lawful input []) (has_ended []) complete).1)
+positive_at_end input accepted (line ∷ before) complete t m j step there =
     let both = and_parts (is_lawful input (line ∷ before)) (has_ended (line ∷ before)) complete in
-    positive input accepted line before both.0 both.1 t m j step
+    positive input accepted line before both.0 both.1 t m j step there
 
 -- and no two of one section overlap
 pub disjoint_at_end : (input : Input) → is_accepted_input input ≡ true → (front : Front) → is_lawful input front ≡ true → (t m j u n i : ℕ)

@@ -1,12 +1,10 @@
 -- Lists that are gathered.
-use Rattle.std.proofs.Common.{◌≡◌, ℕ, zero, suc, ◌+◌, ◌*◌, ◌<◌, ◌≤◌, List, [], ◌++◌, get_or, length, add-one, sym, ap, ◌∙◌, ⊎_elim, append_assoc, length-append, arith}
+use Rattle.std.proofs.Common.{◌≡◌, ℕ, zero, suc, ◌+◌, ◌*◌, ◌<◌, ◌≤◌, List, [], ◌++◌, get_or, length, refl, add-one, sym, ap, ◌∙◌, ⊎_elim, append_assoc, length-append, arith}
 use Rattle.std.proofs.lemmas.Bool.{cases_lt}
 use Rattle.std.specs.Prelude.{slice_get, Some}
 use Rattle.std.proofs.lemmas.List.{append-nil, get_or-append-add, get_or_append_left}
 use Rattle.std.proofs.lemmas.Option.{get_or_from_slice_get, slice_get-get_or, slice_get_within}
-use Rattle.rail_rules.specs.Numbers.{listed}
-use Rattle.rail_laws_front.proofs.CallerLemmas.{get_or-listed, length-listed}
-use Rattle.rail_rules.specs.Numbers.{gather}
+use Rattle.rail_rules.specs.Numbers.{gather, sum_below}
 
 -- the lists before a number, and what comes with it and behind it
 pub gather_split : {X : Type 0} (f : ℕ → List X) (n i : ℕ) → i < n → (rest : List X) × (gather f n ≡ gather f (suc i) ++ rest)
@@ -45,10 +43,11 @@ item_of_gathered f n i k x lt is =
     ∙ here in
     slice_get-get_or (gather f n) (length before + k) x all ∙ ap Some item
 
--- an item of a list of items
-pub item_of_listed : {X : Type 0} (f : ℕ → X) (n j : ℕ) → j < n → slice_get (listed f n) j ≡ Some (f j)
-item_of_listed f n j lt = slice_get-get_or (listed f n) j (f j) (omega (arith, lt, length-listed f n)) ∙ ap Some (get_or-listed f n j (f j) lt)
-
 -- how many items one more list brings
 pub length_more : {X : Type 0} (f : ℕ → List X) (i : ℕ) → length (gather f (i + 1)) ≡ length (gather f i) + length (f i)
 length_more f i = ap (λ n. length (gather f n)) (add-one i) ∙ length-append (gather f i) (f i)
+
+-- gathered lists are as long as all together
+pub length_gathered : {X : Type 0} (f : ℕ → List X) (n : ℕ) → length (gather f n) ≡ sum_below (λ i. length (f i)) n
+length_gathered f zero = refl
+length_gathered f (suc n) = length-append (gather f n) (f n) ∙ omega (arith, length_gathered f n)

@@ -10,6 +10,9 @@ mod TimelyIntervals
 mod Carried
 -- Lists that are gathered, tables that count them, and texts that are written part by part.
 mod Gathered
+mod There
+mod Kept
+mod Has
 mod OpenIntervals
 mod Counts
 mod Before

@@ -1,5 +1,5 @@
 -- Lines that are put together word by word.
-use Rattle.std.proofs.Common.{◌≡◌, ℕ, List, [], ◌∷◌, ◌++◌, ap, ◌∙◌, append_assoc}
+use Rattle.std.proofs.Common.{◌≡◌, ℕ, List, [], ◌∷◌, ◌++◌, refl, sym, ap, ◌∙◌, append_assoc}
 use Rattle.rail_rules.specs.Texts.{behind, spaced}
 
 -- one more word in front of those that are behind
@@ -13,3 +13,9 @@ word_first first is none rest = ap (λ xs. xs ++ rest) (is ∙ ap (λ xs. xs ++ 
 -- a line of a first word and the words behind it
 pub line_is : {whole front : List ℕ} (first : List ℕ) (words : List (List ℕ)) → whole ≡ front ++ 10 ∷ [] → front ≡ first ++ behind words → whole ≡ spaced (first ∷ words)
 line_is first words last is = last ∙ ap (λ xs. xs ++ 10 ∷ []) is
+
+-- words behind others
+pub behind_append : (xs ys : List (List ℕ)) → behind (xs ++ ys) ≡ behind xs ++ behind ys
+behind_append [] ys = refl
+behind_append (x ∷ xs) ys =
+    ap (λ zs. 32 ∷ x ++ zs) (behind_append xs ys) ∙ sym (append_assoc (32 ∷ x) (behind xs) (behind ys))

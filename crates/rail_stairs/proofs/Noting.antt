@@ -1,16 +1,12 @@
 -- What noting a line changes.
-use Rattle.std.proofs.Common.{◌≡◌, ℕ, ◌+◌, ◌<◌, List, [], ◌∷◌, ◌++◌, length, map, get_or, set, take, sym, ap, ◌∙◌, subst, ⊎_elim, arith}
+use Rattle.std.proofs.Common.{◌≡◌, ℕ, ◌<◌, List, [], ◌∷◌, ◌++◌, length, get_or, set, sym, ap, ◌∙◌, subst, ⊎_elim, arith}
 use Rattle.std.proofs.lemmas.Bool.{cases_eq}
-use Rattle.std.proofs.lemmas.List.{get_or-map, get_or-set_same, get_or-set_other, length-map, length-set, same_lists, take_more}
+use Rattle.std.proofs.lemmas.List.{get_or-set_same, get_or-set_other, length-set, same_lists}
 use Rattle.rail_base.specs.declared.history.Note.{Note}
 use Rattle.rail_base.specs.declared.history.What.TheVariants.{Admit}
-use Rattle.rail_base.specs.declared.plant.MoveRow.{MoveRow}
-use Rattle.rail_base.specs.declared.plant.TrainRow.{TrainRow}
 use Rattle.rail_rules.specs.Fronts.{Front, Line, admissions}
 use Rattle.rail_rules.specs.Numbers.{listed}
-use Rattle.rail_rules.specs.Plant.{Plant, no_train, train, trains}
 use Rattle.rail_laws_front.proofs.CallerLemmas.{admission_added, admission_of_other, get_or-listed, length-listed}
-use Rattle.rail_stairs.specs.Noted.{step_counts}
 
 -- an admission is added in the row of its train
 pub row_added : (n : ℕ) (front : Front) (line : Line) (rows : List (List ℕ)) (t m i : ℕ) (note : Note) (row : List ℕ)
@@ -36,11 +32,3 @@ row_added n front line rows t m i note row are what is lt is_row =
     ∙ sym (admission_of_other line front t m note u what (λ e. other (e ∙ sym is)))
     ∙ sym (get_or-listed (admissions (line ∷ front)) n u d known))
     (cases_eq u i))
-
--- the step counts of one more train
-pub counts_more : (plant : Plant) (i : ℕ) → i < trains plant
-    → take (i + 1) (step_counts plant) ≡ take i (step_counts plant) ++ map (λ (move : MoveRow). length move.sections) (train plant i).moves ∷ []
-counts_more plant i lt =
-    let f : TrainRow → List ℕ = λ (row : TrainRow). map (λ (move : MoveRow). length move.sections) row.moves in
-    take_more (step_counts plant) i [] (omega (arith, lt, length-map plant.tables.trains f))
-    ∙ ap (λ (x : List ℕ). take i (step_counts plant) ++ x ∷ []) (get_or-map f plant.tables.trains i no_train [] lt)

@@ -15,6 +15,11 @@ pub not_ok : (X : Type 0) (result : Result (Unit {0}) Failed) → IsErr result �
 not_ok X (Ok done) is = absurd (false≢true is)
 not_ok X (Err failed) is = tt
 
+-- and what holds at all
+pub is_ok : (X : Type 0) (result : Result (Unit {0}) Failed) → X → OnOk result X
+is_ok X (Ok done) h = h
+is_ok X (Err failed) h = tt
+
 -- the same text was written
 pub same_text : {O : Type 0} (sink : Ghosts O) (before now : O) {result : Result (Unit {0}) Failed} {t u : List ℕ} → t ≡ u
     → WritesText sink before now t result → WritesText sink before now u result

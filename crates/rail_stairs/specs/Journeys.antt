@@ -3,13 +3,12 @@ use Rattle.std.specs.Prelude.{◌≡◌, ℕ, ◌<◌, ◌≤◌, ◌^◌, List,
 use Rattle.rail_base.specs.declared.intervals.Interval.{Interval}
 use Rattle.rail_block.specs.CarriedTimes.{AreBelow, times_at}
 use Rattle.rail_block.specs.declared.times.MoveTimes.{MoveTimes}
-use Rattle.rail_rules.specs.Intervals.{interval_of}
-use Rattle.rail_rules.specs.Numbers.{gather, listed}
+use Rattle.rail_rules.specs.Numbers.{gather}
 use Rattle.rail_rules.specs.Plant.{Plant, moves, trains}
 use Rattle.rail_rules.specs.Times.{admitted, ready}
 use Rattle.rail_stairs.specs.declared.stairs.Stairs.{Stairs}
 use Rattle.rail_stairs.specs.Noted.{noted_of}
-use Rattle.rail_stairs.specs.Stairways.{move_intervals, train_intervals}
+use Rattle.rail_stairs.specs.Stairways.{move_intervals, step_intervals, train_intervals}
 
 -- a train may have these admissions: no more than it has moves, none before its ready time, and all times are below 2^51
 pub record AreAdmissible (plant : Plant) (t : ℕ) (adms : List ℕ) : Type 0 where
@@ -36,4 +35,4 @@ before_move plant stairs t m = before_train plant stairs t ++ gather (move_inter
 
 -- the intervals before a step of the move, both counted from 0
 abbrev pub before_step : Plant → Stairs → ℕ → ℕ → ℕ → List Interval
-before_step plant stairs t m j = before_move plant stairs t m ++ listed (interval_of plant t (noted_of stairs t) m) j
+before_step plant stairs t m j = before_move plant stairs t m ++ gather (step_intervals plant t (noted_of stairs t) m) j

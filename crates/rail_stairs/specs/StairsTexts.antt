@@ -1,5 +1,5 @@
 -- The text of a stairway.
-use Rattle.std.specs.Prelude.{ℕ, List, [], ◌∷◌, ◌++◌, length, flat_map, codes, decimal, unwrap_or}
+use Rattle.std.specs.Prelude.{ℕ, Bool, cond, is_none, List, [], ◌∷◌, ◌++◌, length, flat_map, codes, decimal, unwrap_or}
 use Rattle.rail_base.specs.Clock.{time_text}
 use Rattle.rail_base.specs.declared.intervals.Interval.{Interval}
 use Rattle.rail_base.specs.declared.intervals.Parts.{Parts}
@@ -16,14 +16,26 @@ part_words parts = number_word parts.setting ∷ number_word parts.watching ∷ 
     ∷ number_word parts.waiting ∷ number_word parts.earlier ∷ number_word parts.running
     ∷ number_word parts.standing ∷ number_word parts.clearing ∷ number_word parts.release ∷ []
 
--- the words of an interval: train, move, section, begin, end and parts
+-- the interval is one of an overlap: it has no parts, and so not the first of them, which is decided in all other intervals
+abbrev pub is_of_overlap : Interval → Bool
+is_of_overlap interval = is_none interval.parts.setting
+
+-- the words that each interval has: train, move, section, begin and end
+abbrev pub interval_words : Plant → Interval → List (List ℕ)
+interval_words plant interval = train_word plant interval.train ∷ decimal interval.place
+    ∷ section_word plant interval.section ∷ time_text interval.begin ∷ time_word interval.«end» ∷ []
+
+-- the words of an interval of a needed section, with its parts
 abbrev pub stair_words : Plant → Interval → List (List ℕ)
-stair_words plant interval = codes "stair" ∷ train_word plant interval.train ∷ decimal interval.place
-    ∷ section_word plant interval.section ∷ time_text interval.begin ∷ time_word interval.«end» ∷ part_words interval.parts
+stair_words plant interval = codes "stair" ∷ interval_words plant interval ++ part_words interval.parts
+
+-- the words of an interval of an overlap
+abbrev pub over_words : Plant → Interval → List (List ℕ)
+over_words plant interval = codes "over" ∷ interval_words plant interval
 
 -- the line of an interval
 abbrev pub stair_line : Plant → Interval → List ℕ
-stair_line plant interval = spaced (stair_words plant interval)
+stair_line plant interval = spaced (cond (is_of_overlap interval) (over_words plant interval) (stair_words plant interval))
 
 -- the words of a section: how many intervals it has, and how long it is occupied
 abbrev pub section_words : Plant → ℕ → List Interval → ℕ → List (List ℕ)

@@ -2,19 +2,23 @@
 use Rattle.std.specs.Prelude.{ℕ, ◌-◌, ◌==◌, cond, List, [], ◌∷◌, length, count_by, unwrap_or, Option, Some, None}
 use Rattle.std.specs.List.{sum_by}
 use Rattle.rail_base.specs.declared.intervals.Interval.{Interval}
-use Rattle.rail_rules.specs.Numbers.{gather, listed}
-use Rattle.rail_rules.specs.Plant.{Plant, trains, steps}
+use Rattle.rail_rules.specs.Numbers.{gather}
+use Rattle.rail_rules.specs.Plant.{Plant, claims, trains}
 use Rattle.rail_rules.specs.Fronts.{Front, admissions, is_end}
-use Rattle.rail_rules.specs.Intervals.{interval_of}
+use Rattle.rail_rules.specs.Intervals.{has_interval, interval_of}
 
 -- the time of the end line, where it stands
 abbrev pub ended_at : Front → Option ℕ
 ended_at [] = None
 ended_at (line ∷ before) = cond (is_end line.entry.what) (Some line.entry.at) (ended_at before)
 
--- the blocking intervals of an admitted move, counted from 0, by step
+-- the blocking interval of a step of an admitted move, both counted from 0, where the step has one
+abbrev pub step_intervals : Plant → ℕ → List ℕ → ℕ → ℕ → List Interval
+step_intervals plant t adms m j = cond (has_interval plant t adms m j) (interval_of plant t adms m j ∷ []) []
+
+-- the blocking intervals of an admitted move, counted from 0, by step: those of the sections that it needs, then those of its overlap
 abbrev pub move_intervals : Plant → ℕ → List ℕ → ℕ → List Interval
-move_intervals plant t adms m = listed (interval_of plant t adms m) (steps plant t m)
+move_intervals plant t adms m = gather (step_intervals plant t adms m) (claims plant t m)
 
 -- the blocking intervals of a train with these admissions, by move and step
 abbrev pub train_intervals : Plant → ℕ → List ℕ → List Interval

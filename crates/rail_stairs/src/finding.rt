@@ -4,8 +4,8 @@ ghost use Rattle.std.specs.Prelude.{◌≡◌, ◌+◌, ◌<◌, length, slice_g
 ghost use Rattle.rail_rules.specs.Fronts.{Front};
 ghost use Rattle.rail_rules.specs.Plant.{Plant};
 ghost use Rattle.rail_stairs.specs.Noted.{AreNoted, IsNoted};
-ghost use Rattle.rail_stairs.specs.OfTrains.{of_train};
-ghost use Rattle.rail_stairs.specs.Stairways.{stairway, train_intervals};
+ghost use Rattle.rail_stairs.specs.OfTrains.{admissions_in, of_train};
+ghost use Rattle.rail_stairs.specs.Stairways.{move_intervals, stairway, train_intervals};
 
 use crate::journey::Journey;
 use crate::stairs::Stairs;
@@ -13,7 +13,7 @@ use rail_base::{Interval, TrainNo};
 use rail_plan::Plant;
 
 impl Stairs {
-    /// The interval of this index, which counts from 0, by train, move and step. The work grows with the moves
+    /// The interval of this index, which counts from 0, by train, move and step. The work grows with the intervals
     /// that were noted before it.
     pub fn interval(&self, plant: &Plant, index: usize) -> Interval
         requires noted { IsNoted plant.now self.now }
@@ -41,11 +41,29 @@ impl Journey<'_> {
     {
         let mut left = index;
         for place in 0..self.moves() {
-            let steps = self.steps(place);
-            if left < usize::from(steps) {
-                return Ok(self.interval(place, left as u16));
+            match self.find_step(place, left) {
+                Ok(interval) => return Ok(interval),
+                Err(rest) => left = rest,
             }
-            left -= usize::from(steps);
+        }
+        Err(left)
+    }
+
+    /// The same among those of the move, which counts from 0.
+    fn find_step(&self, place: u16, index: usize) -> Result<Interval, usize>
+        requires { place < length (admissions_in self.now) }
+        ensures found { IfOk result (λ interval. slice_get (of_train move_intervals self.now place) index ≡ Some interval) }
+        ensures behind { IfErr result (λ rest. index ≡ length (of_train move_intervals self.now place) + rest) }
+    {
+        let mut left = index;
+        for step in 0..self.claims(place) {
+            let Some(interval) = self.interval(place, step) else {
+                continue;
+            };
+            if left == 0 {
+                return Ok(interval);
+            }
+            left -= 1;
         }
         Err(left)
     }

@@ -1,17 +1,19 @@
 //! Laws for those who note the lines of a run, and for those who compare its intervals or place trains between them.
 
-ghost use Rattle.std.specs.Prelude.{◌≡◌, ◌⊎◌, ◌∷◌, ℕ, IsTrue, map, unwrap_or};
+ghost use Rattle.std.specs.Prelude.{◌≡◌, ◌⊎◌, ◌∷◌, ℕ, IsTrue, List, map, unwrap_or};
 ghost use Rattle.rail_capacity.specs.BlockingTimes.{are_conflict_free, block_of};
 ghost use Rattle.rail_insert.specs.Timely.{are_timely};
 ghost use Rattle.rail_rules.specs.Accepted.{is_accepted_input};
-ghost use Rattle.rail_rules.specs.Fronts.{Front, Line};
+ghost use Rattle.rail_rules.specs.Fronts.{Front, Line, admissions};
+ghost use Rattle.rail_rules.specs.Intervals.{has_interval, interval_of, is_over};
 ghost use Rattle.rail_rules.specs.Lawful.{is_complete, is_lawful};
 ghost use Rattle.rail_rules.specs.Orders.{Input};
 ghost use Rattle.rail_rules.specs.Overlaps.{IsStep};
-ghost use Rattle.rail_rules.specs.Plant.{step_section};
+ghost use Rattle.rail_rules.specs.Plant.{Plant, step_section};
 ghost use Rattle.rail_stairs.specs.Ended.{AreDisjoint, IsPositive, interval_in};
 ghost use Rattle.rail_stairs.specs.Noted.{AreNoted, has_room};
 ghost use Rattle.rail_stairs.specs.Stairways.{ended_at, ended_by, stairway};
+ghost use Rattle.rail_stairs.specs.StairsTexts.{is_of_overlap};
 ghost use Rattle.rail_stairs.specs.declared.stairs.Stairs.{Stairs};
 
 /// Where the lines so far were noted, there is room to note each line that lawfully follows them.
@@ -20,11 +22,17 @@ pub fn a_lawful_line_finds_room()
         → IsTrue (is_lawful input (line ∷ front)) → AreNoted input.plant front stairs → IsTrue (has_room stairs line.entry.what) }
 {}
 
+/// An interval is written as one of an overlap, without parts, exactly where its step is one of the overlap.
+pub fn an_over_line_is_of_an_overlap()
+    ensures { (plant : Plant) (t : ℕ) (adms : List ℕ) (m j : ℕ) → is_of_overlap (interval_of plant t adms m j) ≡ is_over plant t m j }
+{}
+
 /// At the end of a lawful history of an input that may be run each blocking interval, an open one ended at the end
 /// line, is not empty, and its end is below 2^50 tenths of a second.
 pub fn ended_intervals_are_positive()
     ensures { (input : Input) → IsTrue (is_accepted_input input) → (front : Front) → IsTrue (is_complete input front)
-        → (t m j : ℕ) → IsStep input.plant front t m j → IsPositive front (interval_in input.plant front t m j) }
+        → (t m j : ℕ) → IsStep input.plant front t m j → IsTrue (has_interval input.plant t (admissions front t) m j)
+        → IsPositive front (interval_in input.plant front t m j) }
 {}
 
 /// In a lawful history two blocking intervals of one section are the same, or one ends before the other begins, where

@@ -1,9 +1,12 @@
-//! Blocking time stairways: the blocking intervals of a run, as a table and as a text.
+//! Blocking time stairways: the blocking intervals of a run, those of overlaps among them, as a table and as a text.
 //!
 //! This layer stands on the blocking intervals of `rail_block`, on the laws of lawful histories, on the lines of
 //! `rail_text`, and for two of its laws on what `rail_capacity` calls without conflict and `rail_insert` calls timely. Everything follows
 //! from the admissions and the time of the end line, so `Stairs` keeps these alone, as the lines of a history
-//! come; the intervals are computed when they are asked for, in one pass over each train.
+//! come; the intervals are computed when they are asked for, in one pass over each train. The intervals of the overlap
+//! of a move stand behind those of the sections that it needs. They have no parts, each has an end, and a section of an
+//! overlap that the train's next move takes over as it is admitted at the same time has none. All times and parts are in
+//! tenths of a second.
 //! `specs/Stairways.antt` and `specs/StairsTexts.antt` say what a stairway is and how it is written, from the
 //! lines of a history and no code.
 //!
@@ -17,6 +20,7 @@ mod finding;
 mod intervals;
 mod journey;
 mod laws;
+mod move_counts;
 mod rows;
 mod stairs;
 mod steps;
@@ -27,9 +31,9 @@ mod writing;
 pub use admissions::Admissions;
 pub use intervals::ended_by;
 pub use laws::{
-    a_lawful_line_finds_room, ended_intervals_are_positive, ended_intervals_are_without_conflict,
-    ended_intervals_never_overlap, intervals_are_timely,
+    a_lawful_line_finds_room, an_over_line_is_of_an_overlap, ended_intervals_are_positive,
+    ended_intervals_are_without_conflict, ended_intervals_never_overlap, intervals_are_timely,
 };
-pub use rows::worked_stairways;
+pub use rows::{worked_overlaps, worked_stairways};
 pub use stairs::Stairs;
 pub use writing::write_stairs;

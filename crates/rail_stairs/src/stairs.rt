@@ -1,14 +1,14 @@
 //! What is noted of a history.
 
-ghost use Rattle.std.specs.Prelude.{◌≡◌, ℕ, ◌<◌, ◌≤◌, ◌^◌, [], ◌∷◌, ◌++◌, get_or, set, length, map, replicate, IsSome, IsTrue, IfOk, Some};
+ghost use Rattle.std.specs.Prelude.{◌≡◌, ◌<◌, ◌≤◌, ◌^◌, [], ◌∷◌, ◌++◌, get_or, set, length, IsSome, IsTrue, IfOk, Some};
 ghost use Rattle.rail_base.specs.declared.limits.TheConstants.{ITINERARY_ROUTES};
-ghost use Rattle.rail_base.specs.declared.plant.MoveRow.{MoveRow};
 ghost use Rattle.rail_rules.specs.Fronts.{Front, Line};
 ghost use Rattle.rail_rules.specs.Numbers.{listed};
-ghost use Rattle.rail_rules.specs.Plant.{Plant, train, trains};
-ghost use Rattle.rail_stairs.specs.Noted.{AreNoted, has_room, noted_of, noted_steps, step_counts};
+ghost use Rattle.rail_rules.specs.Plant.{Plant};
+ghost use Rattle.rail_stairs.specs.Noted.{AreNoted, has_room, noted_counts, noted_of};
 
 use crate::admissions::Admissions;
+use crate::move_counts::{MoveCounts, plant_counts};
 use rail_base::{Entry, OutOfMemory, Time, TrainNo, What};
 use rail_plan::Plant;
 use std::alloc::{AllocError, Global};
@@ -18,8 +18,8 @@ use std::alloc::{AllocError, Global};
 pub struct Stairs {
     /// By train number.
     admissions: Vec<Admissions>,
-    /// By train number, how many steps each of its moves has.
-    steps: Vec<Vec<usize>>,
+    /// By train number, how many intervals each of its moves has.
+    counts: Vec<Vec<MoveCounts>>,
     /// The time of the end line.
     ended: Option<Time>,
 }
@@ -28,7 +28,7 @@ impl Drop for Stairs {
     fn drop(self) {
         let Stairs {
             admissions: _admissions,
-            steps: _steps,
+            counts: _counts,
             ended: _ended,
         } = self;
     }
@@ -39,11 +39,11 @@ impl Stairs {
     pub fn new(alloc: Global, plant: &Plant) -> Result<Stairs, OutOfMemory>
         ensures { IfOk result (λ stairs. AreNoted plant.now [] stairs) }
     {
-        let steps = steps_of(alloc, plant)?;
+        let counts = plant_counts(alloc, plant)?;
         let admissions = none_of(alloc, plant.moves().trains())?;
         Ok(Stairs {
             admissions,
-            steps,
+            counts,
             ended: None,
         })
     }
@@ -57,13 +57,12 @@ impl Stairs {
         self.admissions[usize::from(train.0)].as_slice()
     }
 
-    /// How many steps each move of the train has.
-    pub(crate) fn steps(&self, train: TrainNo) -> &[usize]
-        requires { train < length self.now.steps.items }
-        ensures steps { (m : ℕ) → get_or result.now m 0 ≡ noted_steps self.now train m }
-        ensures length { length result.now ≡ length (get_or (map (λ row. row.items) self.now.steps.items) train []) }
+    /// How many intervals each move of the train has.
+    pub(crate) fn counts(&self, train: TrainNo) -> &[MoveCounts]
+        requires { train < length self.now.counts.items }
+        ensures { result.now ≡ noted_counts self.now train }
     {
-        &self.steps[usize::from(train.0)]
+        &self.counts[usize::from(train.0)]
     }
 
     /// How many trains there are.
@@ -116,28 +115,4 @@ fn none_of(alloc: Global, trains: u16) -> Result<Vec<Admissions>, AllocError>
         admissions.push(Admissions::none())?;
     }
     Ok(admissions)
-}
-
-/// How many steps each move of each train has.
-fn steps_of(alloc: Global, plant: &Plant) -> Result<Vec<Vec<usize>>, AllocError>
-    ensures { IfOk result (λ steps. map (λ row. row.items) steps.items ≡ step_counts plant.now) }
-{
-    let mut steps = Vec::new(alloc);
-    for number in 0..plant.moves().trains() {
-        steps.push(train_steps(alloc, plant, TrainNo(number))?)?;
-    }
-    Ok(steps)
-}
-
-/// How many steps each move of the train has.
-fn train_steps(alloc: Global, plant: &Plant, number: TrainNo) -> Result<Vec<usize>, AllocError>
-    requires { number < trains plant.now }
-    ensures { IfOk result (λ steps. steps.items
-        ≡ map (λ (move : MoveRow). length move.sections) (train plant.now number).moves) }
-{
-    let mut steps = Vec::new(alloc);
-    for row in plant.train(number).moves.as_slice() {
-        steps.push(row.sections.as_slice().len())?;
-    }
-    Ok(steps)
 }

@@ -2,15 +2,14 @@
 
 ghost use Rattle.std.specs.Prelude.{◌≡◌, ℕ, ◌+◌, ◌*◌, ◌<◌, ◌≤◌, ◌^◌, [], ◌++◌, List, length, flat_map, IsSome, OnOk};
 ghost use Rattle.rail_base.specs.declared.intervals.Interval.{Interval};
-ghost use Rattle.rail_base.specs.declared.limits.TheConstants.{SECTIONS};
+ghost use Rattle.rail_base.specs.declared.limits.TheConstants.{OVERLAP_SECTIONS, ROUTE_SECTIONS, SECTIONS};
 ghost use Rattle.rail_rules.specs.Fronts.{Front};
-ghost use Rattle.rail_rules.specs.Intervals.{interval_of};
 ghost use Rattle.rail_rules.specs.Numbers.{gather};
-ghost use Rattle.rail_rules.specs.Plant.{steps, trains};
+ghost use Rattle.rail_rules.specs.Plant.{claims, trains};
 ghost use Rattle.rail_stairs.specs.Noted.{AreNoted, IsNoted, noted_of};
 ghost use Rattle.rail_stairs.specs.Journeys.{AreAllAdmissible, before_move, before_step, before_train};
 ghost use Rattle.rail_stairs.specs.OfTrains.{admissions_in, at_train, of_train};
-ghost use Rattle.rail_stairs.specs.Stairways.{move_intervals, train_intervals};
+ghost use Rattle.rail_stairs.specs.Stairways.{move_intervals, step_intervals, train_intervals};
 ghost use Rattle.rail_stairs.specs.StairsTexts.{section_line, section_lines, stair_line, stairs_text};
 ghost use Rattle.rail_stairs.specs.Tallies.{IsTallied};
 ghost use Rattle.rail_text.specs.Writes.{WritesText};
@@ -18,14 +17,16 @@ ghost use Rattle.rail_text.specs.Writes.{WritesText};
 use crate::journey::Journey;
 use crate::stairs::Stairs;
 use crate::tallies::Tallies;
-use crate::words::put_parts;
+use crate::words::put_line;
 use rail_base::{Interval, SectionNo, Time, TrainNo};
 use rail_io::{Failed, Sink, write_whole};
 use rail_plan::Plant;
 use rail_text::Line;
 
 /// Writes the stairway of the history that was noted to its end: a line for each blocking interval, by train,
-/// move and step, and a line for each section. It takes no memory.
+/// move and step, and a line for each section. The intervals of the overlap of a move stand behind those of the
+/// sections that it needs, and count for their sections as all others. Parts are in tenths of a second. It takes
+/// no memory.
 pub fn write_stairs<O: Sink>(plant: &Plant, stairs: &Stairs, out: &mut O) -> Result<(), Failed>
     requires noted { IsNoted plant.now stairs.now }
     requires ended { IsSome stairs.now.ended }
@@ -90,14 +91,36 @@ fn write_move<O: Sink>(
     ensures text { WritesText O.Sink out.old out.new
         (flat_map (stair_line journey.now.plant.now) (of_train move_intervals journey.now index)) result }
     ensures counted { OnOk result (IsTallied ended
-        (at_train before_step journey.now index (steps journey.now.plant.now journey.now.train index)) tallies.new) }
+        (at_train before_step journey.now index (claims journey.now.plant.now journey.now.train index)) tallies.new) }
 {
-    for step in 0..journey.steps(index) {
-        let interval = journey.interval(index, step);
-        tallies.add(&interval, ended);
-        write_interval(journey.plant, &interval, out)?;
+    for step in 0..journey.claims(index) {
+        write_step(journey, index, step, ended, tallies, out)?;
     }
     Ok(())
+}
+
+/// Writes a line for the interval of the step of the move, which both count from 0, and counts it, where the step has one.
+fn write_step<O: Sink>(
+    journey: &Journey,
+    index: u16,
+    step: u16,
+    ended: Time,
+    tallies: &mut Tallies,
+    out: &mut O,
+) -> Result<(), Failed>
+    requires index { index < length (admissions_in journey.now) }
+    requires step { step < claims journey.now.plant.now journey.now.train index }
+    requires few { step < ROUTE_SECTIONS + OVERLAP_SECTIONS }
+    requires before { IsTallied ended (at_train before_step journey.now index step) tallies.old }
+    ensures text { WritesText O.Sink out.old out.new
+        (flat_map (stair_line journey.now.plant.now) (of_train step_intervals journey.now index step)) result }
+    ensures counted { OnOk result (IsTallied ended (at_train before_step journey.now index (step + 1)) tallies.new) }
+{
+    let Some(interval) = journey.interval(index, step) else {
+        return Ok(());
+    };
+    tallies.add(&interval, ended);
+    write_interval(journey.plant, &interval, out)
 }
 
 /// Writes the line of the interval.
@@ -107,14 +130,7 @@ fn write_interval<O: Sink>(plant: &Plant, interval: &Interval, out: &mut O) -> R
     ensures { WritesText O.Sink out.old out.new (stair_line plant.now interval.now) result }
 {
     let mut line = Line::new();
-    line.put(b"stair");
-    line.put_name(&plant.train(interval.train).name);
-    line.put_number(u64::from(interval.place));
-    line.put_name(&plant.section(interval.section).name);
-    line.put_time(interval.begin);
-    line.put_time_or_dash(interval.end);
-    put_parts(&mut line, &interval.parts);
-    line.put(b"\n");
+    put_line(&mut line, plant, interval);
     write_whole(out, line.as_slice())
 }
 

@@ -21,7 +21,7 @@ use Rattle.rail_laws_events.specs.Accounts.{all_events, tally}
 use Rattle.rail_laws_run.specs.HolderTables.{AreHolders}
 use Rattle.rail_queue.specs.declared.event.Event.{Event}
 use Rattle.rail_queue.specs.declared.event.Class.TheVariants as class
-use Rattle.rail_state.specs.Events.{event_of, deferred_event, train_event}
+use Rattle.rail_state.specs.Events.{deferred_of, event_of, train_event}
 use Rattle.rail_state.specs.declared.train.TrainState.{TrainState}
 use Rattle.rail_state.specs.TrainStates.{no_state, outside, state_of}
 use Rattle.rail_state.specs.Representation.{IsBeginning, Represents, deferred_events}
@@ -103,7 +103,7 @@ begins dispatch plant state accepted has = record {
     train_is t lt = ap (λ states. state_of states t) has.trains ∙ get_or-listed (outside plant) (trains plant) t no_state lt
 
     none_held : (q : Event → Bool) → count_by q (deferred_events plant state.trains) ≡ 0
-    none_held q = count-gather_zero q (λ t. deferred_event t (state_of state.trains t).place (state_of state.trains t).deferred) (trains plant) (λ t lt. ap (λ (r : TrainState). count_by q (deferred_event t r.place r.deferred)) (train_is t lt))
+    none_held q = count-gather_zero q (λ t. deferred_of plant t (state_of state.trains t).place (state_of state.trains t).deferred) (trains plant) (λ t lt. ap (λ (r : TrainState). count_by q (deferred_of plant t r.place r.deferred)) (train_is t lt))
 
     -- each train has the ready line of its first move to come
     of_train : (q : Event → Bool) (t : ℕ) → t < trains plant → count_by q (train_event (state_of state.trains t).times.next_ready class.Ready t 1 ∷ []) ≡ tally (λ e. q (event_of e)) (train_events plant t [] false)

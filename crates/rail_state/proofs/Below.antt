@@ -10,7 +10,7 @@ use Rattle.rail_base.specs.declared.history.What.TheVariants.{Free, Arrive, Ente
 use Rattle.rail_rules.specs.Numbers.{is_in}
 use Rattle.rail_rules.specs.Fronts.{Line, Front, has_ended, instant, same_cause, is_admission, is_hold, admissions, stands}
 use Rattle.rail_rules.specs.Orders.{Input, is_cancelled, told}
-use Rattle.rail_rules.specs.Plant.{Plant, needed, trains, moves, steps}
+use Rattle.rail_rules.specs.Plant.{Plant, claimed, trains, moves, steps}
 use Rattle.rail_rules.specs.Times.{ready, enter}
 use Rattle.rail_rules.specs.Events.{enter_line, ready_line}
 use Rattle.rail_rules.proofs.CallerLemmas.{admissions_kept}
@@ -22,9 +22,9 @@ use Rattle.rail_laws_front.specs.Premises.{IsWellFormed}
 use Rattle.rail_laws_front.specs.Views.{Admits, Happens, Holds, Ends}
 use Rattle.rail_laws_front.specs.EventLines.{IsEvent}
 use Rattle.rail_laws_events.specs.Accounts.{is_train_event, tally, to_come}
-use Rattle.rail_laws_run.specs.HolderTables.{AreHolders, held_cause, taken_by}
+use Rattle.rail_laws_run.specs.HolderTables.{AreHolders, bar_holder, held_cause, own_overlap, taken_by}
 use Rattle.rail_laws_run.specs.LinesToCome.{ToCome}
-use Rattle.rail_laws_front.proofs.CallerLemmas.{told_kept, well_formed_from_accepted}
+use Rattle.rail_laws_front.proofs.CallerLemmas.{lawful_before, told_kept, well_formed_from_accepted}
 use Rattle.rail_rules.specs.LineCounts.{is_command}
 use Rattle.rail_state.proofs.Early.{no_early_hold as told_no_early}
 use Rattle.rail_laws_run.specs.Heads.{IsHead, enters, next_move, next_step}
@@ -99,8 +99,8 @@ next_enter input fine front lawful t n i m j known head lm lj fresh least = pend
 
 -- of holders
 pub holders_block : (input : Input) → is_accepted input.plant ≡ true → (front : Front) → is_lawful input front ≡ true → is_deciding input front ≡ true → (holders : List (Option ℕ))
-    → AreHolders input.plant front holders → (sections : List ℕ) → blocked_cause input front sections ≡ held_cause holders sections
-holders_block input accepted front lawful deciding holders are sections = blocked_is input accepted front lawful deciding holders are sections
+    → AreHolders input.plant front holders → (t : ℕ) (sections : List ℕ) → blocked_cause input front t sections ≡ held_cause holders t (own_overlap input.plant t (place front t)) sections
+holders_block input accepted front lawful deciding holders are t sections = blocked_is input accepted front lawful deciding holders are t sections
 
 -- of what is settled
 pub record HasCauseTold (input : Input) (front : Front) (t : ℕ) : Type 0 where
@@ -181,9 +181,9 @@ follows_end input front line going ends = ends_follows input front line going en
 
 -- of holders
 pub holders_taken : (input : Input) → is_accepted input.plant ≡ true → (line : Line) (front : Front) → is_lawful input (line ∷ front) ≡ true → (t m : ℕ) (note : Note)
-    → Admits input front line t m note → (h : List (Option ℕ)) → ((x : ℕ) → is_in x (needed input.plant t (place front t)) ≡ true → get_or h x None ≡ None)
-    → AreHolders input.plant front h → AreHolders input.plant (line ∷ front) (taken_by h (needed input.plant t (place front t)) t)
-holders_taken input accepted line front lawful t m note admits h free are = takes input accepted line front t m note admits h free are
+    → Admits input front line t m note → (h : List (Option ℕ)) → ((x : ℕ) → is_in x (claimed input.plant t (place front t)) ≡ true → bar_holder h t (own_overlap input.plant t (place front t)) x ≡ None)
+    → AreHolders input.plant front h → AreHolders input.plant (line ∷ front) (taken_by h (claimed input.plant t (place front t)) t)
+holders_taken input accepted line front lawful t m note admits h free are = takes input accepted line front (lawful_before input line front lawful) t m note admits h are free
 
 -- before the first line
 pub first_head : (plant : Plant) → IsWellFormed plant → (t : ℕ) → t < trains plant → IsHead plant [] t 0 0

@@ -1,5 +1,5 @@
 -- Counting events.
-use Rattle.std.proofs.Common.{◌≡◌, ℕ, zero, suc, ◌+◌, ◌<◌, ◌≤◌, Bool, true, false, cond, List, [], ◌∷◌, ◌++◌, length, refl, sym, ap, ◌∙◌, ⊎_elim, arith}
+use Rattle.std.proofs.Common.{◌≡◌, ℕ, zero, suc, ◌+◌, ◌<◌, ◌≤◌, Bool, true, false, not, ◌&&◌, ◌||◌, cond, List, [], ◌∷◌, ◌++◌, length, refl, sym, ap, ◌∙◌, ⊎_elim, arith}
 use Rattle.std.specs.Prelude.{count_by}
 use Rattle.std.specs.List.{list_any}
 use Rattle.std.proofs.lemmas.Bool.{cases_Bool, cases_lt, cond-true, cond-false, false≢true, or_left, or_right}
@@ -79,3 +79,49 @@ count-exchanged p f g (suc n) t lt others =
 pub count-all : (es : List Event) → count_by (λ e. true) es ≡ length es
 count-all [] = refl
 count-all (e ∷ es) = omega (arith, count-cons (λ x. true) e es, count-all es)
+
+-- tests that agree count the same
+pub count-same : (p q : Event → Bool) (es : List Event) → ((e : Event) → p e ≡ q e) → count_by p es ≡ count_by q es
+count-same p q [] h = refl
+count-same p q (e ∷ es) h = omega (arith, count-cons p e es, count-cons q e es, ap {B = ℕ} (λ b. cond b 1 0) (h e), count-same p q es h)
+
+-- no event passes a test that none passes
+pub count-nothing : (es : List Event) → count_by (λ e. false) es ≡ 0
+count-nothing [] = refl
+count-nothing (e ∷ es) = omega (arith, count-cons (λ x. false) e es, count-nothing es)
+
+-- what passes is split by another test
+pub count-parts : (p q : Event → Bool) (es : List Event) → count_by p es ≡ count_by (λ e. q e && p e) es + count_by (λ e. not (q e) && p e) es
+count-parts p q [] = refl
+count-parts p q (e ∷ es) =
+    omega (
+      arith,
+      count-cons p e es,
+      count-cons (λ x. q x && p x) e es,
+      count-cons (λ x. not (q x) && p x) e es,
+      count-parts p q es,
+      one (q e) (p e),
+    )
+  where
+    one : (a b : Bool) → cond b 1 0 ≡ cond (a && b) 1 0 + cond (not a && b) 1 0
+    one true b = omega arith
+    one false b = omega arith
+
+-- of two tests that no event passes both, either
+pub count-either : (a b q : Event → Bool) (es : List Event) → ((e : Event) → a e ≡ true → b e ≡ false)
+    → count_by (λ e. (a e || b e) && q e) es ≡ count_by (λ e. a e && q e) es + count_by (λ e. b e && q e) es
+count-either a b q [] apart = refl
+count-either a b q (e ∷ es) apart =
+    omega (
+      arith,
+      count-cons (λ x. (a x || b x) && q x) e es,
+      count-cons (λ x. a x && q x) e es,
+      count-cons (λ x. b x && q x) e es,
+      count-either a b q es apart,
+      one (a e) (b e) (q e) (apart e),
+    )
+  where
+    one : (x y z : Bool) → (x ≡ true → y ≡ false) → cond ((x || y) && z) 1 0 ≡ cond (x && z) 1 0 + cond (y && z) 1 0
+    one true true z h = absurd (false≢true (sym (h refl)))
+    one true false z h = omega arith
+    one false y z h = omega arith

@@ -14,13 +14,14 @@ use Rattle.rail_laws_front.proofs.CallerLemmas.{timely, IsCommandDue, IsEventDue
 use Rattle.rail_laws_events.proofs.CallerLemmas.{tally-same, tally-some}
 use Rattle.rail_queue.specs.declared.event.Event.{Event}
 use Rattle.rail_queue.specs.Order.{class_number, first_time_of, goes_before, is_sorted}
-use Rattle.rail_state.specs.Events.{event_of, deferred_event}
+use Rattle.rail_state.specs.Events.{deferred_of, event_of}
 use Rattle.rail_state.specs.TrainStates.{state_of}
 use Rattle.rail_state.specs.Representation.{Represents, deferred_events}
 use Rattle.rail_state.proofs.Below.{well_formed_plant}
 use Rattle.rail_state.proofs.EventCodes.{one_event, same_event, same_event-self}
 use Rattle.rail_state.proofs.LineCodes.{before_by_time, event_time}
 use Rattle.rail_state.proofs.Counts.{count-gather_zero, count-le, count-none}
+use Rattle.rail_state.proofs.FreeEvents.{deferred_none}
 use Rattle.rail_state.proofs.Next.{due_some, held_no_ready, ready_later, ready_to_come, runs_inside, some_due}
 use Rattle.rail_state.proofs.Settling.{deciding_when_quiet}
 use Rattle.rail_state.specs.declared.run_state.RunState.{RunState}
@@ -115,12 +116,13 @@ module _ (dispatch : Dispatch) (plant : Plant) (front : Front) (state : RunState
       of [] empty = ap (count_by (λ e. eqb e.at (instant front))) empty
 
   held_none : count_by (λ e. eqb e.at (instant front)) (deferred_events plant state.trains) ≡ 0
-  held_none = count-gather_zero (λ e. eqb e.at (instant front)) (λ u. deferred_event u (state_of state.trains u).place (state_of state.trains u).deferred) (trains plant)
-      (λ u lt. of u (state_of state.trains u).place (state_of state.trains u).deferred (λ a held. held_is_later u a lt held))
+  held_none = count-gather_zero (λ e. eqb e.at (instant front)) (λ u. deferred_of plant u (state_of state.trains u).place (state_of state.trains u).deferred) (trains plant)
+      (λ u lt. count-none (λ e. eqb e.at (instant front)) (deferred_of plant u (state_of state.trains u).place (state_of state.trains u).deferred)
+      (deferred_none (λ e. eqb e.at (instant front)) plant u (state_of state.trains u).place (state_of state.trains u).deferred
+      (λ a held. (not_now a (held_is_later u a lt held), λ x. not_now (a + plant.tables.overlap_time) (omega (arith, held_is_later u a lt held))))))
     where
-      of : (u p : ℕ) (arrival : Option ℕ) → ((a : ℕ) → arrival ≡ Some a → instant front < a) → count_by (λ e. eqb e.at (instant front)) (deferred_event u p arrival) ≡ 0
-      of u p None later = refl
-      of u p (Some a) later = ap (λ (b : Bool). 0 + cond b 1 0) (ne_eqb a (instant front) (λ e. omega (arith, e, later a refl)))
+      not_now : (a : ℕ) → instant front < a → eqb a (instant front) ≡ false
+      not_now a later = ne_eqb a (instant front) (λ e. omega (arith, e, later))
 
   nothing_now : list_any (λ (d : Entry). eqb d.at (instant front)) (due_lines (input_of dispatch plant) front) ≡ false
   nothing_now = false_from_ne_true (list_any (λ (d : Entry). eqb d.at (instant front)) (due_lines (input_of dispatch plant) front)) (λ some.

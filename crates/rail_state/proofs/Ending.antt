@@ -29,7 +29,7 @@ use Rattle.rail_rules.specs.Events.{due_lines}
 use Rattle.rail_laws_run.specs.HolderTables.{AreHolders}
 use Rattle.rail_laws_run.specs.Heads.{IsHead}
 use Rattle.rail_queue.specs.declared.event.Event.{Event}
-use Rattle.rail_state.specs.Events.{event_of, deferred_event}
+use Rattle.rail_state.specs.Events.{deferred_of, event_of}
 use Rattle.rail_state.specs.TrainStates.{state_of}
 use Rattle.rail_state.specs.Representation.{IsBound, IsEndLine, Represents, left_of}
 use Rattle.rail_state.proofs.Below.{well_formed_plant, follows_end, head_kept, hold_kept, holders_kept, out_kept, ready_kept}
@@ -85,11 +85,11 @@ module _ (dispatch : Dispatch) (plant : Plant) (front : Front) (state : RunState
         arith,
         rep.pending.counted (λ e. true),
         ap (count_by (λ (e : Event). true)) empty,
-        count-gather_zero (λ e. true) (λ u. deferred_event u (state_of state.trains u).place (state_of state.trains u).deferred) (trains plant)
+        count-gather_zero (λ e. true) (λ u. deferred_of plant u (state_of state.trains u).place (state_of state.trains u).deferred) (trains plant)
             (λ u lt. of u (state_of state.trains u).place (state_of state.trains u).deferred (λ a held. none_held u a lt held)),
       )
     where
-      of : (u p : ℕ) (arrival : Option ℕ) → ((a : ℕ) → arrival ≡ Some a → ⊥) → count_by (λ e. true) (deferred_event u p arrival) ≡ 0
+      of : (u p : ℕ) (arrival : Option ℕ) → ((a : ℕ) → arrival ≡ Some a → ⊥) → count_by (λ e. true) (deferred_of plant u p arrival) ≡ 0
       of u p None none = refl
       of u p (Some a) none = absurd (none a refl)
 

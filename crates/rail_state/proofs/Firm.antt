@@ -9,8 +9,9 @@ use Rattle.rail_base.specs.declared.history.Cause.TheVariants.{Stopped, Closed, 
 use Rattle.rail_rules.specs.Numbers.{or_else}
 use Rattle.rail_rules.specs.Plant.{Plant, claimed, trains}
 use Rattle.rail_orders.specs.Told.{Told}
-use Rattle.rail_laws_run.specs.HolderTables.{held_cause}
+use Rattle.rail_laws_run.specs.HolderTables.{bar_holder, held_cause}
 use Rattle.rail_state.specs.declared.train.TrainState.{TrainState}
+use Rattle.rail_state.proofs.Barring.{barred_is}
 use Rattle.rail_state.specs.TrainStates.{AreFirm, bar_by, is_at_first, is_blocked, is_blocked_at, state_of}
 
 -- a train whose cause was known before, with the same next move, is held for the first section of it still
@@ -20,25 +21,26 @@ pub firm_kept : (plant : Plant) (states after : List TrainState) (t : ℕ) (why 
 firm_kept plant states after t why lt firm was place first is blocked = ap (λ p. is_at_first (Some why) (claimed plant t p)) place ∙ firm t why lt was (sym first ∙ is) blocked
 
 -- a held section that bars is one of the table
-held_within : (holders : List (Option ℕ)) (sections : List ℕ) (x : ℕ) → is_blocked_at x (held_cause holders sections) ≡ true → x < length holders
-held_within holders [] x is = absurd (false≢true is)
-held_within holders (y ∷ sections) x is = at (held_within holders sections x) (get_or holders y None) refl is
+held_within : (holders : List (Option ℕ)) (t : ℕ) (own sections : List ℕ) (x : ℕ) → is_blocked_at x (held_cause holders t own sections) ≡ true → x < length holders
+held_within holders t own [] x is = absurd (false≢true is)
+held_within holders t own (y ∷ sections) x is = at (held_within holders t own sections x) (bar_holder holders t own y) refl is
   where
-    at : (is_blocked_at x (held_cause holders sections) ≡ true → x < length holders) → (holder : Option ℕ) → get_or holders y None ≡ holder
-        → is_blocked_at x (or_else (option_map (Blocked y) holder) (held_cause holders sections)) ≡ true → x < length holders
+    at : (is_blocked_at x (held_cause holders t own sections) ≡ true → x < length holders) → (holder : Option ℕ) → bar_holder holders t own y ≡ holder
+        → is_blocked_at x (or_else (option_map (Blocked y) holder) (held_cause holders t own sections)) ≡ true → x < length holders
     at deeper None free is' = deeper is'
-    at deeper (Some u) held is' =
+    at deeper (Some u) bars is' =
+        let held : get_or holders y None ≡ Some u = barred_is t y own (get_or holders y None) u bars in
         ⊎_elim
         (λ lt. lt)
         (λ past. absurd (none-some u (sym (get_or_past holders x None past) ∙ subst (λ z. get_or holders z None ≡ Some u) (eqb-true y x is') held)))
         (cases_lt x (length holders))
 
 -- so is a section that bars a move because it is held
-pub bar_within : (told : Told) (holders : List (Option ℕ)) (t : ℕ) (sections : List ℕ) (x : ℕ) → is_blocked_at x (bar_by told holders t sections) ≡ true → x < length holders
-bar_within told holders t sections x is = of (get_or told.stopped t false) (find (λ y. get_or told.closed y false) sections) is
+pub bar_within : (told : Told) (holders : List (Option ℕ)) (t : ℕ) (own sections : List ℕ) (x : ℕ) → is_blocked_at x (bar_by told holders t own sections) ≡ true → x < length holders
+bar_within told holders t own sections x is = of (get_or told.stopped t false) (find (λ y. get_or told.closed y false) sections) is
   where
-    of : (stopped : Bool) (closed : Option ℕ) → is_blocked_at x (or_else (cond stopped (Some Stopped) None) (or_else (option_map Closed closed) (held_cause holders sections))) ≡ true
+    of : (stopped : Bool) (closed : Option ℕ) → is_blocked_at x (or_else (cond stopped (Some Stopped) None) (or_else (option_map Closed closed) (held_cause holders t own sections))) ≡ true
         → x < length holders
     of true closed is' = absurd (false≢true is')
     of false (Some y) is' = absurd (false≢true is')
-    of false None is' = held_within holders sections x is'
+    of false None is' = held_within holders t own sections x is'

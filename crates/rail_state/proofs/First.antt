@@ -10,6 +10,7 @@ use Rattle.rail_rules.specs.Numbers.{comes_before}
 use Rattle.rail_state.specs.declared.train.TrainState.{TrainState}
 use Rattle.rail_state.specs.declared.train_set.TrainSet.{TrainSet}
 use Rattle.rail_state.specs.TrainSets.{has_train}
+use Rattle.rail_laws_run.specs.HolderTables.{own_overlap}
 use Rattle.rail_state.specs.TrainStates.{IsReadyFirst, is_at_first, is_untried, looked_at, state_of, turn}
 use Rattle.rail_state.specs.Kept.{earlier}
 use Rattle.rail_state.proofs.Sets.{passing_known}
@@ -34,10 +35,11 @@ not_before : (a x b y c z : ℕ) → comes_before (a ∷ x ∷ []) (b ∷ y ∷ 
 not_before a x b y c z before none = grind (arith, nat_tests)
 
 -- one that isn't untried is as it was where it is looked at
-pub looked_not : (plant : Plant) (bar : ℕ → List ℕ → Option Cause) (t : ℕ) (train_state : TrainState) → is_untried train_state ≡ false → looked_at plant bar t train_state ≡ train_state
+pub looked_not : (plant : Plant) (bar : ℕ → List ℕ → List ℕ → Option Cause) (t : ℕ) (train_state : TrainState) → is_untried train_state ≡ false → looked_at plant bar t train_state ≡ train_state
 looked_not plant bar t train_state off =
     let sections : List ℕ = claimed plant t train_state.place in
-    ap (λ b. record train_state { known = cond b (bar t sections) train_state.known; at_first = cond b (is_at_first (bar t sections) sections) train_state.at_first }) off
+    let own : List ℕ = own_overlap plant t train_state.place in
+    ap (λ b. record train_state { known = cond b (bar t own sections) train_state.known; at_first = cond b (is_at_first (bar t own sections) sections) train_state.at_first }) off
 
 -- the first one is one of the trains
 pub first_known : (states : List TrainState) (left : TrainSet) (first : Option ℕ) → IsFirstOf states left first → ForSome first (λ u. u < length states)

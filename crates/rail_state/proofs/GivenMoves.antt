@@ -1,9 +1,9 @@
 -- A train is given its next move: the sections that it takes, and the events of the move.
-use Rattle.std.proofs.Common.{◌≡◌, ℕ, suc, ◌+◌, ◌-◌, ◌<◌, Bool, true, false, not, eqb, ltb, List, [], ◌∷◌, ◌++◌, length, drop, set, get_or, count_by, Option, Some, None, refl, sym, ap, ◌∙◌, subst, ⊎_elim, arith}
+use Rattle.std.proofs.Common.{◌≡◌, ℕ, suc, ◌+◌, ◌-◌, ◌<◌, Bool, true, false, not, ◌&&◌, cond, eqb, ltb, List, [], ◌∷◌, ◌++◌, length, drop, set, get_or, count_by, Option, Some, None, refl, sym, ap, ◌∙◌, subst, ◌⊎◌, ⊎_elim, arith}
 use Rattle.std.proofs.Math.Seq.{drop-cons}
 use Rattle.std.specs.List.{list_all}
 use Rattle.std.specs.Option.{option_map}
-use Rattle.std.proofs.lemmas.Bool.{and_parts, cases_Bool, not-true, ltb-true, false≢true, eq-eqb, or_left, or_right}
+use Rattle.std.proofs.lemmas.Bool.{and_parts, cases_Bool, not-true, lt-ltb, ltb-true, false≢true, eq-eqb, or_left, or_right}
 use Rattle.std.proofs.lemmas.List.{length-set, get_or-set_other}
 use Rattle.std.proofs.lemmas.Option.{none-some}
 use Rattle.rail_base.specs.declared.history.Cause.TheVariants.{Blocked}
@@ -11,8 +11,9 @@ use Rattle.rail_laws_events.specs.Accounts.{tally}
 use Rattle.rail_laws_events.specs.Changes.{freed_before}
 use Rattle.rail_block.specs.declared.times.MoveTimes.{MoveTimes}
 use Rattle.rail_block.specs.CarriedTimes.{times_at}
-use Rattle.rail_state.specs.Events.{end_lines, event_of, deferred_event, step_lines}
-use Rattle.rail_laws_run.specs.HolderTables.{held_cause, taken_by}
+use Rattle.rail_queue.specs.declared.event.Class.TheVariants as class
+use Rattle.rail_state.specs.Events.{deferred_of, end_lines, event_of, is_free_of, step_lines, train_event}
+use Rattle.rail_laws_run.specs.HolderTables.{bar_holder, held_cause, is_train, taken_by}
 use Rattle.rail_queue.specs.declared.event.Event.{Event}
 use Rattle.rail_state.specs.declared.train.TrainState.{TrainState}
 use Rattle.rail_state.specs.TrainStates.{state_of}
@@ -21,39 +22,47 @@ use Rattle.rail_rules.specs.Causes.{place}
 use Rattle.rail_rules.specs.Fronts.{Front, admissions}
 use Rattle.rail_rules.specs.Numbers.{is_in, or_else}
 use Rattle.rail_rules.specs.Plant.{Plant}
-use Rattle.rail_state.specs.Representation.{passing_event}
+use Rattle.rail_state.specs.Representation.{forgotten, passing_event, passing_frees}
 use Rattle.rail_state.specs.Admissions.{CanBeTaken, IsGivable}
+use Rattle.rail_state.proofs.Barring.{unbarred}
 
--- the cause of held sections stays while another section is taken
-cause_kept : (h : List (Option ℕ)) (x t : ℕ) (xs : List ℕ) → is_in x xs ≡ false → held_cause (set h x (Some t)) xs ≡ held_cause h xs
-cause_kept h x t [] out = refl
-cause_kept h x t (y ∷ ys) out =
+-- the holder that bars stays while another section is taken, and so does the cause of held sections
+bar_kept : (h : List (Option ℕ)) (x t : ℕ) (own : List ℕ) (y : ℕ) → eqb y x ≡ false → bar_holder (set h x (Some t)) t own y ≡ bar_holder h t own y
+bar_kept h x t own y other = ap (λ o. cond (is_train t o && is_in y own) None o) (get_or-set_other h x y (Some t) None (λ e. false≢true (sym other ∙ eq-eqb y x e)))
+
+cause_kept : (h : List (Option ℕ)) (x t : ℕ) (own xs : List ℕ) → is_in x xs ≡ false → held_cause (set h x (Some t)) t own xs ≡ held_cause h t own xs
+cause_kept h x t own [] out = refl
+cause_kept h x t own (y ∷ ys) out =
     let here : eqb y x ≡ false = ⊎_elim (λ same. absurd (false≢true (sym out ∙ or_left (eqb y x) (is_in x ys) same))) (λ no_same. no_same) (cases_Bool (eqb y x)) in
     let later : is_in x ys ≡ false = ⊎_elim (λ there. absurd (false≢true (sym out ∙ or_right (eqb y x) (is_in x ys) there))) (λ no_there. no_there) (cases_Bool (is_in x ys)) in
-    ap (λ o. or_else (option_map (Blocked y) o) (held_cause (set h x (Some t)) ys)) (get_or-set_other h x y (Some t) None (λ e. false≢true (sym here ∙ eq-eqb y x e)))
-    ∙ ap (or_else (option_map (Blocked y) (get_or h y None))) (cause_kept h x t ys later)
+    ap (λ o. or_else (option_map (Blocked y) o) (held_cause (set h x (Some t)) t own ys)) (bar_kept h x t own y here)
+    ∙ ap (or_else (option_map (Blocked y) (bar_holder h t own y))) (cause_kept h x t own ys later)
 
--- nobody holds the first of sections that may be taken
-pub first_free : (h : List (Option ℕ)) (x : ℕ) (xs : List ℕ) → CanBeTaken h (x ∷ xs) → get_or h x None ≡ None
-first_free h x xs can = of (get_or h x None) can.free
+-- no holder of the first of sections that may be taken bars the train
+first_free : (h : List (Option ℕ)) (x t : ℕ) (own xs : List ℕ) → CanBeTaken h t own (x ∷ xs) → bar_holder h t own x ≡ None
+first_free h x t own xs can = of (bar_holder h t own x) can.free
   where
-    of : (o : Option ℕ) → or_else (option_map (Blocked x) o) (held_cause h xs) ≡ None → o ≡ None
+    of : (o : Option ℕ) → or_else (option_map (Blocked x) o) (held_cause h t own xs) ≡ None → o ≡ None
     of None free = refl
     of (Some u) free = absurd (none-some _ (sym free))
 
-pub first_known : (h : List (Option ℕ)) (x : ℕ) (xs : List ℕ) → CanBeTaken h (x ∷ xs) → x < length h
-first_known h x xs can = ltb-true x (length h) (and_parts (ltb x (length h)) (list_all (λ y. ltb y (length h)) xs) can.known).0
+-- so nobody holds it, or the train itself
+pub first_holder : (h : List (Option ℕ)) (x t : ℕ) (own xs : List ℕ) → CanBeTaken h t own (x ∷ xs) → (get_or h x None ≡ None) ⊎ (get_or h x None ≡ Some t)
+first_holder h x t own xs can = unbarred t x own (get_or h x None) (first_free h x t own xs can)
+
+pub first_known : (h : List (Option ℕ)) (x t : ℕ) (own xs : List ℕ) → CanBeTaken h t own (x ∷ xs) → x < length h
+first_known h x t own xs can = ltb-true x (length h) (and_parts (ltb x (length h)) (list_all (λ y. ltb y (length h)) xs) can.known).0
 
 -- the others may be taken after it
-pub rest_after : (h : List (Option ℕ)) (x t : ℕ) (xs : List ℕ) → CanBeTaken h (x ∷ xs) → CanBeTaken (set h x (Some t)) xs
-rest_after h x t xs can =
+pub rest_after : (h : List (Option ℕ)) (x t : ℕ) (own xs : List ℕ) → CanBeTaken h t own (x ∷ xs) → CanBeTaken (set h x (Some t)) t own xs
+rest_after h x t own xs can =
     let apart = and_parts (not (is_in x xs)) (are_distinct_numbers xs) can.distinct in
-    let free_rest : held_cause h xs ≡ None = ap (λ o. or_else (option_map (Blocked x) o) (held_cause h xs)) (sym (first_free h x xs can)) ∙ can.free in
+    let free_rest : held_cause h t own xs ≡ None = ap (λ o. or_else (option_map (Blocked x) o) (held_cause h t own xs)) (sym (first_free h x t own xs can)) ∙ can.free in
     let known_rest : list_all (λ y. ltb y (length h)) xs ≡ true = (and_parts (ltb x (length h)) (list_all (λ y. ltb y (length h)) xs) can.known).1 in
     record {
       known = ap (λ n. list_all (λ y. ltb y n) xs) (length-set h x (Some t)) ∙ known_rest;
       distinct = apart.1;
-      free = cause_kept h x t xs (not-true (is_in x xs) apart.0) ∙ free_rest;
+      free = cause_kept h x t own xs (not-true (is_in x xs) apart.0) ∙ free_rest;
     }
 
 -- the sections from an index on begin with the one at the index
@@ -94,16 +103,26 @@ next_times plant front states now t train_state times givable is made =
     made (admissions front t) (sym at.before) (carried ∙ ap (times_at plant t (admissions front t)) (sym at.before))
     ∙ ap (times_at plant t (admissions front t ++ now ∷ [])) at.after
 
+-- the arrival at a place behind the entry is counted where the train passes
+pub passing_counted : (q : Event → Bool) (t p : ℕ) (times : MoveTimes) → 0 < p → cond times.passes (count_by q (train_event times.go class.Arrive t p ∷ [])) 0 ≡ count_by q (passing_event t p times)
+passing_counted q t p times some =
+    of times.passes ∙ ap (λ b. count_by q (cond (b && times.passes) (train_event times.go class.Arrive t p ∷ []) [])) (sym (lt-ltb 0 p some))
+  where
+    of : (passes : Bool) → cond passes (count_by q (train_event times.go class.Arrive t p ∷ [])) 0 ≡ count_by q (cond (true && passes) (train_event times.go class.Arrive t p ∷ []) [])
+    of true = refl
+    of false = refl
+
 -- the events of the move to a place are pending: those known before its beginning, behind which it goes on
-abbrev pub ArePushed : Plant → ℕ → List ℕ → MoveTimes → Option ℕ → (Event → Bool) → List Event → List Event → ℕ → ℕ → Type 0
-ArePushed plant t adms times arrival q before after next m = count_by q after + count_by q (deferred_event t next arrival)
-    ≡ count_by q before + tally (λ e. q (event_of e)) (freed_before plant t adms m) + count_by q (passing_event t m times)
+abbrev pub ArePushed : Plant → List (Option ℕ) → ℕ → List ℕ → MoveTimes → Option ℕ → (Event → Bool) → List Event → List Event → ℕ → ℕ → Type 0
+ArePushed plant holders t adms times arrival q before after next m = count_by q after + count_by q (deferred_of plant t next arrival)
+    ≡ count_by (λ e. not (is_free_of (forgotten plant holders t m times) e) && q e) before + tally (λ e. q (event_of e)) (freed_before plant t adms m)
+    + count_by q (passing_event t m times) + count_by q (passing_frees plant t m times)
     + tally (λ e. q (event_of e)) (step_lines plant t adms m) + tally (λ e. q (event_of e)) (end_lines plant t adms m)
 
-pub pushed_at : (plant : Plant) (front : Front) (t next : ℕ) (adms : List ℕ) (times : MoveTimes) (arrival : Option ℕ) (q : Event → Bool) (before after : List Event)
-    → IsNextPlace front t next → ArePushed plant t adms times arrival q before after next (next - 1)
-    → ArePushed plant t adms times arrival q before after (suc (place front t)) (place front t)
-pushed_at plant front t next adms times arrival q before after at pushed =
-    let P : ℕ → Type 0 = λ p. ArePushed plant t adms times arrival q before after p (next - 1) in
-    let Q : ℕ → Type 0 = ArePushed plant t adms times arrival q before after (suc (place front t)) in
+pub pushed_at : (plant : Plant) (holders : List (Option ℕ)) (front : Front) (t next : ℕ) (adms : List ℕ) (times : MoveTimes) (arrival : Option ℕ) (q : Event → Bool) (before after : List Event)
+    → IsNextPlace front t next → ArePushed plant holders t adms times arrival q before after next (next - 1)
+    → ArePushed plant holders t adms times arrival q before after (suc (place front t)) (place front t)
+pushed_at plant holders front t next adms times arrival q before after at pushed =
+    let P : ℕ → Type 0 = λ p. ArePushed plant holders t adms times arrival q before after p (next - 1) in
+    let Q : ℕ → Type 0 = ArePushed plant holders t adms times arrival q before after (suc (place front t)) in
     subst Q at.before (subst P at.after pushed)

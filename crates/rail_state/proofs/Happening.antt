@@ -6,7 +6,8 @@ use Rattle.std.proofs.lemmas.Option.{none-some}
 use Rattle.rail_base.specs.declared.history.Cause.{Cause}
 use Rattle.rail_base.specs.declared.history.What.{What}
 use Rattle.rail_base.specs.declared.history.What.TheVariants.{Free, Arrive, Enter, Out, Ready, Told, Untold, Admit, Hold, End}
-use Rattle.rail_rules.specs.Plant.{Plant, is_forced, trains, moves, needed, steps}
+use Rattle.rail_laws_run.specs.HolderTables.{own_overlap}
+use Rattle.rail_rules.specs.Plant.{Plant, is_forced, trains, moves, claimed, steps}
 use Rattle.rail_rules.specs.Times.{stop_time}
 use Rattle.rail_rules.specs.Fronts.{Front, Line, admissions, is_admission, is_hold}
 use Rattle.rail_rules.specs.Events.{enter_line}
@@ -263,7 +264,7 @@ module _ (dispatch : Dispatch) (plant : Plant) (front : Front) (state : RunState
         ⊎_elim
         (λ one. let was = known_before t why lt one is in
         ap (λ v. seen_cause (input_of dispatch plant) front (holders_after v state.holders) t) one.same
-        ∙ seen_unfreed state.holders one.section (needed plant t (place front t)) (stop_cause t (told dispatch.commands front)) (closed_cause (needed plant t (place front t)) (told dispatch.commands front)) (list_cause (input_of dispatch plant) front t) why (rep.known.cause t why lt was.0) was.1)
+        ∙ seen_unfreed state.holders one.section t (own_overlap plant t (place front t)) (claimed plant t (place front t)) (stop_cause t (told dispatch.commands front)) (closed_cause (claimed plant t (place front t)) (told dispatch.commands front)) (list_cause (input_of dispatch plant) front t) why (rep.known.cause t why lt was.0) was.1)
         (λ other. ap (λ h. seen_cause (input_of dispatch plant) front h t) (unfreed w other)
         ∙ rep.known.cause t why lt (sym (known_same t lt other) ∙ is))
         (free_view w);

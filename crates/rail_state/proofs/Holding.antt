@@ -17,7 +17,7 @@ use Rattle.rail_laws_run.proofs.CallerLemmas.{other_left}
 use Rattle.rail_state.proofs.Seen.{seen_kept}
 use Rattle.rail_laws_run.specs.HolderTables.{AreHolders}
 use Rattle.rail_laws_run.specs.Heads.{IsHead}
-use Rattle.rail_state.specs.Events.{event_of, deferred_event}
+use Rattle.rail_state.specs.Events.{deferred_of, event_of}
 use Rattle.rail_state.specs.declared.train.TrainState.{TrainState}
 use Rattle.rail_state.specs.TrainStates.{lacks_hold_line, state_of, after_hold_line}
 use Rattle.rail_state.specs.Representation.{AreAllKnown, IsBound, IsHoldLine, Represents, bare_at}
@@ -88,7 +88,7 @@ module _ (dispatch : Dispatch) (plant : Plant) (front : Front) (state : RunState
   hold_lawful = and_from (is_lawful (input_of dispatch plant) front) (may_follow (input_of dispatch plant) front line) lawful_now follows
 
   -- the run stands for the front with the line
-  pub held : (after : RunState) → IsHoldLine t state after → Represents dispatch plant (line ∷ front) after
+  pub held : (after : RunState) → IsHoldLine plant t state after → Represents dispatch plant (line ∷ front) after
   held after has =
       record {
         accepted = rep.accepted;
@@ -105,9 +105,9 @@ module _ (dispatch : Dispatch) (plant : Plant) (front : Front) (state : RunState
                 has.events q,
                 rep.pending.counted q,
                 other_left (input_of dispatch plant) fine line front hold_lawful refl refl refl (λ e. q (event_of e)) (λ at k. refl),
-                count-exchanged q (λ u. deferred_event u (state_of state.trains u).place (state_of state.trains u).deferred) (λ u. deferred_event u (state_of after.trains u).place (state_of after.trains u).deferred) (trains plant) t known
-                    (λ u lt other. ap (λ (r : TrainState). deferred_event u r.place r.deferred) (sym (other_state u other))),
-                ap (λ (r : TrainState). count_by q (deferred_event t r.place r.deferred)) this_state,
+                count-exchanged q (λ u. deferred_of plant u (state_of state.trains u).place (state_of state.trains u).deferred) (λ u. deferred_of plant u (state_of after.trains u).place (state_of after.trains u).deferred) (trains plant) t known
+                    (λ u lt other. ap (λ (r : TrainState). deferred_of plant u r.place r.deferred) (sym (other_state u other))),
+                ap (λ (r : TrainState). count_by q (deferred_of plant t r.place r.deferred)) this_state,
               );
           deferred = λ u at lt arrives.
               ⊎_elim

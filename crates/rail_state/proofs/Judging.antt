@@ -7,8 +7,9 @@ use Rattle.std.proofs.lemmas.Option.{none-some}
 use Rattle.rail_base.specs.declared.history.Entry.{Entry}
 use Rattle.rail_base.specs.declared.history.What.TheVariants.{Admit}
 use Rattle.rail_base.specs.declared.history.Note.{Note}
+use Rattle.rail_laws_run.specs.HolderTables.{own_overlap}
 use Rattle.rail_rules.specs.Places.{after, completes}
-use Rattle.rail_rules.specs.Plant.{Plant, moves_of, needed, trains}
+use Rattle.rail_rules.specs.Plant.{Plant, moves_of, claimed, trains}
 use Rattle.rail_rules.specs.Fronts.{Front, Line, has_ended, has_held, instant, kept, kept_after, places}
 use Rattle.rail_rules.specs.Orders.{told, Dispatch, input_of}
 use Rattle.rail_rules.specs.Events.{due_lines, is_quiet}
@@ -108,9 +109,9 @@ module _ (dispatch : Dispatch) (plant : Plant) (front : Front) (state : RunState
       (and_same (now && w && not (is_some (bar input front t)) && eqb m (suc (place front t)) && not (has_held front)) _ (note_fits line (place front t) note) (note_fits line train_state.place note)
       (and_same (now && w && not (is_some (bar input front t)) && eqb m (suc (place front t))) _ (not (has_held front)) (not held)
       (and_same (now && w && not (is_some (bar input front t))) _ (eqb m (suc (place front t))) (eqb m (suc train_state.place))
-      (and_same (now && w) _ (not (is_some (bar input front t))) (not (is_some (seen_bar (told dispatch.commands front) state.holders t (needed plant t train_state.place))))
+      (and_same (now && w) _ (not (is_some (bar input front t))) (not (is_some (seen_bar (told dispatch.commands front) state.holders t (own_overlap plant t train_state.place) (claimed plant t train_state.place))))
       (and_same now (eqb line.entry.at state.instant) w (not (is_due_now state) && train_state.waits) (ap (eqb line.entry.at) (sym rep.time)) (λ _. waits_is t))
-      (λ both. ap (λ c. not (is_some c)) (bar_seen dispatch plant front state rep (decides both) t ∙ ap (λ p. seen_bar (told dispatch.commands front) state.holders t (needed plant t p)) (sym (place_is both)))))
+      (λ both. ap (λ c. not (is_some c)) (bar_seen dispatch plant front state rep (decides both) t ∙ ap (λ p. seen_bar (told dispatch.commands front) state.holders t (own_overlap plant t p) (claimed plant t p)) (sym (place_is both)))))
       (λ three. ap (λ p. eqb m (suc p)) (sym (place_is (and_parts _ _ three).0))))
       (λ _. ap not (sym held_is)))
       (λ five. ap (λ p. note_fits line p note) (sym (place_is (and_parts _ _ (and_parts _ _ (and_parts _ _ five).0).0).0))))

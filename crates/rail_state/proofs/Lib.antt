@@ -24,6 +24,10 @@ mod Settling
 mod Lines
 mod Changed
 mod Freed
+mod Barring
+mod FreeEvents
+mod OwnOverlap
+mod OverlapLines
 mod Firm
 mod Outlasting
 mod Happening

@@ -6,9 +6,10 @@ use Rattle.std.proofs.lemmas.Option.{same_Some}
 use Rattle.std.proofs.lemmas.List.{get_or-set_same, get_or-set_other, length-set}
 use Rattle.rail_base.specs.declared.history.Cause.{Cause}
 use Rattle.rail_base.specs.declared.history.Cause.TheVariants.{NoList}
+use Rattle.rail_laws_run.specs.HolderTables.{own_overlap}
 use Rattle.rail_rules.specs.Numbers.{or_else}
 use Rattle.rail_rules.specs.Analysis.{finds}
-use Rattle.rail_rules.specs.Plant.{Plant, claimed, moves, moves_of, needed, trains}
+use Rattle.rail_rules.specs.Plant.{Plant, claimed, moves, moves_of, trains}
 use Rattle.rail_rules.specs.Fronts.{Front, instant, kept, places, same_cause}
 use Rattle.rail_rules.specs.Causes.{is_repairable, list_cause, place, places_after}
 use Rattle.rail_state.specs.SeenCauses.{seen_bar, seen_cause}
@@ -94,35 +95,35 @@ pub looked_stands : (dispatch : Dispatch) (plant : Plant) (front : Front) (state
     → Represents dispatch plant front (with_trains state states)
 looked_stands dispatch plant front state rep states many looked =
     found_out dispatch plant front state rep states many
-    (λ t. cond (is_untried (state_of state.trains t)) (seen_bar (told dispatch.commands front) state.holders t (needed plant t (state_of state.trains t).place)) (state_of state.trains t).known)
-    (λ t. cond (is_untried (state_of state.trains t)) (is_at_first (seen_bar (told dispatch.commands front) state.holders t (needed plant t (state_of state.trains t).place)) (needed plant t (state_of state.trains t).place)) (state_of state.trains t).at_first)
+    (λ t. cond (is_untried (state_of state.trains t)) (seen_bar (told dispatch.commands front) state.holders t (own_overlap plant t (state_of state.trains t).place) (claimed plant t (state_of state.trains t).place)) (state_of state.trains t).known)
+    (λ t. cond (is_untried (state_of state.trains t)) (is_at_first (seen_bar (told dispatch.commands front) state.holders t (own_overlap plant t (state_of state.trains t).place) (claimed plant t (state_of state.trains t).place)) (claimed plant t (state_of state.trains t).place)) (state_of state.trains t).at_first)
     looked
     (λ t why lt is.
     ⊎_elim
     (λ untried.
-    let held : seen_bar (told dispatch.commands front) state.holders t (needed plant t (place front t)) ≡ Some why =
-    ap (λ p. seen_bar (told dispatch.commands front) state.holders t (needed plant t p)) (sym (rep.times.places t lt))
-    ∙ sym (cond-true (is_untried (state_of state.trains t)) (seen_bar (told dispatch.commands front) state.holders t (needed plant t (state_of state.trains t).place))
+    let held : seen_bar (told dispatch.commands front) state.holders t (own_overlap plant t (place front t)) (claimed plant t (place front t)) ≡ Some why =
+    ap (λ p. seen_bar (told dispatch.commands front) state.holders t (own_overlap plant t p) (claimed plant t p)) (sym (rep.times.places t lt))
+    ∙ sym (cond-true (is_untried (state_of state.trains t)) (seen_bar (told dispatch.commands front) state.holders t (own_overlap plant t (state_of state.trains t).place) (claimed plant t (state_of state.trains t).place))
     (state_of state.trains t).known untried) ∙ is in
     ap (λ c. or_else c (list_cause (input_of dispatch plant) front t)) held)
-    (λ tried. rep.known.cause t why lt (sym (cond-false (is_untried (state_of state.trains t)) (seen_bar (told dispatch.commands front) state.holders t (needed plant t (state_of state.trains t).place)) (state_of state.trains t).known tried) ∙ is))
+    (λ tried. rep.known.cause t why lt (sym (cond-false (is_untried (state_of state.trains t)) (seen_bar (told dispatch.commands front) state.holders t (own_overlap plant t (state_of state.trains t).place) (claimed plant t (state_of state.trains t).place)) (state_of state.trains t).known tried) ∙ is))
     (cases_Bool (is_untried (state_of state.trains t))))
     (λ t why lt is.
     ⊎_elim
     (λ untried. (and_parts (state_of state.trains t).waits (not (is_some (state_of state.trains t).known)) untried).0)
-    (λ tried. rep.known.waits t why lt (sym (cond-false (is_untried (state_of state.trains t)) (seen_bar (told dispatch.commands front) state.holders t (needed plant t (state_of state.trains t).place)) (state_of state.trains t).known tried) ∙ is))
+    (λ tried. rep.known.waits t why lt (sym (cond-false (is_untried (state_of state.trains t)) (seen_bar (told dispatch.commands front) state.holders t (own_overlap plant t (state_of state.trains t).place) (claimed plant t (state_of state.trains t).place)) (state_of state.trains t).known tried) ∙ is))
     (cases_Bool (is_untried (state_of state.trains t))))
     (λ t why lt is first blocked.
     let train_state : TrainState = state_of state.trains t in
-    let sections : List ℕ = needed plant t train_state.place in
-    let bar : Option Cause = seen_bar (told dispatch.commands front) state.holders t sections in
+    let sections : List ℕ = claimed plant t train_state.place in
+    let bar : Option Cause = seen_bar (told dispatch.commands front) state.holders t (own_overlap plant t train_state.place) sections in
     ⊎_elim
     (λ untried. ap (λ c. is_at_first c sections) (sym is ∙ cond-true (is_untried train_state) bar train_state.known untried)
     ∙ sym (cond-true (is_untried train_state) (is_at_first bar sections) train_state.at_first untried) ∙ first)
     (λ tried. rep.known.firm t why lt (sym (cond-false (is_untried train_state) bar train_state.known tried) ∙ is)
     (sym (cond-false (is_untried train_state) (is_at_first bar sections) train_state.at_first tried) ∙ first) blocked)
     (cases_Bool (is_untried train_state)))
-    (λ t lt some. cond-false (is_untried (state_of state.trains t)) (seen_bar (told dispatch.commands front) state.holders t (needed plant t (state_of state.trains t).place))
+    (λ t lt some. cond-false (is_untried (state_of state.trains t)) (seen_bar (told dispatch.commands front) state.holders t (own_overlap plant t (state_of state.trains t).place) (claimed plant t (state_of state.trains t).place))
     (state_of state.trains t).known (and_right (state_of state.trains t).waits (not (is_some (state_of state.trains t).known)) (ap not some)))
 
 -- no list is known for a train

@@ -12,6 +12,7 @@ use Rattle.rail_rules.specs.Plant.{Plant, claimed, trains}
 use Rattle.rail_state.specs.declared.train.TrainState.{TrainState}
 use Rattle.rail_state.specs.declared.train_set.TrainSet.{TrainSet}
 use Rattle.rail_state.specs.TrainSets.{has_train}
+use Rattle.rail_laws_run.specs.HolderTables.{bar_holder, own_overlap}
 use Rattle.rail_state.specs.TrainStates.{AreFirm, admitted, after_taking, is_at_first, is_blocked, is_blocked_at, is_held_before, is_touched, no_state, outlasts_taking, state_admitted, state_of, state_told, without_known}
 use Rattle.rail_state.specs.Kept.{is_loose}
 use Rattle.rail_state.proofs.Sets.{written}
@@ -109,9 +110,9 @@ same_cond true = refl
 same_cond false = refl
 
 -- no section before the first one is held
-none_before : (holders : List (Option ℕ)) (x u : ℕ) (sections : List ℕ) → is_at_first (Some (Blocked x u)) sections ≡ true → is_held_before holders x sections ≡ false
-none_before holders x u [] is = absurd (false≢true is)
-none_before holders x u (y ∷ sections) is = ap (λ b. not b && (is_some (get_or holders y None) || is_held_before holders x sections)) (eq-eqb y x (sym (eqb-true x y is)))
+none_before : (holders : List (Option ℕ)) (t : ℕ) (own : List ℕ) (x u : ℕ) (sections : List ℕ) → is_at_first (Some (Blocked x u)) sections ≡ true → is_held_before holders t own x sections ≡ false
+none_before holders t own x u [] is = absurd (false≢true is)
+none_before holders t own x u (y ∷ sections) is = ap (λ b. not b && (is_some (bar_holder holders t own y) || is_held_before holders t own x sections)) (eq-eqb y x (sym (eqb-true x y is)))
 
 -- a train that isn't loose is as it was
 pub firm_stays : (plant : Plant) (holders : List (Option ℕ)) (t : ℕ) (train_state : TrainState) → (train_state.waits ≡ false → train_state.known ≡ None)
@@ -122,10 +123,13 @@ firm_stays plant holders t train_state waits firm off = ap (λ known. record tra
     sections : List ℕ
     sections = claimed plant t train_state.place
 
-    outlasts : (why : Cause) → train_state.known ≡ Some why → outlasts_taking holders sections (Some why) ≡ true
+    own : List ℕ
+    own = own_overlap plant t train_state.place
+
+    outlasts : (why : Cause) → train_state.known ≡ Some why → outlasts_taking holders t own sections (Some why) ≡ true
     outlasts (Blocked x u) is =
         let loose : is_loose (record train_state { known = Some (Blocked x u) }) ≡ false = ap (λ known. is_loose (record train_state { known = known })) (sym is) ∙ off in
-        ap not (none_before holders x u sections (firm (Blocked x u) is (not_off train_state.at_first loose) refl))
+        ap not (none_before holders t own x u sections (firm (Blocked x u) is (not_off train_state.at_first loose) refl))
     outlasts NoList is = absurd (false≢true (sym (ap (λ known. is_loose (record train_state { known = known })) (sym is) ∙ off)))
     outlasts Stopped is = refl
     outlasts (Closed x) is = refl
@@ -133,11 +137,11 @@ firm_stays plant holders t train_state waits firm off = ap (λ known. record tra
     waiting : (why : Cause) → train_state.known ≡ Some why → train_state.waits ≡ true
     waiting why is = ⊎_elim (λ on. on) (λ none. absurd (false≢true (ap is_some (sym (waits none) ∙ is)))) (cases_Bool train_state.waits)
 
-    by : (known : Option Cause) → train_state.known ≡ known → cond (train_state.waits && outlasts_taking holders sections train_state.known) train_state.known None ≡ train_state.known
-    by None is = ap (λ known. cond (train_state.waits && outlasts_taking holders sections known) known None) is ∙ same_cond (train_state.waits && true) ∙ sym is
+    by : (known : Option Cause) → train_state.known ≡ known → cond (train_state.waits && outlasts_taking holders t own sections train_state.known) train_state.known None ≡ train_state.known
+    by None is = ap (λ known. cond (train_state.waits && outlasts_taking holders t own sections known) known None) is ∙ same_cond (train_state.waits && true) ∙ sym is
     by (Some why) is =
-        ap (λ b. cond (b && outlasts_taking holders sections train_state.known) train_state.known None) (waiting why is)
-        ∙ ap (λ b. cond b train_state.known None) (ap (outlasts_taking holders sections) is ∙ outlasts why is)
+        ap (λ b. cond (b && outlasts_taking holders t own sections train_state.known) train_state.known None) (waiting why is)
+        ∙ ap (λ b. cond b train_state.known None) (ap (outlasts_taking holders t own sections) is ∙ outlasts why is)
 
 -- where a train isn't loose, it is as it was
 pub firm_stay : (plant : Plant) (holders : List (Option ℕ)) (old : List TrainState) → length old ≡ trains plant

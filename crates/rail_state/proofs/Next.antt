@@ -25,7 +25,7 @@ use Rattle.rail_block.specs.CarriedTimes.{times_at}
 use Rattle.rail_queue.specs.declared.event.Event.{Event}
 use Rattle.rail_queue.specs.declared.event.Class.TheVariants as class
 use Rattle.rail_queue.specs.Order.{class_number, goes_before, key}
-use Rattle.rail_state.specs.Events.{event_of, deferred_event, train_event}
+use Rattle.rail_state.specs.Events.{deferred_of, event_of, train_event}
 use Rattle.rail_state.specs.declared.train.TrainState.{TrainState}
 use Rattle.rail_state.specs.TrainStates.{state_of}
 use Rattle.rail_state.specs.Representation.{Represents, deferred_events}
@@ -34,6 +34,7 @@ use Rattle.rail_state.proofs.LineCodes.{before_by_time, event_time}
 use Rattle.rail_laws_events.specs.Accounts.{is_train_event}
 use Rattle.rail_rules.specs.LineCounts.{is_command}
 use Rattle.rail_state.proofs.Counts.{count-cons, count-gather_zero, count-le, count-none}
+use Rattle.rail_state.proofs.FreeEvents.{deferred_behind, deferred_none}
 use Rattle.rail_state.specs.declared.run_state.RunState.{RunState}
 
 -- when the next move is ready, by the times that are carried
@@ -53,12 +54,9 @@ ready_to_come dispatch plant front t runs lt h =
 
 -- no arrival that is deferred is a ready event
 pub held_no_ready : (plant : Plant) (states : List TrainState) (at t m : ℕ) → count_by (same_event (train_event at class.Ready t m)) (deferred_events plant states) ≡ 0
-held_no_ready plant states at t m = count-gather_zero (same_event (train_event at class.Ready t m)) (λ u. deferred_event u (state_of states u).place (state_of states u).deferred) (trains plant)
-    (λ u lt. of u (state_of states u).place (state_of states u).deferred)
-  where
-    of : (u p : ℕ) (arrival : Option ℕ) → count_by (same_event (train_event at class.Ready t m)) (deferred_event u p arrival) ≡ 0
-    of u p None = refl
-    of u p (Some a) = ap (λ (b : Bool). 0 + cond b 1 0) (and_right (eqb at a) false refl)
+held_no_ready plant states at t m = count-gather_zero (same_event (train_event at class.Ready t m)) (λ u. deferred_of plant u (state_of states u).place (state_of states u).deferred) (trains plant)
+    (λ u lt. count-none (same_event (train_event at class.Ready t m)) (deferred_of plant u (state_of states u).place (state_of states u).deferred)
+    (deferred_none (same_event (train_event at class.Ready t m)) plant u (state_of states u).place (state_of states u).deferred (λ a is. (and_right (eqb at a) false refl, λ x. and_right (eqb at (a + plant.tables.overlap_time)) false refl))))
 
 not_before : (a b : ℕ) (xs ys : List ℕ) → comes_before (a ∷ xs) (b ∷ ys) ≡ false → b ≤ a
 not_before a b xs ys h =
@@ -146,18 +144,9 @@ module _ (dispatch : Dispatch) (plant : Plant) (front : Front) (state : RunState
         arith,
         rep.pending.counted (λ other. goes_before other event),
         none_before,
-        count-gather_zero (λ other. goes_before other event) (λ u. deferred_event u (state_of state.trains u).place (state_of state.trains u).deferred) (trains plant)
-            (λ u lt. of u (state_of state.trains u).place (state_of state.trains u).deferred (λ a held. held_later goes u a lt held)),
+        count-gather_zero (λ other. goes_before other event) (λ u. deferred_of plant u (state_of state.trains u).place (state_of state.trains u).deferred) (trains plant)
+            (λ u lt. count-none (λ other. goes_before other event) (deferred_of plant u (state_of state.trains u).place (state_of state.trains u).deferred) (deferred_behind plant event u (state_of state.trains u).place (state_of state.trains u).deferred (λ a held. held_later goes u a lt held))),
       )
-    where
-      of : (u p : ℕ) (arrival : Option ℕ) → ((a : ℕ) → arrival ≡ Some a → event.at < a) → count_by (λ other. goes_before other event) (deferred_event u p arrival) ≡ 0
-      of u p None later = refl
-      of u p (Some a) later = ap (λ (b : Bool). 0 + cond b 1 0) (later_key a (later a refl))
-        where
-          later_key : (a : ℕ) → event.at < a → goes_before (train_event a class.Arrive u p) event ≡ false
-          later_key a lt =
-              ap (λ b. b || (eqb a event.at && comes_before (1 ∷ u ∷ []) (class_number event.class ∷ event.number ∷ []))) (le-ltb a event.at (omega (arith, lt)))
-              ∙ ap (λ b. false || (b && comes_before (1 ∷ u ∷ []) (class_number event.class ∷ event.number ∷ []))) (ne_eqb a event.at (λ e. omega (arith, e, lt)))
 
   -- nothing is due at an instant before the first event
   pub quiet_earlier : (state.is_settled ≡ true) ⊎ (event.at ≡ state.instant) → (i : ℕ) → i < event.at → is_quiet (due_lines (input_of dispatch plant) front) i ≡ true

@@ -9,7 +9,7 @@ use Rattle.rail_laws_front.specs.Premises.{IsWellFormed}
 use Rattle.rail_laws_events.specs.Accounts.{is_train_event}
 use Rattle.rail_laws_run.proofs.CallerLemmas.{event_left}
 use Rattle.rail_queue.specs.declared.event.Event.{Event}
-use Rattle.rail_state.specs.Events.{event_of, deferred_event}
+use Rattle.rail_state.specs.Events.{deferred_of, event_of}
 use Rattle.rail_state.specs.declared.train.TrainState.{TrainState}
 use Rattle.rail_state.specs.TrainStates.{state_of}
 use Rattle.rail_state.specs.Representation.{ArePending, IsBound, IsDeferred, deferred_events}
@@ -18,8 +18,8 @@ use Rattle.rail_rules.specs.Orders.{Dispatch, input_of}
 
 pub held_same : (plant : Plant) (states after : List TrainState) → IsSame (λ r. r.place) plant states after → IsSame (λ r. r.deferred) plant states after → deferred_events plant after ≡ deferred_events plant states
 held_same plant states after places arrivals =
-    gather_same (λ t. deferred_event t (state_of after t).place (state_of after t).deferred) (λ t. deferred_event t (state_of states t).place (state_of states t).deferred) (trains plant)
-    (λ t lt. ap (λ m. deferred_event t m (state_of after t).deferred) (places t lt) ∙ ap (deferred_event t (state_of states t).place) (arrivals t lt))
+    gather_same (λ t. deferred_of plant t (state_of after t).place (state_of after t).deferred) (λ t. deferred_of plant t (state_of states t).place (state_of states t).deferred) (trains plant)
+    (λ t lt. ap (λ m. deferred_of plant t m (state_of after t).deferred) (places t lt) ∙ ap (deferred_of plant t (state_of states t).place) (arrivals t lt))
 
 -- the event that was given leaves the pending ones
 pub pending_after : (dispatch : Dispatch) (plant : Plant) → IsWellFormed plant → (line : Line) (front : Front) → is_lawful (input_of dispatch plant) (line ∷ front) ≡ true → is_train_event line.entry.what ≡ true

@@ -3,10 +3,10 @@ use Rattle.std.proofs.Common.{◌≡◌, ℕ, false, List, ◌∷◌, Option, So
 use Rattle.std.proofs.lemmas.Bool.{false≢true}
 use Rattle.rail_base.specs.declared.history.Cause.{Cause}
 use Rattle.rail_rules.specs.Numbers.{or_else}
-use Rattle.rail_rules.specs.Plant.{Plant, needed}
+use Rattle.rail_rules.specs.Plant.{Plant, claimed}
 use Rattle.rail_rules.specs.Fronts.{Front, Line, is_admission}
 use Rattle.rail_rules.specs.Orders.{told, Dispatch, input_of}
-use Rattle.rail_laws_run.specs.HolderTables.{held_cause}
+use Rattle.rail_laws_run.specs.HolderTables.{held_cause, own_overlap}
 use Rattle.rail_laws_front.proofs.CallerLemmas.{told_kept}
 use Rattle.rail_rules.specs.LineCounts.{is_command}
 use Rattle.rail_state.specs.TrainStates.{is_blocked_at}
@@ -21,9 +21,9 @@ pub seen_kept : (dispatch : Dispatch) (plant : Plant) (line : Line) (front : Fro
 seen_kept dispatch plant line front h t idle none =
     let kept = list_cause_kept (input_of dispatch plant) line front t idle in
     let orders = tells_none dispatch line front none in
-    λ i. or_else (seen_bar (orders i) h t (needed plant t (kept.1 i))) (kept.0 i)
+    λ i. or_else (seen_bar (orders i) h t (own_overlap plant t (kept.1 i)) (claimed plant t (kept.1 i))) (kept.0 i)
 
-pub seen_unfreed : (h : List (Option ℕ)) (x : ℕ) (xs : List ℕ) (a b c : Option Cause) (why : Cause) → or_else (or_else a (or_else b (held_cause h xs))) c ≡ Some why → is_blocked_at x (Some why) ≡ false → or_else (or_else a (or_else b (held_cause (set h x None) xs))) c ≡ Some why
-seen_unfreed h x xs (Some d) b c why is other = is
-seen_unfreed h x xs None (Some d) c why is other = is
-seen_unfreed h x xs None None c why is other = cause_unfreed h x xs c why is other
+pub seen_unfreed : (h : List (Option ℕ)) (x t : ℕ) (own xs : List ℕ) (a b c : Option Cause) (why : Cause) → or_else (or_else a (or_else b (held_cause h t own xs))) c ≡ Some why → is_blocked_at x (Some why) ≡ false → or_else (or_else a (or_else b (held_cause (set h x None) t own xs))) c ≡ Some why
+seen_unfreed h x t own xs (Some d) b c why is other = is
+seen_unfreed h x t own xs None (Some d) c why is other = is
+seen_unfreed h x t own xs None None c why is other = cause_unfreed h x t own xs c why is other

@@ -12,6 +12,7 @@ use Rattle.rail_state.specs.declared.train.TrainState.{TrainState}
 use Rattle.rail_state.specs.declared.train_set.TrainSet.{TrainSet}
 use Rattle.rail_state.specs.declared.train_sets.TrainSets.{TrainSets}
 use Rattle.rail_state.specs.TrainSets.{has_train, set_at}
+use Rattle.rail_laws_run.specs.HolderTables.{own_overlap}
 use Rattle.rail_state.specs.TrainStates.{IsAnyWaiting, IsNextOf, after_taking, is_blocked_at, is_touched, is_untried, lacks_hold_line, no_state, outlasts_taking, state_of, state_told, without_known}
 use Rattle.rail_state.specs.Kept.{AreHeldFor, AreSetsOf, HaveNobody, IsSetOf, is_loose, is_waiting}
 
@@ -139,7 +140,7 @@ known_unless false known = inl refl
 
 -- no more is known of a train that noted what was taken
 pub knows_taken : (plant : Plant) (holders : List (Option ℕ)) (t : ℕ) (train_state : TrainState) → KnowsNoMore train_state (after_taking plant holders t train_state)
-knows_taken plant holders t train_state = by (train_state.waits && outlasts_taking holders (claimed plant t train_state.place) train_state.known)
+knows_taken plant holders t train_state = by (train_state.waits && outlasts_taking holders t (own_overlap plant t train_state.place) (claimed plant t train_state.place) train_state.known)
   where
     by : (b : Bool) → (cond b train_state.known None ≡ train_state.known) ⊎ (cond b train_state.known None ≡ None)
     by true = inl refl

@@ -2,12 +2,13 @@
 use Rattle.std.proofs.Common.{◌≡◌, ℕ, true, false, not, List, [], ◌∷◌, refl, sym, ap, ◌∙◌, arith}
 use Rattle.std.proofs.lemmas.Bool.{and_from, false≢true}
 use Rattle.rail_rules.specs.Numbers.{or_else}
-use Rattle.rail_rules.specs.Plant.{Plant, needed}
+use Rattle.rail_rules.specs.Plant.{Plant, claimed}
 use Rattle.rail_rules.specs.Fronts.{Front, Line, has_ended, instant}
 use Rattle.rail_rules.specs.Orders.{told, Dispatch, input_of}
 use Rattle.rail_rules.specs.Events.{due_lines, is_quiet}
 use Rattle.rail_rules.specs.Causes.{bar, cause, closed_cause, is_deciding, is_ready, is_settled, list_cause, place, stop_cause}
 use Rattle.rail_laws_run.proofs.CallerLemmas.{nobody_ready}
+use Rattle.rail_laws_run.specs.HolderTables.{own_overlap}
 use Rattle.rail_state.specs.TrainStates.{IsAnyWaiting}
 use Rattle.rail_state.specs.Representation.{Represents}
 use Rattle.rail_state.specs.SeenCauses.{seen_bar, seen_cause}
@@ -19,17 +20,17 @@ deciding_when_quiet dispatch plant line before going quiet = and_from (not (has_
 
 -- what bars a train at a decision is told by the orders and the table of holders
 pub bar_seen : (dispatch : Dispatch) (plant : Plant) (front : Front) (state : RunState) → Represents dispatch plant front state → is_deciding (input_of dispatch plant) front ≡ true
-    → (t : ℕ) → bar (input_of dispatch plant) front t ≡ seen_bar (told dispatch.commands front) state.holders t (needed plant t (place front t))
+    → (t : ℕ) → bar (input_of dispatch plant) front t ≡ seen_bar (told dispatch.commands front) state.holders t (own_overlap plant t (place front t)) (claimed plant t (place front t))
 bar_seen dispatch plant front state rep deciding t =
-    let sections : List ℕ = needed plant t (place front t) in
-    ap (λ c. or_else (stop_cause t (told dispatch.commands front)) (or_else (closed_cause sections (told dispatch.commands front)) c)) (holders_block (input_of dispatch plant) rep.accepted front rep.lawful deciding state.holders rep.holders sections)
+    let sections : List ℕ = claimed plant t (place front t) in
+    ap (λ c. or_else (stop_cause t (told dispatch.commands front)) (or_else (closed_cause sections (told dispatch.commands front)) c)) (holders_block (input_of dispatch plant) rep.accepted front rep.lawful deciding state.holders rep.holders t sections)
 
 -- the cause at a decision is the one by the table of holders
 pub cause_seen : (dispatch : Dispatch) (plant : Plant) (front : Front) (state : RunState) → Represents dispatch plant front state → is_deciding (input_of dispatch plant) front ≡ true → (t : ℕ) → cause (input_of dispatch plant) front t ≡ seen_cause (input_of dispatch plant) front state.holders t
 cause_seen dispatch plant front state rep deciding t =
-    let sections : List ℕ = needed plant t (place front t) in
+    let sections : List ℕ = claimed plant t (place front t) in
     ap (λ c. or_else (or_else (stop_cause t (told dispatch.commands front)) (or_else (closed_cause sections (told dispatch.commands front)) c))
-    (list_cause (input_of dispatch plant) front t)) (holders_block (input_of dispatch plant) rep.accepted front rep.lawful deciding state.holders rep.holders sections)
+    (list_cause (input_of dispatch plant) front t)) (holders_block (input_of dispatch plant) rep.accepted front rep.lawful deciding state.holders rep.holders t sections)
 
 -- everything is settled where nothing is due and all were told why they wait
 pub settled_front : (dispatch : Dispatch) (plant : Plant) (front : Front) (state : RunState) → Represents dispatch plant front state → has_ended front ≡ false

@@ -11,7 +11,7 @@ use Rattle.rail_base.specs.declared.history.What.TheVariants.{Free, Arrive, Ente
 use Rattle.rail_base.specs.declared.orders.Command.{Command}
 use Rattle.rail_base.specs.declared.orders.Order.{Order}
 use Rattle.rail_rules.specs.Numbers.{comes_before, gather}
-use Rattle.rail_rules.specs.Plant.{Plant, is_forced, moves, needed, trains}
+use Rattle.rail_rules.specs.Plant.{Plant, is_forced, moves, claimed, trains}
 use Rattle.rail_rules.specs.Times.{stop_time}
 use Rattle.rail_rules.specs.Fronts.{Front, Line, admissions, has_ended, instant, is_admission, is_hold, rank, same_entry, stands}
 use Rattle.rail_rules.specs.Orders.{is_cancelled, orders_of, takes_effect, told, Dispatch, input_of}
@@ -31,10 +31,11 @@ use Rattle.rail_laws_run.specs.Heads.{IsHead}
 use Rattle.rail_queue.specs.declared.event.Event.{Event}
 use Rattle.rail_queue.specs.declared.event.Class.TheVariants as class
 use Rattle.rail_queue.specs.Order.{class_number, goes_before}
-use Rattle.rail_state.specs.Events.{event_of, deferred_event, train_event}
+use Rattle.rail_state.specs.Events.{deferred_of, event_of, section_event, train_event}
 use Rattle.rail_state.specs.SeenCauses.{AreDue, stays, seen_cause}
 use Rattle.rail_state.proofs.Least.{first_is_least}
-use Rattle.rail_state.proofs.Taking.{command_taken}
+use Rattle.rail_state.proofs.FreeEvents.{deferred_behind, deferred_none}
+use Rattle.rail_state.proofs.Taking.{command_taken, stays_other}
 use Rattle.rail_state.proofs.Ceasing.{ceases}
 use Rattle.rail_state.proofs.Touching.{causes_left}
 use Rattle.rail_state.specs.declared.train.TrainState.{TrainState}
@@ -81,37 +82,25 @@ module _ (dispatch : Dispatch) (plant : Plant) (front : Front) (state : RunState
   held_behind : list_any (λ other. goes_before other event) (deferred_events plant state.trains) ≡ false
   held_behind = of (trains plant) (λ t lt. lt)
     where
-      before : Event → Bool
-      before other = goes_before other event
-
-      later_key : (at t m : ℕ) → event.at < at → goes_before (train_event at class.Arrive t m) event ≡ false
-      later_key at t m lt =
-          ap (λ b. b || (eqb at event.at && comes_before (1 ∷ t ∷ []) (class_number event.class ∷ event.number ∷ []))) (le-ltb at event.at (omega (arith, lt)))
-          ∙ ap (λ b. false || (b && comes_before (1 ∷ t ∷ []) (class_number event.class ∷ event.number ∷ []))) (ne_eqb at event.at (λ e. omega (arith, e, lt)))
-
-      one : (t m : ℕ) (arrival : Option ℕ) → ((at : ℕ) → arrival ≡ Some at → event.at < at) → list_any (λ other. goes_before other event) (deferred_event t m arrival) ≡ false
-      one t m None later = refl
-      one t m (Some at) later = ap (λ b. b || false) (later_key at t m (later at refl))
-
-      of : (n : ℕ) → ((t : ℕ) → t < n → t < trains plant) → list_any (λ other. goes_before other event) (gather (λ t. deferred_event t (state_of state.trains t).place (state_of state.trains t).deferred) n) ≡ false
+      of : (n : ℕ) → ((t : ℕ) → t < n → t < trains plant) → list_any (λ other. goes_before other event) (gather (λ t. deferred_of plant t (state_of state.trains t).place (state_of state.trains t).deferred) n) ≡ false
       of zero within = refl
       of (suc n) within =
-          append_none (λ other. goes_before other event) (gather (λ t. deferred_event t (state_of state.trains t).place (state_of state.trains t).deferred) n) (deferred_event n (state_of state.trains n).place (state_of state.trains n).deferred)
+          append_none (λ other. goes_before other event) (gather (λ t. deferred_of plant t (state_of state.trains t).place (state_of state.trains t).deferred) n) (deferred_of plant n (state_of state.trains n).place (state_of state.trains n).deferred)
           (of n (λ t lt. within t (omega (arith, lt))))
-          (one n (state_of state.trains n).place (state_of state.trains n).deferred (λ at is. held_later n at (within n (omega arith)) is))
+          (deferred_behind plant event n (state_of state.trains n).place (state_of state.trains n).deferred (λ at is. held_later n at (within n (omega arith)) is))
 
   -- no order takes an arrival out of what is deferred
   held_stays : (tells : List Order) → list_any (λ other. not (stays tells other)) (deferred_events plant state.trains) ≡ false
   held_stays tells = of (trains plant)
     where
-      one : (t m : ℕ) (arrival : Option ℕ) → list_any (λ other. not (stays tells other)) (deferred_event t m arrival) ≡ false
-      one t m None = refl
-      one t m (Some at) = ap (λ b. not b || false) (Rattle.rail_state.proofs.Taking.stays_other tells (train_event at class.Arrive t m) (λ u. refl))
+      one : (t m : ℕ) (arrival : Option ℕ) → list_any (λ other. not (stays tells other)) (deferred_of plant t m arrival) ≡ false
+      one t m arrival = deferred_none (λ other. not (stays tells other)) plant t m arrival
+          (λ at is. (ap not (stays_other tells (train_event at class.Arrive t m) (λ u. refl)), λ x. ap not (stays_other tells (section_event (at + plant.tables.overlap_time) x t) (λ u. refl))))
 
-      of : (n : ℕ) → list_any (λ other. not (stays tells other)) (gather (λ t. deferred_event t (state_of state.trains t).place (state_of state.trains t).deferred) n) ≡ false
+      of : (n : ℕ) → list_any (λ other. not (stays tells other)) (gather (λ t. deferred_of plant t (state_of state.trains t).place (state_of state.trains t).deferred) n) ≡ false
       of zero = refl
       of (suc n) =
-          append_none (λ other. not (stays tells other)) (gather (λ t. deferred_event t (state_of state.trains t).place (state_of state.trains t).deferred) n) (deferred_event n (state_of state.trains n).place (state_of state.trains n).deferred)
+          append_none (λ other. not (stays tells other)) (gather (λ t. deferred_of plant t (state_of state.trains t).place (state_of state.trains t).deferred) n) (deferred_of plant n (state_of state.trains n).place (state_of state.trains n).deferred)
           (of n) (one n (state_of state.trains n).place (state_of state.trains n).deferred)
 
   module _ (rest : List Event) (first : state.queue.events ≡ event ∷ rest) where
@@ -273,13 +262,13 @@ module _ (dispatch : Dispatch) (plant : Plant) (front : Front) (state : RunState
       known = record {
         cause = λ t why lt known.
             let before = still_known t why lt known in
-            let apart = or_parts (is_cancelled t orders) (list_any (λ order. Rattle.rail_state.specs.SeenCauses.touches order t (needed plant t (state_of state.trains t).place)) orders) before.1 in
+            let apart = or_parts (is_cancelled t orders) (list_any (λ order. Rattle.rail_state.specs.SeenCauses.touches order t (claimed plant t (state_of state.trains t).place)) orders) before.1 in
             ap (λ h. seen_cause (input_of dispatch plant) (line ∷ front) h t) has.holders
-            ∙ causes_left (input_of dispatch plant) line front kind state.holders t (subst (λ p. list_any (λ order. Rattle.rail_state.specs.SeenCauses.touches order t (needed plant t p)) orders ≡ false) (rep.times.places t lt) apart.1)
+            ∙ causes_left (input_of dispatch plant) line front kind state.holders t (subst (λ p. list_any (λ order. Rattle.rail_state.specs.SeenCauses.touches order t (claimed plant t p)) orders ≡ false) (rep.times.places t lt) apart.1)
             ∙ rep.known.cause t why lt before.0;
         waits = λ t why lt known.
             let before = still_known t why lt known in
-            let apart = or_parts (is_cancelled t orders) (list_any (λ order. Rattle.rail_state.specs.SeenCauses.touches order t (needed plant t (state_of state.trains t).place)) orders) before.1 in
+            let apart = or_parts (is_cancelled t orders) (list_any (λ order. Rattle.rail_state.specs.SeenCauses.touches order t (claimed plant t (state_of state.trains t).place)) orders) before.1 in
             waits_is t lt ∙ and_from (not (is_cancelled t orders)) (state_of state.trains t).waits (not_from_false (is_cancelled t orders) apart.0) (rep.known.waits t why lt before.0);
         firm = λ t why lt known. firm_kept plant state.trains after.trains t why lt rep.known.firm (still_known t why lt known).0 (same_part (λ r. r.place) (λ r c w. refl) t lt) (same_part (λ r. r.at_first) (λ r c w. refl) t lt);
         no_more = λ held. absurd (false≢true (sym no_hold ∙ held));

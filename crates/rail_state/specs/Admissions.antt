@@ -23,8 +23,8 @@ pub record IsGivable (plant : Plant) (front : Front) (states : List TrainState) 
   pub soon : now < 2 ^ 51
   pub ready : (state_of states t).times.next_ready ≤ now
 
--- a train may take these sections: they are known, none of them stands twice, and nobody holds one
-pub record CanBeTaken (holders : List (Option ℕ)) (sections : List ℕ) : Type 0 where
+-- a train, whose own overlap this is, may take these sections: they are known, none of them stands twice, and no holder bars the train
+pub record CanBeTaken (holders : List (Option ℕ)) (t : ℕ) (own sections : List ℕ) : Type 0 where
   pub known : list_all (λ x. nat_lt x (length holders)) sections ≡ true
   pub distinct : are_distinct_numbers sections ≡ true
-  pub free : held_cause holders sections ≡ None
+  pub free : held_cause holders t own sections ≡ None

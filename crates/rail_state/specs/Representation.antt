@@ -9,7 +9,7 @@ use Rattle.rail_base.specs.declared.history.What.{What}
 use Rattle.rail_base.specs.declared.history.What.TheVariants as what
 use Rattle.rail_base.specs.declared.orders.Command.{Command}
 use Rattle.rail_rules.specs.Accepted.{is_accepted}
-use Rattle.rail_rules.specs.Numbers.{gather, listed}
+use Rattle.rail_rules.specs.Numbers.{gather, is_in, listed}
 use Rattle.rail_rules.specs.Plant.{Plant, is_forced, moves, moves_of, claimed, step_section, steps, trains}
 use Rattle.rail_rules.specs.Times.{stop_time}
 use Rattle.rail_rules.specs.Fronts.{Front, Line, admissions, at_time, has_ended, has_held, instant}
@@ -23,7 +23,7 @@ use Rattle.rail_rules.specs.Places.{after, completes, place_of}
 use Rattle.rail_list.specs.Repairs.{repaired_for}
 use Rattle.rail_state.specs.SeenCauses.{AreDue, seen_bar, seen_cause, stays}
 use Rattle.rail_laws_events.specs.Accounts.{tally}
-use Rattle.rail_laws_run.specs.HolderTables.{AreHolders, taken_by}
+use Rattle.rail_laws_run.specs.HolderTables.{AreHolders, is_train, own_overlap, taken_by}
 use Rattle.rail_laws_run.specs.Heads.{IsHead}
 use Rattle.rail_laws_events.specs.Changes.{freed_before}
 use Rattle.rail_block.specs.declared.times.MoveTimes.{MoveTimes}
@@ -32,7 +32,7 @@ use Rattle.rail_queue.specs.declared.event.Event.{Event}
 use Rattle.rail_queue.specs.Order.{first_time_of}
 use Rattle.rail_queue.specs.declared.event.Class.{Class}
 use Rattle.rail_queue.specs.declared.event.Class.TheVariants as class
-use Rattle.rail_state.specs.Events.{end_lines, event_of, deferred_event, step_lines, train_event}
+use Rattle.rail_state.specs.Events.{deferred_of, end_lines, event_of, free_events, is_free_of, step_lines, train_event}
 use Rattle.rail_state.specs.declared.train.TrainState.{TrainState}
 use Rattle.rail_state.specs.TrainStates.{AreFirm, is_blocked_at, is_touched, is_untried, outside, state_admitted, state_after, state_of, state_told, after_hold_line}
 use Rattle.rail_state.specs.declared.run_state.RunState.{RunState}
@@ -43,9 +43,9 @@ pub record AreTimes (plant : Plant) (front : Front) (states : List TrainState) :
   pub places : (t : ℕ) → t < trains plant → (state_of states t).place ≡ place front t
   pub times : (t : ℕ) → t < trains plant → (state_of states t).times ≡ times_at plant t (admissions front t) (place front t)
 
--- the arrivals that are deferred
+-- the arrivals that are deferred, and the frees of the overlaps of those moves
 abbrev pub deferred_events : Plant → List TrainState → List Event
-deferred_events plant states = gather (λ t. deferred_event t (state_of states t).place (state_of states t).deferred) (trains plant)
+deferred_events plant states = gather (λ t. deferred_of plant t (state_of states t).place (state_of states t).deferred) (trains plant)
 
 -- an arrival is deferred only while the train may still pass: its next move isn't ready, or is ready now and wasn't held
 pub record IsDeferred (plant : Plant) (t now : ℕ) (train_state : TrainState) (at : ℕ) : Type 0 where
@@ -60,7 +60,7 @@ pub record IsDeferred (plant : Plant) (t now : ℕ) (train_state : TrainState) (
 abbrev pub IsBound : Plant → ℕ → TrainState → Type 0
 IsBound plant t train_state = (is_forced plant t train_state.place ≡ true) ⊎ (is_some train_state.last_hold ≡ true)
 
--- the pending events and the arrivals that are deferred are the due lines
+-- the pending events and those that are deferred are the due lines
 pub record ArePending (dispatch : Dispatch) (plant : Plant) (front : Front) (events : List Event) (states : List TrainState) : Type 0 where
   pub counted : AreDue (input_of dispatch plant) front events (deferred_events plant states)
   pub deferred : (t at : ℕ) → t < trains plant → (state_of states t).deferred ≡ Some at
@@ -156,11 +156,11 @@ pub record HasHappened (plant : Plant) (event : Event) (before after : RunState)
   pub going : after.has_ended ≡ before.has_ended
   pub settled : after.is_settled ≡ true → (before.is_settled ≡ true) × StaysSettled plant before.trains (what_of plant before.trains event)
 
--- the train's hold line was given: no arrival of it is deferred then
-pub record IsHoldLine (t : ℕ) (before after : RunState) : Type 0 where
+-- the train's hold line was given: nothing of it is deferred then
+pub record IsHoldLine (plant : Plant) (t : ℕ) (before after : RunState) : Type 0 where
   pub events : (q : Event → Bool) → count_by q after.queue.events
       ≡ count_by q before.queue.events
-      + count_by q (deferred_event t (state_of before.trains t).place (state_of before.trains t).deferred)
+      + count_by q (deferred_of plant t (state_of before.trains t).place (state_of before.trains t).deferred)
   pub trains : after.trains ≡ set before.trains t (after_hold_line (state_of before.trains t))
   pub holders : after.holders ≡ before.holders
   pub time : after.instant ≡ before.instant
@@ -188,13 +188,28 @@ pub record IsEndLine (before after : RunState) : Type 0 where
 abbrev pub passing_event : ℕ → ℕ → MoveTimes → List Event
 passing_event t p times = cond (nat_lt 0 p && times.passes) (train_event times.go class.Arrive t p ∷ []) []
 
+-- the sections of the train's own overlap that its next move claims and the train holds still: it takes them over
+abbrev pub taken_over : Plant → List (Option ℕ) → ℕ → ℕ → List ℕ
+taken_over plant holders t p = filter (λ x. is_in x (claimed plant t p) && is_train t (get_or holders x None)) (own_overlap plant t p)
+
+-- the sections whose pending frees an admission takes back: those that are taken over, where the train doesn't pass
+abbrev pub forgotten : Plant → List (Option ℕ) → ℕ → ℕ → MoveTimes → List ℕ
+forgotten plant holders t p times = cond times.passes [] (taken_over plant holders t p)
+
+-- the frees of the overlap at the place at which the move begins, where the train passes there: of what the move doesn't claim
+abbrev pub passing_frees : Plant → ℕ → ℕ → MoveTimes → List Event
+passing_frees plant t p times = cond times.passes
+    (free_events (times.go + plant.tables.overlap_time) t (filter (λ x. not (is_in x (claimed plant t p))) (own_overlap plant t p)))
+    []
+
 -- the train's next move was admitted, with these times; the arrival at its end is deferred where there is one
 pub record IsAdmitLine (plant : Plant) (front : Front) (t : ℕ) (times : MoveTimes) (arrival : Option ℕ)
     (before after : RunState) : Type 0 where
   pub pushed : (q : Event → Bool) → let adms : List ℕ = admissions front t ++ before.instant ∷ [] in
-      count_by q after.queue.events + count_by q (deferred_event t (suc (place front t)) arrival)
-      ≡ count_by q before.queue.events + tally (λ e. q (event_of e)) (freed_before plant t adms (place front t))
-      + count_by q (passing_event t (place front t) times)
+      count_by q after.queue.events + count_by q (deferred_of plant t (suc (place front t)) arrival)
+      ≡ count_by (λ e. not (is_free_of (forgotten plant before.holders t (place front t) times) e) && q e) before.queue.events
+      + tally (λ e. q (event_of e)) (freed_before plant t adms (place front t))
+      + count_by q (passing_event t (place front t) times) + count_by q (passing_frees plant t (place front t) times)
       + tally (λ e. q (event_of e)) (step_lines plant t adms (place front t))
       + tally (λ e. q (event_of e)) (end_lines plant t adms (place front t))
   pub are_times : times ≡ times_at plant t (admissions front t ++ before.instant ∷ []) (suc (place front t))
@@ -215,7 +230,7 @@ pub record IsNext (dispatch : Dispatch) (plant : Plant) (front : Front) (holders
     (states : List TrainState) (t : ℕ) : Type 0 where
   pub known_train : t < trains plant
   pub untried : is_untried (state_of states t) ≡ true
-  pub free : seen_bar (told dispatch.commands front) holders t (claimed plant t (place front t)) ≡ None
+  pub free : seen_bar (told dispatch.commands front) holders t (own_overlap plant t (place front t)) (claimed plant t (place front t)) ≡ None
 
 -- the train may be admitted: it waits, no hold line was given in the round, and nothing bars its next move
 pub record IsAdmissible (dispatch : Dispatch) (plant : Plant) (front : Front) (holders : List (Option ℕ))
@@ -223,7 +238,7 @@ pub record IsAdmissible (dispatch : Dispatch) (plant : Plant) (front : Front) (h
   pub known_train : t < trains plant
   pub waits : (state_of states t).waits ≡ true
   pub unheld : has_held front ≡ false
-  pub free : seen_bar (told dispatch.commands front) holders t (claimed plant t (place front t)) ≡ None
+  pub free : seen_bar (told dispatch.commands front) holders t (own_overlap plant t (place front t)) (claimed plant t (place front t)) ≡ None
 
 -- the list that is kept after an admission with this note completes after the move
 abbrev pub MayKeep : Moves → List ℕ → List ℕ → ℕ → Note → List ℕ → Type 0
@@ -300,6 +315,6 @@ is_due_now state = option_map_or (λ (at : ℕ). at == state.instant) (first_tim
 abbrev pub may_admit_by : Plant → List Order → RunState → Bool → List ℕ → List ℕ → Line → ℕ → ℕ → Note → Bool
 may_admit_by plant orders state held positions list line t m note = (line.entry.at == state.instant)
     && (not (is_due_now state) && (state_of state.trains t).waits)
-    && not (is_some (seen_bar orders state.holders t (claimed plant t (state_of state.trains t).place)))
+    && not (is_some (seen_bar orders state.holders t (own_overlap plant t (state_of state.trains t).place) (claimed plant t (state_of state.trains t).place)))
     && (m == suc (state_of state.trains t).place) && not held && note_fits line (state_of state.trains t).place note
     && completes (moves_of plant) (after positions t) list

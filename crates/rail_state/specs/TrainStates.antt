@@ -11,7 +11,7 @@ use Rattle.rail_rules.specs.Plant.{Plant, claimed, steps, trains}
 use Rattle.rail_rules.specs.Fronts.{same_cause}
 use Rattle.rail_rules.specs.Numbers.{comes_before, or_else}
 use Rattle.rail_orders.specs.Told.{Told, closed_in, stop_in}
-use Rattle.rail_laws_run.specs.HolderTables.{held_cause}
+use Rattle.rail_laws_run.specs.HolderTables.{bar_holder, held_cause, own_overlap}
 use Rattle.rail_block.specs.declared.times.MoveTimes.{MoveTimes}
 use Rattle.rail_block.specs.CarriedTimes.{times_at}
 use Rattle.rail_state.specs.SeenCauses.{touches}
@@ -84,9 +84,9 @@ state_after plant _ t train_state = train_state
 abbrev pub is_untried : TrainState → Bool
 is_untried train_state = train_state.waits && not (is_some train_state.known)
 
--- what bars the next move of a train, by the tables of what was told and of who holds each section
-abbrev pub bar_by : Told → List (Option ℕ) → ℕ → List ℕ → Option Cause
-bar_by told holders t sections = or_else (stop_in told t) (or_else (closed_in told sections) (held_cause holders sections))
+-- what bars the next move of a train, whose overlap this is, by the tables of what was told and of who holds each section
+abbrev pub bar_by : Told → List (Option ℕ) → ℕ → List ℕ → List ℕ → Option Cause
+bar_by told holders t own sections = or_else (stop_in told t) (or_else (closed_in told sections) (held_cause holders t own sections))
 
 -- some train waits
 pub record IsAnyWaiting (states : List TrainState) : Type 0 where
@@ -110,12 +110,13 @@ is_at_first (Some (Blocked x u)) (y ∷ sections) = x == y
 is_at_first _ _ = false
 
 -- a train that is untried is looked at: what bars its next move is its cause
-abbrev pub looked_at : Plant → (ℕ → List ℕ → Option Cause) → ℕ → TrainState → TrainState
+abbrev pub looked_at : Plant → (ℕ → List ℕ → List ℕ → Option Cause) → ℕ → TrainState → TrainState
 looked_at plant bar t train_state =
     let sections = claimed plant t train_state.place in
+    let own = own_overlap plant t train_state.place in
     record train_state {
-      known = cond (is_untried train_state) (bar t sections) train_state.known;
-      at_first = cond (is_untried train_state) (is_at_first (bar t sections) sections) train_state.at_first;
+      known = cond (is_untried train_state) (bar t own sections) train_state.known;
+      at_first = cond (is_untried train_state) (is_at_first (bar t own sections) sections) train_state.at_first;
     }
 
 -- what orders the waiting trains: when they are ready, then their number
@@ -147,22 +148,22 @@ admitted times arrival train_state =
       known = None;
     }
 
--- a section that stands before this one on the way is held
-abbrev pub is_held_before : List (Option ℕ) → ℕ → List ℕ → Bool
-is_held_before holders x [] = false
-is_held_before holders x (y ∷ sections) = not (y == x) && (is_some (get_or holders y None) || is_held_before holders x sections)
+-- the holder of a section that stands before this one on the way bars the train
+abbrev pub is_held_before : List (Option ℕ) → ℕ → List ℕ → ℕ → List ℕ → Bool
+is_held_before holders t own x [] = false
+is_held_before holders t own x (y ∷ sections) = not (y == x) && (is_some (bar_holder holders t own y) || is_held_before holders t own x sections)
 
 -- the cause of a move over these sections is the same behind an admission, which leaves these holders: no section before the blocked one is held; that no list is known may have changed
-abbrev pub outlasts_taking : List (Option ℕ) → List ℕ → Option Cause → Bool
-outlasts_taking holders sections (Some (Blocked x u)) = not (is_held_before holders x sections)
-outlasts_taking holders sections (Some NoList) = false
-outlasts_taking holders sections _ = true
+abbrev pub outlasts_taking : List (Option ℕ) → ℕ → List ℕ → List ℕ → Option Cause → Bool
+outlasts_taking holders t own sections (Some (Blocked x u)) = not (is_held_before holders t own x sections)
+outlasts_taking holders t own sections (Some NoList) = false
+outlasts_taking holders t own sections _ = true
 
 -- what is kept of a train after another one took its sections, which leaves these holders: its cause is known as long as it waits and the cause is the same
 abbrev pub after_taking : Plant → List (Option ℕ) → ℕ → TrainState → TrainState
 after_taking plant holders t train_state =
     record train_state {
-      known = cond (train_state.waits && outlasts_taking holders (claimed plant t train_state.place) train_state.known) train_state.known None;
+      known = cond (train_state.waits && outlasts_taking holders t (own_overlap plant t train_state.place) (claimed plant t train_state.place) train_state.known) train_state.known None;
     }
 
 -- what is kept of the trains after an admission of one of them, which leaves these holders

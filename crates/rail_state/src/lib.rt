@@ -24,7 +24,9 @@ mod train_sets;
 mod trains;
 
 pub use events::{event_of_section, event_of_train};
-pub use pushes::{MOVE_EVENTS, push_end, push_entry, push_passing, push_steps, push_stood};
+pub use pushes::{
+    MOVE_EVENTS, push_end, push_entry, push_overlap, push_passing, push_steps, push_stood,
+};
 pub use run_state::RunState;
-pub use train::{Head, TrainState, held_cause};
+pub use train::{Head, TrainState, claimed_sections, held_cause, overlap_behind};
 pub use trains::TrainStates;

@@ -1,29 +1,37 @@
 //! Pushing the events of a move.
 
-ghost use Rattle.std.specs.Prelude.{◌≡◌, ℕ, ◌+◌, ◌-◌, ◌*◌, ◌<◌, ◌≤◌, ◌^◌, ◌⊎◌, Bool, true, false, cond, List, [], ◌∷◌, length, count_by, None, Some};
+ghost use Rattle.std.specs.Prelude.{◌≡◌, ℕ, ◌+◌, ◌-◌, ◌*◌, ◌<◌, ◌≤◌, ◌^◌, ◌⊎◌, Bool, true, false, not, cond, List, [], ◌∷◌, length, count_by, None, Some};
 ghost use Rattle.rail_laws_events.specs.Accounts.{tally};
 ghost use Rattle.rail_laws_events.specs.Changes.{freed_before};
 ghost use Rattle.rail_block.specs.CarriedTimes.{AreBelow};
 ghost use Rattle.rail_block.specs.KnownMoves.{of_move, of_place, of_step, own_times, timed, timed_step, times_after};
-ghost use Rattle.rail_state.specs.Events.{end_lines, event_of, deferred_event, step_lines, train_event};
+ghost use Rattle.std.specs.List.{filter};
+ghost use Rattle.rail_base.specs.declared.limits.TheConstants.{OVERLAP_SECTIONS};
+ghost use Rattle.rail_laws_run.specs.HolderTables.{own_overlap};
+ghost use Rattle.rail_rules.specs.Numbers.{is_in};
+ghost use Rattle.rail_state.specs.Events.{deferred_of, end_lines, event_of, free_events, section_event, step_lines, train_event};
+ghost use Rattle.rail_state.specs.Representation.{passing_event, passing_frees};
 ghost use Rattle.rail_queue.specs.declared.event.Class.TheVariants.{Arrive, Ready};
 ghost use Rattle.rail_queue.specs.declared.event.Event.{Event};
 ghost use Rattle.rail_rules.specs.Events.{free_lines};
 ghost use Rattle.rail_rules.specs.Fronts.{at_time};
 ghost use Rattle.rail_rules.specs.Intervals.{does_stand, end_of, end_time};
-ghost use Rattle.rail_rules.specs.Plant.{is_forced, moves, steps};
+ghost use Rattle.rail_rules.specs.Plant.{claimed, is_forced, moves, steps, trains};
 ghost use Rattle.rail_rules.specs.Times.{enter, stop_time};
 ghost use Rattle.rail_base.specs.declared.history.What.TheVariants.{Free};
 
 use crate::events::{event_of_section, event_of_train};
-use rail_base::limits::ROUTE_SECTIONS;
+use crate::train::{claimed_sections, overlap_behind};
+use rail_base::limits::{OVERLAP_SECTIONS, ROUTE_SECTIONS};
 use rail_base::{SectionNo, Time, TrainNo};
-use rail_block::{KnownMove, KnownStep, MoveTimes};
+use rail_block::{KnownMove, KnownStep, MoveTimes, after};
+use rail_plan::Plant;
 use rail_queue::{Class, Event, EventQueue};
 
 /// The most events that one admission brings: two for each section, the end of each section on which the
-/// train stood, the arrivals before and after it, and the out event or the next ready one.
-pub const MOVE_EVENTS: usize = 3 * ROUTE_SECTIONS + 3;
+/// train stood, the arrivals before and after it with the ends of an overlap each, and the out event or the next ready
+/// one.
+pub const MOVE_EVENTS: usize = 3 * ROUTE_SECTIONS + 2 * OVERLAP_SECTIONS + 3;
 
 /// Puts the event into the queue.
 fn push(queue: &mut EventQueue, event: Event)
@@ -131,28 +139,110 @@ fn push_if_stood(step: &KnownStep, queue: &mut EventQueue, section: SectionNo, n
     push(queue, event_of_section(ended, section, step.of.train));
 }
 
-/// Pushes the arrival at the place where the train passes there; `next` is the times of the move that begins there.
-pub fn push_passing(queue: &mut EventQueue, train: TrainNo, place: u16, next: &MoveTimes)
-    requires { 1 ≤ queue.old.spare }
+/// Pushes the arrival of a train that passes at the place at which the move begins, and the events that give the
+/// overlap there free, but what the move claims: that is taken over.
+pub fn push_passing(known: &KnownMove, queue: &mut EventQueue, times: &MoveTimes)
+    requires times { AreBelow (2 ^ 51) times.now }
+    requires behind { 1 < known.now.place }
+    requires passes { times.now.passes ≡ true }
+    requires room { OVERLAP_SECTIONS + 1 ≤ queue.old.spare }
     ensures counted { (q : Event → Bool) → count_by q queue.new.events ≡ count_by q queue.old.events
-        + cond next.now.passes (count_by q (train_event next.now.go Arrive train place ∷ [])) 0 }
+        + count_by q (passing_event known.now.train (known.now.place - 1) times.now)
+        + count_by q (passing_frees known.now.plant.now known.now.train (known.now.place - 1) times.now) }
+    ensures room { length queue.new.events + queue.new.spare ≡ length queue.old.events + queue.old.spare }
+    ensures spare { queue.old.spare ≤ queue.new.spare + OVERLAP_SECTIONS + 1 }
+{
+    let (plant, train, place) = (known.plant, known.train, known.place);
+    push(
+        queue,
+        event_of_train(times.go, Class::Arrive, train, place - 1),
+    );
+    let timer = after(times.go, u64::from(plant.overlap_time()));
+    let own = overlap_behind(plant, train, place - 1);
+    push_unclaimed(
+        queue,
+        own,
+        claimed_sections(plant, train, place),
+        train,
+        timer,
+    );
+}
+
+/// Pushes the events that give these sections free at this time, but those that are claimed.
+fn push_unclaimed(
+    queue: &mut EventQueue,
+    sections: &[SectionNo],
+    claimed: &[SectionNo],
+    train: TrainNo,
+    at: Time,
+)
+    requires room { length sections.now ≤ queue.old.spare }
+    ensures counted { (q : Event → Bool) → count_by q queue.new.events ≡ count_by q queue.old.events
+        + count_by q (free_events at train (filter (λ x. not (is_in x claimed.now)) sections.now)) }
+    ensures room { length queue.new.events + queue.new.spare ≡ length queue.old.events + queue.old.spare }
+    ensures spare { queue.old.spare ≤ queue.new.spare + length sections.now }
+{
+    for section in sections {
+        push_if_unclaimed(queue, *section, claimed, train, at);
+    }
+}
+
+/// Pushes the event that gives the section free at this time, unless it is claimed.
+fn push_if_unclaimed(
+    queue: &mut EventQueue,
+    section: SectionNo,
+    claimed: &[SectionNo],
+    train: TrainNo,
+    at: Time,
+)
+    requires room { 1 ≤ queue.old.spare }
+    ensures counted { (q : Event → Bool) → count_by q queue.new.events ≡ count_by q queue.old.events
+        + cond (is_in section claimed.now) 0 (count_by q (section_event at section train ∷ [])) }
     ensures room { length queue.new.events + queue.new.spare ≡ length queue.old.events + queue.old.spare }
     ensures spare { queue.old.spare ≤ queue.new.spare + 1 }
 {
-    if !next.passes {
-        return;
+    if !claimed.contains(&section) {
+        push(queue, event_of_section(at, section, train));
     }
-    push(queue, event_of_train(next.go, Class::Arrive, train, place));
+}
+
+/// Pushes the events that give the overlap of the move to this place free: so long after the arrival there.
+pub fn push_overlap(
+    plant: &Plant,
+    queue: &mut EventQueue,
+    train: TrainNo,
+    place: u16,
+    arrival: Time,
+)
+    requires train { train < trains plant.now }
+    requires last { place ≤ moves plant.now train }
+    requires time { arrival < 2 ^ 53 }
+    requires room { OVERLAP_SECTIONS ≤ queue.old.spare }
+    ensures counted { (q : Event → Bool) → count_by q queue.new.events ≡ count_by q queue.old.events
+        + count_by q (free_events (arrival + plant.now.tables.overlap_time) train (own_overlap plant.now train place)) }
+    ensures room { length queue.new.events + queue.new.spare ≡ length queue.old.events + queue.old.spare }
+    ensures spare { queue.old.spare ≤ queue.new.spare + OVERLAP_SECTIONS }
+{
+    let timer = after(arrival, u64::from(plant.overlap_time()));
+    push_unclaimed(
+        queue,
+        overlap_behind(plant, train, place),
+        &[],
+        train,
+        timer,
+    );
 }
 
 /// Pushes what is known of the end of the move: after the last move the arrival and the out event; else the
-/// ready event of the next move and, where the train stops in any case, its arrival. The answer is the
-/// arrival by a stop where the train may still pass, which is deferred.
+/// ready event of the next move and, where the train stops in any case, its arrival and the ends of the overlap.
+/// The answer is the arrival by a stop where the train may still pass: it is deferred, and so are the ends of the
+/// overlap.
 pub fn push_end(known: &KnownMove, queue: &mut EventQueue, times: &MoveTimes) -> Option<Time>
     requires times { AreBelow (2 ^ 51) times.now }
-    requires room { 2 ≤ queue.old.spare }
+    requires room { OVERLAP_SECTIONS + 2 ≤ queue.old.spare }
     ensures counted { (adms : List ℕ) → length adms ≡ known.now.place → times.now ≡ own_times known.now adms
-        → (q : Event → Bool) → count_by q queue.new.events + count_by q (deferred_event known.now.train known.now.place result)
+        → (q : Event → Bool) → count_by q queue.new.events
+        + count_by q (deferred_of known.now.plant.now known.now.train known.now.place result)
         ≡ count_by q queue.old.events + tally (λ e. q (event_of e)) (timed end_lines known.now adms) }
     ensures deferred { (at : ℕ) → result ≡ Some at → (of_place is_forced known.now ≡ false)
         × (known.now.place < moves known.now.plant.now known.now.train)
@@ -160,7 +250,7 @@ pub fn push_end(known: &KnownMove, queue: &mut EventQueue, times: &MoveTimes) ->
     ensures not_deferred { result ≡ None → (of_place is_forced known.now ≡ true)
         ⊎ (known.now.place ≡ moves known.now.plant.now known.now.train) }
     ensures room { length queue.new.events + queue.new.spare ≡ length queue.old.events + queue.old.spare }
-    ensures spare { queue.old.spare ≤ queue.new.spare + 2 }
+    ensures spare { queue.old.spare ≤ queue.new.spare + OVERLAP_SECTIONS + 2 }
 {
     if known.place == known.last_place() {
         push(
@@ -183,6 +273,7 @@ pub fn push_end(known: &KnownMove, queue: &mut EventQueue, times: &MoveTimes) ->
             queue,
             event_of_train(stop, Class::Arrive, known.train, known.place),
         );
+        push_overlap(known.plant, queue, known.train, known.place, stop);
         return None;
     }
     Some(stop)

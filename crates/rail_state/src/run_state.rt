@@ -1,27 +1,28 @@
 //! The state of a run as one.
 
-ghost use Rattle.std.specs.Prelude.{◌≡◌, ℕ, suc, ◌+◌, ◌<◌, ◌≤◌, [], ◌∷◌, Bool, Option, Some, None, true, false, length, count_by, replicate, IfOk, IsSome};
+ghost use Rattle.std.specs.Prelude.{◌≡◌, ℕ, suc, ◌+◌, ◌<◌, ◌≤◌, ◌^◌, [], ◌∷◌, Bool, Option, Some, None, true, false, length, count_by, replicate, IfOk, IsSome};
 ghost use Rattle.rail_base.specs.declared.history.Cause.{Cause};
 ghost use Rattle.rail_base.specs.declared.history.What.TheVariants.{Hold};
 ghost use Rattle.rail_block.specs.declared.times.MoveTimes.{MoveTimes};
-ghost use Rattle.rail_laws_run.specs.HolderTables.{held_cause};
+ghost use Rattle.rail_laws_run.specs.HolderTables.{held_cause, own_overlap};
+ghost use Rattle.rail_laws_run.specs.MostDue.{most_due};
 ghost use Rattle.rail_queue.specs.declared.event.Class.TheVariants.{Ready};
 ghost use Rattle.rail_queue.specs.declared.event.Event.{Event};
 ghost use Rattle.rail_rules.specs.Fronts.{Front};
 ghost use Rattle.rail_rules.specs.Numbers.{gather, listed};
-ghost use Rattle.rail_rules.specs.Plant.{bound, claimed, moves, trains};
+ghost use Rattle.rail_rules.specs.Plant.{claimed, moves, trains};
 ghost use Rattle.rail_state.specs.Admissions.{IsGivable};
-ghost use Rattle.rail_state.specs.Events.{command_events, deferred_event, train_event};
+ghost use Rattle.rail_state.specs.Events.{command_events, deferred_of, train_event};
 ghost use Rattle.rail_state.specs.Representation.{IsAdmitLine, IsHoldLine, IsReadyFor, StaysSettled, holders_after, what_of};
 ghost use Rattle.rail_state.specs.SeenCauses.{cancelled_by, stays};
 ghost use Rattle.rail_state.specs.TrainStates.{AreFirm, outside, lacks_hold_line, state_after, state_of, state_told};
 ghost use Rattle.std.specs.List.{filter};
-ghost use Rattle.rail_base.specs.declared.limits.TheConstants.{COMMANDS};
+ghost use Rattle.rail_base.specs.declared.limits.TheConstants.{COMMANDS, OVERLAP_SECTIONS};
 ghost use Rattle.rail_state.specs.declared.pushes.TheConstants.{MOVE_EVENTS};
 
 use crate::admission::{push_move, take_sections};
 use crate::events::{event_of_command, event_of_train};
-use crate::pushes::{MOVE_EVENTS, push_entry};
+use crate::pushes::{MOVE_EVENTS, push_entry, push_overlap};
 use crate::trains::TrainStates;
 use rail_base::{Cause, Command, Order, OutOfMemory, SectionNo, Time, TrainNo, What};
 use rail_block::{KnownMove, times_of};
@@ -67,7 +68,7 @@ impl RunState {
             ≡ count_by q (gather (λ t. train_event (state_of state.trains t).times.next_ready Ready t 1 ∷ []) (trains plant.now))
             + count_by q (command_events 0 commands.now)) }
         ensures room { IfOk result (λ state. length state.queue.events + state.queue.spare
-            ≡ bound plant.now (length commands.now) + MOVE_EVENTS) }
+            ≡ most_due plant.now (length commands.now) + MOVE_EVENTS) }
         ensures trains { IfOk result (λ state. state.trains ≡ listed (outside plant.now) (trains plant.now)) }
         ensures holders { IfOk result (λ state. state.holders ≡ replicate (length plant.now.tables.sections) None) }
         ensures instant { IfOk result (λ state. state.instant ≡ 0) }
@@ -207,7 +208,8 @@ impl RunState {
         requires givable { (front : Front) × IsGivable plant.now front self.old.trains self.old.instant train }
         requires room { MOVE_EVENTS ≤ self.old.queue.spare }
         requires sections { length self.old.holders ≡ length plant.now.tables.sections }
-        requires free { held_cause self.old.holders (claimed plant.now train (state_of self.old.trains train).place) ≡ None }
+        requires free { held_cause self.old.holders train (own_overlap plant.now train (state_of self.old.trains train).place)
+            (claimed plant.now train (state_of self.old.trains train).place) ≡ None }
         requires moves { (t : ℕ) → t < trains plant.now → (state_of self.old.trains t).waits ≡ true
             → (state_of self.old.trains t).place < moves plant.now t }
         requires waits { (t : ℕ) → (state_of self.old.trains t).waits ≡ false → (state_of self.old.trains t).known ≡ None }
@@ -220,7 +222,7 @@ impl RunState {
         let place = before.place + 1;
         let times = times_of(plant, train, place, self.instant, &before.times);
         let known = KnownMove::new(plant, train, place);
-        let arrival = push_move(&known, &mut self.queue, &times);
+        let arrival = push_move(&known, &mut self.queue, &times, &self.holders);
         take_sections(&known, &mut self.holders);
         self.trains
             .admit(plant, &self.holders, train, times, arrival);
@@ -228,21 +230,24 @@ impl RunState {
     }
 
     /// The hold line of the train's next move is given, with its known cause: an arrival that was deferred is
-    /// pending. What the line says.
-    pub fn hold(&mut self, train: TrainNo) -> What
+    /// pending, and so are the ends of the overlap there. What the line says.
+    pub fn hold(&mut self, plant: &Plant, train: TrainNo) -> What
         requires train { train < length self.old.trains }
+        requires known { train < trains plant.now }
+        requires within { (state_of self.old.trains train).place ≤ moves plant.now train }
+        requires time { (at : ℕ) → (state_of self.old.trains train).deferred ≡ Some at → at < 2 ^ 53 }
         requires lacks { lacks_hold_line (state_of self.old.trains train) ≡ true }
         requires place { (state_of self.old.trains train).place < 65535 }
-        requires room { 1 ≤ self.old.queue.spare }
+        requires room { OVERLAP_SECTIONS + 1 ≤ self.old.queue.spare }
         requires unsettled { self.old.is_settled ≡ false }
         ensures what { (why : Cause) → (state_of self.old.trains train).known ≡ Some why
             → result ≡ Hold train ((state_of self.old.trains train).place + 1) why }
-        ensures line { IsHoldLine train self.old self.new }
+        ensures line { IsHoldLine plant.now train self.old self.new }
         ensures room { length self.new.queue.events + self.new.queue.spare ≡ length self.old.queue.events + self.old.queue.spare }
     {
         let train_state = *self.trains.get(train);
         let arrival = self.trains.tell(train);
-        push_deferred(&mut self.queue, train, train_state.place, arrival);
+        push_deferred(plant, &mut self.queue, train, train_state.place, arrival);
         held(train, train_state.place + 1, train_state.known)
     }
 }
@@ -282,15 +287,26 @@ fn cancelled_by(order: &Order) -> Option<TrainNo>
     }
 }
 
-/// Pushes the arrival of the train at the end of this move, where there is one that was deferred.
-fn push_deferred(queue: &mut EventQueue, train: TrainNo, place: u16, arrival: Option<Time>)
-    requires { 1 ≤ queue.old.spare }
+/// Pushes the arrival of the train at the end of the move to this place and the ends of the overlap there, where an
+/// arrival was deferred.
+fn push_deferred(
+    plant: &Plant,
+    queue: &mut EventQueue,
+    train: TrainNo,
+    place: u16,
+    arrival: Option<Time>,
+)
+    requires train { train < trains plant.now }
+    requires last { place ≤ moves plant.now train }
+    requires time { (at : ℕ) → arrival ≡ Some at → at < 2 ^ 53 }
+    requires room { OVERLAP_SECTIONS + 1 ≤ queue.old.spare }
     ensures counted { (q : Event → Bool) → count_by q queue.new.events
-        ≡ count_by q queue.old.events + count_by q (deferred_event train place arrival) }
+        ≡ count_by q queue.old.events + count_by q (deferred_of plant.now train place arrival) }
     ensures room { length queue.new.events + queue.new.spare ≡ length queue.old.events + queue.old.spare }
 {
     if let Some(at) = arrival {
         queue.push(event_of_train(at, Class::Arrive, train, place));
+        push_overlap(plant, queue, train, place, at);
     }
 }
 
@@ -313,17 +329,26 @@ fn first_events(
     ensures counted { IfOk result (λ queue. (q : Event → Bool) → count_by q queue.events
         ≡ count_by q (gather (λ t. train_event (state_of states.now t).times.next_ready Ready t 1 ∷ []) (trains plant.now))
         + count_by q (command_events 0 commands.now)) }
-    ensures room { IfOk result (λ queue. length queue.events + queue.spare ≡ bound plant.now (length commands.now) + MOVE_EVENTS) }
+    ensures room { IfOk result (λ queue. length queue.events + queue.spare ≡ most_due plant.now (length commands.now) + MOVE_EVENTS) }
 {
     let trains = plant.moves().trains();
-    let room = plant.event_bound(commands.len() as u64) as usize + MOVE_EVENTS;
-    let mut queue = EventQueue::with_room(alloc, room)?;
+    let mut queue = EventQueue::with_room(alloc, queue_room(plant, commands.len()))?;
     for number in 0..trains {
         let train = TrainNo(number);
         push_entry(&mut queue, train, &states.get(train).times);
     }
     push_commands(&mut queue, commands);
     Ok(queue)
+}
+
+/// How many events the queue has room for: all that are due at once, and those that one admission brings.
+fn queue_room(plant: &Plant, commands: usize) -> usize
+    requires few { commands ≤ COMMANDS }
+    ensures { result ≡ most_due plant.now commands + MOVE_EVENTS }
+{
+    let sections = plant.names().sections.len();
+    let trains = plant.moves().trains() as usize;
+    3 * sections + 2 * trains + commands + MOVE_EVENTS
 }
 
 /// Pushes the events of the commands, which are numbered from 1.

@@ -2,10 +2,10 @@
 
 ghost use Rattle.std.specs.Prelude.{◌≡◌, ℕ, ◌-◌, ◌<◌, ◌≤◌, ◌&&◌, ◌||◌, not, [], ◌∷◌, ◌++◌, get_or, length, true, false, None, vec_len, vec_capacity};
 ghost use Rattle.std.specs.List.{All};
-ghost use Rattle.rail_base.specs.declared.limits.TheConstants.{ITINERARY_ROUTES, SECTIONS, TRAINS};
+ghost use Rattle.rail_base.specs.declared.limits.TheConstants.{ITINERARY_ROUTES, OVERLAP_SECTIONS, SECTIONS, TRAINS};
 ghost use Rattle.rail_state.specs.TrainSets.{has_train, set_at};
-ghost use Rattle.rail_rules.specs.Plant.{claimed, moves, needed, step_section, steps, trains};
-ghost use Rattle.rail_laws_run.specs.HolderTables.{held_cause};
+ghost use Rattle.rail_rules.specs.Plant.{claimed, moves, step_section, steps, trains};
+ghost use Rattle.rail_laws_run.specs.HolderTables.{bar_holder, held_cause, own_overlap};
 ghost use Rattle.rail_state.specs.TrainStates.{is_touched, state_told};
 ghost use Rattle.rail_state.specs.TrainStates.{admitted, after_taking, bar_by, head_behind, is_at_first, is_blocked_at, is_held_before, lacks_hold_line, is_untried, looked_at, outside, outlasts_taking, after_hold_line, without_known};
 ghost use Rattle.rail_state.specs.Kept.{is_loose};
@@ -117,9 +117,9 @@ impl TrainState {
     {
         if self.is_untried() {
             has_few_moves(plant, train);
-            let row = plant.move_row(train, self.place + 1);
-            let sections = row.sections.as_slice();
-            self.known = bar_of(orders, holders, train, sections);
+            let sections = claimed_sections(plant, train, self.place + 1);
+            let own = overlap_behind(plant, train, self.place);
+            self.known = bar_of(orders, holders, train, own, sections);
             self.at_first = self.is_held_at_first(sections);
         }
     }
@@ -165,13 +165,14 @@ impl TrainState {
         requires known { train < trains plant.now }
         requires sections { length holders.now ≡ length plant.now.tables.sections }
         requires moves { self.now.place < moves plant.now train }
-        ensures { result ≡ outlasts_taking holders.now (claimed plant.now train self.now.place) self.now.known }
+        ensures { result ≡ outlasts_taking holders.now train (own_overlap plant.now train self.now.place) (claimed plant.now train self.now.place) self.now.known }
     {
         match self.known {
             Some(Cause::Blocked { section, .. }) => {
                 has_few_moves(plant, train);
-                let row = plant.move_row(train, self.place + 1);
-                !is_held_before(holders, section, row.sections.as_slice())
+                let sections = claimed_sections(plant, train, self.place + 1);
+                let own = overlap_behind(plant, train, self.place);
+                !is_held_before(holders, train, own, section, sections)
             }
             Some(Cause::NoList) => false,
             _ => true,
@@ -202,8 +203,7 @@ impl TrainState {
         match order {
             Order::Close(section) | Order::Reopen(section) => {
                 has_few_moves(plant, train);
-                let row = plant.move_row(train, self.place + 1);
-                row.sections.as_slice().contains(section)
+                claimed_sections(plant, train, self.place + 1).contains(section)
             }
             Order::Stop(other) | Order::Go(other) | Order::Cancel(other) => *other == train,
             Order::Policy(_) | Order::Retire(_) | Order::Priority(..) => false,
@@ -295,16 +295,42 @@ pub(crate) fn section_at(plant: &Plant, train: TrainNo, head: Head) -> SectionNo
     plant.move_row(train, head.place).sections.as_slice()[usize::from(head.step) - 1]
 }
 
-/// What bars a move of the train over these sections: that the train is stopped, else the first closed section,
-/// else the first held one.
+/// The sections that the train's move to this place claims.
+pub fn claimed_sections(plant: &Plant, train: TrainNo, place: u16) -> &[SectionNo]
+    requires train { train < trains plant.now }
+    requires first { 1 ≤ place }
+    requires last { place ≤ moves plant.now train }
+    ensures sections { result.now ≡ claimed plant.now train (place - 1) }
+    ensures known { All (λ x. x < length plant.now.tables.sections) result.now }
+{
+    plant.moves().claim(train, place)
+}
+
+/// The sections of the overlap of the move that brought the train to this place.
+pub fn overlap_behind(plant: &Plant, train: TrainNo, place: u16) -> &[SectionNo]
+    requires train { train < trains plant.now }
+    requires last { place ≤ moves plant.now train }
+    ensures sections { result.now ≡ own_overlap plant.now train place }
+    ensures known { All (λ x. x < length plant.now.tables.sections) result.now }
+    ensures few { length result.now ≤ OVERLAP_SECTIONS }
+{
+    if place == 0 {
+        return &[];
+    }
+    plant.move_row(train, place).overlap.as_slice()
+}
+
+/// What bars a move over these sections of the train whose own overlap this is: that the train is stopped, else the
+/// first closed section, else the first one whose holder bars the train.
 pub fn bar_of(
     orders: &ToldOrders,
     holders: &Holders,
     train: TrainNo,
+    own: &[SectionNo],
     sections: &[SectionNo],
 ) -> Option<Cause>
     requires { All (λ x. x < length holders.now) sections.now }
-    ensures { result ≡ bar_by orders.now holders.now train sections.now }
+    ensures { result ≡ bar_by orders.now holders.now train own.now sections.now }
 {
     let stopped = orders.stop_cause(train);
     if stopped.is_some() {
@@ -314,16 +340,43 @@ pub fn bar_of(
     if closed.is_some() {
         return closed;
     }
-    held_cause(holders, sections)
+    held_cause(holders, train, own, sections)
 }
 
-/// The cause that the first held section of these is.
-pub fn held_cause(holders: &Holders, sections: &[SectionNo]) -> Option<Cause>
+/// The holder of the section, where it bars the train: a train isn't barred by its own overlap.
+pub(crate) fn bar_holder(
+    holders: &Holders,
+    train: TrainNo,
+    own: &[SectionNo],
+    section: SectionNo,
+) -> Option<TrainNo>
+    requires { section < length holders.now }
+    ensures { result ≡ bar_holder holders.now train own.now section }
+{
+    match holders.holder(section) {
+        Some(holder) => {
+            if holder == train && own.contains(&section) {
+                None
+            } else {
+                Some(holder)
+            }
+        }
+        None => None,
+    }
+}
+
+/// The cause that the first of these sections is whose holder bars the train.
+pub fn held_cause(
+    holders: &Holders,
+    train: TrainNo,
+    own: &[SectionNo],
+    sections: &[SectionNo],
+) -> Option<Cause>
     requires { All (λ x. x < length holders.now) sections.now }
-    ensures { result ≡ held_cause holders.now sections.now }
+    ensures { result ≡ held_cause holders.now train own.now sections.now }
 {
     for section in sections {
-        if let Some(holder) = holders.holder(*section) {
+        if let Some(holder) = bar_holder(holders, train, own, *section) {
             return Some(Cause::Blocked {
                 section: *section,
                 holder,
@@ -333,16 +386,22 @@ pub fn held_cause(holders: &Holders, sections: &[SectionNo]) -> Option<Cause>
     None
 }
 
-/// Whether a section that stands before this one among these is held.
-fn is_held_before(holders: &Holders, section: SectionNo, sections: &[SectionNo]) -> bool
+/// Whether the holder of a section that stands before this one among these bars the train.
+fn is_held_before(
+    holders: &Holders,
+    train: TrainNo,
+    own: &[SectionNo],
+    section: SectionNo,
+    sections: &[SectionNo],
+) -> bool
     requires { All (λ x. x < length holders.now) sections.now }
-    ensures { result ≡ is_held_before holders.now section sections.now }
+    ensures { result ≡ is_held_before holders.now train own.now section sections.now }
 {
     for other in sections {
         if *other == section {
             return false;
         }
-        if holders.holder(*other).is_some() {
+        if bar_holder(holders, train, own, *other).is_some() {
             return true;
         }
     }

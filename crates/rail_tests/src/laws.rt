@@ -1,4 +1,4 @@
-ghost use Rattle.std.specs.Prelude.{◌≡◌, ◌⊎◌, ℕ, ◌<◌, IsTrue, List, [], length};
+ghost use Rattle.std.specs.Prelude.{◌≡◌, ◌+◌, ◌⊎◌, ℕ, ◌<◌, IsTrue, List, [], length};
 ghost use Rattle.std.specs.List.{list_all};
 ghost use Rattle.rail_laws_end.specs.Remaining.{NobodyIsCancelled, NothingIsBarred};
 ghost use Rattle.rail_worked.specs.DeadlockAvoided as deadlock;
@@ -6,6 +6,7 @@ ghost use Rattle.rail_worked.specs.Loop as loop_row;
 ghost use Rattle.rail_rules.specs.Accepted.{is_accepted, is_accepted_input};
 ghost use Rattle.rail_rules.specs.Fronts.{Front, kept, lines_beside_holds, places};
 ghost use Rattle.rail_rules.specs.Lawful.{is_complete, is_out};
+ghost use Rattle.rail_rules.specs.LineCounts.{taken_over};
 ghost use Rattle.rail_rules.specs.Orders.{is_cancelled, told};
 ghost use Rattle.rail_rules.specs.Places.{completes};
 ghost use Rattle.rail_rules.specs.Plant.{bound, moves_of, trains};
@@ -27,7 +28,7 @@ pub fn the_loop_is_an_instance()
         (kept loop_row.plant loop_row.front)) }
     ensures all_out { (t : ℕ) → t < trains loop_row.plant
         → IsTrue (is_out loop_row.front t) ⊎ IsTrue (is_cancelled t (told loop_row.input.commands loop_row.front)) }
-    ensures lines { lines_beside_holds loop_row.front ≡ bound loop_row.plant (length loop_row.input.commands) }
+    ensures lines { lines_beside_holds loop_row.front + taken_over loop_row.plant loop_row.front ≡ bound loop_row.plant (length loop_row.input.commands) }
     ensures named { IsNamed loop_row.plant }
     ensures writable { IsTrue (list_all (is_writable loop_row.plant) loop_row.front) }
     ensures only_text { (other : Front) → IsTrue (list_all (is_writable loop_row.plant) other)
@@ -48,7 +49,7 @@ pub fn the_deadlock_avoided_is_an_instance()
         (kept deadlock.plant deadlock.front)) }
     ensures all_out { (t : ℕ) → t < trains deadlock.plant
         → IsTrue (is_out deadlock.front t) ⊎ IsTrue (is_cancelled t (told deadlock.input.commands deadlock.front)) }
-    ensures lines { lines_beside_holds deadlock.front ≡ bound deadlock.plant (length deadlock.input.commands) }
+    ensures lines { lines_beside_holds deadlock.front + taken_over deadlock.plant deadlock.front ≡ bound deadlock.plant (length deadlock.input.commands) }
     ensures named { IsNamed deadlock.plant }
     ensures writable { IsTrue (list_all (is_writable deadlock.plant) deadlock.front) }
     ensures only_text { (other : Front) → IsTrue (list_all (is_writable deadlock.plant) other)

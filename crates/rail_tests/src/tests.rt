@@ -12,7 +12,7 @@ use rail_engine::Engine;
 use rail_plan::Plant;
 use rail_policy::{Desk, FcfsPolicy, Policy, deck_is_fine};
 use rail_scene::read_scene;
-use scenes::{LOOP, TURN};
+use scenes::{LOOP, OVERLAP, TURN};
 use std::alloc::Global;
 use std::process::Abort;
 
@@ -123,6 +123,22 @@ fn blocks_where_it_stands(rt: &impl Abort, plant: &Plant) {
         ..closed
     };
     assert!(rt; interval_of(plant, A, 1, 3, &first, None) == open);
+}
+
+/// The section behind the signal is claimed by the move to it as its overlap, and needed by the next move.
+#[test]
+fn claims_the_section_behind_the_signal(rt: HostRuntime) {
+    let Ok(plant) = plant_of(rt.alloc(), OVERLAP) else {
+        panic!(rt; "no plant");
+    };
+    let moves = plant.moves();
+    assert_eq!(rt; moves.trains(), 1);
+    assert_eq!(rt; moves.places(A), 2);
+    let both = [SectionNo(0), SectionNo(1)];
+    let (first, second) = both.split_at(1);
+    let to_signal = moves.need(A, 1) == first && moves.over(A, 1) == second;
+    let onward = moves.need(A, 2) == second && moves.over(A, 2).is_empty();
+    assert!(rt; to_signal && onward && moves.claim(A, 1) == both.as_slice());
 }
 
 /// The second train of a row.

@@ -1,5 +1,5 @@
 -- The call that a record spells may stand at its place.
-use Rattle.std.proofs.Common.{◌≡◌, ℕ, ◌-◌, ◌<◌, ◌≤◌, Bool, true, false, not, ◌&&◌, eqb, leb, cond, List, [], ◌∷◌, length, map, codes, is_some, Option, Some, None, refl, sym, ap, ◌∙◌, subst, arith}
+use Rattle.std.proofs.Common.{◌≡◌, ℕ, ◌-◌, ◌<◌, ◌≤◌, Bool, true, false, not, ◌&&◌, ◌==◌, eqb, leb, cond, List, [], ◌∷◌, length, map, codes, is_some, Option, Some, None, refl, sym, ap, ◌∙◌, subst, arith}
 use Rattle.std.specs.Option.{option_and_then, option_map}
 use Rattle.std.proofs.lemmas.Bool.{and_parts, eqb-true, le-leb}
 use Rattle.std.proofs.lemmas.List.{length-map}
@@ -10,7 +10,7 @@ use Rattle.rail_base.specs.declared.plant.Tables.{Tables}
 use Rattle.rail_base.specs.declared.plant.TrainRow.{TrainRow}
 use Rattle.rail_rules.specs.Accepted.{is_accepted, is_call_in_range, is_time_in_range, is_train_in_range}
 use Rattle.rail_rules.specs.Numbers.{same_numbers}
-use Rattle.rail_rules.specs.Plant.{Plant, move_row, moves, trains}
+use Rattle.rail_rules.specs.Plant.{Plant, move_row, moves, overlap, trains}
 use Rattle.rail_rules.proofs.CallerLemmas.{accepted_parts, all_below_at, from_one}
 use Rattle.rail_plan.specs.PlanFaults.{bare}
 use Rattle.rail_text.specs.Decimals.{is_decimal, value_of}
@@ -160,7 +160,7 @@ module _ (words : (word : List ℕ) → IsInputTime word (input_time word)) wher
   module _ (plant : Plant) (accepted : is_accepted plant ≡ true) where
     no_last_turn : (t : ℕ) → t < trains plant → is_some (move_row plant t (moves plant t - 1)).turn ≡ false
     no_last_turn t lt = untold (is_some (move_row plant t (moves plant t - 1)).turn)
-        ((and_parts _ (not (is_some (move_row plant t (moves plant t - 1)).turn)) (all_below_at (is_train_in_range plant) (trains plant) t (accepted_parts plant accepted).trains_in_range lt)).1)
+        (and_parts _ (not (is_some (move_row plant t (moves plant t - 1)).turn)) (and_parts _ (length (overlap plant t (moves plant t - 1)) == 0) (all_below_at (is_train_in_range plant) (trains plant) t (accepted_parts plant accepted).trains_in_range lt)).0).1
       where
         untold : (b : Bool) → not b ≡ true → b ≡ false
         untold true h = absurd (cc h)

@@ -105,8 +105,9 @@ fn told_of_holders(alloc: Global) -> Option<(Played, PlacesFault)> {
 ///
 /// First three trains stand in a ring, and one of them may have a way round over a free track. Then, with
 /// the sections W, PW, L1, L2, PE, C, QW, N1, N2, QE, X, two trains go to the east over L1, C and N1, and
-/// one to the west over N2; and at last a train stands on N1 that can go on to a track that the second
-/// train to the east needs at the end, with the same trains the other way round.
+/// one to the west over N2; then a train stands on N1 that can go on to a track that the second
+/// train to the east needs at the end, with the same trains the other way round. At last two trains meet at the loop,
+/// of which the first one claims over its overlap the section on which the second one stands.
 const DEPTHS: &str = "\
 0 1/0, 1 2/1, 2 0/2: 111: none
 0 3 1/0 3, 1 2/1, 2 0/2: 111: 0
@@ -114,6 +115,7 @@ const DEPTHS: &str = "\
 012 45 67 9a/2 5 7, 012 45 67 9a/2 5 7, a 986543 10/a 3: 211: 1
 012 45 67 9a/2 5 7, 012 45 67 9ak/2 5 7, a 986543 10/a 3, 7 k 2/7 k: 2111: 2
 7 k 2/7 k, a 986543 10/a 3, 012 45 67 9ak/2 5 7, 012 45 67 9a/2 5 7: 1112: 2
+0 1245 45/0 2, 5 43 10/5 3: 11: 0
 ";
 
 #[test]

@@ -9,6 +9,7 @@ ghost use Rattle.rail_history.specs.Lines.{line_of};
 use crate::plants::trains_of;
 use crate::shelves::alone;
 use indexmap::IndexSet;
+use rail_base::limits::LIST_TRAINS;
 use rail_base::{Entry, Name, Names, Note, OutOfMemory, Time, TrainNo, What};
 use rail_history::write_entry;
 use rail_io::{Failed, MemorySink, Sink, SureSink};
@@ -79,7 +80,7 @@ fn are_named(names: &Names, trains: &[TrainNo]) -> bool
 
 /// Writes the line, where its trains have names.
 fn write<O: Sink>(names: &Names, word: &str, kept: &[TrainNo], out: &mut O) -> Result<(), Failed> {
-    if kept.len() > 8192 || !is_named(names, TrainNo(1)) || !are_named(names, kept) {
+    if kept.len() > LIST_TRAINS || !is_named(names, TrainNo(1)) || !are_named(names, kept) {
         return Err(Failed);
     }
     let entry = Entry {

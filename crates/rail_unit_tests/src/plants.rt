@@ -1,10 +1,10 @@
 //! Small plants as texts: the moves of the trains, and where they stand.
-ghost use Rattle.std.specs.Prelude.{◌≡◌, ℕ, ◌+◌, ◌<◌, ◌≤◌, ◌∷◌, [], length, get_or, IsTrue, IfOk, All};
+ghost use Rattle.std.specs.Prelude.{◌≡◌, ℕ, ◌+◌, ◌<◌, ◌≤◌, ◌∷◌, [], length, get_or, replicate, IsTrue, IfOk, All};
 ghost use Rattle.std.specs.List.{list_all, list_any};
 ghost use Rattle.rail_rules.specs.Moves.{is_valid, is_valid_move};
 ghost use Rattle.rail_rules.specs.Numbers.{is_in};
 ghost use Rattle.rail_place.specs.Made.{IsMadeFor};
-ghost use Rattle.rail_place.specs.Tables.{moves_in, lists_of};
+ghost use Rattle.rail_place.specs.Tables.{moves_in, row_lists};
 
 use rail_base::limits::{ITINERARY_ROUTES, ROUTE_SECTIONS, SECTIONS, TRAINS};
 use rail_base::{SectionNo, Seq, TrainNo};
@@ -71,15 +71,29 @@ fn push_lists(
     requires short { length need.now ≤ ITINERARY_ROUTES }
     requires narrow { (m : ℕ) → length (get_or need.now m []) ≤ ROUTE_SECTIONS }
     requires in_range { (m x : ℕ) → IsTrue (is_in x (get_or need.now m [])) → x < SECTIONS }
-    requires valid { IsTrue (is_valid (moves_in (lists_of need.now stand.now ∷ []))) }
+    requires valid { IsTrue (is_valid (moves_in (row_lists need.now [] stand.now ∷ []))) }
 {
     match lists(alloc, need) {
         Ok(need) => match lists(alloc, stand) {
-            Ok(stand) => moves.push_train(alloc, need, stand).is_ok(),
+            Ok(stand) => match no_overlaps(alloc, need.len()) {
+                Ok(over) => moves.push_train(alloc, need, over, stand).is_ok(),
+                Err(_) => false,
+            },
             Err(_) => false,
         },
         Err(_) => false,
     }
+}
+
+/// The overlaps of so many moves that have none.
+fn no_overlaps(alloc: Global, moves: usize) -> Result<SectionLists, AllocError>
+    ensures { IfOk result (λ overs. overs ≡ replicate moves []) }
+{
+    let mut overs = SectionLists::with_capacity(alloc, moves, 0)?;
+    for _ in 0..moves {
+        overs.push(&[])?;
+    }
+    Ok(overs)
 }
 
 /// The rows as lists in one vector.
@@ -136,7 +150,7 @@ fn number(letter: u8) -> u16 {
 
 fn move_is_valid(need: &[Seq<SectionNo>], stand: &[Seq<SectionNo>], made: usize) -> bool
     requires { made + 1 < length need.now }
-    ensures { IsTrue result → IsTrue (is_valid_move (moves_in (lists_of need.now stand.now ∷ [])) 0 made) }
+    ensures { IsTrue result → IsTrue (is_valid_move (moves_in (row_lists need.now [] stand.now ∷ [])) 0 made) }
 {
     if made >= stand.len() {
         return false;
@@ -168,7 +182,7 @@ fn all_in(sections: &[SectionNo], needed: &[SectionNo]) -> bool
 }
 
 fn row_is_valid(need: &[Seq<SectionNo>], stand: &[Seq<SectionNo>]) -> bool
-    ensures { IsTrue result → IsTrue (is_valid (moves_in (lists_of need.now stand.now ∷ []))) }
+    ensures { IsTrue result → IsTrue (is_valid (moves_in (row_lists need.now [] stand.now ∷ []))) }
 {
     for made in 1..need.len() {
         if !move_is_valid(need, stand, made - 1) {

@@ -1,11 +1,13 @@
 -- The table of words: the forms of a command line, what the words of each spell, and what a request says.
-use Rattle.std.specs.Prelude.{◌≡◌, ℕ, ◌<◌, ◌^◌, find, List, [], ◌∷◌, ◌++◌, Option, Some, None, codes, decimal}
+use Rattle.std.specs.Prelude.{◌≡◌, ℕ, ◌<◌, ◌≤◌, ◌^◌, find, List, [], ◌∷◌, ◌++◌, Option, Some, None, codes, decimal}
 use Rattle.std.specs.Option.{option_copied}
 use Rattle.std.specs.Str.{bytes_eq}
 use Rattle.rail_base.specs.Clock.{IsLenientTime}
 use Rattle.rail_words.specs.declared.files.Role.TheVariants as role
 use Rattle.rail_words.specs.declared.forms.Form.{Form}
-use Rattle.rail_words.specs.declared.forms.Form.TheVariants.{Run, Infra, Play, Check, Stairs, Report, Capacity, Edit, Migrate, Scene, Gen}
+use Rattle.rail_words.specs.declared.forms.Form.TheVariants.{Run, Infra, Play, Check, Stairs, Report, Capacity, Insert, Edit, Migrate, Scene, Gen}
+use Rattle.rail_words.specs.declared.forms.PathRequest.{PathRequest}
+use Rattle.rail_words.specs.declared.forms.TheConstants.{PATHS}
 use Rattle.rail_words.specs.declared.forms.Request.{Request}
 use Rattle.rail_words.specs.declared.forms.Request.TheVariants as request
 use Rattle.rail_words.specs.declared.forms.Scenario.{Scenario as Named}
@@ -20,6 +22,7 @@ verb_of Check = codes "check"
 verb_of Stairs = codes "stairs"
 verb_of Report = codes "report"
 verb_of Capacity = codes "capacity"
+verb_of Insert = codes "insert"
 verb_of Edit = codes "edit"
 verb_of Migrate = codes "migrate"
 verb_of Scene = codes "scene"
@@ -27,7 +30,7 @@ verb_of Gen = codes "gen"
 
 -- all forms
 abbrev pub all_forms : List Form
-all_forms = Run ∷ Infra ∷ Play ∷ Check ∷ Stairs ∷ Report ∷ Capacity ∷ Edit ∷ Migrate ∷ Scene ∷ Gen ∷ []
+all_forms = Run ∷ Infra ∷ Play ∷ Check ∷ Stairs ∷ Report ∷ Capacity ∷ Insert ∷ Edit ∷ Migrate ∷ Scene ∷ Gen ∷ []
 
 -- the form with this verb
 abbrev pub form_named : List ℕ → Option Form
@@ -56,6 +59,14 @@ pub record Study : Type 0 where
   pub to : ℕ
   pub scenario : Scenario
 
+-- paths: a train, a window from one time to another, in tenths of a second, how many copies are to begin in it, and a scenario
+pub record Paths : Type 0 where
+  pub train : List ℕ
+  pub from : ℕ
+  pub to : ℕ
+  pub count : ℕ
+  pub scenario : Scenario
+
 -- what the words behind the verb of a form spell
 abbrev pub Values : Form → Type 0
 Values Run = Scenario
@@ -65,6 +76,7 @@ Values Check = Checked
 Values Stairs = Scenario
 Values Report = Scenario
 Values Capacity = Study
+Values Insert = Paths
 Values Edit = SceneAnd
 Values Migrate = List ℕ
 Values Scene = ℕ
@@ -97,6 +109,18 @@ pub record IsNumber (word : List ℕ) (n : ℕ) : Type 0 where
   pub fits : n < 2 ^ 64
   pub spelled : word ≡ decimal n
 
+-- the word spells how many paths are asked for
+pub record IsPathCount (word : List ℕ) (count : ℕ) : Type 0 where
+  pub number : IsNumber word count
+  pub some : 1 ≤ count
+  pub few : count ≤ PATHS
+
+-- the words ask for the paths
+abbrev pub ArePaths : Paths → List (List ℕ) → Type 0
+ArePaths paths (train ∷ from ∷ to ∷ count ∷ words) = (paths.train ≡ train) × IsLenientTime from paths.from
+    × IsLenientTime to paths.to × IsPathCount count paths.count × (scenario_named words ≡ Some paths.scenario)
+ArePaths paths words = ⊥
+
 -- the words are one that spells the number
 abbrev pub IsOneNumber : ℕ → List (List ℕ) → Type 0
 IsOneNumber n (word ∷ []) = IsNumber word n
@@ -111,6 +135,7 @@ Spells Check checked words = checked_named words ≡ Some checked
 Spells Stairs scenario words = scenario_named words ≡ Some scenario
 Spells Report scenario words = scenario_named words ≡ Some scenario
 Spells Capacity study words = IsStudy study words
+Spells Insert paths words = ArePaths paths words
 Spells Edit files words = words ≡ files.scene ∷ files.other ∷ []
 Spells Migrate scene words = words ≡ scene ∷ []
 Spells Scene number words = IsOneNumber number words
@@ -140,6 +165,7 @@ files_of Check checked = scenario_files checked.scenario ++ file_as role.History
 files_of Stairs scenario = scenario_files scenario
 files_of Report scenario = scenario_files scenario
 files_of Capacity study = scenario_files study.scenario
+files_of Insert paths = scenario_files paths.scenario
 files_of Edit files = file_as role.Scene (Some files.scene) ∷ file_as role.Edits (Some files.other) ∷ []
 files_of Migrate scene = file_as role.Scene (Some scene) ∷ []
 files_of Scene number = []
@@ -153,6 +179,16 @@ scenario_in named = record {
   commands = option_copied named.commands;
 }
 
+-- the paths of a request for them
+abbrev pub paths_in : PathRequest → Paths
+paths_in request = record {
+  train = request.train.now;
+  from = request.from;
+  to = request.to;
+  count = request.count;
+  scenario = scenario_in request.scenario;
+}
+
 -- the form of a request
 abbrev pub form_in : Request → Form
 form_in (request.Run scenario) = Run
@@ -162,6 +198,7 @@ form_in (request.Check scenario history) = Check
 form_in (request.Stairs scenario) = Stairs
 form_in (request.Report scenario) = Report
 form_in (request.Capacity line from to scenario) = Capacity
+form_in (request.Insert paths) = Insert
 form_in (request.Edit scene edits) = Edit
 form_in (request.Migrate scene) = Migrate
 form_in (request.Scene number) = Scene
@@ -176,6 +213,7 @@ values_in (request.Check scenario history) = record { scenario = scenario_in sce
 values_in (request.Stairs scenario) = scenario_in scenario
 values_in (request.Report scenario) = scenario_in scenario
 values_in (request.Capacity line from to scenario) = record { line = line.now; from = from; to = to; scenario = scenario_in scenario }
+values_in (request.Insert paths) = paths_in paths
 values_in (request.Edit scene edits) = record { scene = scene.now; other = edits.now }
 values_in (request.Migrate scene) = scene.now
 values_in (request.Scene number) = number
@@ -190,6 +228,7 @@ files_in (request.Check scenario history) = scenario_files (scenario_in scenario
 files_in (request.Stairs scenario) = scenario_files (scenario_in scenario)
 files_in (request.Report scenario) = scenario_files (scenario_in scenario)
 files_in (request.Capacity line from to scenario) = scenario_files (scenario_in scenario)
+files_in (request.Insert paths) = scenario_files (scenario_in paths.scenario)
 files_in (request.Edit scene edits) = file_as role.Scene (Some scene.now) ∷ file_as role.Edits (Some edits.now) ∷ []
 files_in (request.Migrate scene) = file_as role.Scene (Some scene.now) ∷ []
 files_in (request.Scene number) = []

@@ -4,13 +4,16 @@
 ghost use Rattle.std.specs.Prelude.{◌≡◌, ◌≤◌, ℕ, ◌∷◌, [], List, MatchOption, length};
 ghost use Rattle.std.specs.Option.{option_copied, option_map};
 ghost use Rattle.rail_words.specs.declared.forms.Form.{Form as AnyForm};
-ghost use Rattle.rail_words.specs.declared.forms.Form.TheVariants.{Capacity};
+ghost use Rattle.rail_words.specs.declared.forms.Form.TheVariants.{Capacity, Insert};
 ghost use Rattle.rail_words.specs.Files.{file_with};
-ghost use Rattle.rail_words.specs.Forms.{IsAsked, IsOneNumber, IsStudy, Lacks, SceneAnd, Spells, Study, Values, checked_named, files_in, form_in, form_named, scenario_files, scenario_in, scenario_named, values_in, verb_of};
+ghost use Rattle.rail_words.specs.Forms.{ArePaths, IsAsked, IsOneNumber, IsPathCount, IsStudy, Lacks, Paths, SceneAnd, Spells, Study, Values, checked_named, files_in, form_in, form_named, scenario_files, scenario_in, scenario_named, values_in, verb_of};
 
 use crate::files::{Role, named_file};
 use crate::numbers::read_number;
 use rail_base::{Time, Word, read_time};
+
+/// How many paths may be asked for at most.
+pub const PATHS: u64 = 128;
 
 /// A form of a command line.
 #[derive(Clone, Copy, Debug, PartialEq, Eq)]
@@ -22,6 +25,7 @@ pub enum Form {
     Stairs,
     Report,
     Capacity,
+    Insert,
     Edit,
     Migrate,
     Scene,
@@ -29,7 +33,7 @@ pub enum Form {
 }
 
 /// The forms, in the order in which they are told.
-pub const FORMS: [Form; 11] = [
+pub const FORMS: [Form; 12] = [
     Form::Run,
     Form::Infra,
     Form::Play,
@@ -37,6 +41,7 @@ pub const FORMS: [Form; 11] = [
     Form::Stairs,
     Form::Report,
     Form::Capacity,
+    Form::Insert,
     Form::Edit,
     Form::Migrate,
     Form::Scene,
@@ -57,6 +62,7 @@ impl Form {
             Form::Stairs => "stairs",
             Form::Report => "report",
             Form::Capacity => "capacity",
+            Form::Insert => "insert",
             Form::Edit => "edit",
             Form::Migrate => "migrate",
             Form::Scene => "scene",
@@ -74,6 +80,7 @@ impl Form {
             Form::Play => "SCENE LIST",
             Form::Check => "SCENE TIMETABLE COMMANDS HISTORY",
             Form::Capacity => "LINE FROM TO SCENE [TIMETABLE [COMMANDS]]",
+            Form::Insert => "TRAIN FROM TO COUNT SCENE [TIMETABLE [COMMANDS]]",
             Form::Edit => "SCENE EDITS",
             Form::Scene | Form::Gen => "NUMBER",
         }
@@ -86,6 +93,7 @@ impl Form {
         match self {
             Form::Check => ", with - for no timetable or no commands",
             Form::Capacity => ", where FROM and TO are times as 01:30:00",
+            Form::Insert => ", where FROM and TO are times as 01:30:00, and COUNT is 1 to 128",
             Form::Scene | Form::Gen => ", where NUMBER is below 2^64 and has no leading zeros",
             _ => "",
         }
@@ -104,6 +112,7 @@ impl Form {
                 "blocking intervals of the trains, and how long each section is occupied",
             Form::Report => "how late the trains are, and for which causes they are held",
             Form::Capacity => "the trains pushed together on a line, and how full it is",
+            Form::Insert => "where further trains like one fit, and what is in the way of each",
             Form::Edit => "the scene after the edits, as a scene file",
             Form::Migrate => "the scene, as a scene file of the newest version",
             Form::Scene => "the made-up scene of the number, as a scene file",
@@ -125,6 +134,18 @@ pub struct Scenario<'w> {
     pub scene: &'w str,
     pub timetable: Option<&'w str>,
     pub commands: Option<&'w str>,
+}
+
+/// Paths that are asked for: so many copies of a train, between the trains of a run, that begin in a window.
+#[derive(Clone, Copy, Debug, PartialEq, Eq)]
+pub struct PathRequest<'w> {
+    /// The name of the train, which is not looked up.
+    pub train: &'w str,
+    pub from: Time,
+    pub to: Time,
+    /// From 1 to 128.
+    pub count: u16,
+    pub scenario: Scenario<'w>,
 }
 
 /// What a command line asks for.
@@ -151,6 +172,7 @@ pub enum Request<'w> {
         to: Time,
         scenario: Scenario<'w>,
     },
+    Insert(PathRequest<'w>),
     Edit {
         scene: &'w str,
         edits: &'w str,
@@ -179,6 +201,7 @@ impl<'w> Request<'w> {
             Request::Stairs(_) => Form::Stairs,
             Request::Report(_) => Form::Report,
             Request::Capacity { .. } => Form::Capacity,
+            Request::Insert(_) => Form::Insert,
             Request::Edit { .. } => Form::Edit,
             Request::Migrate { .. } => Form::Migrate,
             Request::Scene { .. } => Form::Scene,
@@ -210,6 +233,7 @@ impl<'w> Request<'w> {
             Request::Stairs(scenario) => scenario.file(role),
             Request::Report(scenario) => scenario.file(role),
             Request::Capacity { scenario, .. } => scenario.file(role),
+            Request::Insert(paths) => paths.scenario.file(role),
             Request::Edit { scene, edits } => match role {
                 Role::Scene => Some(*scene),
                 Role::Edits => Some(*edits),
@@ -277,6 +301,7 @@ fn request_with<'w>(form: Form, words: &'w [Word]) -> Option<Request<'w>>
             Some(Request::Check { scenario, history })
         }
         Form::Capacity => study_of(words),
+        Form::Insert => paths_of(words),
         Form::Edit => {
             let (scene, edits) = two_files(words)?;
             Some(Request::Edit { scene, edits })
@@ -376,6 +401,54 @@ fn study_with<'w>(line: &'w Word, from: &Word, to: &Word, files: &'w [Word]) -> 
         to,
         scenario,
     })
+}
+
+/// The paths that words ask for.
+fn paths_of<'w>(words: &'w [Word]) -> Option<Request<'w>>
+    ensures { MatchOption result ((paths : Paths) → ArePaths paths words.now → ⊥)
+        (λ request. (form_in request ≡ Insert) × Spells (form_in request) (values_in request) words.now) }
+{
+    match words {
+        [train, from, to, count, files @ ..] => paths_with(train, from, to, count, files),
+        _ => None,
+    }
+}
+
+/// The paths that the words for a train, the two times of a window, a count and the files of a run ask for.
+fn paths_with<'w>(
+    train: &'w Word,
+    from: &Word,
+    to: &Word,
+    count: &Word,
+    files: &'w [Word],
+) -> Option<Request<'w>>
+    ensures { let words = train.now ∷ from.now ∷ to.now ∷ count.now ∷ files.now in
+        MatchOption result ((paths : Paths) → ArePaths paths words → ⊥)
+        (λ request. (form_in request ≡ Insert) × Spells (form_in request) (values_in request) words) }
+{
+    let from = read_time(from.as_str().as_bytes())?;
+    let to = read_time(to.as_str().as_bytes())?;
+    let count = path_count(count.as_str().as_bytes())?;
+    let scenario = scenario_of(files)?;
+    let train = train.as_str();
+    Some(Request::Insert(PathRequest {
+        train,
+        from,
+        to,
+        count,
+        scenario,
+    }))
+}
+
+/// How many paths the word asks for.
+fn path_count(word: &[u8]) -> Option<u16>
+    ensures { MatchOption result ((count : ℕ) → IsPathCount word.now count → ⊥) (λ count. IsPathCount word.now count) }
+{
+    let count = read_number(word)?;
+    if count < 1 || PATHS < count {
+        return None;
+    }
+    Some(count as u16)
 }
 
 /// The number that the one word spells.

@@ -15,5 +15,5 @@ mod list;
 mod numbers;
 
 pub use files::Role;
-pub use forms::{FORMS, Form, Request, Scenario, form_named, request_of};
+pub use forms::{FORMS, Form, PATHS, PathRequest, Request, Scenario, form_named, request_of};
 pub use list::{ListFile, read_list};

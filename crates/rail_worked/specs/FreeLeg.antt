@@ -11,8 +11,9 @@ plant = record {
   tables = record {
     sections = record { name = 87 ∷ []; length = 1000; speed = 90 } ∷ record { name = 80 ∷ 87 ∷ []; length = 50; speed = 90 } ∷ record { name = 76 ∷ 49 ∷ []; length = 1000; speed = 90 } ∷ record { name = 76 ∷ 50 ∷ []; length = 1000; speed = 90 } ∷ record { name = 80 ∷ 69 ∷ []; length = 50; speed = 90 } ∷ record { name = 67 ∷ []; length = 1000; speed = 90 } ∷ record { name = 81 ∷ 87 ∷ []; length = 50; speed = 90 } ∷ record { name = 78 ∷ 49 ∷ []; length = 1000; speed = 90 } ∷ record { name = 78 ∷ 50 ∷ []; length = 1000; speed = 90 } ∷ record { name = 81 ∷ 69 ∷ []; length = 50; speed = 90 } ∷ record { name = 88 ∷ []; length = 1000; speed = 90 } ∷ [];
     release = 20;
+    overlap_time = 0;
     depth = 1;
-    trains = record { name = 65 ∷ 49 ∷ []; kind = record { name = 82 ∷ []; length = 90; speed = 90; start = 100; stop = 50 }; entry = 1200; priority = 0; moves = record { sections = 0 ∷ 1 ∷ 2 ∷ []; setting = 10; watching = 10; approach = 100; turn = None } ∷ record { sections = 4 ∷ 5 ∷ []; setting = 10; watching = 10; approach = 100; turn = None } ∷ record { sections = 6 ∷ 7 ∷ []; setting = 10; watching = 10; approach = 100; turn = None } ∷ record { sections = 9 ∷ 10 ∷ []; setting = 10; watching = 10; approach = 100; turn = None } ∷ [] } ∷ record { name = 65 ∷ 50 ∷ []; kind = record { name = 82 ∷ []; length = 90; speed = 90; start = 100; stop = 50 }; entry = 2196; priority = 0; moves = record { sections = 0 ∷ 1 ∷ 2 ∷ []; setting = 10; watching = 10; approach = 100; turn = None } ∷ record { sections = 4 ∷ 5 ∷ []; setting = 10; watching = 10; approach = 100; turn = None } ∷ record { sections = 6 ∷ 7 ∷ []; setting = 10; watching = 10; approach = 100; turn = None } ∷ record { sections = 9 ∷ 10 ∷ []; setting = 10; watching = 10; approach = 100; turn = None } ∷ [] } ∷ record { name = 66 ∷ []; kind = record { name = 82 ∷ []; length = 90; speed = 90; start = 100; stop = 50 }; entry = 2320; priority = 0; moves = record { sections = 10 ∷ []; setting = 10; watching = 10; approach = 100; turn = None } ∷ record { sections = 9 ∷ 8 ∷ 6 ∷ 5 ∷ 4 ∷ 3 ∷ []; setting = 10; watching = 10; approach = 100; turn = None } ∷ record { sections = 1 ∷ 0 ∷ []; setting = 10; watching = 10; approach = 100; turn = None } ∷ [] } ∷ [];
+    trains = record { name = 65 ∷ 49 ∷ []; kind = record { name = 82 ∷ []; length = 90; speed = 90; start = 100; stop = 50 }; entry = 1200; priority = 0; moves = record { sections = 0 ∷ 1 ∷ 2 ∷ []; overlap = []; setting = 10; watching = 10; approach = 100; turn = None } ∷ record { sections = 4 ∷ 5 ∷ []; overlap = []; setting = 10; watching = 10; approach = 100; turn = None } ∷ record { sections = 6 ∷ 7 ∷ []; overlap = []; setting = 10; watching = 10; approach = 100; turn = None } ∷ record { sections = 9 ∷ 10 ∷ []; overlap = []; setting = 10; watching = 10; approach = 100; turn = None } ∷ [] } ∷ record { name = 65 ∷ 50 ∷ []; kind = record { name = 82 ∷ []; length = 90; speed = 90; start = 100; stop = 50 }; entry = 2196; priority = 0; moves = record { sections = 0 ∷ 1 ∷ 2 ∷ []; overlap = []; setting = 10; watching = 10; approach = 100; turn = None } ∷ record { sections = 4 ∷ 5 ∷ []; overlap = []; setting = 10; watching = 10; approach = 100; turn = None } ∷ record { sections = 6 ∷ 7 ∷ []; overlap = []; setting = 10; watching = 10; approach = 100; turn = None } ∷ record { sections = 9 ∷ 10 ∷ []; overlap = []; setting = 10; watching = 10; approach = 100; turn = None } ∷ [] } ∷ record { name = 66 ∷ []; kind = record { name = 82 ∷ []; length = 90; speed = 90; start = 100; stop = 50 }; entry = 2320; priority = 0; moves = record { sections = 10 ∷ []; overlap = []; setting = 10; watching = 10; approach = 100; turn = None } ∷ record { sections = 9 ∷ 8 ∷ 6 ∷ 5 ∷ 4 ∷ 3 ∷ []; overlap = []; setting = 10; watching = 10; approach = 100; turn = None } ∷ record { sections = 1 ∷ 0 ∷ []; overlap = []; setting = 10; watching = 10; approach = 100; turn = None } ∷ [] } ∷ [];
   };
   calls = [];
 }

@@ -16,3 +16,6 @@ pub mod CauseToldLate
 pub mod ReadyThoughCancelled
 pub mod FreeLeg
 pub mod Stairs
+pub mod Overlap
+pub mod OverlapKept
+pub mod OverlapList

@@ -1,5 +1,7 @@
 ghost use Rattle.std.specs.Prelude.{◌≡◌, ◌∷◌, []};
 ghost use Rattle.rail_worked.specs.Loop as loop;
+ghost use Rattle.rail_worked.specs.Overlap as overlap;
+ghost use Rattle.rail_worked.specs.OverlapKept as overlap_kept;
 ghost use Rattle.rail_worked.specs.Stairs.{stair};
 ghost use Rattle.rail_worked.specs.Turn as turn;
 
@@ -24,4 +26,10 @@ pub fn a_stairway()
         ≡ 0 ∷ 2 ∷ 4 ∷ 1900 ∷ 2096 ∷ 10 ∷ 10 ∷ 100 ∷ 0 ∷ 0 ∷ 20 ∷ 0 ∷ 36 ∷ 20 ∷ [] }
     ensures over_east { stair loop.plant loop.front 0 1 1
         ≡ 0 ∷ 2 ∷ 5 ∷ 1900 ∷ 2496 ∷ 10 ∷ 10 ∷ 100 ∷ 0 ∷ 20 ∷ 400 ∷ 0 ∷ 36 ∷ 20 ∷ [] }
+{}
+
+/// An interval of an overlap has no parts: it ends where the next move takes its section over, or with its timer.
+pub fn intervals_of_overlaps()
+    ensures taken_over { stair overlap.plant overlap.front 0 0 3 ≡ 0 ∷ 1 ∷ 4 ∷ 1080 ∷ 1900 ∷ [] }
+    ensures timed { stair overlap_kept.plant overlap_kept.front 0 0 3 ≡ 0 ∷ 1 ∷ 4 ∷ 1080 ∷ 2370 ∷ [] }
 {}

@@ -61,8 +61,10 @@ fn with_turn(alloc: Global, row: &MoveRow, turn: Option<TurnRow>) -> Result<Move
     ensures { IfOk result (λ made. made ≡ record row.now { turn = turn }) }
 {
     let sections = row.sections.as_slice().to_vec(alloc)?;
+    let overlap = row.overlap.as_slice().to_vec(alloc)?;
     Ok(MoveRow {
         sections: Seq::from_vec(sections),
+        overlap: Seq::from_vec(overlap),
         setting: row.setting,
         watching: row.watching,
         approach: row.approach,

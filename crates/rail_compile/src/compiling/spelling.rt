@@ -42,6 +42,7 @@ pub fn tables_of(
     Ok(Tables {
         sections: Seq::from_vec(sections),
         release: scene.release,
+        overlap_time: scene.overlap_time,
         depth: scene.depth,
         trains: Seq::from_vec(trains),
     })

@@ -6,12 +6,13 @@ ghost use Rattle.rail_routes.specs.declared.items.Step.{Step};
 ghost use Rattle.rail_routes.specs.Net.{post_named};
 ghost use Rattle.rail_routes.specs.Sound.{is_sound_route};
 ghost use Rattle.rail_compile.specs.Itineraries.{move_over, number_of};
-ghost use Rattle.rail_compile.specs.Ways.{AreWays, way_over};
+ghost use Rattle.std.specs.List.{list_all};
+ghost use Rattle.rail_compile.specs.Ways.{AreWays, is_known_step, way_over};
 
 use indexmap::IndexSet;
 use rail_base::limits::SECTIONS;
 use rail_base::{MoveRow, Name, SectionNo, Seq};
-use rail_routes::{Network, Post, Role, Route};
+use rail_routes::{Network, Post, Role, Route, Step};
 use std::alloc::{AllocError, Global};
 
 /// What a route gives to each itinerary over it.
@@ -78,7 +79,7 @@ fn way_over(alloc: Global, network: &Network, route: &Route) -> Result<Way, Allo
     })
 }
 
-/// The move over a route that begins at the post, without a turn.
+/// The move over a route and its overlap that begins at the post, without a turn.
 fn move_over(
     alloc: Global,
     network: &Network,
@@ -89,9 +90,11 @@ fn move_over(
     requires begin { post_named route.now.from network.now ≡ Some begin.now }
     ensures { IfOk result (λ row. row ≡ move_over network.now route.now None) }
 {
-    let sections = numbers_of(alloc, network, route)?;
+    let sections = numbers_of(alloc, network, route.steps.as_slice())?;
+    let overlap = numbers_of(alloc, network, route.overlap.as_slice())?;
     Ok(MoveRow {
         sections: Seq::from_vec(sections),
+        overlap: Seq::from_vec(overlap),
         setting: begin.setting,
         watching: begin.watching,
         approach: begin.approach,
@@ -99,15 +102,19 @@ fn move_over(
     })
 }
 
-/// The numbers of the sections of the route, in its order.
-fn numbers_of(alloc: Global, network: &Network, route: &Route) -> Result<Vec<SectionNo>, AllocError>
-    requires { IsTrue (is_sound_route network.now route.now) }
-    ensures { IfOk result (λ numbers. numbers.items ≡ map (λ (step : Step). number_of network.now step.section) route.now.steps) }
+/// The numbers of the sections of the steps, in their order.
+fn numbers_of(
+    alloc: Global,
+    network: &Network,
+    steps: &[Step],
+) -> Result<Vec<SectionNo>, AllocError>
+    requires { IsTrue (list_all (is_known_step network.now.sections) steps.now) }
+    ensures { IfOk result (λ numbers. numbers.items ≡ map (λ (step : Step). number_of network.now step.section) steps.now) }
 {
     // A network is sound at any time, as its sections tell.
     prove!(network.sections().len() <= SECTIONS);
-    let mut numbers = Vec::with_capacity(alloc, route.steps.as_slice().len())?;
-    for step in route.steps.as_slice() {
+    let mut numbers = Vec::with_capacity(alloc, steps.len())?;
+    for step in steps {
         let index = network.section_index(step.section).unwrap();
         numbers.push(SectionNo(index as u16))?;
     }

@@ -397,3 +397,24 @@ kind = "R"
 entry = "00:02:00"
 routes = ["ww2", "xw2"]
 "#;
+
+/// Two sections with a signal between them, behind which the second one is the overlap of the route to it.
+pub(super) const OVERLAP: &str = r#"
+version = 2
+release = 20
+section = [
+    { name = "X1", kind = "plain", length = 1000, speed = 90, joints = ["a", "b"] },
+    { name = "X2", kind = "plain", length = 1000, speed = 90, joints = ["b", "c"] },
+]
+portal = [
+    { name = "West", joint = "a", setting = 10, watching = 10, approach = 100 },
+    { name = "East", joint = "c", setting = 10, watching = 10, approach = 100 },
+]
+signal = [{ name = "S", joint = "b", ahead = "X2", setting = 10, watching = 10, approach = 100 }]
+route = [
+    { name = "ws", from = "West", to = "S", path = ["a", "X1", "b"], overlap = ["X2", "c"] },
+    { name = "se", from = "S", to = "East", path = ["b", "X2", "c"] },
+]
+kind = [{ name = "R", length = 90, speed = 90, start = 100, stop = 50 }]
+train = [{ name = "A", kind = "R", entry = "00:02:00", routes = ["ws", "se"] }]
+"#;

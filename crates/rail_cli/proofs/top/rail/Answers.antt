@@ -3,8 +3,11 @@ use Rattle.rail_words.specs.Files.{File}
 use Rattle.rail_words.specs.Forms.{files_of, form_in, values_in}
 use Rattle.rail_forms.specs.Promises.{ReadsFiles}
 use Rattle.rail_cli.specs.Forms.{AreRefusedAlone}
-use Rattle.rail_cli.proofs.Forms.{answered, complete_form, of_all_asked, request_alone, request_answered, request_files}
+use Rattle.rail_cli.proofs.Forms.{answered, complete_form, of_all_asked, request_alone, request_answered, request_bounded, request_files}
 use Rattle.rail_cli.proofs.top.rail.Goals as goal
+
+pub answer-requires-clause-bounded : goal.answer-requires-clause-bounded
+answer-requires-clause-bounded g c = request_bounded c.in-Some.request c.args.words.now c.in-Some.ensures
 
 pub returns-in-Some-clause-usage : goal.returns-in-Some-clause-usage
 returns-in-Some-clause-usage g c = (

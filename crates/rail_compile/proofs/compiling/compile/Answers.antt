@@ -1,21 +1,24 @@
-use Rattle.std.proofs.Common.{ap, sym, ◌∙◌}
-use Rattle.std.specs.List.{list_any}
-use Rattle.rail_base.proofs.CallerLemmas.{passed_up}
+use Rattle.std.proofs.Common.{◌≡◌, List, None, OnOk, IfOk, IfErr, sym, subst}
 use Rattle.rail_base.specs.Refusals.{AnswersFirst}
-use Rattle.rail_compile.specs.Refusals.{has_overlap_on}
-use Rattle.rail_compile.proofs.Overlapping.{plan_first, overlap_refused, overlap_passed}
+use Rattle.rail_rules.specs.Plant.{Plant}
+use Rattle.rail_scene.specs.Scenes.{IsScene}
+use Rattle.rail_scene.specs.declared.scene.SceneTrain.{SceneTrain}
+use Rattle.rail_compile.specs.Itineraries.{plant_of_scene, with_trains}
+use Rattle.rail_compile.specs.Refusals.{compile_refusal}
 use Rattle.rail_compile.proofs.compiling.compile.Goals as goal
 
-pub returns-in_err-plant-clause-refused : goal.returns-in_err-plant-clause-refused
-returns-in_err-plant-clause-refused c =
-    passed_up c.from_residual.result _ (AnswersFirst _) c.from_residual.ensures.1 (plan_first c.args.scene.now _ c.in_err-plant.ensures.refused)
-
-pub returns-then-has_overlaps-clause-refused : goal.returns-then-has_overlaps-clause-refused
-returns-then-has_overlaps-clause-refused c =
-    let scene = c.args.scene.now in
-    overlap_refused scene c.in_ok-plant.ensures.accepted (ap (list_any (has_overlap_on scene.network)) (sym c.as_slice.ensures) ∙ sym c.if-has_overlaps.ensures)
+pub compile_with-requires-clause-scene : goal.compile_with-requires-clause-scene
+compile_with-requires-clause-scene c =
+    subst (λ (trains : List SceneTrain). IsScene (with_trains c.args.scene.now trains)) (sym c.as_slice.ensures) c.requires
 
 pub returns-clause-accepted : goal.returns-clause-accepted
 returns-clause-accepted c =
-    let scene = c.args.scene.now in
-    overlap_passed scene c.in_ok-plant.ensures.accepted (ap (list_any (has_overlap_on scene.network)) (sym c.as_slice.ensures) ∙ sym c.if-has_overlaps.ensures)
+    subst (λ (trains : List SceneTrain). OnOk c.compile_with.result (compile_refusal (with_trains c.args.scene.now trains) ≡ None)) c.as_slice.ensures c.compile_with.ensures.accepted
+
+pub returns-clause-spelled : goal.returns-clause-spelled
+returns-clause-spelled c =
+    subst (λ (trains : List SceneTrain). IfOk c.compile_with.result (λ (plant : Plant). plant ≡ plant_of_scene (with_trains c.args.scene.now trains))) c.as_slice.ensures c.compile_with.ensures.spelled
+
+pub returns-clause-refused : goal.returns-clause-refused
+returns-clause-refused c =
+    subst (λ (trains : List SceneTrain). IfErr c.compile_with.result (AnswersFirst (compile_refusal (with_trains c.args.scene.now trains)))) c.as_slice.ensures c.compile_with.ensures.refused

@@ -4,11 +4,11 @@ use Rattle.rail_state.proofs.CallerLemmas.{bound_small}
 use Rattle.rail_rules.proofs.CallerLemmas.{accepted_parts}
 use Rattle.rail_forms.proofs.begun.most_steps.Goals as goal
 
-small : (c : goal.After-from) → c.event_bound.result * (c.from.result + 1) ≤ 1100000 * 300
+small : (c : goal.After-from) → c.event_bound.result * (c.from.result + 1) ≤ 3100000 * 300
 small c =
     let accepted = c.moves.ensures.accepted in
     let few = (accepted_parts c.args.plant.now accepted).few_trains in
-    mul-le c.event_bound.result (c.from.result + 1) 1100000 300
+    mul-le c.event_bound.result (c.from.result + 1) 3100000 300
     (omega (arith, c.event_bound.ensures, bound_small c.args.plant.now accepted, c.requires))
     (omega (arith, c.from.ensures, c.trains.ensures.count, c.moves.ensures.trains, few))
 

@@ -3,10 +3,12 @@ use Rattle.rail_input.specs.Inputs.{section_names}
 use Rattle.rail_io.specs.Writes.{Adds, AddsPrefix}
 use Rattle.rail_rules.specs.Plant.{Plant}
 use Rattle.rail_forms.specs.declared.status.Status.TheVariants.{OutOfMemory}
+use Rattle.rail_forms.specs.Answers.{status_of}
 use Rattle.rail_forms.specs.Begun.{input_of}
 use Rattle.rail_forms.specs.Capacity.{line_of, line_refusal, pieces, pieces_refusal, sections_on}
 use Rattle.rail_text.specs.Names.{names_in, names_of}
 use Rattle.rail_forms.proofs.Answers.{ended_with, late_part}
+use Rattle.rail_forms.proofs.Behind.{unwritten_fault}
 use Rattle.rail_forms.proofs.NotedRuns.{capacity_told, noted_apart, noted_intervals, stairs_ended, stairs_noted}
 use Rattle.rail_forms.proofs.Writes.{all_written, ended-failed, fault_written, none_written}
 use Rattle.rail_forms.proofs.capacity.report.Goals as goal
@@ -22,6 +24,10 @@ compressed_by-requires-clause-apart g c =
     noted_apart (input_of c.args.begun) _ c.follow_to_end.new.notes c.plant-3.result.now (c.plant-3.ensures ∙ c.in-Ok.ensures.plant) c.in-Ok.ensures.noted c.deref.result.now
     (noted_intervals c.plant-3.result.now c.follow_to_end.new.notes c.in_ok-stairway.stairway.items c.deref.result.now c.ended.result c.in_ok-stairway.ensures c.ended.ensures (c.deref.ensures.value ∙ c.ended_by-intervals.ensures))
     (λ front complete. c.ended_intervals_are_without_conflict.ensures (input_of c.args.begun) c.in-Ok.ensures.noted.run.accepted front complete)
+
+pub returns-in_err-line-clause-writes : goal.returns-in_err-line-clause-writes
+returns-in_err-line-clause-writes g c =
+    unwritten_fault g.O.Sink _ c.in_err-line.field-0.0 _ (ended_with c.from_residual.result (status_of c.in_err-line.field-0.0) c.from_residual.ensures.1)
 
 pub returns-in_err-stairs-clause-writes : goal.returns-in_err-stairs-clause-writes
 returns-in_err-stairs-clause-writes g c = none_written g.O.Sink _ _ (ended_with c.from_residual-in_err-stairs.result OutOfMemory c.from_residual-in_err-stairs.ensures.1)

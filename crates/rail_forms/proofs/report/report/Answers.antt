@@ -3,11 +3,15 @@ use Rattle.rail_io.specs.Writes.{Adds, AddsPrefix}
 use Rattle.rail_rules.specs.Plant.{Plant}
 use Rattle.rail_base.specs.declared.orders.Command.{Command}
 use Rattle.rail_delay.specs.Accounts.{AreNoted}
+use Rattle.rail_forms.specs.declared.status.Status.TheVariants.{OutOfMemory}
 use Rattle.rail_forms.specs.Begun.{input_of}
-use Rattle.rail_forms.proofs.Answers.{part_answer}
+use Rattle.rail_forms.proofs.Answers.{ended_with, part_answer}
 use Rattle.rail_forms.proofs.NotedRuns.{accounts_made, delays_noted, report_told}
-use Rattle.rail_forms.proofs.Writes.{all_written, ended-failed, fault_written}
+use Rattle.rail_forms.proofs.Writes.{all_written, ended-failed, fault_written, none_written}
 use Rattle.rail_forms.proofs.report.report.Goals as goal
+
+pub returns-in_err-delays-clause-writes : goal.returns-in_err-delays-clause-writes
+returns-in_err-delays-clause-writes g c = none_written g.O.Sink _ _ (ended_with c.from_residual.result OutOfMemory c.from_residual.ensures.1)
 
 pub follow_to_end-requires-clause-none : goal.follow_to_end-requires-clause-none
 follow_to_end-requires-clause-none g c =

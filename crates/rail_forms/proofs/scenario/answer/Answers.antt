@@ -1,4 +1,4 @@
-use Rattle.std.proofs.Common.{◌∷◌, [], Some, refl, sym, ap, subst, ◌∙◌, arith}
+use Rattle.std.proofs.Common.{◌∷◌, [], Some, None, refl, sym, ap, subst, ◌∙◌, arith}
 use Rattle.std.specs.Option.{option_copied}
 use Rattle.rail_forms.specs.declared.status.Status.{Status}
 use Rattle.rail_words.specs.Files.{file_as}
@@ -8,6 +8,8 @@ use Rattle.rail_forms.specs.Answers.{Told}
 use Rattle.rail_forms.specs.Files.{content_of, told_of, too_large, too_large_if_any}
 use Rattle.rail_forms.specs.Promises.{KeepsPromise}
 use Rattle.rail_forms.proofs.Answers.{ended_with}
+use Rattle.rail_forms.specs.declared.scenario.Purpose.TheVariants.{History}
+use Rattle.rail_forms.proofs.Behind.{all_read, none_unread}
 use Rattle.rail_forms.proofs.ScenarioAnswers.{all_files, copied_is, fit_named, fit_read, fit_read, keeps_unnamed, no_commands, no_scene, no_timetable}
 use Rattle.rail_forms.proofs.scenario.answer.Goals as goal
 
@@ -51,3 +53,35 @@ returns-clause-answer g c =
     (ap (too_large_if_any role.Timetable) timetable ∙ c.in_ok-timetable.ensures.fits)
     (option_copied c.as_deref-2.result) (λ content at. commands ∙ c.in_ok-commands.ensures.content content (ap (λ (t : Told). told_of t (scenario_in c.args.scenario.now).commands) still_then ∙ at))
     (ap (too_large_if_any role.Commands) commands ∙ c.in_ok-commands.ensures.fits) c.run_files.ensures.answer
+
+pub returns-in_err-scene-clause-behind : goal.returns-in_err-scene-clause-behind
+returns-in_err-scene-clause-behind g c =
+    none_unread c.args.purpose.now (scenario_in c.args.scenario.now) _ _ None None _
+    (no_scene History (scenario_in c.args.scenario.now) _ _ None None g.S.Shelf _ _ _ c.in_err-scene.field-0.0
+    (ended_with c.from_residual.result c.in_err-scene.field-0.0 c.from_residual.ensures.1) refl c.in_err-scene.ensures.refused)
+
+pub returns-in_err-timetable-clause-behind : goal.returns-in_err-timetable-clause-behind
+returns-in_err-timetable-clause-behind g c =
+    none_unread c.args.purpose.now (scenario_in c.args.scenario.now) _ _ None None _
+    (no_timetable History (scenario_in c.args.scenario.now) _ _ None None _ c.in_ok-scene.scene.items c.in_ok-scene.ensures.bytes c.in_ok-scene.ensures.fits g.S.Shelf _ _ c.in_err-timetable.field-0.0
+    (ended_with c.from_residual-in_err-timetable.result c.in_err-timetable.field-0.0 c.from_residual-in_err-timetable.ensures.1) c.in_ok-scene.ensures.told_stays c.in_err-timetable.ensures.refused)
+
+pub returns-in_err-commands-clause-behind : goal.returns-in_err-commands-clause-behind
+returns-in_err-commands-clause-behind g c =
+    let still = c.in_ok-scene.ensures.told_stays in
+    none_unread c.args.purpose.now (scenario_in c.args.scenario.now) _ _ None None _
+    (no_commands History (scenario_in c.args.scenario.now) _ _ None None _ c.in_ok-scene.scene.items c.in_ok-scene.ensures.bytes c.in_ok-scene.ensures.fits
+    (content_of c.in_ok-timetable.timetable) (λ content at. c.in_ok-timetable.ensures.content content (ap (λ (t : Told). told_of t (scenario_in c.args.scenario.now).timetable) still ∙ at)) c.in_ok-timetable.ensures.fits
+    g.S.Shelf _ _ c.in_err-commands.field-0.0 (ended_with c.from_residual-in_err-commands.result c.in_err-commands.field-0.0 c.from_residual-in_err-commands.ensures.1)
+    (c.in_ok-timetable.ensures.told_stays ∙ still) c.in_err-commands.ensures.refused)
+
+pub returns-clause-behind : goal.returns-clause-behind
+returns-clause-behind g c =
+    let still = c.in_ok-scene.ensures.told_stays in
+    let still_then = c.in_ok-timetable.ensures.told_stays ∙ still in
+    let timetable = copied_is c.as_deref.result ∙ c.as_deref.ensures.value in
+    let commands = copied_is c.as_deref-2.result ∙ c.as_deref-2.ensures.value in
+    all_read c.args.purpose.now (scenario_in c.args.scenario.now) _ _ _ c.deref.result.now (λ bytes at. c.deref.ensures.value ∙ c.in_ok-scene.ensures.bytes bytes at)
+    (option_copied c.as_deref.result) (λ content at. timetable ∙ c.in_ok-timetable.ensures.content content (ap (λ (t : Told). told_of t (scenario_in c.args.scenario.now).timetable) still ∙ at))
+    (option_copied c.as_deref-2.result) (λ content at. commands ∙ c.in_ok-commands.ensures.content content (ap (λ (t : Told). told_of t (scenario_in c.args.scenario.now).commands) still_then ∙ at))
+    c.run_files.ensures.behind

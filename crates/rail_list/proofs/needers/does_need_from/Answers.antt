@@ -7,18 +7,18 @@ use Rattle.rail_consequence.proofs.CallerLemmas.{in_at}
 use Rattle.rail_list.proofs.Appending.{needed_either_way, needed_here}
 use Rattle.rail_list.proofs.needers.does_need_from.Goals as goal
 
-pub needs_after-requires-clause-section : goal.needs_after-requires-clause-section
-needs_after-requires-clause-section c =
+pub claims_after-requires-clause-section : goal.claims_after-requires-clause-section
+claims_after-requires-clause-section c =
     c.requires.in_range c.section-item.result (in_at c.section-item.result c.args.sections.now c.loop-section.section-index c.loop-section-test.true c.section-item.is)
 
-pub returns-then-needs_after : goal.returns-then-needs_after
-returns-then-needs_after c =
+pub returns-then-claims_after : goal.returns-then-claims_after
+returns-then-claims_after c =
     let plan : Moves = moves_in c.args.moves.now in
     let t = c.args.train in
     let x = c.section-item.result in
     sym (needed_here (plan.claim t) c.args.sections.now c.args.place (plan.moves t) x
     (in_at x c.args.sections.now c.loop-section.section-index c.loop-section-test.true c.section-item.is)
-    (sym c.needs_after.ensures ∙ c.if-needs_after.true))
+    (sym c.claims_after.ensures ∙ c.if-claims_after.true))
 
 pub returns : goal.returns
 returns c =

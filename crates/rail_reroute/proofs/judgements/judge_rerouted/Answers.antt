@@ -4,7 +4,7 @@ use Rattle.rail_rules.specs.Plant.{Plant, moves, trains}
 use Rattle.rail_scene.specs.Scenes.{IsScene}
 use Rattle.rail_scene.specs.declared.scene.SceneTrain.{SceneTrain}
 use Rattle.rail_compile.specs.Itineraries.{plant_of_scene, with_trains}
-use Rattle.rail_compile.specs.Refusals.{plan_refusal}
+use Rattle.rail_compile.specs.Refusals.{compile_refusal}
 use Rattle.rail_reroute.specs.Judgements.{no_scene_train, rerouted, rerouted_trains}
 use Rattle.rail_reroute.proofs.Judging.{judged_refused, small_place}
 use Rattle.rail_reroute.proofs.Proposed.{as_many, is_scene, place_within, within_still}
@@ -56,7 +56,7 @@ refused_for-requires c =
     let made : c.deref.result.now ≡ rerouted_trains scene.trains t (get_or s t 0) routes =
     c.deref.ensures.value ∙ c.in_ok-trains.ensures ∙ (λ i. rerouted_trains (c.as_slice.ensures i) t (get_or s (at i) 0) routes) in
     small_place scene s t routes c.requires.proposed c.in-Err.fault
-    (subst (λ (rows : List SceneTrain). AnswersFirst (plan_refusal (with_trains scene rows)) c.in-Err.fault) made c.in-Err.ensures.refused)
+    (subst (λ (rows : List SceneTrain). AnswersFirst (compile_refusal (with_trains scene rows)) c.in-Err.fault) made c.in-Err.ensures.refused)
 
 pub returns : goal.returns
 returns c =
@@ -68,4 +68,4 @@ returns c =
     let made : c.deref.result.now ≡ rerouted_trains scene.trains t (get_or s t 0) routes =
     c.deref.ensures.value ∙ c.in_ok-trains.ensures ∙ (λ i. rerouted_trains (c.as_slice.ensures i) t (get_or s (at i) 0) routes) in
     judged_refused scene s t routes c.requires.proposed c.in-Err.fault c.refused_for.result
-    (subst (λ (rows : List SceneTrain). AnswersFirst (plan_refusal (with_trains scene rows)) c.in-Err.fault) made c.in-Err.ensures.refused) c.refused_for.ensures
+    (subst (λ (rows : List SceneTrain). AnswersFirst (compile_refusal (with_trains scene rows)) c.in-Err.fault) made c.in-Err.ensures.refused) c.refused_for.ensures

@@ -1,15 +1,16 @@
 use Rattle.std.proofs.Common.{◌≡◌, ℕ, ◌+◌, ◌≤◌, ◌^◌, get_or, replicate, sym, ap, ◌∙◌, subst, arith}
 use Rattle.std.proofs.lemmas.List.{length-set, length-replicate, get_or-replicate}
 use Rattle.rail_block.specs.CarriedTimes.{AreBelow, times_at}
+use Rattle.rail_stairs.specs.declared.journey.TheConstants.{PLACES}
 use Rattle.rail_stairs.proofs.Carried.{admission_ready, admission_small, times_more, times_next}
 use Rattle.rail_stairs.proofs.journey.times_by.Goals as goal
 
 pub loop-index-init : goal.loop-index-init
 loop-index-init c = record {
-  long = length-replicate 65 c.entry_times-times.result;
+  long = length-replicate PLACES c.entry_times-times.result;
   times = λ place le other.
-      ap (λ k. get_or (replicate 65 c.entry_times-times.result) k other) (at_first place le)
-      ∙ get_or-replicate 65 0 c.entry_times-times.result other (omega arith)
+      ap (λ k. get_or (replicate PLACES c.entry_times-times.result) k other) (at_first place le)
+      ∙ get_or-replicate PLACES 0 c.entry_times-times.result other (omega arith)
       ∙ c.entry_times-times.ensures.times c.args.admissions.now
       ∙ ap (times_at c.args.plant.now c.args.train c.args.admissions.now) (sym (at_first place le));
 }

@@ -1,16 +1,16 @@
 use Rattle.std.proofs.Common.{Ok}
 use Rattle.std.specs.Prelude.{flat_map}
-use Rattle.rail_rules.specs.Intervals.{interval_of}
-use Rattle.rail_rules.specs.Numbers.{listed}
+use Rattle.rail_rules.specs.Numbers.{gather}
 use Rattle.rail_stairs.specs.Journeys.{before_step}
 use Rattle.rail_stairs.specs.OfTrains.{at_train, of_train}
 use Rattle.rail_stairs.specs.StairsTexts.{stair_line}
+use Rattle.rail_stairs.specs.Stairways.{step_intervals}
 use Rattle.rail_stairs.specs.Tallies.{IsTallied}
 use Rattle.rail_text.specs.Writes.{WritesText}
 use Rattle.rail_stairs.proofs.writing.write_move.Given as goal
 
 abbrev pub invariant-loop-step : goal.invariant-loop-step
 invariant-loop-step g l = record {
-  text : WritesText g.O.Sink l.initial.out l.out (flat_map (stair_line l.journey.plant.now) (listed (of_train interval_of l.journey l.index) l.step)) (Ok tt);
+  text : WritesText g.O.Sink l.initial.out l.out (flat_map (stair_line l.journey.plant.now) (gather (of_train step_intervals l.journey l.index) l.step)) (Ok tt);
   counted : IsTallied l.ended (at_train before_step l.journey l.index l.step) l.tallies;
 }

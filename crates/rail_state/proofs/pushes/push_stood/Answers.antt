@@ -10,7 +10,7 @@ use Rattle.rail_rules.specs.Numbers.{gather}
 use Rattle.rail_rules.specs.Plant.{step_section, steps}
 use Rattle.rail_state.specs.Events.{event_of}
 use Rattle.rail_state.proofs.Counting.{one_more_of_one}
-use Rattle.rail_state.proofs.Leaving.{as_rows, before, freed_at, item_of_step}
+use Rattle.rail_state.proofs.Leaving.{as_rows, before, freed_there, item_of_step}
 use Rattle.rail_state.proofs.pushes.push_stood.Goals as goal
 
 pub loop-index-preserved : goal.loop-index-preserved
@@ -42,4 +42,4 @@ returns-clause-counted c = λ adms long is q.
     let line : ℕ → List Entry = λ j. cond (does_stand plant t m j) (at_time (end_time plant t adms m j) (Free (step_section plant t m j) t) ∷ []) [] in
     let all = as_rows plant t m c.row.result.now c.as_slice-sections.result.now c.row.ensures.row c.as_slice-sections.ensures in
     let done : c.loop-index.index ≡ steps plant t m = omega (arith, c.loop-index-test.false, c.loop-index.auto.index-end, ap length all) in
-    omega (arith, c.loop-index.invariant.counted adms is q, ap (λ n. tally (λ e. q (event_of e)) (gather line n)) done, ap (tally (λ e. q (event_of e))) (freed_at plant t adms c.args.known.now.place m (before c.args.known.now.place c.args.known.now.first)))
+    omega (arith, c.loop-index.invariant.counted adms is q, ap (λ n. tally (λ e. q (event_of e)) (gather line n)) done, ap (tally (λ e. q (event_of e))) (freed_there plant t adms c.args.known.now.place m (before c.args.known.now.place c.args.known.now.first)))

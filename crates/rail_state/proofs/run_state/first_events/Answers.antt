@@ -7,12 +7,9 @@ use Rattle.rail_queue.specs.declared.event.Class.TheVariants.{Ready}
 use Rattle.rail_state.specs.Events.{train_event}
 use Rattle.rail_state.specs.declared.train.TrainState.{TrainState}
 use Rattle.rail_state.specs.TrainStates.{outside, state_of}
-use Rattle.rail_state.proofs.QueueRoom.{bound_small, one_more}
+use Rattle.rail_state.proofs.QueueRoom.{one_more}
 use Rattle.rail_state.proofs.Counts.{count-all}
 use Rattle.rail_state.proofs.run_state.first_events.Goals as goal
-
-pub overflow_add-room : goal.overflow_add-room
-overflow_add-room c = omega (arith, c.event_bound.ensures, bound_small c.args.plant.now c.moves.ensures.accepted)
 
 pub get-requires : goal.get-requires
 get-requires c = omega (arith, c.loop-number-test.true, c.trains-trains.ensures.count, c.moves.ensures.trains, ap length c.requires.states, length-listed (outside c.args.plant.now) (trains c.args.plant.now))

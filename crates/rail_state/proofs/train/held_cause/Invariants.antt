@@ -3,4 +3,4 @@ use Rattle.rail_laws_run.specs.HolderTables.{held_cause}
 use Rattle.rail_state.proofs.train.held_cause.Given as goal
 
 abbrev pub invariant-loop-section : goal.invariant-loop-section
-invariant-loop-section l = held_cause l.holders (drop l.section-index l.sections) ≡ held_cause l.holders l.sections
+invariant-loop-section l = held_cause l.holders l.train l.own (drop l.section-index l.sections) ≡ held_cause l.holders l.train l.own l.sections

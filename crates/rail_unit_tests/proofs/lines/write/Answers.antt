@@ -19,7 +19,7 @@ train_row name = record no_train { name = name }
 
 -- a plant with these names
 plant_of : Names → Plant
-plant_of names = record { tables = record { depth = 0; release = 0; sections = map section_row names.sections.keys; trains = map train_row names.trains.keys }; calls = [] }
+plant_of names = record { tables = record { depth = 0; release = 0; overlap_time = 0; sections = map section_row names.sections.keys; trains = map train_row names.trains.keys }; calls = [] }
 
 section_names : (names : List (List ℕ)) → names ≡ map (λ (row : SectionRow). row.name) (map section_row names)
 unfolding section_row
@@ -51,5 +51,5 @@ write_entry-requires g c =
     let all_known = c.if-not-are_named.ensures.0 refl in
     let list_known : list_all (is_known_train plant) c.args.kept.now ≡ true =
     each_known plant (length names.trains.keys) (count names) c.args.kept.now (recursion_from_All (λ t. t < length names.trains.keys) c.args.kept.now all_known) in
-    let few : length c.args.kept.now < 2 ^ 64 = omega (arith, c.if-kept-gt8192.false) in
+    let few : length c.args.kept.now < 2 ^ 64 = omega (arith, c.if-kept-gt-LIST_TRAINS.false) in
     (plant, named names, c.what_of.ensures plant c.args.kept.now (omega (arith, count names, b_known)) list_known few)

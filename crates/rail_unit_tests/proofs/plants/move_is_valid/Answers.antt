@@ -4,16 +4,16 @@ use Rattle.std.proofs.lemmas.List.{get_or_read}
 use Rattle.std.specs.List.{list_any, list_all}
 use Rattle.rail_rules.specs.Moves.{Moves, stand, is_valid_move}
 use Rattle.rail_rules.specs.Numbers.{is_in, are_apart}
-use Rattle.rail_place.specs.Tables.{moves_in, lists_of}
+use Rattle.rail_place.specs.Tables.{moves_in, row_lists}
 use Rattle.rail_unit_tests.proofs.plants.move_is_valid.Goals as goal
 
 valid_move : (need stands : List (List ℕ)) (m : ℕ) (standing needed next : List ℕ) → m + 1 < length need
     → standing ≡ get_or stands m [] → needed ≡ get_or need m [] → next ≡ get_or need (m + 1) []
     → 0 < length standing → list_all (λ x. is_in x needed) standing ≡ true
     → list_any (λ x. is_in x standing) next ≡ false
-    → is_valid_move (moves_in (lists_of need stands ∷ [])) 0 m ≡ true
+    → is_valid_move (moves_in (row_lists need [] stands ∷ [])) 0 m ≡ true
 valid_move need stands m standing needed next more at_m at_need at_next some within apart =
-    let plan : Moves = moves_in (lists_of need stands ∷ []) in
+    let plan : Moves = moves_in (row_lists need [] stands ∷ []) in
     let same : stand plan 0 (suc m) ≡ standing = cond-true (ltb (suc m) (length need)) (get_or stands m []) [] (lt-ltb (suc m) (length need) (omega arith)) ∙ sym at_m in
     let one : m + 1 ≡ suc m = omega arith in
     let there : get_or need (suc m) [] ≡ next = ap (λ k. get_or need k []) (sym one) ∙ sym at_next in

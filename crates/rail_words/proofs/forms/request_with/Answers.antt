@@ -16,3 +16,8 @@ pub returns-in-Capacity : goal.returns-in-Capacity
 returns-in-Capacity c =
     subst (λ (form : Form). MatchOption c.study_of.result (Lacks form c.args.words.now) (λ request. (form_in request ≡ form) × Spells (form_in request) (values_in request) c.args.words.now))
     (sym c.in-Capacity.is) c.study_of.ensures
+
+pub returns-in-Insert : goal.returns-in-Insert
+returns-in-Insert c =
+    subst (λ (form : Form). MatchOption c.paths_of.result (Lacks form c.args.words.now) (λ request. (form_in request ≡ form) × Spells (form_in request) (values_in request) c.args.words.now))
+    (sym c.in-Insert.is) c.paths_of.ensures

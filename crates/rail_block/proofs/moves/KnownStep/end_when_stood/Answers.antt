@@ -1,8 +1,9 @@
-use Rattle.std.proofs.Common.{◌≡◌, suc, ◌+◌, ◌-◌, ap, ◌∙◌, arith}
+use Rattle.std.proofs.Common.{◌≡◌, suc, ◌+◌, ◌-◌, ap, sym, ◌∙◌, arith}
 use Rattle.rail_rules.specs.Plant.{step_section}
 use Rattle.rail_rules.specs.Times.{clearing, start_loss}
 use Rattle.rail_block.specs.declared.times.MoveTimes.{MoveTimes}
 use Rattle.rail_block.specs.CarriedTimes.{times_at}
+use Rattle.rail_rules.proofs.CallerLemmas.{end_needed}
 use Rattle.rail_block.proofs.Ending.{clears-stood}
 use Rattle.rail_block.proofs.moves.KnownStep.end_when_stood.Goals as goal
 
@@ -19,3 +20,4 @@ returns c = λ yes adms is.
     c.end_from.ensures
     ∙ ap (λ from. from + clearing plant t (step_section plant t m j) + plant.tables.release)
     (c.cleared_from.ensures.time ∙ ap (λ (n : MoveTimes). n.go + start_loss plant t n.passes) own ∙ clears-stood plant t adms m j yes)
+    ∙ sym (end_needed plant t adms m j (omega (arith, c.args.self.now.first, c.args.self.now.last)))

@@ -8,7 +8,7 @@ use Rattle.rail_rules.specs.Causes.{place}
 use Rattle.rail_ledger.specs.Inputs.{dispatch_in, input_in}
 use Rattle.rail_rules.specs.Plant.{claimed, moves, trains}
 use Rattle.rail_rules.specs.RunHistories.{is_run}
-use Rattle.rail_laws_run.specs.HolderTables.{held_cause}
+use Rattle.rail_laws_run.specs.HolderTables.{held_cause, own_overlap}
 use Rattle.rail_state.specs.declared.pushes.TheConstants.{MOVE_EVENTS}
 use Rattle.rail_state.specs.declared.run_state.RunState.{RunState}
 use Rattle.rail_state.specs.declared.train.TrainState.{TrainState}
@@ -64,8 +64,8 @@ admit-requires-clause-free c =
     let next = c.requires.next front at in
     let old : Ledger = c.args.self.now in
     let t : ℕ = c.args.train in
-    subst (λ (r : Ledger). held_cause r.state.holders (claimed r.input.plant t (state_of r.state.trains t).place) ≡ None) (sym (alike_ledger old c.find_list.new.self c.in_ok-note.ensures.alike c.in_ok-note.ensures.found.0))
-    (ap (λ p. held_cause old.state.holders (claimed old.input.plant t p)) (at.rep.times.places t next.known_train) ∙ held_free (told old.input.commands.items front) old.state.holders t (claimed old.input.plant t (place front t)) next.free)
+    subst (λ (r : Ledger). held_cause r.state.holders t (own_overlap r.input.plant t (state_of r.state.trains t).place) (claimed r.input.plant t (state_of r.state.trains t).place) ≡ None) (sym (alike_ledger old c.find_list.new.self c.in_ok-note.ensures.alike c.in_ok-note.ensures.found.0))
+    (ap (λ p. held_cause old.state.holders t (own_overlap old.input.plant t p) (claimed old.input.plant t p)) (at.rep.times.places t next.known_train) ∙ held_free (told old.input.commands.items front) old.state.holders t (own_overlap old.input.plant t (place front t)) (claimed old.input.plant t (place front t)) next.free)
 
 pub admit-requires-clause-moves : goal.admit-requires-clause-moves
 admit-requires-clause-moves c =

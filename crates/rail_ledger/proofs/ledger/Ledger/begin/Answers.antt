@@ -1,7 +1,7 @@
 use Rattle.std.proofs.Common.{ℕ, ◌+◌, List, length, replicate, refl, ap, ◌∙◌, arith}
 use Rattle.std.specs.Prelude.{count_by}
 use Rattle.rail_base.specs.declared.orders.Command.{Command}
-use Rattle.rail_rules.specs.Plant.{bound}
+use Rattle.rail_laws_run.specs.MostDue.{most_due}
 use Rattle.rail_orders.specs.Told.{first_tables}
 use Rattle.rail_state.specs.Events.{command_events}
 use Rattle.rail_state.specs.declared.pushes.TheConstants.{MOVE_EVENTS}
@@ -33,7 +33,7 @@ returns-clause-begun c = (
       going = c.in_ok-state.ensures.going;
       settled = c.in_ok-state.ensures.settled;
     };
-    queue_room = c.in_ok-state.ensures.room ∙ ap (λ (commands : List Command). bound c.args.input.plant (length commands) + MOVE_EVENTS) c.deref-2.ensures.value;
+    queue_room = c.in_ok-state.ensures.room ∙ ap (λ (commands : List Command). most_due c.args.input.plant (length commands) + MOVE_EVENTS) c.deref-2.ensures.value;
     remaining_room = c.in_ok-lists.ensures.capacity;
     remaining = c.in_ok-lists.ensures.remaining;
     analyst = c.in_ok-lists.ensures.analyst;

@@ -4,7 +4,8 @@ use Rattle.rail_state.specs.TrainStates.{state_of}
 use Rattle.rail_state.proofs.CallerLemmas.{cause_known}
 use Rattle.rail_ledger.specs.declared.ledger.Ledger.{Ledger}
 use Rattle.rail_ledger.specs.Ledgers.{IsAt, listed_in}
-use Rattle.rail_ledger.proofs.Room.{place_fits, room_left}
+use Rattle.rail_ledger.proofs.Making.{deferred_soon}
+use Rattle.rail_ledger.proofs.Room.{place_fits, place_within, room_left}
 use Rattle.rail_ledger.proofs.Holding.{held_at, known_why}
 use Rattle.rail_ledger.proofs.ledger.Ledger.hold_train.Goals as goal
 
@@ -13,6 +14,15 @@ hold-what-requires-clause-place c = omega (
   arith,
   place_fits c.requires.running.front c.args.self.now c.requires.running.at c.args.train (omega (arith, c.requires.train, c.requires.running.at.rep.times.many)),
 )
+
+pub hold-what-requires-clause-known : goal.hold-what-requires-clause-known
+hold-what-requires-clause-known c = omega (arith, c.requires.train, c.requires.running.at.rep.times.many)
+
+pub hold-what-requires-clause-within : goal.hold-what-requires-clause-within
+hold-what-requires-clause-within c = place_within c.requires.running.front c.args.self.now c.requires.running.at c.args.train (omega (arith, c.requires.train, c.requires.running.at.rep.times.many))
+
+pub hold-what-requires-clause-time : goal.hold-what-requires-clause-time
+hold-what-requires-clause-time c = λ at held. deferred_soon c.requires.running.front c.args.self.now c.requires.running.at c.args.train at (omega (arith, c.requires.train, c.requires.running.at.rep.times.many)) held
 
 pub hold-what-requires-clause-room : goal.hold-what-requires-clause-room
 hold-what-requires-clause-room c = omega (arith, room_left c.requires.running.front c.args.self.now c.requires.running.at)

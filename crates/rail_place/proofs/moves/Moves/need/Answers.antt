@@ -1,10 +1,10 @@
-use Rattle.std.proofs.Common.{◌-◌, ◌∙◌}
-use Rattle.rail_place.proofs.Tables.{row_at, table_at, need_range}
+use Rattle.std.proofs.Common.{List, ℕ, ◌-◌, ◌++◌, length, take, ap, sym, ◌∙◌}
 use Rattle.rail_place.proofs.moves.Moves.need.Goals as goal
 
-pub returns-clause-in_range : goal.returns-clause-in_range
-returns-clause-in_range c =
-    let now = c.args.self.now in
-    let row = c.index.result.now in
-    let at = row_at now c.self.inside.rows.items c.args.train c.from.result row c.self.view_is (c.from.ensures ∙ c.train.view_is) c.requires.train c.index.ensures in
-    λ x stands. need_range now c.args.train (c.from-2.result - 1) row c.at.result.now (table_at now c.self.inside.rows.items c.self.view_is c.self.invariant.0) at c.at.ensures x stands
+pub returns : goal.returns
+returns c =
+    let claim : List ℕ = c.claim-claim.result.now in
+    let over : List ℕ = c.over-over.result.now in
+    c.over-over.ensures.ends
+    ∙ ap (λ xs. take (length xs - length over) xs ++ over) (sym c.claim-claim.ensures.sections)
+    ∙ ap (λ xs. take (length claim - length over) claim ++ xs) c.over-over.ensures.sections

@@ -11,7 +11,7 @@ at-requires c =
     let row = c.index-row.result.now in
     let at = row_at now c.self.inside.rows.items c.args.train c.from.result row c.self.view_is (c.from.ensures ∙ c.train.view_is) c.requires.train c.index-row.ensures in
     let h = table_at now c.self.inside.rows.items c.self.view_is c.self.invariant.0 in
-    let high : c.from-place.result < length row.needs = omega arith in
+    let high : c.from-place.result < length row.claims = omega arith in
     omega (arith, stand_room now c.args.train c.from-place.result row h c.requires.train at c.if-place-gt0.true high)
 
 pub returns-then-place-len-clause-sections : goal.returns-then-place-len-clause-sections
@@ -19,7 +19,7 @@ returns-then-place-len-clause-sections c =
     let now = c.args.self.now in
     let row = c.index-row.result.now in
     let at = row_at now c.self.inside.rows.items c.args.train c.from.result row c.self.view_is (c.from.ensures ∙ c.train.view_is) c.requires.train c.index-row.ensures in
-    let high : c.from-place.result < length row.needs = omega arith in
+    let high : c.from-place.result < length row.claims = omega arith in
     stand_at now c.args.train c.from-place.result row c.at.result.now at c.if-place-gt0.true high c.at.ensures
     ∙ ap (λ p. stand (moves_in now) c.args.train p) c.from-place.ensures
 

@@ -9,7 +9,7 @@ use Rattle.rail_place.specs.Bars.{bar_of}
 use Rattle.rail_place.proofs.Making.{made_as, made_long, place_read, bar_ahead, legal_from_none, none_from_legal}
 use Rattle.rail_place.proofs.places.Places.legal.Goals as goal
 
--- what bars the move is the first needed section that has an owner
+-- what bars the move is the first claimed section that has an owner
 found : (table : List MoveLists) (s now : State) (t k place m : ℕ) (xs : List ℕ) → s ≡ now
     → IsMadeFor table now → t < length table → k ≡ t → place ≡ get_or s.positions k place
     → place < (moves_in table).moves t → m ≡ place → xs ≡ (moves_in table).claim t m
@@ -26,12 +26,12 @@ returns-in-Some-clause-exact c =
     let s : State = record { positions = c.self.inside.positions.items; owners = c.self.inside.owners.items; played = c.self.inside.played } in
     found c.args.moves.now s c.args.self.now c.args.train c.from.result c.index-place.result.now
     (c.index-place.result.now + 1 - 1)
-    c.need.result.now c.self.view_is c.requires.made c.requires.train
+    c.claim.result.now c.self.view_is c.requires.made c.requires.train
     (c.from.ensures ∙ c.train.view_is)
     c.index-place.ensures
     (omega (arith, c.places.ensures))
     (omega arith)
-    c.need.ensures.sections
+    c.claim.ensures.sections
     ∙ sym c.first_owned.ensures ∙ c.in-Some.is
 
 pub returns-in-Some-clause-legal : goal.returns-in-Some-clause-legal
@@ -45,12 +45,12 @@ returns-in-None-clause-exact c =
     let s : State = record { positions = c.self.inside.positions.items; owners = c.self.inside.owners.items; played = c.self.inside.played } in
     found c.args.moves.now s c.args.self.now c.args.train c.from.result c.index-place.result.now
     (c.index-place.result.now + 1 - 1)
-    c.need.result.now c.self.view_is c.requires.made c.requires.train
+    c.claim.result.now c.self.view_is c.requires.made c.requires.train
     (c.from.ensures ∙ c.train.view_is)
     c.index-place.ensures
     (omega (arith, c.places.ensures))
     (omega arith)
-    c.need.ensures.sections
+    c.claim.ensures.sections
     ∙ sym c.first_owned.ensures ∙ c.in-None.is
 
 pub returns-in-None-clause-legal : goal.returns-in-None-clause-legal

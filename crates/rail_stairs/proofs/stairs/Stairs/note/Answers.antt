@@ -18,10 +18,11 @@ returns-in-Admit c =
     let known = ltb-true c.in-Admit.train (length rows) (and_parts (ltb c.in-Admit.train (length rows)) (ltb (length (noted_of c.args.self.now c.in-Admit.train)) ITINERARY_ROUTES) room).0 in
     record {
       noted = λ plant front line is h. record {
+        accepted = h.accepted;
         admissions = c.add_admission.ensures
             ∙ row_added (trains plant) front line rows c.in-Admit.train c.in-Admit.place c.in-Admit.train c.in-Admit.note _ h.admissions (ap (λ (e : Entry). e.what) is ∙ c.in-Admit.is) refl known
             (ap (λ (e : Entry). get_or rows c.in-Admit.train [] ++ e.at ∷ []) (sym is));
         ended = h.ended ∙ ap (λ (w : What). cond (is_end w) (Some line.entry.at) (ended_at front)) (sym (ap (λ (e : Entry). e.what) is ∙ c.in-Admit.is));
-        steps = h.steps;
+        counts = h.counts;
       };
     }

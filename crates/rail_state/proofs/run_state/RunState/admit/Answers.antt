@@ -7,7 +7,7 @@ use Rattle.rail_queue.specs.declared.event.Event.{Event}
 use Rattle.rail_laws_run.specs.HolderTables.{taken_by}
 use Rattle.rail_state.specs.declared.train.TrainState.{TrainState}
 use Rattle.rail_rules.specs.Fronts.{Front, admissions}
-use Rattle.rail_rules.specs.Plant.{Plant, is_forced, moves, needed}
+use Rattle.rail_rules.specs.Plant.{Plant, is_forced, moves, claimed}
 use Rattle.rail_rules.specs.Times.{stop_time}
 use Rattle.rail_laws_run.proofs.CallerLemmas.{taken_long}
 use Rattle.rail_state.proofs.GivenMoves.{ArePushed, as_made, next_place, next_times, pushed_at}
@@ -23,7 +23,7 @@ push_move-arrival-requires-clause-times c =
 pub admit-requires-clause-sections : goal.admit-requires-clause-sections
 admit-requires-clause-sections c =
     let known = c.new-known.result in
-    ap length c.take_sections.ensures ∙ taken_long c.args.self.now.holders (needed known.plant.now known.train (known.place - 1)) known.train ∙ c.requires.sections
+    ap length c.take_sections.ensures ∙ taken_long c.args.self.now.holders (claimed known.plant.now known.train (known.place - 1)) known.train ∙ c.requires.sections
 
 pub returns-clause-given : goal.returns-clause-given
 returns-clause-given c = λ front givable.
@@ -47,17 +47,17 @@ returns-clause-given c = λ front givable.
     let N : Plant → ℕ → ℕ → Type 0 = λ plant t p. (is_forced plant t p ≡ true) ⊎ (p ≡ moves plant t) in
     let before : List Event = c.args.self.now.queue.events in
     let after : List Event = c.push_move-arrival.new.queue.events in
-    let E : (Event → Bool) → Plant → ℕ → ℕ → Type 0 = λ q plant t p. ArePushed plant t adms times arrival q before after p (p - 1) in (
+    let E : (Event → Bool) → Plant → ℕ → ℕ → Type 0 = λ q plant t p. ArePushed plant c.args.self.now.holders t adms times arrival q before after p (p - 1) in (
       times,
       arrival,
       record {
-        pushed = λ q. pushed_at plant front t next adms times arrival q before after at (as_made (E q) of.plant of.train of.place (c.push_move-arrival.ensures.counted adms long_known made_known q));
+        pushed = λ q. pushed_at plant c.args.self.now.holders front t next adms times arrival q before after at (as_made (E q) of.plant of.train of.place (c.push_move-arrival.ensures.counted adms long_known made_known q));
         are_times = are_times;
         deferred = λ when is. as_made (H when) of.plant of.train (of.place ∙ at.after) (c.push_move-arrival.ensures.deferred when is);
         not_deferred = λ is. as_made N of.plant of.train (of.place ∙ at.after) (c.push_move-arrival.ensures.not_deferred is);
         many = c.admit.ensures.length;
         trains = λ u lt. c.admit.ensures.trains u (omega (arith, lt, givable.many));
-        holders = c.take_sections.ensures ∙ (λ k. taken_by c.args.self.now.holders (needed (of.plant k) (of.train k) (of.place k - 1)) (of.train k)) ∙ ap (λ m. taken_by c.args.self.now.holders (needed plant t m) t) at.before;
+        holders = c.take_sections.ensures ∙ (λ k. taken_by c.args.self.now.holders (claimed (of.plant k) (of.train k) (of.place k - 1)) (of.train k)) ∙ ap (λ m. taken_by c.args.self.now.holders (claimed plant t m) t) at.before;
         time = refl;
         going = refl;
         settled = refl;

@@ -1,0 +1,15 @@
+use Rattle.std.proofs.Common.{◌≡◌, ℕ, ◌-◌, ◌&&◌, Bool, not, None, get_or, count_by, ap, ◌∙◌}
+use Rattle.std.specs.List.{filter}
+use Rattle.rail_rules.specs.Numbers.{is_in}
+use Rattle.rail_rules.specs.Plant.{claimed}
+use Rattle.rail_laws_run.specs.HolderTables.{is_train, own_overlap}
+use Rattle.rail_state.specs.Events.{is_free_of}
+use Rattle.rail_state.proofs.admission.forget_taken.Goals as goal
+
+pub returns-clause-counted : goal.returns-clause-counted
+returns-clause-counted c = λ q.
+    let known = c.args.known.now in
+    let h = c.args.holders.now in
+    let es = c.args.queue.now.events in
+    c.forget_each.ensures.counted q
+    ∙ (λ k. count_by (λ e. not (is_free_of (filter (λ x. is_in x (c.claimed_sections-claimed.ensures.sections k) && is_train known.train (get_or h x None)) (c.overlap_behind-own.ensures.sections k)) e) && q e) es)

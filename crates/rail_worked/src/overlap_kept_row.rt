@@ -1,0 +1,21 @@
+ghost use Rattle.std.specs.Prelude.{◌≡◌, ◌≤◌, ◌+◌, IsTrue, false, length};
+ghost use Rattle.rail_rules.specs.Accepted.{is_accepted_input};
+ghost use Rattle.rail_rules.specs.Fronts.{lines_beside_holds};
+ghost use Rattle.rail_rules.specs.LineCounts.{taken_over};
+ghost use Rattle.rail_rules.specs.Lawful.{is_complete};
+ghost use Rattle.rail_rules.specs.Plant.{bound};
+ghost use Rattle.rail_rules.specs.RunHistories.{is_run, is_run_history};
+ghost use Rattle.rail_rules.specs.Texts.{text};
+ghost use Rattle.rail_worked.specs.OverlapKept.{plant, seats, input, front, printed, changed, dropped, doubled};
+
+/// The overlap of a train that goes no further is held until its timer runs out.
+pub fn an_overlap_until_its_timer_runs_out()
+    ensures accepted { IsTrue (is_accepted_input input) }
+    ensures lawful { IsTrue (is_complete input front) }
+    ensures run { IsTrue (is_run_history input seats front) }
+    ensures bounded { lines_beside_holds front + taken_over plant front ≤ bound plant (length input.commands) }
+    ensures text { text plant front ≡ printed }
+    ensures changed { is_complete input changed ≡ false }
+    ensures dropped { is_complete input dropped ≡ false }
+    ensures doubled { is_complete input doubled ≡ false }
+{}
