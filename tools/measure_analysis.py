@@ -40,9 +40,9 @@ use rail_place::{Moves, Places};
 use std::alloc::Global;
 use std::test::Fail;
 
-ghost use Rattle.rail_place.specs.Made.{IsMadeFor};
+ghost use Rattle.rail_place.specs.PlaceStates.{IsMadeFor};
 ghost use Rattle.rail_place.specs.Tables.{moves_in};
-ghost use Rattle.rail_consequence.specs.Kept.{IsAnalystFor};
+ghost use Rattle.rail_consequence.specs.AnalystStates.{IsAnalystFor};
 
 fn numbers(alloc: Global, line: &str) -> Result<Vec<u16>, Fail> {
     let mut found = Vec::new(alloc);
@@ -95,7 +95,7 @@ PLANT_HEAD = """ghost use Rattle.std.specs.Prelude.{◌≡◌, ℕ, ◌+◌, ◌
 ghost use Rattle.std.specs.List.{list_all, list_any};
 ghost use Rattle.rail_rules.specs.Moves.{is_valid, is_valid_move};
 ghost use Rattle.rail_rules.specs.Numbers.{is_in};
-ghost use Rattle.rail_place.specs.Made.{IsMadeFor};
+ghost use Rattle.rail_place.specs.PlaceStates.{IsMadeFor};
 ghost use Rattle.rail_place.specs.Tables.{moves_in, lists_of};
 
 use rail_base::limits::{ITINERARY_ROUTES, ROUTE_SECTIONS, SECTIONS, TRAINS};

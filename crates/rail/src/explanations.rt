@@ -8,7 +8,7 @@ use rail_explain::{OTHER_FORMS, explained, file_of, law_text, usage, usage_with_
 use rail_io::{FileShelf, read_whole};
 use rail_scene::keys::keys_in;
 use rail_scene::{Version, item_name};
-use rail_text::Line;
+use rail_text::LineBuffer;
 use rail_words::{FORMS, form_named, request_of};
 use std::io;
 use std::rt::HostRuntime;
@@ -40,7 +40,7 @@ fn explain_usage(rt: &HostRuntime, words: &[Word]) -> io::Result<()> {
 }
 
 /// Prints a line.
-fn print_line(rt: &HostRuntime, line: &Line) -> io::Result<()> {
+fn print_line(rt: &HostRuntime, line: &LineBuffer) -> io::Result<()> {
     match str::from_utf8(line.as_slice()) {
         Ok(text) => rt.eprintln(text),
         Err(_) => Ok(()),

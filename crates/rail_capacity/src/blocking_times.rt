@@ -29,20 +29,20 @@ fn block_of(interval: &Interval) -> BlockingTime
     }
 }
 
-/// The section is one of the line's, which are given in order.
-fn is_on(line: &[SectionNo], section: SectionNo) -> bool
-    requires { IsNonDecreasing line.now }
-    ensures { result ≡ list_any (λ other. other == section) line.now }
+/// The section is one of these, which are given in order.
+fn is_on(sections: &[SectionNo], section: SectionNo) -> bool
+    requires { IsNonDecreasing sections.now }
+    ensures { result ≡ list_any (λ other. other == section) sections.now }
 {
-    line.binary_search(&section).is_ok()
+    sections.binary_search(&section).is_ok()
 }
 
 /// The interval is on the line, whose sections are given in order, and begins in the window.
-fn is_taken(line: &[SectionNo], window: Window, interval: &Interval) -> bool
-    requires { IsNonDecreasing line.now }
-    ensures { result ≡ is_taken line.now window interval.now }
+fn is_taken(sections: &[SectionNo], window: Window, interval: &Interval) -> bool
+    requires { IsNonDecreasing sections.now }
+    ensures { result ≡ is_taken sections.now window interval.now }
 {
-    is_on(line, interval.section)
+    is_on(sections, interval.section)
         && window.from.0 <= interval.begin.0
         && interval.begin.0 < window.to.0
 }
@@ -51,15 +51,15 @@ fn is_taken(line: &[SectionNo], window: Window, interval: &Interval) -> bool
 fn blocks_on(
     alloc: Global,
     intervals: &[Interval],
-    line: &[SectionNo],
+    sections: &[SectionNo],
     window: Window,
 ) -> Result<Vec<BlockingTime>, OutOfMemory>
-    requires { IsNonDecreasing line.now }
-    ensures { IfOk result (λ blocks. blocks.items ≡ taken_blocks intervals.now line.now window) }
+    requires { IsNonDecreasing sections.now }
+    ensures { IfOk result (λ blocks. blocks.items ≡ taken_blocks intervals.now sections.now window) }
 {
     let blocks = intervals
         .iter()
-        .filter(|interval| is_taken(line, window, interval))
+        .filter(|interval| is_taken(sections, window, interval))
         .map(block_of)
         .collect(alloc)?;
     Ok(blocks)
@@ -70,12 +70,12 @@ fn blocks_on(
 pub fn taken_blocks(
     alloc: Global,
     intervals: &[Interval],
-    line: &[SectionNo],
+    sections: &[SectionNo],
     window: Window,
 ) -> Result<Vec<BlockingTime>, OutOfMemory>
-    ensures { IfOk result (λ blocks. blocks.items ≡ taken_blocks intervals.now line.now window) }
+    ensures { IfOk result (λ blocks. blocks.items ≡ taken_blocks intervals.now sections.now window) }
 {
-    let mut sorted = Vec::from_slice(alloc, line)?;
+    let mut sorted = Vec::from_slice(alloc, sections)?;
     sorted.sort_unstable();
     blocks_on(alloc, intervals, &sorted, window)
 }

@@ -95,28 +95,28 @@ fn compress_blocks(
     })
 }
 
-/// The compression of the intervals on the line's sections that begin in the window. The order of `line` is all one,
+/// The compression of the intervals on the line's sections that begin in the window. The order of `sections` is all one,
 /// and so is whether a section stands in it twice.
 ///
 /// Intervals that are open have to be ended first, as by the time at which the run ended.
 pub fn compress(
     alloc: Global,
     intervals: &[Interval],
-    line: &[SectionNo],
+    sections: &[SectionNo],
     window: Window,
 ) -> Result<Compressed, CapacityFault>
     requires { IsTrue (are_conflict_free (map block_of intervals.now)) }
     ensures compression { IfOk result (λ c.
-        IsCompression (taken_blocks intervals.now line.now window) window c.trains.items c.occupancy c.rate) }
-    ensures line_empty { IsErrOf result CapacityFault.LineEmpty ↔ (line.now ≡ []) }
-    ensures window_empty { IsErrOf result CapacityFault.WindowEmpty ↔ ((line.now ≢ []) × (window.to ≤ window.from)) }
+        IsCompression (taken_blocks intervals.now sections.now window) window c.trains.items c.occupancy c.rate) }
+    ensures line_empty { IsErrOf result CapacityFault.LineEmpty ↔ (sections.now ≡ []) }
+    ensures window_empty { IsErrOf result CapacityFault.WindowEmpty ↔ ((sections.now ≢ []) × (window.to ≤ window.from)) }
 {
-    if line.is_empty() {
+    if sections.is_empty() {
         return Err(CapacityFault::LineEmpty);
     }
     if window.to.0 <= window.from.0 {
         return Err(CapacityFault::WindowEmpty);
     }
-    let blocks = taken_blocks(alloc, intervals, line, window)?;
+    let blocks = taken_blocks(alloc, intervals, sections, window)?;
     Ok(compress_blocks(alloc, &blocks, window)?)
 }

@@ -17,11 +17,11 @@ use Rattle.rail_ledger.specs.Inputs.{input_in}
 use Rattle.rail_ledger.specs.Ledgers.{IsAt, IsEnded, IsRefusedWith, IsUnended, TakesLineWith, line_taken, trains_taken}
 
 -- the entries behind these, with their lists, are what is left of the lines; the ledger stands for the lines before them
-pub record IsChecked (input : RunInput) (all : Verdict) (k : ℕ) (left : List Entry) (lists : List (List ℕ)) (held : Bool) (ledger : Ledger) : Type 0 where
+pub record IsChecked (input : RunInput) (all : Verdict) (k : ℕ) (left : List Entry) (lists : List (List ℕ)) (after_hold : Bool) (ledger : Ledger) : Type 0 where
   pub front : Front
   pub at : IsAt front ledger
   pub input_is : ledger.input ≡ input
-  pub held_is : held ≡ has_held front
+  pub after_hold_is : after_hold ≡ has_held front
   pub same : verdict_behind (input_in input) front (suc k) (lines_in left lists) ≡ all
 
 -- the trains that are taken are those that the line brings
@@ -48,8 +48,8 @@ drop_next [] k x lt is = absurd (omega (arith, lt))
 drop_next (y ∷ ys) zero x lt is = ap (λ z. z ∷ ys) (sym is)
 drop_next (y ∷ ys) (suc k) x lt is = drop_next ys k x (omega (arith, lt)) is
 
-module _ (input : RunInput) (all : Verdict) (k : ℕ) (entry : Entry) (left : List Entry) (lists : List (List ℕ)) (held : Bool) (ledger : Ledger)
-    (so_far : IsChecked input all k (entry ∷ left) lists held ledger) (trains : List ℕ) (trains_are : trains ≡ cond (does_list entry.what) (get_or lists 0 []) []) where
+module _ (input : RunInput) (all : Verdict) (k : ℕ) (entry : Entry) (left : List Entry) (lists : List (List ℕ)) (after_hold : Bool) (ledger : Ledger)
+    (so_far : IsChecked input all k (entry ∷ left) lists after_hold ledger) (trains : List ℕ) (trains_are : trains ≡ cond (does_list entry.what) (get_or lists 0 []) []) where
   abbrev pub line : Line
   line = line_of entry (get_or lists 0 [])
 
@@ -60,10 +60,10 @@ module _ (input : RunInput) (all : Verdict) (k : ℕ) (entry : Entry) (left : Li
   others = cond (does_list entry.what) (drop 1 lists) lists
 
   -- a line that may not follow decides
-  pub refused : (law : ℕ) → IsRefusedWith held ledger (line_taken entry trains) law → no (suc k) law ≡ all
+  pub refused : (law : ℕ) → IsRefusedWith after_hold ledger (line_taken entry trains) law → no (suc k) law ≡ all
   refused law broken =
       let front = so_far.front in
-      let is = broken front (so_far.at, so_far.held_is) in
+      let is = broken front (so_far.at, so_far.after_hold_is) in
       let may : may_follow (input_in input) front line ≡ false =
       ap (λ (i : RunInput). may_follow (input_in i) front line) (sym so_far.input_is) ∙ ap (may_follow (input_in ledger.input) front) (sym taken_is) ∙ is.0 in
       let law_is : law ≡ broken_law (input_in input) front line =
@@ -73,11 +73,11 @@ module _ (input : RunInput) (all : Verdict) (k : ℕ) (entry : Entry) (left : Li
       ∙ so_far.same
 
   -- behind a line that may follow it is so again
-  pub taken : (new : Ledger) → new.input ≡ ledger.input → TakesLineWith held ledger new (line_taken entry trains) → (now : Bool) → now ≡ is_hold entry.what
+  pub taken : (new : Ledger) → new.input ≡ ledger.input → TakesLineWith after_hold ledger new (line_taken entry trains) → (now : Bool) → now ≡ is_hold entry.what
       → (rest : List (List ℕ)) → rest ≡ others → IsChecked input all (suc k) left rest now new
   taken new input_new takes now now_is rest rest_is =
       let front = so_far.front in
-      let at : IsAt (line ∷ front) new = subst (λ (l : Line). IsAt (l ∷ front) new) taken_is (takes front (so_far.at, so_far.held_is)) in
+      let at : IsAt (line ∷ front) new = subst (λ (l : Line). IsAt (l ∷ front) new) taken_is (takes front (so_far.at, so_far.after_hold_is)) in
       let lawful : is_lawful (input_in input) (line ∷ front) ≡ true =
       ap (λ (i : RunInput). is_lawful (input_in i) (line ∷ front)) (sym (input_new ∙ so_far.input_is)) ∙ at.rep.lawful in
       let may = (and_parts (is_lawful (input_in input) front) (may_follow (input_in input) front line) lawful).1 in
@@ -85,13 +85,13 @@ module _ (input : RunInput) (all : Verdict) (k : ℕ) (entry : Entry) (left : Li
         front = line ∷ front;
         at = at;
         input_is = input_new ∙ so_far.input_is;
-        held_is = now_is;
+        after_hold_is = now_is;
         same = ap (λ ls. verdict_behind (input_in input) (line ∷ front) (suc (suc k)) (lines_in left ls)) rest_is
             ∙ sym (cond-true (may_follow (input_in input) front line) (verdict_behind (input_in input) (line ∷ front) (suc (suc k)) (lines_in left others)) (no (suc k) (broken_law (input_in input) front line)) may)
             ∙ so_far.same;
       }
 
-module _ (input : RunInput) (all : Verdict) (k : ℕ) (lists : List (List ℕ)) (held : Bool) (ledger : Ledger) (so_far : IsChecked input all k [] lists held ledger) where
+module _ (input : RunInput) (all : Verdict) (k : ℕ) (lists : List (List ℕ)) (after_hold : Bool) (ledger : Ledger) (so_far : IsChecked input all k [] lists after_hold ledger) where
   -- behind the end line nothing is missing
   pub whole : IsEnded ledger → yes ≡ all
   whole ended =

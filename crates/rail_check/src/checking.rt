@@ -49,16 +49,16 @@ pub fn check(alloc: Global, input: RunInput, history: &History) -> Result<Verdic
 {
     let mut ledger = Ledger::begin(alloc, input)?;
     let mut lists = history.lists.as_slice();
-    let mut held = false;
+    let mut after_hold = false;
     let mut line = 0;
     for entry in &history.entries {
         line += 1;
         let (trains, others) = cut_list(&entry.what, lists);
-        if let Some(law) = ledger.take(*entry, trains, held) {
+        if let Some(law) = ledger.take(*entry, trains, after_hold) {
             return Ok(Verdict::No { line, law });
         }
         lists = others;
-        held = is_hold(&entry.what);
+        after_hold = is_hold(&entry.what);
     }
     match ledger.judge_end() {
         Some(law) => Ok(Verdict::No {

@@ -76,6 +76,11 @@ one_value form.Capacity values others words one h g = one_study values others wo
 one_value form.Insert values others words one h g = same_paths values others words one h g
 one_value form.Edit values others words one h g = one_pair values others words h g
 one_value form.Migrate values others words one h g = ap (λ (ws : List (List ℕ)). get_or ws 0 []) (sym h ∙ g)
+one_value form.Reroute values others words one h g = λ i. record {
+  scene = ap (λ (ws : List (List ℕ)). get_or ws 0 []) (sym h ∙ g) i;
+  list = ap (λ (ws : List (List ℕ)). get_or ws 1 []) (sym h ∙ g) i;
+  proposals = ap (λ (ws : List (List ℕ)). get_or ws 2 []) (sym h ∙ g) i;
+}
 one_value form.Scene values others words one h g = one_number values others words h g
 one_value form.Gen values others words one h g = one_number values others words h g
 
@@ -106,6 +111,7 @@ request_answered (request.Capacity line from to scenario) deck told before now s
 request_answered (request.Insert paths) deck told before now status h = h
 request_answered (request.Edit scene edits) deck told before now status h = h
 request_answered (request.Migrate scene) deck told before now status h = h
+request_answered (request.Reroute scene list proposals) deck told before now status h = h
 request_answered (request.Scene number) deck told before now status h = h
 request_answered (request.Gen number) deck told before now status h = h
 
@@ -127,6 +133,7 @@ request_bounded (request.Report scenario) (verb ∷ words) is = tt
 request_bounded (request.Capacity line from to scenario) (verb ∷ words) is = tt
 request_bounded (request.Edit scene edits) (verb ∷ words) is = tt
 request_bounded (request.Migrate scene) (verb ∷ words) is = tt
+request_bounded (request.Reroute scene list proposals) (verb ∷ words) is = tt
 request_bounded (request.Scene number) (verb ∷ words) is = tt
 request_bounded (request.Gen number) (verb ∷ words) is = tt
 
@@ -141,6 +148,7 @@ request_files (request.Capacity line from to scenario) = refl
 request_files (request.Insert paths) = refl
 request_files (request.Edit scene edits) = refl
 request_files (request.Migrate scene) = refl
+request_files (request.Reroute scene list proposals) = refl
 request_files (request.Scene number) = refl
 request_files (request.Gen number) = refl
 
@@ -155,6 +163,7 @@ request_alone (request.Capacity line from to scenario) h = h
 request_alone (request.Insert paths) h = h
 request_alone (request.Edit scene edits) h = h
 request_alone (request.Migrate scene) h = h
+request_alone (request.Reroute scene list proposals) h = h
 request_alone (request.Scene number) h = h
 request_alone (request.Gen number) h = h
 
@@ -250,5 +259,7 @@ complete_form form.Insert paths deck told before now status answer ok read write
 complete_form form.Edit files deck told before now status answer ok read write =
     complete_answer _ _ _ status (answer.both ok.bytes ok.others ok.scene_told ok.others_told) ok.fine read write
 complete_form form.Migrate scene deck told before now status answer ok read write = complete_answer _ _ _ status (answer ok.0 ok.1) ok.2 read write
+complete_form form.Reroute files deck told before now status answer ok read write =
+    complete_answer _ _ _ status (answer.all ok.bytes ok.places ok.lines ok.scene_told ok.places_told ok.lines_told) ok.fine read write
 complete_form form.Scene number deck told before now status answer ok read write = complete_answer _ _ _ status answer refl read write
 complete_form form.Gen number deck told before now status answer ok read write = complete_answer _ _ _ status answer refl read write

@@ -2,7 +2,7 @@
 use Rattle.std.specs.Prelude.{List, None, Option, Some, ℕ, ◌<◌, ◌≤◌, ◌^◌, ◌≡◌, ◌⊎◌}
 use Rattle.rail_capacity.specs.declared.compression.Window.{Window}
 use Rattle.rail_policy.specs.Seats.{DeskSeat, names_of}
-use Rattle.rail_words.specs.Forms.{Scenario, SceneAnd, Study, Values, paths_in, scenario_in}
+use Rattle.rail_words.specs.Forms.{Scenario, SceneAnd, SceneAndTwo, Study, Values, paths_in, scenario_in}
 use Rattle.rail_words.specs.declared.forms.Request.{Request}
 use Rattle.rail_words.specs.declared.forms.Request.TheVariants as request
 use Rattle.rail_words.specs.declared.forms.Form.{Form}
@@ -17,6 +17,7 @@ use Rattle.rail_forms.specs.Migration.{AnswersMigrate}
 use Rattle.rail_forms.specs.Insertions.{AnswersInsertion, no_place, no_stairway, with_train}
 use Rattle.rail_forms.specs.Plays.{AnswersPlay, play_refusal}
 use Rattle.rail_forms.specs.Reports.{AnswersReport}
+use Rattle.rail_forms.specs.Reroutes.{AnswersReroute, reroute_refusal}
 use Rattle.rail_forms.specs.Runs.{AnswersRun}
 use Rattle.rail_forms.specs.SceneTexts.{AnswersScene}
 use Rattle.rail_forms.specs.Stairs.{AnswersStairs}
@@ -54,6 +55,7 @@ AnswersForm form.Capacity study deck told before now status =
 AnswersForm form.Insert paths deck told before now status = AnswersInsertion paths deck told before now status
 AnswersForm form.Edit files deck told before now status = AnswersEdit files.scene files.other told before now status
 AnswersForm form.Migrate scene deck told before now status = AnswersMigrate scene told before now status
+AnswersForm form.Reroute files deck told before now status = AnswersReroute files.scene files.list files.proposals told before now status
 AnswersForm form.Scene number deck told before now status = AnswersScene number before now status
 AnswersForm form.Gen number deck told before now status = AnswersGen number deck before now status
 
@@ -71,6 +73,8 @@ AnswersRequest (request.Capacity line from to scenario) deck told before now sta
 AnswersRequest (request.Insert paths) deck told before now status = AnswersInsertion (paths_in paths) deck told before now status
 AnswersRequest (request.Edit scene edits) deck told before now status = AnswersEdit scene.now edits.now told before now status
 AnswersRequest (request.Migrate scene) deck told before now status = AnswersMigrate scene.now told before now status
+AnswersRequest (request.Reroute scene list proposals) deck told before now status =
+    AnswersReroute scene.now list.now proposals.now told before now status
 AnswersRequest (request.Scene number) deck told before now status = AnswersScene number before now status
 AnswersRequest (request.Gen number) deck told before now status = AnswersGen number deck before now status
 
@@ -86,6 +90,7 @@ IsRefusedAlone (request.Stairs scenario) = ⊥
 IsRefusedAlone (request.Report scenario) = ⊥
 IsRefusedAlone (request.Edit scene edits) = ⊥
 IsRefusedAlone (request.Migrate scene) = ⊥
+IsRefusedAlone (request.Reroute scene list proposals) = ⊥
 IsRefusedAlone (request.Scene number) = ⊥
 IsRefusedAlone (request.Gen number) = ⊥
 
@@ -101,6 +106,7 @@ AreRefusedAlone form.Stairs values = ⊥
 AreRefusedAlone form.Report values = ⊥
 AreRefusedAlone form.Edit values = ⊥
 AreRefusedAlone form.Migrate values = ⊥
+AreRefusedAlone form.Reroute values = ⊥
 AreRefusedAlone form.Scene values = ⊥
 AreRefusedAlone form.Gen values = ⊥
 
@@ -143,6 +149,17 @@ pub record AreAccepted (second : Role) (later : List ℕ → List ℕ → Option
   pub others_told : told files.other ≡ Some others
   pub fine : or_else (too_large role.Scene bytes) (or_else (too_large second others) (later bytes others)) ≡ None
 
+-- the bytes of a scene, of a list and of proposals are told, and nothing is refused
+pub record AreAcceptedProposals (files : SceneAndTwo) (told : Told) : Type 0 where
+  pub bytes : List ℕ
+  pub places : List ℕ
+  pub lines : List ℕ
+  pub scene_told : told files.scene ≡ Some bytes
+  pub places_told : told files.list ≡ Some places
+  pub lines_told : told files.proposals ≡ Some lines
+  pub fine : or_else (too_large role.Scene bytes) (or_else (too_large role.List places) (or_else (too_large role.Proposals lines)
+      (reroute_refusal bytes places lines))) ≡ None
+
 -- nothing is refused in the values of the form: the bytes of the files are told, and accepted
 abbrev pub IsAcceptedInput : (form : Form) → Values form → List DeskSeat → Told → Type 0
 IsAcceptedInput form.Run scenario deck told = IsAcceptedScenario nothing_else deck told scenario
@@ -159,6 +176,7 @@ IsAcceptedInput form.Insert paths deck told = (paths.from < paths.to)
 IsAcceptedInput form.Edit files deck told = AreAccepted role.Edits edited_scene_refusal files told
 IsAcceptedInput form.Migrate scene deck told = (bytes : List ℕ) × (told scene ≡ Some bytes)
     × (or_else (too_large role.Scene bytes) (plant_refusal bytes) ≡ None)
+IsAcceptedInput form.Reroute files deck told = AreAcceptedProposals files told
 IsAcceptedInput form.Scene number deck told = Unit {0}
 IsAcceptedInput form.Gen number deck told = Unit {0}
 

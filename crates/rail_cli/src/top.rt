@@ -12,7 +12,8 @@ use rail_base::{Word, a_text_stands_for_one_time};
 use rail_capacity::Window;
 use rail_forms::scenario::Purpose;
 use rail_forms::{
-    Status, capacity, check, edit, infra, insertion, migrate, play, scenario, scene, summary,
+    Status, capacity, check, edit, infra, insertion, migrate, play, reroute, scenario, scene,
+    summary,
 };
 use rail_io::{Shelf, Sink};
 use rail_policy::Policy;
@@ -117,6 +118,11 @@ fn answer<S: Shelf, O: Sink>(
             check::answer(alloc, scenario, history, shelf, out, &deck)
         }
         Request::Edit { scene, edits } => edit::answer(alloc, scene, edits, shelf, out),
+        Request::Reroute {
+            scene,
+            list,
+            proposals,
+        } => reroute::answer(alloc, scene, list, proposals, shelf, out),
         Request::Migrate { scene } => migrate::answer(alloc, scene, shelf, out),
         Request::Scene { number } => scene::answer(alloc, *number, out),
         Request::Gen { number } => summary::answer(alloc, *number, out, deck),

@@ -15,7 +15,6 @@ use Rattle.rail_base.specs.Limits.{is_from_one}
 use Rattle.rail_rules.specs.Accepted.{are_distinct_numbers, is_turn_in_range, is_move_in_range}
 use Rattle.rail_rules.specs.Plant.{no_move}
 use Rattle.rail_track.specs.declared.section.Section.{Section}
-use Rattle.rail_track.specs.declared.section.SectionKind.TheVariants.{Plain}
 use Rattle.rail_track.specs.Joints.{is_named}
 use Rattle.rail_base.specs.Lists.{are_distinct}
 use Rattle.rail_routes.specs.declared.items.Post.{Post}
@@ -24,13 +23,13 @@ use Rattle.rail_routes.specs.declared.items.Role.TheVariants.{Portal, Signal, Bo
 use Rattle.rail_routes.specs.declared.items.Turn.{Turn}
 use Rattle.rail_routes.specs.declared.items.Step.{Step}
 use Rattle.rail_routes.specs.declared.items.Route.{Route}
-use Rattle.rail_routes.specs.Net.{Net, posts, is_post, is_turn, post_named}
+use Rattle.rail_routes.specs.Net.{Net, posts, is_post, is_turn, post_named, no_post, no_section}
 use Rattle.rail_routes.specs.PostRules.{is_formed, has_times, stands_well}
 use Rattle.rail_routes.specs.TurnRules.{turns_well}
-use Rattle.rail_routes.specs.Sound.{same_role, have_one_section, is_timed, is_sound_post, is_sound_turn, is_sound_route, IsSoundNetwork}
+use Rattle.rail_routes.specs.SoundNetworks.{same_role, have_one_section, is_timed, is_sound_post, is_sound_turn, is_sound_route, IsSoundNetwork}
 use Rattle.rail_compile.specs.Refusals.{ends_at_portal}
 use Rattle.rail_compile.specs.Ways.{is_known_step}
-use Rattle.rail_compile.specs.Itineraries.{no_post, may_leave, turn_to, turn_row, turn_between, turn_before, number_of, move_over, moves_over}
+use Rattle.rail_compile.specs.Itineraries.{may_leave, turn_to, turn_row, turn_between, turn_before, number_of, move_over, moves_over}
 use Rattle.rail_compile.proofs.Finds.{found_passes, position_some, some_unwrapped}
 use Rattle.rail_compile.proofs.Routes.{ends_plain, led_from, sound_route}
 
@@ -38,9 +37,6 @@ use Rattle.rail_compile.proofs.Routes.{ends_plain, led_from, sound_route}
 pub record IsNumber (sections : List Section) (name : List ℕ) (n : ℕ) : Type 0 where
   pub within : n < length sections
   pub named : (d : Section) → same_name name (get_or sections n d).name ≡ true
-
-no_section : Section
-no_section = record { name = []; kind = Plain; length = 0; speed = 0; joints = [] }
 
 pub number_is : (net : Net) (name : List ℕ) → list_any (is_named name) net.sections ≡ true → IsNumber net.sections name (number_of net name)
 number_is net name known =

@@ -8,8 +8,8 @@ use Rattle.rail_base.specs.declared.refusals.Reason.TheVariants as reason
 use Rattle.rail_base.specs.FirstRefusals.{first_failing}
 use Rattle.rail_base.proofs.CallerLemmas.{first_failing-append}
 use Rattle.rail_routes.specs.declared.items.Route.{Route}
-use Rattle.rail_routes.specs.Net.{Net}
-use Rattle.rail_compile.specs.Itineraries.{no_route, is_portal, goes_on_to}
+use Rattle.rail_routes.specs.Net.{Net, no_route}
+use Rattle.rail_compile.specs.Itineraries.{is_portal, goes_on_to}
 use Rattle.rail_compile.specs.Refusals.{of_train, train_refused, begins_at_portal, ends_at_portal, place_tests, route_tests}
 
 -- two routes that follow one another, in front of the rest

@@ -14,12 +14,12 @@ use Rattle.rail_routes.specs.declared.items.Role.{Role}
 use Rattle.rail_routes.specs.declared.items.Role.TheVariants.{Portal, Signal, Board}
 use Rattle.rail_routes.specs.declared.items.Step.{Step}
 use Rattle.rail_routes.specs.declared.items.Route.{Route}
-use Rattle.rail_routes.specs.Net.{Net, post_named}
+use Rattle.rail_routes.specs.Net.{Net, post_named, no_post}
 use Rattle.rail_routes.specs.PostRules.{has_times}
 use Rattle.rail_routes.specs.RouteRules.{is_ahead_of, begins, ends, goes_on, is_beyond, leads_from, leads_on}
-use Rattle.rail_routes.specs.Sound.{have_one_section, lead_to, lead_on, is_sound_path, is_sound_overlap, lead_between, is_sound_route}
+use Rattle.rail_routes.specs.SoundNetworks.{have_one_section, lead_to, lead_on, is_sound_path, is_sound_overlap, lead_between, is_sound_route}
 use Rattle.rail_routes.proofs.CallerLemmas.{well_led}
-use Rattle.rail_compile.specs.Itineraries.{is_portal, is_portal_role, no_post}
+use Rattle.rail_compile.specs.Itineraries.{is_portal, is_portal_role}
 use Rattle.rail_compile.specs.Ways.{is_known_step}
 use Rattle.rail_compile.proofs.Finds.{is_some-find}
 

@@ -15,11 +15,11 @@ use Rattle.rail_rules.specs.Accepted.{are_distinct_names, is_section_in_range, i
 use Rattle.rail_rules.proofs.CallerLemmas.{all_below_from}
 use Rattle.rail_track.specs.declared.section.Section.{Section}
 use Rattle.rail_track.specs.SectionRules.{joint_count, stands_twice}
-use Rattle.rail_track.specs.Sound.{is_fit}
+use Rattle.rail_track.specs.SoundTracks.{is_fit}
 use Rattle.rail_base.specs.FirstRefusals.{first_failing}
 use Rattle.rail_routes.specs.declared.items.Route.{Route}
-use Rattle.rail_routes.specs.Net.{Net, is_route}
-use Rattle.rail_routes.specs.Sound.{is_sound_route, IsSoundNetwork}
+use Rattle.rail_routes.specs.Net.{Net, is_route, no_route}
+use Rattle.rail_routes.specs.SoundNetworks.{is_sound_route, IsSoundNetwork}
 use Rattle.rail_base.specs.Refusals.{AnswersFirst, refusal_in}
 use Rattle.rail_plan.specs.declared.faults.PlanFault.{PlanFault}
 use Rattle.rail_plan.specs.declared.faults.PlanFault.TheVariants.{TooLong, SelfBlocked, OutOfMemory}
@@ -27,9 +27,9 @@ use Rattle.rail_plan.specs.PlanFaults.{IsAnswer, IsPlannable, bare, fault_of}
 use Rattle.rail_scene.specs.declared.scene.Scene.{Scene}
 use Rattle.rail_scene.specs.declared.scene.SceneTrain.{SceneTrain}
 use Rattle.rail_scene.specs.Scenes.{is_fit_kind, is_fit_train, IsScene}
-use Rattle.rail_compile.specs.Itineraries.{no_route, route_of, routes_of, kind_of, section_row, train_row, tables_of}
+use Rattle.rail_compile.specs.Itineraries.{route_of, routes_of, kind_of, section_row, train_row, tables_of}
 use Rattle.rail_compile.specs.Refusals.{is_known, are_known, trains_tests, fault_for, compile_refusal}
-use Rattle.rail_compile.specs.Typed.{is_named_row, is_typed_row}
+use Rattle.rail_compile.specs.RowTypes.{is_named_row, is_typed_row}
 use Rattle.rail_compile.proofs.Finds.{is_some-find, found_passes, all_at, some_unwrapped}
 use Rattle.rail_compile.proofs.Names.{distinct_from_apart}
 use Rattle.rail_compile.proofs.Moves.{moves_fine, length-moves_over, last_over, last_turn}

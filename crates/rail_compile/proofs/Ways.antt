@@ -10,8 +10,8 @@ use Rattle.rail_base.specs.Lists.{are_distinct}
 use Rattle.rail_base.specs.NameForms.{same_name}
 use Rattle.rail_track.proofs.CallerLemmas.{found_item, list_any-map, list_any-count_by, same_name-self}
 use Rattle.rail_routes.specs.declared.items.Route.{Route}
-use Rattle.rail_routes.specs.Net.{Net, is_route}
-use Rattle.rail_compile.specs.Itineraries.{no_route, route_of, routes_of}
+use Rattle.rail_routes.specs.Net.{Net, is_route, no_route}
+use Rattle.rail_compile.specs.Itineraries.{route_of, routes_of}
 use Rattle.rail_compile.specs.Refusals.{is_known, are_known}
 use Rattle.rail_compile.specs.Ways.{is_among, place_among, route_at, routes_at, are_numbers}
 use Rattle.rail_compile.proofs.Finds.{position_some, some_unwrapped, unwrapped, all_at}

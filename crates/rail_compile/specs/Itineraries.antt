@@ -18,18 +18,10 @@ use Rattle.rail_routes.specs.declared.items.Role.TheVariants.{Portal, Signal, Bo
 use Rattle.rail_routes.specs.declared.items.Turn.{Turn}
 use Rattle.rail_routes.specs.declared.items.Step.{Step}
 use Rattle.rail_routes.specs.declared.items.Route.{Route}
-use Rattle.rail_routes.specs.Net.{Net, is_turn, is_route, post_named, guards}
+use Rattle.rail_routes.specs.Net.{Net, is_turn, is_route, no_post, no_route, post_named, guards}
 use Rattle.rail_plan.specs.PlanFaults.{bare}
 use Rattle.rail_scene.specs.declared.scene.Scene.{Scene}
 use Rattle.rail_scene.specs.declared.scene.SceneTrain.{SceneTrain}
-
--- what stands for a route that the network doesn't have
-abbrev pub no_route : Route
-no_route = record { name = []; from = []; to = []; steps = []; overlap = [] }
-
--- what stands for a post that the network doesn't have
-abbrev pub no_post : Post
-no_post = record { name = []; role = Board; joint = []; ahead = None; setting = 0; watching = 0; approach = 0 }
 
 -- the route of this name
 abbrev pub route_of : Net → List ℕ → Route

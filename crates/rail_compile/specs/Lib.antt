@@ -1,5 +1,5 @@
 -- What the contracts of this crate, and the definitions above it, speak of.
 pub mod Itineraries
 pub mod Refusals
-pub mod Typed
+pub mod RowTypes
 pub mod Ways

@@ -6,13 +6,13 @@ use Rattle.rail_track.specs.declared.section.Section.{Section}
 use Rattle.rail_track.specs.Joints.{is_named}
 use Rattle.rail_routes.specs.declared.items.Route.{Route}
 use Rattle.rail_routes.specs.declared.items.Step.{Step}
-use Rattle.rail_routes.specs.Net.{Net}
+use Rattle.rail_routes.specs.Net.{Net, no_route}
 use Rattle.rail_base.specs.declared.plant.TrainKind.{TrainKind}
 use Rattle.rail_scene.specs.declared.scene.Scene.{Scene}
 use Rattle.rail_compile.specs.declared.compiling.Lookups.{Lookups}
 use Rattle.rail_compile.specs.declared.compiling.ways.Way.{Way}
 use Rattle.rail_compile.specs.declared.compiling.ways.Ways.{Ways}
-use Rattle.rail_compile.specs.Itineraries.{no_route, move_over, is_portal, is_signal}
+use Rattle.rail_compile.specs.Itineraries.{move_over, is_portal, is_signal}
 
 -- the name is one of these
 abbrev pub is_among : List (List ℕ) → List ℕ → Bool

@@ -118,14 +118,14 @@ module _ (plan : Moves) (s : List ℕ) (t p u x v : ℕ) (valid : is_valid plan 
   known : u < length s
   known = inside_listed plan s u stop.inside
 
-  held : holds plan then v x ≡ true
-  held = ap (λ k. is_in x (stand plan v k)) (get_or-set_other s t v p 0 third) ∙ holder
+  taken : holds plan then v x ≡ true
+  taken = ap (λ k. is_in x (stand plan v k)) (get_or-set_other s t v p 0 third) ∙ holder
 
   -- where its next move needs the section
   pub next_kept : is_in x (plan.claim u (place_of s u)) ≡ true → HasNoSafeLegOf plan then u
   next_kept near = λ q is.
       stopped_unsafe plan then u x q
-      (stopped_next plan s t p u valid state was ahead ne x v known stop held (ap (λ k. is_in x (plan.claim u k)) (get_or-set_other s t u p 0 ne) ∙ near)) is
+      (stopped_next plan s t p u valid state was ahead ne x v known stop taken (ap (λ k. is_in x (plan.claim u k)) (get_or-set_other s t u p 0 ne) ∙ near)) is
 
   -- or where it needs none of the sections that fall to one train
   pub later_kept : (counts : Columns) (width : ℕ) (fell : List ℕ) → IsCounted plan s counts → IsWithin plan s width t → HasFalls plan s counts width t p fell → IsUntouched plan s fell u → HasNoSafeLegOf plan then u
@@ -137,7 +137,7 @@ module _ (plan : Moves) (s : List ℕ) (t p u x v : ℕ) (valid : is_valid plan 
       (and_from (needs_from plan t (place_of s t) y) (not (needs_from plan t p y)) before (not_from_false (needs_from plan t p y) past))
       (eq-eqb (count_of counts y) 2 two))
       untouched ne in
-      stopped_unsafe plan then u x q (stopped_still plan s t p u valid state was ahead ne passed x v known stop held) is
+      stopped_unsafe plan then u x q (stopped_still plan s t p u valid state was ahead ne passed x v known stop taken) is
 
 -- what is noted of a train is at its next move, or none of the sections that it needs falls to one train, or it has no safe leg
 abbrev pub IsWatched : Moves → List ℕ → List Stop → List ℕ → ℕ → ℕ → ℕ → Type 0
@@ -178,18 +178,18 @@ module _ (plan : Moves) (s : List ℕ) (stops : List Stop) (counts : Columns) (w
           by : (o : Option ℕ) → section_of (stop_of stops u) ≡ o → HasNoSafeLegOf plan (set s t p) u
           by None none = waits u (listed.all u here) ne here (inl none)
           by (Some x) noted =
-              let held = (settled.stopped u x here noted).held in
+              let taken = (settled.stopped u x here noted).taken in
               ⊎_elim
-              (λ same. waits u (listed.all u here) ne here (inr (x, noted, ap (λ h. holds plan s h x) (sym same) ∙ held.held)))
-              (λ third. waits_on fell p u x held.holder was ahead falls (watched u (listed.all u here) ne) ne here noted held.held third)
-              (cases_eq held.holder t)
+              (λ same. waits u (listed.all u here) ne here (inr (x, noted, ap (λ h. holds plan s h x) (sym same) ∙ taken.taken)))
+              (λ third. waits_on fell p u x taken.holder was ahead falls (watched u (listed.all u here) ne) ne here noted taken.taken third)
+              (cases_eq taken.holder t)
 
   -- a train that can't make its next move has no leg
   next_no_leg : (p : ℕ) → IsNextStop stops t → is_leg plan s (record { train = t; place = p }) ≡ true → ⊥
   next_no_leg p next is =
       let goes = goes_parts plan s (record { train = t; place = p }) is in
       let stop = settled.stopped t next.0 goes.inside (ap section_of next.1) in
-      omega (arith, goes.ahead, leg_short plan s t next.0 (place_of s t) p (omega arith) (settled.next t next.0 goes.inside next.1) stop.held is)
+      omega (arith, goes.ahead, leg_short plan s t next.0 (place_of s t) p (omega arith) (settled.next t next.0 goes.inside next.1) stop.taken is)
 
   -- of several trains inside one is another than this one
   other_of : AreSeveral plan s → HasOther plan s t
@@ -274,4 +274,4 @@ shared_unsafe plan s counts t p u q x known listed ne low counted is shared =
 pub barred_unsafe : (plan : Moves) (s : List ℕ) (u made : ℕ) → place_of s u ≤ made → IsBarred plan s u made
     → ((q : ℕ) → place_of s u < q → q ≤ made → is_safe plan s (record { train = u; place = q }) ≡ false) → HasNoSafeLegOf plan s u
 barred_unsafe plan s u made from bar unsafe = λ q is.
-    unsafe q (goes_parts plan s (record { train = u; place = q }) is).ahead (leg_short plan s u bar.section made q from bar.needed bar.held is)
+    unsafe q (goes_parts plan s (record { train = u; place = q }) is).ahead (leg_short plan s u bar.section made q from bar.needed bar.taken is)

@@ -1,4 +1,4 @@
--- Which sections are held, as a set.
+-- Which sections are taken, as a set.
 use Rattle.std.proofs.Common.{◌≡◌, ◌≢◌, ℕ, zero, suc, ◌+◌, ◌<◌, ◌≤◌, Bool, true, false, not, ◌&&◌, ◌||◌, ltb, List, [], Option, None, Some, is_some, length, get_or, set, take, refl, sym, ap, ◌∙◌, ⊎_elim, arith}
 use Rattle.std.proofs.lemmas.Bool.{and_from, and_parts, cases_Bool, cases_eq, cases_lt, cond-false, false≢true, le-ltb, not_from_false, not-true, or_cases, or_left, or_right}
 use Rattle.std.proofs.lemmas.List.{get_or-set_same, get_or-set_other}
@@ -6,12 +6,12 @@ use Rattle.rail_rules.specs.Numbers.{is_in}
 use Rattle.rail_rules.specs.Moves.{Moves, stand}
 use Rattle.rail_rules.specs.Places.{holds, is_inside, is_valid_state, place_of}
 use Rattle.rail_rules.proofs.CallerLemmas.{apart_at, state_parts}
-use Rattle.rail_place.specs.Made.{IsMadeFor, State}
+use Rattle.rail_place.specs.PlaceStates.{IsMadeFor, State}
 use Rattle.rail_place.specs.Tables.{MoveLists, moves_in}
 use Rattle.rail_place.proofs.CallerLemmas.{holder_listed, state_apart}
 use Rattle.rail_sets.specs.Sets.{has}
 use Rattle.rail_consequence.specs.Needs.{IsSet}
-use Rattle.rail_consequence.specs.Stops.{IsHeldByOther}
+use Rattle.rail_consequence.specs.Stops.{IsTakenByOther}
 use Rattle.rail_consequence.specs.Workspace.{IsListing}
 use Rattle.rail_consequence.proofs.Counts.{in_take_all, in_take_more}
 use Rattle.rail_consequence.proofs.Legs.{inside_from}
@@ -34,7 +34,7 @@ pub one_holds : (plan : Moves) (s : List ℕ) (u v x : ℕ) → is_valid_state p
 one_holds plan s u v x state first second ne =
     false≢true (sym (apart_at (stand plan u (place_of s u)) (stand plan v (place_of s v)) x (state_apart plan s u v state (holder_listed plan s u x first) (λ same. ne (sym same))) first) ∙ second)
 
-module _ (table : List MoveLists) (state : State) (made : IsMadeFor table state) (held : List ℕ) (is_held : IsSet held (λ x. is_some (get_or state.owners x None))) where
+module _ (table : List MoveLists) (state : State) (made : IsMadeFor table state) (taken : List ℕ) (taken_is : IsSet taken (λ x. is_some (get_or state.owners x None))) where
   abbrev plan : Moves
   plan = moves_in table
 
@@ -42,46 +42,46 @@ module _ (table : List MoveLists) (state : State) (made : IsMadeFor table state)
   s = state.positions
 
   -- a section of the set has a holder
-  pub held_holder : (x : ℕ) → has held x ≡ true → (v : ℕ) × (holds plan s v x ≡ true)
-  held_holder x is =
-      let owner = some_of (get_or state.owners x None) (sym (is_held x) ∙ is) in
+  pub taken_holder : (x : ℕ) → has taken x ≡ true → (v : ℕ) × (holds plan s v x ≡ true)
+  taken_holder x is =
+      let owner = some_of (get_or state.owners x None) (sym (taken_is x) ∙ is) in
       (owner.0, (made.told x owner.0).0 owner.1)
 
   -- and what a train holds is in the set
-  pub holder_held : (v x : ℕ) → holds plan s v x ≡ true → has held x ≡ true
-  holder_held v x holder = is_held x ∙ ap is_some ((made.told x v).1 holder)
+  pub holder_taken : (v x : ℕ) → holds plan s v x ≡ true → has taken x ≡ true
+  holder_taken v x holder = taken_is x ∙ ap is_some ((made.told x v).1 holder)
 
-  -- so a section of the set on which a train does not stand is held by another
-  pub other_bar : (t x : ℕ) → has held x ≡ true → is_in x (stand plan t (place_of s t)) ≡ false → IsHeldByOther plan s t x
+  -- so a section of the set on which a train does not stand is taken by another
+  pub other_bar : (t x : ℕ) → has taken x ≡ true → is_in x (stand plan t (place_of s t)) ≡ false → IsTakenByOther plan s t x
   other_bar t x is out =
-      let v = held_holder x is in
+      let v = taken_holder x is in
       record {
         holder = v.0;
         other = λ same. false≢true (sym out ∙ ap (λ u. holds plan s u x) (sym same) ∙ v.1);
-        held = v.1;
+        taken = v.1;
       }
 
-  -- and one that is not held by another is not in the set, or the train stands on it
-  pub no_bar : (t x : ℕ) → (has held x ≡ true → is_in x (stand plan t (place_of s t)) ≡ true) → IsHeldByOther plan s t x → ⊥
+  -- and one that is not taken by another is not in the set, or the train stands on it
+  pub no_bar : (t x : ℕ) → (has taken x ≡ true → is_in x (stand plan t (place_of s t)) ≡ true) → IsTakenByOther plan s t x → ⊥
   no_bar t x own bar =
-      one_holds plan s t bar.holder x made.valid (own (holder_held bar.holder x bar.held)) bar.held (λ same. bar.other (sym same))
+      one_holds plan s t bar.holder x made.valid (own (holder_taken bar.holder x bar.taken)) bar.taken (λ same. bar.other (sym same))
 
-  -- a section that stays, or comes, where a train goes to another place is held there by a train
+  -- a section that stays, or comes, where a train goes to another place is taken there by a train
   pub then_holder_at : (t p : ℕ) → t < length s → (gone come new : List ℕ) → IsSet gone (λ x. is_in x (stand plan t (place_of s t))) → IsSet come (λ x. is_in x (stand plan t p))
-      → (x : ℕ) → has new x ≡ ((has held x && not (has gone x)) || has come x) → has new x ≡ true → (v : ℕ) × (holds plan (set s t p) v x ≡ true)
+      → (x : ℕ) → has new x ≡ ((has taken x && not (has gone x)) || has come x) → has new x ≡ true → (v : ℕ) × (holds plan (set s t p) v x ≡ true)
   then_holder_at t p known gone come new is_gone is_come x replaced is =
       ⊎_elim
       (λ stays.
-      let parts = and_parts (has held x) (not (has gone x)) stays in
-      let v = held_holder x parts.0 in
+      let parts = and_parts (has taken x) (not (has gone x)) stays in
+      let v = taken_holder x parts.0 in
       let other : v.0 ≢ t = λ same. false≢true (sym (not-true (has gone x) parts.1) ∙ is_gone x ∙ ap (λ u. holds plan s u x) (sym same) ∙ v.1) in
       (v.0, ap (λ q. is_in x (stand plan v.0 q)) (get_or-set_other s t v.0 p 0 other) ∙ v.1))
       (λ comes. (t, ap (λ q. is_in x (stand plan t q)) (get_or-set_same s t p 0 known) ∙ sym (is_come x) ∙ comes))
-      (or_cases (has held x && not (has gone x)) (has come x) (sym replaced ∙ is))
+      (or_cases (has taken x && not (has gone x)) (has come x) (sym replaced ∙ is))
 
   -- after a train went to another place: what it gives free is taken away, and what it then holds is added
   module _ (t p : ℕ) (known : t < length s) (gone come new : List ℕ) (is_gone : IsSet gone (λ x. is_in x (stand plan t (place_of s t)))) (is_come : IsSet come (λ x. is_in x (stand plan t p)))
-      (replaced : (x : ℕ) → has new x ≡ ((has held x && not (has gone x)) || has come x)) where
+      (replaced : (x : ℕ) → has new x ≡ ((has taken x && not (has gone x)) || has come x)) where
     abbrev next : List ℕ
     next = set s t p
 
@@ -94,27 +94,27 @@ module _ (table : List MoveLists) (state : State) (made : IsMadeFor table state)
     pub then_holder : (x : ℕ) → has new x ≡ true → (v : ℕ) × (holds plan next v x ≡ true)
     then_holder x is = then_holder_at t p known gone come new is_gone is_come x (replaced x) is
 
-    pub then_held : (x v : ℕ) → holds plan next v x ≡ true → has new x ≡ true
-    then_held x v holder =
+    pub then_taken : (x v : ℕ) → holds plan next v x ≡ true → has new x ≡ true
+    then_taken x v holder =
         replaced x
         ∙ ⊎_elim
-        (λ same. or_right (has held x && not (has gone x)) (has come x) (is_come x ∙ ap (λ q. is_in x (stand plan t q)) (sym here) ∙ ap (λ u. holds plan next u x) (sym same) ∙ holder))
+        (λ same. or_right (has taken x && not (has gone x)) (has come x) (is_come x ∙ ap (λ q. is_in x (stand plan t q)) (sym here) ∙ ap (λ u. holds plan next u x) (sym same) ∙ holder))
         (λ ne.
         let was : holds plan s v x ≡ true = ap (λ q. is_in x (stand plan v q)) (sym (there v ne)) ∙ holder in
         let kept : has gone x ≡ false = is_gone x ∙ ⊎_elim (λ own. absurd (one_holds plan s t v x made.valid own was (λ same. ne (sym same)))) (λ out. out) (cases_Bool (is_in x (stand plan t (place_of s t)))) in
-        or_left (has held x && not (has gone x)) (has come x) (and_from (has held x) (not (has gone x)) (holder_held v x was) (not_from_false (has gone x) kept)))
+        or_left (has taken x && not (has gone x)) (has come x) (and_from (has taken x) (not (has gone x)) (holder_taken v x was) (not_from_false (has gone x) kept)))
         (cases_eq v t)
 
     -- the set of the places then
-    pub held_then : (later : State) → IsMadeFor table later → later.positions ≡ next → IsSet new (λ x. is_some (get_or later.owners x None))
-    held_then later made_later at x =
+    pub taken_then : (later : State) → IsMadeFor table later → later.positions ≡ next → IsSet new (λ x. is_some (get_or later.owners x None))
+    taken_then later made_later at x =
         same_truth (has new x) (is_some (get_or later.owners x None))
         (λ is.
         let v = then_holder x is in
         ap is_some ((made_later.told x v.0).1 (ap (λ q. holds plan q v.0 x) at ∙ v.1)))
         (λ owned.
         let v = some_of (get_or later.owners x None) owned in
-        then_held x v.0 (ap (λ q. holds plan q v.0 x) (sym at) ∙ (made_later.told x v.0).0 v.1))
+        then_taken x v.0 (ap (λ q. holds plan q v.0 x) (sym at) ∙ (made_later.told x v.0).0 v.1))
 
 -- each train stands at one of its places
 pub place_within : (table : List MoveLists) (state : State) (t : ℕ) → IsMadeFor table state → t < length table → place_of state.positions t ≤ (moves_in table).moves t
@@ -123,15 +123,15 @@ place_within table state t made known =
     parts.within t (omega (arith, known, parts.long))
 
 -- the set has what these trains hold, and nothing that no train holds
-pub record HasHeld (plan : Moves) (s trains set : List ℕ) : Type 0 where
+pub record HasTaken (plan : Moves) (s trains set : List ℕ) : Type 0 where
   pub wide : length set ≡ 8
   pub only : (x : ℕ) → has set x ≡ true → (v : ℕ) × (holds plan s v x ≡ true)
   pub all : (v x : ℕ) → is_in v trains ≡ true → holds plan s v x ≡ true → has set x ≡ true
 
 -- with what one more train holds
-pub held_more : (plan : Moves) (s inside old new stands : List ℕ) (t p i : ℕ) → HasHeld plan s (take i inside) old → i < length inside → t ≡ get_or inside i t → p ≡ place_of s t
-    → length new ≡ length old → ((x : ℕ) → has new x ≡ (has old x || has stands x)) → IsSet stands (λ x. is_in x (stand plan t p)) → HasHeld plan s (take (i + 1) inside) new
-held_more plan s inside old new stands t p i before lt is at long joined stood = record {
+pub taken_more : (plan : Moves) (s inside old new stands : List ℕ) (t p i : ℕ) → HasTaken plan s (take i inside) old → i < length inside → t ≡ get_or inside i t → p ≡ place_of s t
+    → length new ≡ length old → ((x : ℕ) → has new x ≡ (has old x || has stands x)) → IsSet stands (λ x. is_in x (stand plan t p)) → HasTaken plan s (take (i + 1) inside) new
+taken_more plan s inside old new stands t p i before lt is at long joined stood = record {
   wide = omega (arith, long, before.wide);
   only = λ x found.
       ⊎_elim
@@ -158,15 +158,15 @@ holder_inside plan s v x holder = by (place_of s v) refl holder
         (λ past. absurd (false≢true (sym (ap (is_in x) (cond-false (ltb (suc m) (plan.moves v)) (plan.standing v m) [] (le-ltb (suc m) (plan.moves v) past))) ∙ is)))
         (cases_lt (suc m) (plan.moves v))
 
--- what the trains inside hold is all that is held
-pub all_held : (table : List MoveLists) (state : State) → IsMadeFor table state → (inside : List ℕ) → IsListing (moves_in table) state.positions inside → (set : List ℕ) (n : ℕ) → length inside ≤ n
-    → HasHeld (moves_in table) state.positions (take n inside) set → IsSet set (λ x. is_some (get_or state.owners x None))
-all_held table state made inside listed set n whole held x =
+-- what the trains inside hold is all that is taken
+pub all_taken : (table : List MoveLists) (state : State) → IsMadeFor table state → (inside : List ℕ) → IsListing (moves_in table) state.positions inside → (set : List ℕ) (n : ℕ) → length inside ≤ n
+    → HasTaken (moves_in table) state.positions (take n inside) set → IsSet set (λ x. is_some (get_or state.owners x None))
+all_taken table state made inside listed set n whole taken x =
     let plan : Moves = moves_in table in
     let s = state.positions in
     same_truth (has set x) (is_some (get_or state.owners x None))
-    (λ is. let v = held.only x is in ap is_some ((made.told x v.0).1 v.1))
+    (λ is. let v = taken.only x is in ap is_some ((made.told x v.0).1 v.1))
     (λ owned.
     let v = some_of (get_or state.owners x None) owned in
     let holder = (made.told x v.0).0 v.1 in
-    held.all v.0 x (in_take_all v.0 inside n whole (listed.all v.0 (holder_inside plan s v.0 x holder))) holder)
+    taken.all v.0 x (in_take_all v.0 inside n whole (listed.all v.0 (holder_inside plan s v.0 x holder))) holder)

@@ -5,7 +5,7 @@ use Rattle.std.proofs.lemmas.List.{get_or_past}
 use Rattle.std.specs.List.{list_any}
 use Rattle.rail_rules.specs.Numbers.{any_below, all_below, is_in, are_apart}
 use Rattle.rail_rules.specs.Moves.{Moves}
-use Rattle.rail_rules.specs.Places.{place_of, is_inside, holds, is_held, is_legal, nobody_inside}
+use Rattle.rail_rules.specs.Places.{place_of, is_inside, holds, has_holder, is_legal, nobody_inside}
 use Rattle.rail_rules.specs.Analysis.{Leg, is_leg, needs_later}
 use Rattle.rail_rules.proofs.CallerLemmas.{all_below_at, all_below_from, any_below_at, any_below_none, any_below_from, list_any_at, list_any_none}
 
@@ -123,11 +123,11 @@ pub legal_kept : (plan : Moves) (s r : List ℕ) (t : ℕ) → length r ≡ leng
     → is_legal plan s t ≡ true → is_legal plan r t ≡ true
 legal_kept plan s r t long same kept h =
     let needed : List ℕ = plan.claim t (place_of s t) in
-    let parts = and_parts (ltb (place_of s t) (plan.moves t)) (not (list_any (is_held plan s) needed)) h in
-    let nobody = not-true (list_any (is_held plan s) needed) parts.1 in
-    let free : list_any (is_held plan r) needed ≡ false = list_any_none (is_held plan r) needed (λ x is.
+    let parts = and_parts (ltb (place_of s t) (plan.moves t)) (not (list_any (has_holder plan s) needed)) h in
+    let nobody = not-true (list_any (has_holder plan s) needed) parts.1 in
+    let free : list_any (has_holder plan r) needed ≡ false = list_any_none (has_holder plan r) needed (λ x is.
     any_below_none (λ u. holds plan r u x) (length r) (λ u lt.
-    kept u x is (any_below_at (λ v. holds plan s v x) (length s) u (list_any_at (is_held plan s) needed x nobody is) (omega (arith, long))))) in
-    and_from (ltb (place_of r t) (plan.moves t)) (not (list_any (is_held plan r) (plan.claim t (place_of r t))))
+    kept u x is (any_below_at (λ v. holds plan s v x) (length s) u (list_any_at (has_holder plan s) needed x nobody is) (omega (arith, long))))) in
+    and_from (ltb (place_of r t) (plan.moves t)) (not (list_any (has_holder plan r) (plan.claim t (place_of r t))))
     (ap (λ p. ltb p (plan.moves t)) same ∙ parts.0)
-    (not_from_false (list_any (is_held plan r) (plan.claim t (place_of r t))) (ap (λ p. list_any (is_held plan r) (plan.claim t p)) same ∙ free))
+    (not_from_false (list_any (has_holder plan r) (plan.claim t (place_of r t))) (ap (λ p. list_any (has_holder plan r) (plan.claim t p)) same ∙ free))

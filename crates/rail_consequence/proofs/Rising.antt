@@ -27,15 +27,15 @@ few_rising xs n rising below =
     (cases_lt n (length xs))
 
 -- all numbers before the place are less than the number, and those from there on are greater
-pub record IsPlaceFor (xs : List ℕ) (t p : ℕ) : Type 0 where
+pub record IsPositionFor (xs : List ℕ) (t p : ℕ) : Type 0 where
   pub bound : p ≤ length xs
   pub front : (k d : ℕ) → k < p → get_or xs k d < t
   pub back : (k d : ℕ) → p ≤ k → k < length xs → t < get_or xs k d
 
 module _ (xs : List ℕ) (t p : ℕ) (rising : IsStrictlyIncreasing xs) where
   -- the first number from there on is greater
-  pub place_from : p ≤ length xs → ((k d : ℕ) → k < p → get_or xs k d < t) → ((d : ℕ) → p < length xs → t < get_or xs p d) → IsPlaceFor xs t p
-  place_from bound front here = record {
+  pub position_from : p ≤ length xs → ((k d : ℕ) → k < p → get_or xs k d < t) → ((d : ℕ) → p < length xs → t < get_or xs p d) → IsPositionFor xs t p
+  position_from bound front here = record {
     bound = bound;
     front = front;
     back = λ k d from lt.
@@ -45,7 +45,7 @@ module _ (xs : List ℕ) (t p : ℕ) (rising : IsStrictlyIncreasing xs) where
         (cases_eq k p);
   }
 
-module _ (xs : List ℕ) (t p : ℕ) (place : IsPlaceFor xs t p) where
+module _ (xs : List ℕ) (t p : ℕ) (place : IsPositionFor xs t p) where
   pub not_placed : is_in t xs ≡ false
   not_placed =
       list_any_none (λ y. eqb y t) xs

@@ -5,29 +5,29 @@ use Rattle.std.proofs.lemmas.List.{get_or-set_same, get_or-set_other, length-set
 use Rattle.std.specs.List.{list_any}
 use Rattle.rail_rules.specs.Numbers.{any_below, is_in, are_apart, sum_below}
 use Rattle.rail_rules.specs.Moves.{Moves, stand, is_valid}
-use Rattle.rail_rules.specs.Places.{place_of, is_inside, is_legal, is_held, holds, is_valid_state}
+use Rattle.rail_rules.specs.Places.{place_of, is_inside, is_legal, has_holder, holds, is_valid_state}
 use Rattle.rail_rules.specs.Analysis.{is_leg, is_safe, needs_later}
 use Rattle.rail_rules.proofs.CallerLemmas.{any_below_at, any_below_none, list_any_at, list_any_none, apart_at, apart_from, state_parts, stand_needed}
 use Rattle.rail_place.proofs.CallerLemmas.{holder_listed, state_apart, move_valid}
 use Rattle.rail_consequence.specs.Needs.{needs_left, one_if}
-use Rattle.rail_consequence.specs.Stops.{IsBehind, IsHeldByOther, IsStopped}
+use Rattle.rail_consequence.specs.Stops.{IsBehind, IsTakenByOther, IsStopped}
 use Rattle.rail_consequence.proofs.Legs.{goes_parts, leg_from, inside_parts, inside_from, inside_listed, IsClear}
 use Rattle.rail_consequence.proofs.Safe.{safe_from_clear, clear_from_safe}
 use Rattle.rail_consequence.proofs.Counts.{left_at, one_false, one_true}
 use Rattle.rail_consequence.proofs.Clear.{none_from_clear, sum_alone}
 
 -- no leg leads over a move that needs a section which another train holds
-pub leg_short : (plan : Moves) (s : List ℕ) (t x q p : ℕ) → place_of s t ≤ q → is_in x (plan.claim t q) ≡ true → IsHeldByOther plan s t x → is_leg plan s (record { train = t; place = p }) ≡ true → p ≤ q
-leg_short plan s t x q p from needed held is =
+pub leg_short : (plan : Moves) (s : List ℕ) (t x q p : ℕ) → place_of s t ≤ q → is_in x (plan.claim t q) ≡ true → IsTakenByOther plan s t x → is_leg plan s (record { train = t; place = p }) ≡ true → p ≤ q
+leg_short plan s t x q p from needed taken is =
     let goes = goes_parts plan s (record { train = t; place = p }) is in
     let r : List ℕ = set s t q in
     ⊎_elim
     (λ further.
     let at : place_of r t ≡ q = get_or-set_same s t q 0 (inside_listed plan s t goes.inside) in
-    let free = not-true (list_any (is_held plan r) (plan.claim t (place_of r t))) (and_parts (ltb (place_of r t) (plan.moves t)) (not (list_any (is_held plan r) (plan.claim t (place_of r t)))) (goes.legal q from further)).1 in
-    let here : is_held plan r x ≡ false = list_any_at (is_held plan r) (plan.claim t q) x (ap (λ k. list_any (is_held plan r) (plan.claim t k)) (sym at) ∙ free) needed in
-    let v : ℕ = held.holder in
-    let same : holds plan r v x ≡ true = ap (λ k. is_in x (stand plan v k)) (get_or-set_other s t v q 0 held.other) ∙ held.held in
+    let free = not-true (list_any (has_holder plan r) (plan.claim t (place_of r t))) (and_parts (ltb (place_of r t) (plan.moves t)) (not (list_any (has_holder plan r) (plan.claim t (place_of r t)))) (goes.legal q from further)).1 in
+    let here : has_holder plan r x ≡ false = list_any_at (has_holder plan r) (plan.claim t q) x (ap (λ k. list_any (has_holder plan r) (plan.claim t k)) (sym at) ∙ free) needed in
+    let v : ℕ = taken.holder in
+    let same : holds plan r v x ≡ true = ap (λ k. is_in x (stand plan v k)) (get_or-set_other s t v q 0 taken.other) ∙ taken.taken in
     absurd (false≢true (sym (any_below_at (λ w. holds plan r w x) (length r) v here (holder_listed plan r v x same)) ∙ same)))
     (λ within. within)
     (cases_lt q p)
@@ -35,40 +35,40 @@ leg_short plan s t x q p from needed held is =
 -- a stopped train has no safe leg
 pub stopped_unsafe : (plan : Moves) (s : List ℕ) (u x p : ℕ) → IsStopped plan s u x → is_leg plan s (record { train = u; place = p }) ≡ true → is_safe plan s (record { train = u; place = p }) ≡ false
 stopped_unsafe plan s u x p stop is =
-    stop.unsafe p (goes_parts plan s (record { train = u; place = p }) is).ahead (leg_short plan s u x stop.place p stop.from stop.needed stop.held is)
+    stop.unsafe p (goes_parts plan s (record { train = u; place = p }) is).ahead (leg_short plan s u x stop.place p stop.from stop.needed stop.taken is)
 
 -- a move is legal, with the train there and all others standing, where no other train holds a section that it needs
-pub free_legal : (plan : Moves) (s : List ℕ) (t i : ℕ) → is_valid plan ≡ true → t < plan.trains → t < length s → 0 < i → i < plan.moves t → ((x : ℕ) → is_in x (plan.claim t i) ≡ true → IsHeldByOther plan s t x → ⊥) → is_legal plan (set s t i) t ≡ true
+pub free_legal : (plan : Moves) (s : List ℕ) (t i : ℕ) → is_valid plan ≡ true → t < plan.trains → t < length s → 0 < i → i < plan.moves t → ((x : ℕ) → is_in x (plan.claim t i) ≡ true → IsTakenByOther plan s t x → ⊥) → is_legal plan (set s t i) t ≡ true
 free_legal plan s t zero valid known listed low high free = absurd (omega arith)
 free_legal plan s t (suc m) valid known listed low high free =
     let i : ℕ = suc m in
     let r : List ℕ = set s t i in
     let at : place_of r t ≡ i = get_or-set_same s t i 0 listed in
     let apart : are_apart (plan.claim t i) (stand plan t i) ≡ true = (and_parts _ (are_apart (plan.claim t i) (stand plan t i)) (move_valid plan t m valid known high)).1 in
-    let none : list_any (is_held plan r) (plan.claim t i) ≡ false = list_any_none (is_held plan r) (plan.claim t i) (λ x needed.
+    let none : list_any (has_holder plan r) (plan.claim t i) ≡ false = list_any_none (has_holder plan r) (plan.claim t i) (λ x needed.
     any_below_none (λ w. holds plan r w x) (length r) (λ w lt.
     ⊎_elim
     (λ same. ap (λ k. holds plan r k x) same ∙ ap (λ k. is_in x (stand plan t k)) at ∙ apart_at (plan.claim t i) (stand plan t i) x apart needed)
     (λ ne.
     ⊎_elim
-    (λ held. absurd (free x needed (record { holder = w; other = ne; held = ap (λ k. is_in x (stand plan w k)) (sym (get_or-set_other s t w i 0 ne)) ∙ held })))
+    (λ taken. absurd (free x needed (record { holder = w; other = ne; taken = ap (λ k. is_in x (stand plan w k)) (sym (get_or-set_other s t w i 0 ne)) ∙ taken })))
     (λ out. out)
     (cases_Bool (holds plan r w x)))
     (cases_eq w t))) in
-    and_from (ltb (place_of r t) (plan.moves t)) (not (list_any (is_held plan r) (plan.claim t (place_of r t))))
+    and_from (ltb (place_of r t) (plan.moves t)) (not (list_any (has_holder plan r) (plan.claim t (place_of r t))))
     (ap (λ k. ltb k (plan.moves t)) at ∙ lt-ltb i (plan.moves t) high)
-    (not_from_false (list_any (is_held plan r) (plan.claim t (place_of r t))) (ap (λ k. list_any (is_held plan r) (plan.claim t k)) at ∙ none))
+    (not_from_false (list_any (has_holder plan r) (plan.claim t (place_of r t))) (ap (λ k. list_any (has_holder plan r) (plan.claim t k)) at ∙ none))
 
 -- the moves of the train up to the place are free: no other train holds a section that they need
 abbrev pub IsOpen : Moves → List ℕ → ℕ → ℕ → Type 0
-IsOpen plan s t made = (i : ℕ) → place_of s t ≤ i → i < made → (x : ℕ) → is_in x (plan.claim t i) ≡ true → IsHeldByOther plan s t x → ⊥
+IsOpen plan s t made = (i : ℕ) → place_of s t ≤ i → i < made → (x : ℕ) → is_in x (plan.claim t i) ≡ true → IsTakenByOther plan s t x → ⊥
 
 -- one more move that is free
-pub open_more : (plan : Moves) (s : List ℕ) (t made : ℕ) → IsOpen plan s t made → ((x : ℕ) → is_in x (plan.claim t made) ≡ true → IsHeldByOther plan s t x → ⊥) → IsOpen plan s t (made + 1)
+pub open_more : (plan : Moves) (s : List ℕ) (t made : ℕ) → IsOpen plan s t made → ((x : ℕ) → is_in x (plan.claim t made) ≡ true → IsTakenByOther plan s t x → ⊥) → IsOpen plan s t (made + 1)
 open_more plan s t made before free = λ i at lt.
     ⊎_elim
     (λ earlier. before i at earlier)
-    (λ ge. let last : i ≡ made = omega arith in let P : ℕ → Type 0 = λ k. (x : ℕ) → is_in x (plan.claim t k) ≡ true → IsHeldByOther plan s t x → ⊥ in subst P (sym last) free)
+    (λ ge. let last : i ≡ made = omega arith in let P : ℕ → Type 0 = λ k. (x : ℕ) → is_in x (plan.claim t k) ≡ true → IsTakenByOther plan s t x → ⊥ in subst P (sym last) free)
     (cases_lt i made)
 
 -- a leg over moves that are free
@@ -101,26 +101,26 @@ leads_out_free plan s t last valid known listed low ahead out free = (
 )
 
 -- a train is stopped where its next move needs what another train holds
-pub next_stopped : (plan : Moves) (s : List ℕ) (u x : ℕ) → is_inside plan s u ≡ true → is_in x (plan.claim u (place_of s u)) ≡ true → IsHeldByOther plan s u x → IsStopped plan s u x
-next_stopped plan s u x inside needed held = record {
+pub next_stopped : (plan : Moves) (s : List ℕ) (u x : ℕ) → is_inside plan s u ≡ true → is_in x (plan.claim u (place_of s u)) ≡ true → IsTakenByOther plan s u x → IsStopped plan s u x
+next_stopped plan s u x inside needed taken = record {
   inside = inside;
   place = place_of s u;
   from = omega arith;
   below = (inside_parts plan s u inside).1;
   needed = needed;
-  held = held;
+  taken = taken;
   unsafe = λ p low high. absurd (omega (arith, low, high));
 }
 
 -- or where a later one does, and no leg up to there is safe
-pub later_stopped : (plan : Moves) (s : List ℕ) (u x : ℕ) → is_inside plan s u ≡ true → IsBehind plan s u x → IsHeldByOther plan s u x → IsStopped plan s u x
-later_stopped plan s u x inside behind held = record {
+pub later_stopped : (plan : Moves) (s : List ℕ) (u x : ℕ) → is_inside plan s u ≡ true → IsBehind plan s u x → IsTakenByOther plan s u x → IsStopped plan s u x
+later_stopped plan s u x inside behind taken = record {
   inside = inside;
   place = behind.place;
   from = behind.from;
   below = behind.below;
   needed = behind.needed;
-  held = held;
+  taken = taken;
   unsafe = behind.unsafe;
 }
 
@@ -142,20 +142,20 @@ module _ (plan : Moves) (s : List ℕ) (t to u : ℕ) (valid : is_valid plan ≡
   there : (v : ℕ) → v ≢ t → place_of next v ≡ place_of s v
   there v other = get_or-set_other s t v to 0 other
 
-  -- a section that stopped a train and is held is held by another
-  held_still : (x v : ℕ) → u < length s → IsStopped plan s u x → holds plan next v x ≡ true → IsHeldByOther plan next u x
-  held_still x v known stop held = record {
+  -- a section that stopped a train and is taken is taken by another
+  taken_still : (x v : ℕ) → u < length s → IsStopped plan s u x → holds plan next v x ≡ true → IsTakenByOther plan next u x
+  taken_still x v known stop taken = record {
     holder = v;
     other = λ same.
-        let own : holds plan s u x ≡ true = ap (λ k. is_in x (stand plan u k)) (sym (there u ne)) ∙ ap (λ w. holds plan next w x) (sym same) ∙ held in
-        let apart = state_apart plan s u stop.held.holder state known stop.held.other in
-        false≢true (sym (apart_at (stand plan u (place_of s u)) (stand plan stop.held.holder (place_of s stop.held.holder)) x apart own) ∙ stop.held.held);
-    held = held;
+        let own : holds plan s u x ≡ true = ap (λ k. is_in x (stand plan u k)) (sym (there u ne)) ∙ ap (λ w. holds plan next w x) (sym same) ∙ taken in
+        let apart = state_apart plan s u stop.taken.holder state known stop.taken.other in
+        false≢true (sym (apart_at (stand plan u (place_of s u)) (stand plan stop.taken.holder (place_of s stop.taken.holder)) x apart own) ∙ stop.taken.taken);
+    taken = taken;
   }
 
   -- so a train that it stops at its next move is still stopped
   pub stopped_next : (x v : ℕ) → u < length s → IsStopped plan s u x → holds plan next v x ≡ true → is_in x (plan.claim u (place_of next u)) ≡ true → IsStopped plan next u x
-  stopped_next x v known stop held needed =
+  stopped_next x v known stop taken needed =
       let parts = inside_parts plan s u stop.inside in
       let at : place_of next u ≡ place_of s u = there u ne in
       record {
@@ -164,7 +164,7 @@ module _ (plan : Moves) (s : List ℕ) (t to u : ℕ) (valid : is_valid plan ≡
         from = omega arith;
         below = omega (arith, at, parts.1);
         needed = needed;
-        held = held_still x v known stop held;
+        taken = taken_still x v known stop taken;
         unsafe = λ p low high. absurd (omega (arith, low, high));
       }
 
@@ -229,9 +229,9 @@ module _ (plan : Moves) (s : List ℕ) (t to u : ℕ) (valid : is_valid plan ≡
               unsafe_still p (inside_listed plan s u inside) (omega (arith, low, at)) (omega (arith, high, behind.below)) (inside_parts plan s u inside).0 (behind.unsafe p (omega (arith, low, at)) high);
         }
 
-    -- and a train whose section is still held is still stopped
+    -- and a train whose section is still taken is still stopped
     pub stopped_still : (x v : ℕ) → u < length s → IsStopped plan s u x → holds plan next v x ≡ true → IsStopped plan next u x
-    stopped_still x v known stop held =
+    stopped_still x v known stop taken =
         let parts = inside_parts plan s u stop.inside in
         let at : place_of next u ≡ place_of s u = there u ne in
         record {
@@ -240,6 +240,6 @@ module _ (plan : Moves) (s : List ℕ) (t to u : ℕ) (valid : is_valid plan ≡
           from = omega (arith, at, stop.from);
           below = stop.below;
           needed = stop.needed;
-          held = held_still x v known stop held;
+          taken = taken_still x v known stop taken;
           unsafe = λ p low high. unsafe_still p known (omega (arith, low, at)) (omega (arith, high, stop.below)) parts.0 (stop.unsafe p (omega (arith, low, at)) high);
         }

@@ -2,7 +2,7 @@
 use Rattle.std.specs.Borrow.{MutBor, Fml}
 use Rattle.std.specs.Io.BufRead.{Rests}
 use Rattle.rail_rules.specs.Moves.{Moves}
-use Rattle.rail_consequence.specs.Kept.{Tallied, IsAnalystFor}
+use Rattle.rail_consequence.specs.AnalystStates.{Tallied, IsAnalystFor}
 use Rattle.rail_consequence.specs.contracts.analyst.Analyst.{the_row}
 
 -- it is one for the moves once the list is given back

@@ -10,7 +10,7 @@ use Rattle.rail_consequence.specs.declared.ahead.Ahead.{Ahead}
 use Rattle.rail_consequence.specs.declared.notes.Stop.{Stop}
 use Rattle.rail_consequence.specs.declared.notes.Stop.TheVariants.{Next, Later}
 use Rattle.rail_consequence.specs.Searches.{HasNoSafeLegOf}
-use Rattle.rail_consequence.specs.Stops.{IsHeldByOther, IsUntouched, section_of, stop_of}
+use Rattle.rail_consequence.specs.Stops.{IsTakenByOther, IsUntouched, section_of, stop_of}
 
 -- another train is inside
 pub record HasOther (plan : Moves) (s : List ℕ) (t : ℕ) : Type 0 where
@@ -22,7 +22,7 @@ pub record HasOther (plan : Moves) (s : List ℕ) (t : ℕ) : Type 0 where
 pub record IsBarred (plan : Moves) (s : List ℕ) (u place : ℕ) : Type 0 where
   pub section : ℕ
   pub needed : IsTrue (is_in section (plan.claim u place))
-  pub held : IsHeldByOther plan s u section
+  pub taken : IsTakenByOther plan s u section
 
 -- more trains are counted for the section than the one, and the other one where it needs it no more from the place on
 abbrev pub IsSharedThen : Moves → List ℕ → Columns → ℕ → ℕ → ℕ → ℕ → Type 0
@@ -34,9 +34,9 @@ abbrev pub HasFalls : Moves → List ℕ → Columns → ℕ → ℕ → ℕ →
 HasFalls plan s counts width t p fell = (x : ℕ) → x < 64 * width
     → has fell x ≡ (needs_from plan t (place_of s t) x && not (needs_from plan t p x) && (count_of counts x == 2))
 
--- as far as the words go, the sets are those of the places where the train has gone on to the place: each section of the first is held by a train, and each of the second is needed by two or more
+-- as far as the words go, the sets are those of the places where the train has gone on to the place: each section of the first is taken by a train, and each of the second is needed by two or more
 pub record IsAhead (plan : Moves) (s : List ℕ) (counts : Columns) (width t p : ℕ) (ahead : Ahead) : Type 0 where
-  pub held : (x : ℕ) → x < 64 * width → IsTrue (has ahead.held x) → (v : ℕ) × IsTrue (holds plan (set s t p) v x)
+  pub taken : (x : ℕ) → x < 64 * width → IsTrue (has ahead.taken x) → (v : ℕ) × IsTrue (holds plan (set s t p) v x)
   pub shared : (x u : ℕ) → x < 64 * width → IsTrue (has ahead.shared x) → IsSharedThen plan s counts t p u x
 
 -- another train is inside, and none that is has a safe leg once the train has gone on to the place

@@ -2,7 +2,7 @@
 pub mod Workspace
 pub mod Searches
 pub mod Needs
-pub mod Kept
+pub mod AnalystStates
 pub mod Stops
 pub mod Freeing
 pub mod Analysts

@@ -25,10 +25,10 @@ section_of (Next x) = Some x
 section_of (Later x) = Some x
 
 -- another train holds the section
-pub record IsHeldByOther (plan : Moves) (s : List ℕ) (t x : ℕ) : Type 0 where
+pub record IsTakenByOther (plan : Moves) (s : List ℕ) (t x : ℕ) : Type 0 where
   pub holder : ℕ
   pub other : holder ≢ t
-  pub held : IsTrue (holds plan s holder x)
+  pub taken : IsTrue (holds plan s holder x)
 
 -- the train needs the section for a move that it has left, and no leg up to that move is safe
 pub record IsBehind (plan : Moves) (s : List ℕ) (u x : ℕ) : Type 0 where
@@ -46,7 +46,7 @@ pub record IsStopped (plan : Moves) (s : List ℕ) (u x : ℕ) : Type 0 where
   pub from : place_of s u ≤ place
   pub below : place < plan.moves u
   pub needed : IsTrue (is_in x (plan.claim u place))
-  pub held : IsHeldByOther plan s u x
+  pub taken : IsTakenByOther plan s u x
   pub unsafe : (p : ℕ) → place_of s u < p → p ≤ place → is_safe plan s (record { train = u; place = p }) ≡ false
 
 -- none of the sections that the train needs is in the set

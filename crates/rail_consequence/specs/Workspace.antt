@@ -7,26 +7,26 @@ use Rattle.rail_rules.specs.Moves.{Moves}
 use Rattle.rail_rules.specs.Numbers.{is_in}
 use Rattle.rail_rules.specs.Places.{is_inside, is_valid_state}
 use Rattle.rail_place.specs.Tables.{moves_in, MoveLists}
-use Rattle.rail_place.specs.Made.{State, IsMadeFor}
+use Rattle.rail_place.specs.PlaceStates.{State, IsMadeFor}
 use Rattle.rail_place.specs.Plays.{IsPlayed}
 use Rattle.rail_sets.specs.Counts.{Columns}
 use Rattle.rail_consequence.specs.Needs.{IsCounted}
 use Rattle.rail_consequence.specs.Needs.{IsRowsOf, IsSet, SetRows}
 
--- the sets of the trains at each place, places, the sections that are held, for each section how many trains need it, and the moves that were made
+-- the sets of the trains at each place, places, the sections that are taken, for each section how many trains need it, and the moves that were made
 pub record Work : Type 0 where
   pub rows : SetRows
   pub places : State
-  pub held : List ℕ
+  pub taken : List ℕ
   pub needs : Columns
   pub list : List ℕ
 
--- the sets are those of the moves, for which the places were made, the sections are held that a train holds, the trains are counted that need each section there, and the list has room for the moves that are left
+-- the sets are those of the moves, for which the places were made, the sections are taken that a train holds, the trains are counted that need each section there, and the list has room for the moves that are left
 pub record IsReady (table : List MoveLists) (work : Work) : Type 0 where
   pub rows : IsRowsOf (moves_in table) work.rows
   pub made : IsMadeFor table work.places
-  pub held : IsSet work.held (λ x. is_some (get_or work.places.owners x None))
-  pub wide : length work.held ≡ WORDS
+  pub taken : IsSet work.taken (λ x. is_some (get_or work.places.owners x None))
+  pub wide : length work.taken ≡ WORDS
   pub counted : IsCounted (moves_in table) work.places.positions work.needs
   pub few : length work.list + moves_left (moves_in table) work.places.positions ≤ LIST_TRAINS
 

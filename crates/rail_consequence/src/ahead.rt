@@ -1,12 +1,12 @@
-//! What is held and needed once a train has gone on, with no move made.
+//! What is taken and needed once a train has gone on, with no move made.
 
 use rail_sets::WORDS;
 
 /// Sets of the places where a train has gone on to a place.
 #[derive(Clone, Copy)]
 pub struct Ahead {
-    /// The sections that are held then.
-    pub held: [u64; WORDS],
+    /// The sections that are taken then.
+    pub taken: [u64; WORDS],
     /// The sections that more than one train needs then.
     pub shared: [u64; WORDS],
     /// The sections that the train and one other need, and only the other then.
@@ -19,7 +19,7 @@ impl Ahead {
     /// Room for a look ahead.
     pub fn new() -> Ahead {
         Ahead {
-            held: [0; WORDS],
+            taken: [0; WORDS],
             shared: [0; WORDS],
             fell: [0; WORDS],
             has_fallen: false,

@@ -4,12 +4,12 @@ ghost use Rattle.std.specs.Prelude.{◌≡◌, ℕ, ◌+◌, ◌-◌, ◌<◌, �
 ghost use Rattle.std.specs.List.{suffix_len};
 ghost use Rattle.rail_rules.specs.Analysis.{Finds, is_leg, moves_left};
 ghost use Rattle.rail_rules.specs.Places.{completes, is_inside, nobody_inside, place_of};
-ghost use Rattle.rail_place.specs.Made.{IsMadeFor};
+ghost use Rattle.rail_place.specs.PlaceStates.{IsMadeFor};
 ghost use Rattle.rail_place.specs.Plays.{IsPlayed};
 ghost use Rattle.rail_place.specs.Tables.{moves_in};
 ghost use Rattle.rail_rules.specs.Moves.{stand};
 ghost use Rattle.rail_rules.specs.Numbers.{are_apart};
-ghost use Rattle.rail_consequence.specs.Kept.{IsAnalystFor, IsAnswered};
+ghost use Rattle.rail_consequence.specs.AnalystStates.{IsAnalystFor, IsAnswered};
 ghost use Rattle.rail_consequence.specs.Needs.{AreWords, IsCounted, IsRowsOf, IsSet};
 ghost use Rattle.rail_consequence.specs.Searches.{leg_to};
 ghost use Rattle.rail_consequence.specs.Workspace.{GoesOn, IsListing, IsPlayedFrom, IsReady};
@@ -58,7 +58,7 @@ impl Drop for Analyst {
 }
 
 impl Model for Analyst {
-    ghost use Rattle.rail_consequence.specs.Kept.{Tallied};
+    ghost use Rattle.rail_consequence.specs.AnalystStates.{Tallied};
 
     ghost Value = { Tallied };
 
@@ -71,8 +71,8 @@ impl Model for Analyst {
 struct Worksheet {
     rows: Rows,
     places: Places,
-    /// The sections that are held at the places.
-    held: [u64; WORDS],
+    /// The sections that are taken at the places.
+    taken: [u64; WORDS],
     needs: Counts,
     list: Vec<TrainNo>,
 }
@@ -84,7 +84,7 @@ impl Model for Worksheet {
 
     ghost Value = { Work };
 
-    ghost view = { λ sheet. record { rows = sheet.rows; places = sheet.places; held = sheet.held; needs = sheet.needs; list = sheet.list.items } };
+    ghost view = { λ sheet. record { rows = sheet.rows; places = sheet.places; taken = sheet.taken; needs = sheet.needs; list = sheet.list.items } };
 
     ghost invariant = { λ sheet. LIST_TRAINS ≤ vec_capacity sheet.list };
 }
@@ -198,7 +198,7 @@ fn repeats_at_end(train: TrainNo, list: &[TrainNo]) -> usize
 }
 
 /// The sections that the trains hold at the places.
-fn held_by<W: Width>(
+fn taken_at<W: Width>(
     moves: &Moves,
     rows: &Rows,
     places: &Places,
@@ -210,14 +210,14 @@ fn held_by<W: Width>(
     requires listed { IsListing (moves_in moves.now) places.now.positions inside.now }
     ensures { IsSet result (λ x. is_some (get_or places.now.owners x None)) }
 {
-    let mut held = [0u64; WORDS];
+    let mut taken = [0u64; WORDS];
     for train in inside {
         join(
-            &mut held,
+            &mut taken,
             rows.stand::<W>(moves, *train, places.position(*train)),
         );
     }
-    held
+    taken
 }
 
 impl Worksheet {
@@ -228,7 +228,7 @@ impl Worksheet {
         Ok(Worksheet {
             rows: Rows::new(alloc, moves)?,
             places: Places::outside(alloc, moves)?,
-            held: [0; WORDS],
+            taken: [0; WORDS],
             needs: Counts::new(alloc)?,
             list: Vec::with_capacity(alloc, LIST_TRAINS)?,
         })
@@ -259,7 +259,7 @@ impl Worksheet {
         ensures list { self.new.list ≡ [] }
     {
         self.places.copy_from(places);
-        self.held = held_by::<W>(moves, &self.rows, places, inside);
+        self.taken = taken_at::<W>(moves, &self.rows, places, inside);
         self.needs.copy_from(needs);
         self.list.clear();
     }
@@ -291,7 +291,7 @@ impl Worksheet {
         let from = self.places.position(train);
         let gone = self.rows.stand::<W>(moves, train, from);
         let come = self.rows.stand::<W>(moves, train, place);
-        replace(&mut self.held, gone, come);
+        replace(&mut self.taken, gone, come);
         recount::<W>(&mut self.needs, moves, &self.rows, train, from, place);
         self.places.put(moves, train, place);
     }

@@ -19,7 +19,7 @@
 //! helps. And a last free leg helps only where it frees another train, which a look ahead tells before it is
 //! made. So before the last free legs are tried, each stopped train is asked whether it would go on were the
 //! train gone for which it waits, and those to which a section would fall: no leg is tried of the others. A leg
-//! of the rest is looked at in the same way, with the sets of what would be held and what would be shared.
+//! of the rest is looked at in the same way, with the sets of what would be taken and what would be shared.
 //!
 //! An analyst belongs to the moves for which it was made. The counts are kept from one search to the
 //! next, and brought to the new places train by train where the place differs.

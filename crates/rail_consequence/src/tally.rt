@@ -3,7 +3,7 @@
 ghost use Rattle.std.specs.Prelude.{◌≡◌, ◌≢◌, ℕ, ◌+◌, ◌<◌, ◌≤◌, get_or, length, set, IfOk, IsTrue};
 ghost use Rattle.rail_consequence.specs.declared.tally.TheConstants.{STRIDE};
 ghost use Rattle.rail_rules.specs.Places.{is_inside, place_of};
-ghost use Rattle.rail_place.specs.Made.{IsMadeFor};
+ghost use Rattle.rail_place.specs.PlaceStates.{IsMadeFor};
 ghost use Rattle.rail_place.specs.Tables.{IsTable, moves_in};
 ghost use Rattle.rail_consequence.specs.Needs.{AreWords, IsRowsOf, IsTallyFor};
 ghost use Rattle.rail_consequence.specs.Stops.{IsNotedTo};

@@ -49,9 +49,9 @@ impl TrainList {
         requires { train < TRAINS }
         ensures { (u : ℕ) → is_in u self.new ≡ (u == train || is_in u self.old) }
     {
-        let place = place_in(&self.trains, train);
-        if place == self.trains.len() || self.trains[place] != train {
-            self.trains.insert(place, train).unwrap();
+        let position = position_in(&self.trains, train);
+        if position == self.trains.len() || self.trains[position] != train {
+            self.trains.insert(position, train).unwrap();
         }
     }
 
@@ -59,23 +59,23 @@ impl TrainList {
     pub fn exclude(&mut self, train: TrainNo)
         ensures { (u : ℕ) → is_in u self.new ≡ (not (u == train) && is_in u self.old) }
     {
-        let place = place_in(&self.trains, train);
-        if place < self.trains.len() && self.trains[place] == train {
-            self.trains.remove(place);
+        let position = position_in(&self.trains, train);
+        if position < self.trains.len() && self.trains[position] == train {
+            self.trains.remove(position);
         }
     }
 }
 
-/// The place of the first train whose number is not below this one, counted from 0; that behind the last train where there
+/// The position of the first train whose number is not below this one, counted from 0; that behind the last train where there
 /// is none.
-fn place_in(trains: &[TrainNo], train: TrainNo) -> usize
+fn position_in(trains: &[TrainNo], train: TrainNo) -> usize
     ensures bound { result ≤ length trains.now }
     ensures front { (k d : ℕ) → k < result → get_or trains.now k d < train }
     ensures here { (d : ℕ) → result < length trains.now → train ≤ get_or trains.now result d }
 {
-    for (place, other) in trains.iter().enumerate() {
+    for (position, other) in trains.iter().enumerate() {
         if other.0 >= train.0 {
-            return place;
+            return position;
         }
     }
     trains.len()

@@ -16,7 +16,8 @@ use Rattle.rail_delay.specs.declared.account.Account.{Account}
 use Rattle.rail_delay.specs.declared.account.Holding.{Holding}
 use Rattle.rail_delay.specs.Accounts.{account, cancelled_train}
 use Rattle.rail_delay.specs.Noting.{account_after, after_hold, after_wait, counted, is_this, with_hold, with_wait}
-use Rattle.rail_delay.specs.Waits.{does_end_wait, holding_by, is_blocking, is_closure, is_in_order, is_ready_line, is_stop, is_want_of_list, with_hold_until, with_wait_until}
+use Rattle.rail_delay.specs.Waits.{does_end_wait, holding_by, is_blocking, is_closure, is_in_order, is_stop, is_want_of_list, with_hold_until, with_wait_until}
+use Rattle.rail_laws_run.specs.LineKinds.{is_ready_line}
 use Rattle.rail_delay.proofs.Within.{held_for_within, held_within, ordered}
 
 -- a number of 64 bits is counted as it is

@@ -25,7 +25,8 @@ use Rattle.rail_laws_front.proofs.CallerLemmas.{lawful_before, lawful_last, neve
 use Rattle.rail_laws_events.proofs.CallerLemmas.{one_entry}
 use Rattle.rail_laws_run.proofs.CallerLemmas.{no_later_hold, nobody_ready, ready_by_line, unready_by_admission}
 use Rattle.rail_delay.specs.declared.account.Holding.{Holding}
-use Rattle.rail_delay.specs.Waits.{does_end_wait, held, held_by_kinds, held_for, holding, holding_by, is_blocking, is_closure, is_in_order, is_ready_line, is_stop, is_want_of_list, waits_since, with_hold_until, with_wait_until}
+use Rattle.rail_delay.specs.Waits.{does_end_wait, held, held_by_kinds, held_for, holding, holding_by, is_blocking, is_closure, is_in_order, is_stop, is_want_of_list, waits_since, with_hold_until, with_wait_until}
+use Rattle.rail_laws_run.specs.LineKinds.{is_ready_line}
 
 -- a sum with the time of a hold of any kind
 abbrev with_any_hold : ℕ → Option Holding → ℕ → ℕ

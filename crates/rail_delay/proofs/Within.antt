@@ -7,7 +7,8 @@ use Rattle.rail_rules.specs.Numbers.{or_else}
 use Rattle.rail_rules.specs.Fronts.{Front, Line, instant}
 use Rattle.rail_delay.specs.declared.account.Holding.{Holding}
 use Rattle.rail_delay.proofs.Holds.{since_now}
-use Rattle.rail_delay.specs.Waits.{does_end_wait, held, held_for, holding, holding_by, is_in_order, is_ready_line, waits_since, with_hold_until, with_wait_until}
+use Rattle.rail_delay.specs.Waits.{does_end_wait, held, held_for, holding, holding_by, is_in_order, waits_since, with_hold_until, with_wait_until}
+use Rattle.rail_laws_run.specs.LineKinds.{is_ready_line}
 
 -- a front in order: the lines before the last one are, and it is not earlier
 pub record IsOrdered (line : Line) (front : Front) : Type 0 where

@@ -5,4 +5,4 @@ pub mod Accounts
 pub mod Reports
 pub mod Noting
 pub mod VisitRows
-pub mod Printed
+pub mod WorkedReports

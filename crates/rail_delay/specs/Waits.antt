@@ -1,23 +1,19 @@
 -- How long trains wait for their next move to be admitted, in all and by kind of cause.
 use Rattle.std.specs.Prelude.{ℕ, ◌+◌, ◌-◌, ◌==◌, Bool, true, false, ◌&&◌, ◌||◌, cond, nat_le, is_some, List, [], ◌∷◌, Option, Some, None}
 use Rattle.rail_base.specs.declared.history.What.{What}
-use Rattle.rail_base.specs.declared.history.What.TheVariants.{Ready, Hold}
+use Rattle.rail_base.specs.declared.history.What.TheVariants.{Hold}
 use Rattle.rail_base.specs.declared.history.Cause.{Cause}
 use Rattle.rail_base.specs.declared.history.Cause.TheVariants.{Stopped, Closed, Blocked, NoList}
 use Rattle.rail_base.specs.declared.orders.Command.{Command}
 use Rattle.rail_rules.specs.Numbers.{or_else}
 use Rattle.rail_rules.specs.Fronts.{Front, admits, instant, is_end}
 use Rattle.rail_rules.specs.Orders.{is_cancelled, orders_of}
+use Rattle.rail_laws_run.specs.LineKinds.{is_ready_line}
 use Rattle.rail_delay.specs.declared.account.Holding.{Holding}
 
 -- the line ends a wait of the train: its admission, its told cancel, or the end of the history
 abbrev pub does_end_wait : List Command → ℕ → What → Bool
 does_end_wait commands t what = admits t what || is_cancelled t (orders_of commands what) || is_end what
-
--- the line says that a move of the train is ready
-abbrev pub is_ready_line : ℕ → What → Bool
-is_ready_line t (Ready u m) = u == t
-is_ready_line t _ = false
 
 -- since when the train waits: since its ready line, as long as no line ended that wait
 abbrev pub waits_since : List Command → Front → ℕ → Option ℕ

@@ -3,7 +3,7 @@
 ghost use Rattle.std.specs.Prelude.{◌≡◌, ◌+◌, ◌<◌, ◌≤◌, ◌++◌, List, length};
 ghost use Rattle.rail_base.specs.declared.limits.TheConstants.{ITINERARY_ROUTES};
 ghost use Rattle.rail_base.specs.declared.orders.Command.{Command};
-ghost use Rattle.rail_text.specs.declared.line.TheConstants.{ROOM};
+ghost use Rattle.rail_text.specs.declared.line_buffer.TheConstants.{ROOM};
 ghost use Rattle.rail_rules.specs.Fronts.{Front};
 ghost use Rattle.rail_rules.specs.Numbers.{gather};
 ghost use Rattle.rail_rules.specs.Plant.{call_after, moves, trains};
@@ -20,7 +20,7 @@ use crate::visits::{Visit, visit_of};
 use rail_base::{Call, TrainNo};
 use rail_io::{Failed, Sink, write_whole};
 use rail_plan::Plant;
-use rail_text::Line;
+use rail_text::LineBuffer;
 
 /// Writes the report of the history whose lines were noted: a line for each call of a train, by train and place, a
 /// line for each train, and the totals. Times that are not there are a dash; how late and how long are tenths of a
@@ -107,7 +107,7 @@ fn write_call<O: Sink>(
 }
 
 /// The line of a call.
-fn call_text(plant: &Plant, row: &[Visit], train: TrainNo, index: u16, call: Call) -> Line
+fn call_text(plant: &Plant, row: &[Visit], train: TrainNo, index: u16, call: Call) -> LineBuffer
     requires { train < trains plant.now }
     ensures { result ≡ spaced (call_words plant.now train index row.now call) }
 {
@@ -120,7 +120,7 @@ fn call_text(plant: &Plant, row: &[Visit], train: TrainNo, index: u16, call: Cal
         planned: call.departure,
         actual: visit_of(row, place + 1).departed,
     };
-    let mut line = Line::new();
+    let mut line = LineBuffer::new();
     line.put(b"call");
     line.put_name(&plant.train(train).name);
     line.put_number(u64::from(index) + 1);
@@ -168,7 +168,7 @@ fn write_train<O: Sink>(
 }
 
 /// The line of a train.
-fn train_text(plant: &Plant, train: TrainNo, row: &[Visit], account: &Account) -> Line
+fn train_text(plant: &Plant, train: TrainNo, row: &[Visit], account: &Account) -> LineBuffer
     requires { train < trains plant.now }
     ensures { result ≡ spaced (train_words plant.now train row.now account.now) }
 {
@@ -176,7 +176,7 @@ fn train_text(plant: &Plant, train: TrainNo, row: &[Visit], account: &Account) -
         planned: Some(plant.train(train).entry),
         actual: visit_of(row, 0).departed,
     };
-    let mut line = Line::new();
+    let mut line = LineBuffer::new();
     line.put(b"train");
     line.put_name(&plant.train(train).name);
     line.put_word(b"entry");
@@ -189,7 +189,7 @@ fn train_text(plant: &Plant, train: TrainNo, row: &[Visit], account: &Account) -
 }
 
 /// Puts how long the train was held, in all and by kind of cause.
-fn put_held(line: &mut Line, account: &Account)
+fn put_held(line: &mut LineBuffer, account: &Account)
     requires { length line.old + 255 ≤ ROOM }
     ensures text { line.new ≡ line.old ++ behind (held_words account.now) }
     ensures short { length line.new ≤ length line.old + 255 }
@@ -202,10 +202,10 @@ fn put_held(line: &mut Line, account: &Account)
 }
 
 /// The line of the totals.
-fn total_text(plant: &Plant, delays: &Delays) -> Line
+fn total_text(plant: &Plant, delays: &Delays) -> LineBuffer
     ensures { result ≡ spaced (total_words plant.now delays.now.accounts delays.now.visits) }
 {
-    let mut line = Line::new();
+    let mut line = LineBuffer::new();
     line.put(b"total");
     put_count(&mut line, b"trains", u64::from(plant.moves().trains()));
     put_count(&mut line, b"out", how_many_out(delays.accounts()));

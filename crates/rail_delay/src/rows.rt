@@ -1,7 +1,7 @@
 //! Reports of worked histories.
 
 ghost use Rattle.std.specs.Prelude.{◌≡◌};
-ghost use Rattle.rail_delay.specs.Printed as printed;
+ghost use Rattle.rail_delay.specs.WorkedReports as printed;
 ghost use Rattle.rail_delay.specs.Reports.{report_text};
 ghost use Rattle.rail_worked.specs.Cancelled as cancelled;
 ghost use Rattle.rail_worked.specs.ClosedSection as closed;

@@ -5,7 +5,7 @@ use Rattle.rail_base.specs.declared.refusals.Reason.TheVariants.{TooMany}
 use Rattle.rail_track.specs.declared.section.NetFault.{NetFault}
 use Rattle.rail_track.specs.declared.section.NetFault.TheVariants.{Refused}
 use Rattle.rail_routes.specs.Net.{Net}
-use Rattle.rail_routes.specs.Sound.{IsSoundNetwork}
+use Rattle.rail_routes.specs.SoundNetworks.{IsSoundNetwork}
 use Rattle.rail_edit.specs.declared.edit.Edit.{Edit}
 use Rattle.rail_edit.specs.Edits.{edited, edit_refusal}
 

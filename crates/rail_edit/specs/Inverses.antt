@@ -1,15 +1,9 @@
 -- What is kept of an edit, and how it is taken back.
-use Rattle.std.specs.Prelude.{◌≤◌, [], None, IsSome, unwrap_or, length, insert}
+use Rattle.std.specs.Prelude.{◌≤◌, IsSome, unwrap_or, length, insert}
 use Rattle.std.specs.List.{find}
-use Rattle.rail_track.specs.declared.section.Section.{Section}
-use Rattle.rail_track.specs.declared.section.SectionKind.TheVariants.{Plain}
 use Rattle.rail_track.specs.Joints.{is_named, section_named}
 use Rattle.rail_track.specs.Lists.{without}
-use Rattle.rail_routes.specs.declared.items.Post.{Post}
-use Rattle.rail_routes.specs.declared.items.Role.TheVariants.{Board}
-use Rattle.rail_routes.specs.declared.items.Turn.{Turn}
-use Rattle.rail_routes.specs.declared.items.Route.{Route}
-use Rattle.rail_routes.specs.Net.{Net, is_turn, is_route, post_named}
+use Rattle.rail_routes.specs.Net.{Net, is_turn, is_route, no_post, no_route, no_section, no_turn, post_named}
 use Rattle.rail_routes.specs.PostChanges.{posts_of, with_post_at, without_post}
 use Rattle.rail_edit.specs.declared.edit.Edit.{Edit}
 use Rattle.rail_edit.specs.declared.edit.Edit.TheVariants.{AddSection, AddPost, AddTurn, AddRoute, RemoveSection, RemovePost, RemoveTurn, RemoveRoute}
@@ -37,22 +31,6 @@ Fits (RemovedSection index section) net = index ≤ length net.sections
 Fits (RemovedPost index post) net = index ≤ length (posts_of post.role net)
 Fits (RemovedTurn index turn) net = index ≤ length net.turns
 Fits (RemovedRoute index route) net = index ≤ length net.routes
-
--- stands for a section that is not there
-abbrev pub no_section : Section
-no_section = record { name = []; kind = Plain; length = 0; speed = 0; joints = [] }
-
--- stands for a post that is not there
-abbrev pub no_post : Post
-no_post = record { name = []; role = Board; joint = []; ahead = None; setting = 0; watching = 0; approach = 0 }
-
--- stands for a turn that is not there
-abbrev pub no_turn : Turn
-no_turn = record { arriving = []; leaving = []; time = 0 }
-
--- stands for a route that is not there
-abbrev pub no_route : Route
-no_route = record { name = []; from = []; to = []; steps = []; overlap = [] }
 
 -- the edit, from the network after it and what is kept
 abbrev pub edit_of : Kept → Net → Edit

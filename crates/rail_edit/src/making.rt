@@ -2,7 +2,7 @@
 ghost use Rattle.std.specs.Prelude.{◌≡◌, None, Some, IsTrue, OnOk, OnErr, IfOk, IfErr};
 ghost use Rattle.rail_track.specs.NetFaults.{Answers};
 ghost use Rattle.rail_routes.specs.PostRules.{is_formed};
-ghost use Rattle.rail_routes.specs.Sound.{IsSoundNetwork};
+ghost use Rattle.rail_routes.specs.SoundNetworks.{IsSoundNetwork};
 ghost use Rattle.rail_edit.specs.Edits.{edited, edit_refusal, is_formed_edit};
 ghost use Rattle.rail_edit.specs.Inverses.{taken_back, Fits, edit_of};
 

@@ -1,6 +1,6 @@
 //! Edits that are taken back, and made again.
 ghost use Rattle.std.specs.Prelude.{◌≡◌, None, OnOk, OnErr, IfOk, IfErr};
-ghost use Rattle.rail_routes.specs.Sound.{IsSoundNetwork};
+ghost use Rattle.rail_routes.specs.SoundNetworks.{IsSoundNetwork};
 ghost use Rattle.rail_edit.specs.Edits.{edited, edit_refusal};
 ghost use Rattle.rail_edit.specs.Inverses.{taken_back, Fits, edit_of};
 

@@ -1,18 +1,11 @@
--- Names and steps that are read one by one.
-use Rattle.std.proofs.Common.{◌≡◌, ℕ, ◌&&◌, Bool, true, false, cond, List, [], ◌∷◌, ◌++◌, Option, Some, None, if◌then◌else◌, option_map, refl, sym, ap, ◌∙◌, append_assoc}
+-- Steps that are read one by one.
+use Rattle.std.proofs.Common.{◌≡◌, ℕ, ◌&&◌, true, false, cond, List, [], ◌∷◌, ◌++◌, Option, Some, None, if◌then◌else◌, option_map, refl, sym, ap, ◌∙◌, append_assoc}
 use Rattle.std.proofs.lemmas.List.{append-nil}
 use Rattle.rail_base.specs.NameForms.{is_name}
+use Rattle.rail_text.proofs.CallerLemmas.{read_as}
 use Rattle.rail_routes.specs.declared.items.Step.{Step}
 use Rattle.rail_edit_file.specs.declared.lists.Way.{Way}
 use Rattle.rail_edit_file.specs.EditLines.{is_slash, overlap_from, steps_from, way_from}
-
--- a word that is read as a name is that name
-pub read_as : (word name : List ℕ) → Some name ≡ (if is_name word then Some word else None) → (name ≡ word) × (is_name word ≡ true)
-read_as word name is = by (is_name word) is
-  where
-    by : (b : Bool) → Some name ≡ (if b then Some word else None) → (name ≡ word) × (b ≡ true)
-    by true is = (cc, refl)
-    by false is = cc
 
 -- the words of a way behind a `/`
 pub way_slash : (from word : List ℕ) (behind : List (List ℕ)) → is_slash word ≡ true

@@ -1,8 +1,6 @@
 //! The words at the end of a line that are a list.
 
-ghost use Rattle.std.specs.Prelude.{◌≡◌, ◌≤◌, ◌∷◌, false, MatchOption, cond, length, option_map, Some, None, IfOk, IfSome};
-ghost use Rattle.std.specs.List.{list_all};
-ghost use Rattle.rail_base.specs.NameForms.{is_name};
+ghost use Rattle.std.specs.Prelude.{◌≡◌, ◌≤◌, ◌∷◌, false, MatchOption, length, option_map, Some, None, IfOk, IfSome};
 ghost use Rattle.rail_text.specs.Lines.{words};
 ghost use Rattle.rail_edit_file.specs.EditLines.{is_slash, overlap_from, steps_from, way_from};
 ghost use Rattle.rail_edit_file.specs.declared.lists.Way.{Way};
@@ -11,23 +9,6 @@ use rail_base::{Name, Seq};
 use rail_routes::Step;
 use rail_text::next_word;
 use std::alloc::{AllocError, Global};
-
-/// The names that the words are: `None` exactly where a word is no name.
-pub(crate) fn names(alloc: Global, args: &[u8]) -> Result<Option<Vec<Name>>, AllocError>
-    ensures { IfOk result (λ read.
-        option_map (λ names. names.items) read ≡ cond (list_all is_name (words args.now)) (Some (words args.now)) None) }
-{
-    let mut names = Vec::new(alloc);
-    let mut left = args;
-    while let Some((word, rest)) = next_word(left) {
-        let Some(name) = Name::read(word) else {
-            return Ok(None);
-        };
-        names.push(name)?;
-        left = rest;
-    }
-    Ok(Some(names))
-}
 
 /// The steps that the words are, each a section and the joint at which it is left, from a joint on: `None`
 /// exactly where a word is no name, or a section has no joint behind it.

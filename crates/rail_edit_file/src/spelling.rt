@@ -6,12 +6,12 @@ ghost use Rattle.rail_routes.specs.PostRules.{is_formed};
 ghost use Rattle.rail_edit.specs.Edits.{is_formed_edit};
 ghost use Rattle.rail_edit_file.specs.EditLines.{added, are_joints, asked_alone, board_in, changed, edit_line, is_formed_line, portal_in, removed, removed_between, removed_named, route_in, route_over, section_in, signal_in, way_from, times_in, turn_in};
 
-use crate::lists::{names, way_from};
+use crate::lists::way_from;
 use crate::words::{kind, number};
 use rail_base::{Name, Seq};
 use rail_edit::Edit;
 use rail_routes::{Post, Role, Route, Turn};
-use rail_text::next_word;
+use rail_text::{next_word, read_names};
 use rail_track::{Section, SectionKind};
 use std::alloc::{AllocError, Global};
 
@@ -155,7 +155,7 @@ fn section_in(alloc: Global, args: &[u8]) -> Result<Option<Section>, AllocError>
     let Some((head, rest)) = section_head(args) else {
         return Ok(None);
     };
-    let Some(joints) = names(alloc, rest)? else {
+    let Some(joints) = read_names(alloc, rest)? else {
         return Ok(None);
     };
     if joints.len() < 2 || joints.len() > 4 {

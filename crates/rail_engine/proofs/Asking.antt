@@ -29,7 +29,7 @@ use Rattle.rail_ledger.specs.declared.ledger.Listed.TheVariants as listed
 use Rattle.rail_ledger.specs.Inputs.{dispatch_in, input_in}
 use Rattle.rail_ledger.specs.Ledgers.{IsAdmissionOf, IsAt, StandsAsBefore}
 use Rattle.rail_ledger.proofs.CallerLemmas.{hold_none}
-use Rattle.rail_engine.specs.Asked.{AsksFirst, IsTurn, WasAsked, offer_at}
+use Rattle.rail_engine.specs.PolicyTurns.{AsksFirst, IsTurn, WasAsked, offer_at}
 use Rattle.rail_engine.specs.Desks.{IsDesk}
 use Rattle.rail_engine.specs.Engines.{StandsFor}
 use Rattle.rail_engine.specs.Rounds.{AreOffers, IsOfferOf}

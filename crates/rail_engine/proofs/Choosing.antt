@@ -19,7 +19,7 @@ use Rattle.rail_ledger.specs.declared.ledger.Ledger.{Ledger}
 use Rattle.rail_ledger.specs.Inputs.{dispatch_in, input_in}
 use Rattle.rail_ledger.specs.Ledgers.{IsAt}
 use Rattle.rail_ledger.proofs.CallerLemmas.{left_of, place_fits}
-use Rattle.rail_engine.specs.Asked.{offer_at}
+use Rattle.rail_engine.specs.PolicyTurns.{offer_at}
 use Rattle.rail_engine.specs.Desks.{IsBox, IsDesk}
 use Rattle.rail_engine.specs.Rounds.{AreOffers, IsOfferOf, IsPicked, offer_in}
 

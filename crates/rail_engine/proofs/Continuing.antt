@@ -29,7 +29,7 @@ use Rattle.rail_engine.specs.Rounds.{AreOffers, IsPicked}
 use Rattle.rail_engine.proofs.Choosing.{picked_chosen}
 use Rattle.rail_engine.proofs.Desks.{line_desk, noted_desk}
 
--- a line that is no admission continues a run, and the desk heeds what it tells
+-- a line that is no admission continues a run, and the desk is told what it tells
 run_on : (seats : List Seat) (front : Front) (new : Ledger) (entry : Entry) (table : Table) → IsAt (line_in new entry ∷ front) new → is_admission entry.what ≡ false
     → IsOfRun seats new.input front table → IsOfRun seats new.input (line_in new entry ∷ front) (after_orders (orders_of new.input.commands.items entry.what) table)
 run_on seats front new entry table at idle run = record {

@@ -25,7 +25,7 @@ use Rattle.rail_policy.specs.declared.desk.Asked.{Asked}
 use Rattle.rail_policy.specs.declared.offer.Offer.{Offer}
 use Rattle.rail_policy.specs.Desks.{Table, after_note, after_turn, asked_about, put_in_force, seat_in_force, within, without}
 use Rattle.rail_policy.specs.Seats.{DeskSeat, asked, is_named, mark_when_asked, mark_when_noted, no_seat, noted, seat_at}
-use Rattle.rail_policy.proofs.CallerLemmas.{name-place_of, place_of-found, seat_in_force-without}
+use Rattle.rail_policy.proofs.CallerLemmas.{name-index_of, index_of-found, seat_in_force-without}
 use Rattle.rail_engine.specs.Desks.{IsBox, IsDesk, after_orders, exchanged, retired}
 
 -- the same numbers are one name
@@ -174,10 +174,10 @@ module _ (input : Input) (seats : List Seat) (front : Front) (line : Line) (idle
   exchanged_desk : (table : Table) (name : List ℕ) → told input.commands (line ∷ front) ≡ Policy name ∷ told input.commands front
       → is_in_deck input.deck name (told input.commands front) ≡ true → IsDesk input seats front table → IsDesk input seats (line ∷ front) (exchanged table name)
   exchanged_desk table name told_is in_deck desk =
-      let found = place_of-found table.seats name (desk.left name in_deck) in
+      let found = index_of-found table.seats name (desk.left name in_deck) in
       subst (λ (o : Option ℕ). IsDesk input seats (line ∷ front) (option_map_or (put_in_force table) o table)) (sym found.1) (record {
         in_range = found.2;
-        in_force = name-place_of table.seats name found.0 found.1 ∙ sym (ap (in_force (first_force input)) told_is);
+        in_force = name-index_of table.seats name found.0 found.1 ∙ sym (ap (in_force (first_force input)) told_is);
         distinct = desk.distinct;
         boxes = λ k d lt. box_stays (get_or table.seats k d) (desk.boxes k d lt);
         left = λ other in_deck. desk.left other (sym (ap (is_in_deck input.deck other) told_is) ∙ in_deck);
@@ -188,50 +188,50 @@ module _ (input : Input) (seats : List Seat) (front : Front) (line : Line) (idle
       → is_in_deck input.deck name (told input.commands front) ≡ true → same_numbers name (force_of input front) ≡ false
       → IsDesk input seats front table → IsDesk input seats (line ∷ front) (retired table name)
   retired_desk table name told_is in_deck not_in_force desk =
-      let found = place_of-found table.seats name (desk.left name in_deck) in
-      let place : ℕ = found.0 in
-      let named : (seat_at table.seats place).name ≡ name = name-place_of table.seats name place found.1 in
-      let apart : place ≢ table.force = λ same. false≢true (sym not_in_force ∙ same_name name (force_of input front) (sym named ∙ ap (λ k. (seat_at table.seats k).name) same ∙ desk.in_force)) in
-      subst (λ (o : Option ℕ). IsDesk input seats (line ∷ front) (option_map_or (λ place. cond (place == table.force) table (without table place)) o table)) (sym found.1)
-      (subst (λ (b : Bool). IsDesk input seats (line ∷ front) (cond b table (without table place))) (sym (ne_eqb place table.force apart))
-      (dropped table name told_is place found.2 named apart desk))
+      let found = index_of-found table.seats name (desk.left name in_deck) in
+      let index : ℕ = found.0 in
+      let named : (seat_at table.seats index).name ≡ name = name-index_of table.seats name index found.1 in
+      let apart : index ≢ table.force = λ same. false≢true (sym not_in_force ∙ same_name name (force_of input front) (sym named ∙ ap (λ k. (seat_at table.seats k).name) same ∙ desk.in_force)) in
+      subst (λ (o : Option ℕ). IsDesk input seats (line ∷ front) (option_map_or (λ index. cond (index == table.force) table (without table index)) o table)) (sym found.1)
+      (subst (λ (b : Bool). IsDesk input seats (line ∷ front) (cond b table (without table index))) (sym (ne_eqb index table.force apart))
+      (dropped table name told_is index found.2 named apart desk))
     where
-      dropped : (table : Table) (name : List ℕ) → told input.commands (line ∷ front) ≡ Retire name ∷ told input.commands front → (place : ℕ) → place < length table.seats
-          → (seat_at table.seats place).name ≡ name → place ≢ table.force → IsDesk input seats front table → IsDesk input seats (line ∷ front) (without table place)
-      dropped table name told_is place lt named apart desk = record {
+      dropped : (table : Table) (name : List ℕ) → told input.commands (line ∷ front) ≡ Retire name ∷ told input.commands front → (index : ℕ) → index < length table.seats
+          → (seat_at table.seats index).name ≡ name → index ≢ table.force → IsDesk input seats front table → IsDesk input seats (line ∷ front) (without table index)
+      dropped table name told_is index lt named apart desk = record {
         in_range = ⊎_elim
-            (λ before. subst (λ b. cond b (table.force - 1) table.force < length (remove table.seats place)) (sym (lt-ltb place table.force before))
-            (omega (arith, length-remove table.seats place lt, desk.in_range, before)))
-            (λ behind. subst (λ b. cond b (table.force - 1) table.force < length (remove table.seats place)) (sym (le-ltb place table.force behind))
-            (let below : table.force < place = omega arith in omega (arith, length-remove table.seats place lt, lt, below)))
-            (cases_lt place table.force);
-        in_force = ap (λ (s : DeskSeat). s.name) (seat_in_force-without table (without table place) place refl lt apart) ∙ desk.in_force ∙ sym (ap (in_force (first_force input)) told_is);
-        distinct = all_pairs_remove (λ (first second : DeskSeat). first.name ≢ second.name) table.seats place lt desk.distinct;
+            (λ before. subst (λ b. cond b (table.force - 1) table.force < length (remove table.seats index)) (sym (lt-ltb index table.force before))
+            (omega (arith, length-remove table.seats index lt, desk.in_range, before)))
+            (λ behind. subst (λ b. cond b (table.force - 1) table.force < length (remove table.seats index)) (sym (le-ltb index table.force behind))
+            (let below : table.force < index = omega arith in omega (arith, length-remove table.seats index lt, lt, below)))
+            (cases_lt index table.force);
+        in_force = ap (λ (s : DeskSeat). s.name) (seat_in_force-without table (without table index) index refl lt apart) ∙ desk.in_force ∙ sym (ap (in_force (first_force input)) told_is);
+        distinct = all_pairs_remove (λ (first second : DeskSeat). first.name ≢ second.name) table.seats index lt desk.distinct;
         boxes = λ k d inside. ⊎_elim
-            (λ below. subst (IsBox input seats (line ∷ front)) (sym (get_or-remove_below table.seats place d k below lt)) (box_stays (get_or table.seats k d) (desk.boxes k d (omega (arith, below, lt)))))
-            (λ from. subst (IsBox input seats (line ∷ front)) (sym (get_or-remove_above table.seats place d k from lt)) (box_stays (get_or table.seats (k + 1) d) (desk.boxes (k + 1) d (omega (arith, inside, length-remove table.seats place lt)))))
-            (cases_lt k place);
+            (λ below. subst (IsBox input seats (line ∷ front)) (sym (get_or-remove_below table.seats index d k below lt)) (box_stays (get_or table.seats k d) (desk.boxes k d (omega (arith, below, lt)))))
+            (λ from. subst (IsBox input seats (line ∷ front)) (sym (get_or-remove_above table.seats index d k from lt)) (box_stays (get_or table.seats (k + 1) d) (desk.boxes (k + 1) d (omega (arith, inside, length-remove table.seats index lt)))))
+            (cases_lt k index);
         left = λ other in_deck.
             let parts = and_parts (list_any (same_numbers other) input.deck) (not (is_retired other (Retire name ∷ told input.commands front)))
             (sym (ap (is_in_deck input.deck other) told_is) ∙ in_deck) in
             let stays = or_parts (same_numbers name other) (is_retired other (told input.commands front)) (not-true (is_retired other (Retire name ∷ told input.commands front)) parts.1) in
             let found = Any-from_list_any (is_named other) table.seats (desk.left other (and_from (list_any (same_numbers other) input.deck) (not (is_retired other (told input.commands front))) parts.0 (ap not stays.1))) in
-            left_there table place lt other found.0 found.1 found.2 (ap (is_named other) found.3 ∙ found.4)
+            left_there table index lt other found.0 found.1 found.2 (ap (is_named other) found.3 ∙ found.4)
             (λ same. false≢true (sym stays.0 ∙ same_name name other (sym named ∙ ap (λ k. (seat_at table.seats k).name) (sym same)
             ∙ ap (λ (s : DeskSeat). s.name) (get_or_default table.seats found.0 no_seat found.1 found.2 ∙ found.3) ∙ one_name found.1.name other found.4)));
       }
         where
-          left_there : (table : Table) (place : ℕ) → place < length table.seats → (other : List ℕ) (k : ℕ) (d : DeskSeat) → k < length table.seats
-              → is_named other (get_or table.seats k d) ≡ true → k ≢ place → list_any (is_named other) (remove table.seats place) ≡ true
-          left_there table place lt other k d inside is ne = ⊎_elim
-              (λ below. list_any_at (is_named other) (remove table.seats place) k d (omega (arith, below, lt, length-remove table.seats place lt))
-              (ap (is_named other) (get_or-remove_below table.seats place d k below lt) ∙ is))
+          left_there : (table : Table) (index : ℕ) → index < length table.seats → (other : List ℕ) (k : ℕ) (d : DeskSeat) → k < length table.seats
+              → is_named other (get_or table.seats k d) ≡ true → k ≢ index → list_any (is_named other) (remove table.seats index) ≡ true
+          left_there table index lt other k d inside is ne = ⊎_elim
+              (λ below. list_any_at (is_named other) (remove table.seats index) k d (omega (arith, below, lt, length-remove table.seats index lt))
+              (ap (is_named other) (get_or-remove_below table.seats index d k below lt) ∙ is))
               (λ from.
-              let above : place < k = omega arith in
+              let above : index < k = omega arith in
               let back : k - 1 + 1 ≡ k = omega (arith, above) in
-              list_any_at (is_named other) (remove table.seats place) (k - 1) d (omega (arith, above, inside, length-remove table.seats place lt))
-              (ap (is_named other) (get_or-remove_above table.seats place d (k - 1) (omega (arith, above)) lt ∙ ap (λ n. get_or table.seats n d) back) ∙ is))
-              (cases_lt k place)
+              list_any_at (is_named other) (remove table.seats index) (k - 1) d (omega (arith, above, inside, length-remove table.seats index lt))
+              (ap (is_named other) (get_or-remove_above table.seats index d (k - 1) (omega (arith, above)) lt ∙ ap (λ n. get_or table.seats n d) back) ∙ is))
+              (cases_lt k index)
 
   -- the line tells an order that takes effect
   ordered_desk : (table : Table) (order : Order) → told input.commands (line ∷ front) ≡ order ∷ told input.commands front

@@ -9,15 +9,15 @@ use Rattle.rail_rules.specs.Fronts.{Front}
 use Rattle.rail_rules.specs.Orders.{Input, is_in_deck, told}
 use Rattle.rail_rules.specs.RunHistories.{Seat, force_of, mark_of, seat_of}
 use Rattle.rail_policy.specs.Desks.{Table, put_in_force, seat_in_force, without}
-use Rattle.rail_policy.specs.Seats.{DeskSeat, is_named, place_of}
+use Rattle.rail_policy.specs.Seats.{DeskSeat, is_named, index_of}
 
 -- the policy of this name is put in force, where the desk has one
 abbrev pub exchanged : Table → List ℕ → Table
-exchanged table name = option_map_or (put_in_force table) (place_of table.seats name) table
+exchanged table name = option_map_or (put_in_force table) (index_of table.seats name) table
 
 -- the policy of this name is dropped, where the desk has one that isn't in force
 abbrev pub retired : Table → List ℕ → Table
-retired table name = option_map_or (λ place. cond (place == table.force) table (without table place)) (place_of table.seats name) table
+retired table name = option_map_or (λ index. cond (index == table.force) table (without table index)) (index_of table.seats name) table
 
 -- the desk after the orders that a line tells, of which there is one at most
 abbrev pub after_orders : List Order → Table → Table

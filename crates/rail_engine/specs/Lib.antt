@@ -1,5 +1,5 @@
 -- The desk, the offers of a round, that the policy in force was asked, and the front for which an engine stands.
-pub mod Asked
+pub mod PolicyTurns
 pub mod Desks
 pub mod Engines
 pub mod Rounds

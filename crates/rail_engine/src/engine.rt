@@ -3,7 +3,7 @@
 ghost use Rattle.std.specs.Prelude.{◌≡◌, ℕ, [], ◌∷◌, List, true, false, IsNone, IfOk, IfSome};
 ghost use Rattle.rail_base.specs.declared.history.Note.{Note};
 ghost use Rattle.rail_base.specs.declared.history.What.TheVariants.{Admit};
-ghost use Rattle.rail_engine.specs.Asked.{WasAsked};
+ghost use Rattle.rail_engine.specs.PolicyTurns.{WasAsked};
 ghost use Rattle.rail_engine.specs.Engines.{StandsFor};
 ghost use Rattle.rail_engine.specs.Starts.{run_input};
 ghost use Rattle.rail_ledger.specs.Ledgers.{line_in, list_of};

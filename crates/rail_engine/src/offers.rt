@@ -2,7 +2,7 @@
 
 ghost use Rattle.std.specs.Prelude.{◌≡◌, ◌<◌, ◌≤◌, ℕ, true, length, vec_capacity};
 ghost use Rattle.rail_base.specs.declared.limits.TheConstants.{TRAINS};
-ghost use Rattle.rail_engine.specs.Asked.{IsTurn};
+ghost use Rattle.rail_engine.specs.PolicyTurns.{IsTurn};
 ghost use Rattle.rail_engine.specs.Engines.{StaysDesk};
 ghost use Rattle.rail_engine.specs.Rounds.{AreOffers, IsPicked, is_offered, offer_in};
 ghost use Rattle.rail_ledger.specs.Ledgers.{AreAlike, AreUnbarred, IsSomewhere, StandsAsBefore};

@@ -3,7 +3,7 @@
 ghost use Rattle.std.specs.Prelude.{◌≡◌, ℕ, ◌≢◌, ◌≤◌, Some, true, false, IsTrue, IsNone, IfSome, vec_capacity};
 ghost use Rattle.rail_base.specs.declared.limits.TheConstants.{TRAINS};
 ghost use Rattle.rail_base.specs.declared.history.What.TheVariants.{Told};
-ghost use Rattle.rail_engine.specs.Asked.{AsksFirst};
+ghost use Rattle.rail_engine.specs.PolicyTurns.{AsksFirst};
 ghost use Rattle.rail_engine.specs.Desks.{after_orders};
 ghost use Rattle.rail_engine.specs.Engines.{ContinuesRuns, StaysDesk};
 ghost use Rattle.rail_ledger.specs.Ledgers.{GivesEntry, IsSettled, IsSomewhere, MayGoOn, StandsAsBefore};
@@ -91,7 +91,7 @@ fn offers_all(ledger: &mut Ledger, round: &Round, desk: &Desk) -> bool
     }
 }
 
-/// The line of the next event, or the end line where there is none. The desk heeds the order that it tells.
+/// The line of the next event, or the end line where there is none. The desk is told the order that it tells.
 // In line down to the queue: most lines are made here, and then none is handed on through memory.
 #[inline(always)]
 fn go_on(ledger: &mut Ledger, round: &mut Round, desk: &mut Desk) -> Entry
@@ -108,12 +108,12 @@ fn go_on(ledger: &mut Ledger, round: &mut Round, desk: &mut Desk) -> Entry
 {
     round.is_over = false;
     let entry = ledger.go_on();
-    heed(desk, &ledger.input.commands, &entry.what);
+    tell_desk(desk, &ledger.input.commands, &entry.what);
     entry
 }
 
-/// The desk heeds the order of the command that a line tells. Commands count from 1.
-fn heed(desk: &mut Desk, commands: &[Command], what: &What)
+/// The desk is told the order of the command that a line tells. Commands count from 1.
+fn tell_desk(desk: &mut Desk, commands: &[Command], what: &What)
     requires { (k : ℕ) → what.now ≡ Told k → 1 ≤ k }
     ensures { let table = ⟦<Desk as Seen>⟧.table in
         table desk.new ≡ after_orders (orders_of commands.now what.now) (table desk.old) }

@@ -40,6 +40,8 @@ fn role_of_lines(form: Form, reason: Reason) -> Role
         (Form::Check, Reason::HistoryForm) => Role::History,
         (Form::Play, _) => Role::List,
         (Form::Edit, _) => Role::Edits,
+        (Form::Reroute, Reason::RerouteForm | Reason::RerouteName) => Role::Proposals,
+        (Form::Reroute, _) => Role::List,
         _ => Role::Commands,
     }
 }
@@ -50,9 +52,10 @@ fn role_at(form: Form, number: u32) -> Option<Role>
 {
     match (form, number) {
         (_, 1) => Some(Role::Scene),
-        (Form::Play, 2) => Some(Role::List),
+        (Form::Play | Form::Reroute, 2) => Some(Role::List),
         (Form::Edit, 2) => Some(Role::Edits),
         (_, 2) => Some(Role::Timetable),
+        (Form::Reroute, 3) => Some(Role::Proposals),
         (_, 3) => Some(Role::Commands),
         (_, 4) => Some(Role::History),
         _ => None,

@@ -1,9 +1,9 @@
 //! What the program prints of itself: the forms of a command line, as they are typed and what each prints.
 
 ghost use Rattle.std.specs.Prelude.{◌+◌, ◌≤◌, length};
-ghost use Rattle.rail_text.specs.declared.line.TheConstants.{ROOM};
+ghost use Rattle.rail_text.specs.declared.line_buffer.TheConstants.{ROOM};
 
-use rail_text::Line;
+use rail_text::LineBuffer;
 use rail_words::Form;
 
 /// What stands before the lines of the forms in the answer to `rail --help`.
@@ -36,16 +36,16 @@ pub const OTHER_FORMS: &str = "rail --help\nrail --version";
 const MARGIN: &[u8] = b"                                             ";
 
 /// A form as it is typed.
-pub fn usage(form: Form) -> Line
+pub fn usage(form: Form) -> LineBuffer
     ensures short { length result ≤ 80 }
 {
-    let mut line = Line::new();
+    let mut line = LineBuffer::new();
     put_usage(&mut line, form);
     line
 }
 
 /// A form as it is typed, with what is to be known of its words.
-pub fn usage_with_hint(form: Form) -> Line
+pub fn usage_with_hint(form: Form) -> LineBuffer
     ensures short { length result ≤ 150 }
 {
     let mut line = usage(form);
@@ -54,10 +54,10 @@ pub fn usage_with_hint(form: Form) -> Line
 }
 
 /// The line of a form in the answer to `rail --help`: how it is typed and what it prints; two lines where it is long.
-pub fn help_line(form: Form) -> Line
+pub fn help_line(form: Form) -> LineBuffer
     ensures short { length result ≤ 250 }
 {
-    let mut line = Line::new();
+    let mut line = LineBuffer::new();
     line.put(b"    ");
     put_usage(&mut line, form);
     let used = line.as_slice().len();
@@ -74,7 +74,7 @@ pub fn help_line(form: Form) -> Line
 }
 
 /// Puts the form as it is typed.
-fn put_usage(line: &mut Line, form: Form)
+fn put_usage(line: &mut LineBuffer, form: Form)
     requires { length line.old + 80 ≤ ROOM }
     ensures short { length line.new ≤ length line.old + 80 }
 {

@@ -8,7 +8,7 @@
 //! its clause says, and that there is one for each reason.
 #![tactic(auto)]
 
-mod expected;
+mod expectations;
 mod files;
 mod help;
 mod places;

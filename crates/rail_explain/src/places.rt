@@ -1,12 +1,12 @@
 //! Where a refusal lies, in words.
 
 ghost use Rattle.std.specs.Prelude.{◌+◌, ◌≤◌, length};
-ghost use Rattle.rail_text.specs.declared.line.TheConstants.{ROOM};
+ghost use Rattle.rail_text.specs.declared.line_buffer.TheConstants.{ROOM};
 
 use rail_base::{Name, Part, Refusal};
 use rail_scene::Version;
 use rail_scene::keys::{Key, keys_in};
-use rail_text::Line;
+use rail_text::LineBuffer;
 
 /// The word for what a part has items of.
 fn part_text(part: Part) -> &'static [u8]
@@ -35,7 +35,7 @@ fn is_numbered(part: Part) -> bool {
 }
 
 /// Puts the part, the number of the item, and its name where it has one.
-pub fn put_item(line: &mut Line, refusal: &Refusal, name: Option<Name>)
+pub fn put_item(line: &mut LineBuffer, refusal: &Refusal, name: Option<Name>)
     requires { length line.old + 70 ≤ ROOM }
     ensures short { length line.new ≤ length line.old + 70 }
 {
@@ -57,7 +57,7 @@ pub fn key_at(refusal: &Refusal) -> Option<Key> {
 }
 
 /// Puts a colon, a word and the number of the step.
-pub fn put_step(line: &mut Line, word: &[u8], step: u32)
+pub fn put_step(line: &mut LineBuffer, word: &[u8], step: u32)
     requires word { length word.now ≤ 12 }
     requires room { length line.old + 60 ≤ ROOM }
     ensures short { length line.new ≤ length line.old + 60 }
@@ -68,7 +68,7 @@ pub fn put_step(line: &mut Line, word: &[u8], step: u32)
 }
 
 /// Puts the number of the key, and its name; a value of a line has a number alone.
-pub fn put_key(line: &mut Line, refusal: &Refusal)
+pub fn put_key(line: &mut LineBuffer, refusal: &Refusal)
     requires { length line.old + 80 ≤ ROOM }
     ensures short { length line.new ≤ length line.old + 80 }
 {
@@ -87,7 +87,7 @@ pub fn put_key(line: &mut Line, refusal: &Refusal)
 
 /// Puts the keys that a table of the part may have in the newest version, and before those that the first version has not
 /// that they are of the second.
-pub fn put_keys(line: &mut Line, part: Part)
+pub fn put_keys(line: &mut LineBuffer, part: Part)
     requires { length line.old + 190 ≤ ROOM }
     ensures short { length line.new ≤ length line.old + 190 }
 {

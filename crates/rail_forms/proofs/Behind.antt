@@ -22,7 +22,7 @@ use Rattle.rail_forms.specs.declared.status.Status.TheVariants.{CheckedNo, Done,
 use Rattle.rail_forms.specs.Answers.{IsAnswer, Told, status_of}
 use Rattle.rail_forms.specs.Files.{told_of, too_large, too_large_if_any}
 use Rattle.rail_forms.specs.Insertions.{AnswersPaths, IsInsertionText, IsPathsAnswer, IsRefusedRun, refused_with, train_refusal, with_train}
-use Rattle.rail_forms.specs.Noted.{ReportsRun}
+use Rattle.rail_forms.specs.NotedRuns.{ReportsRun}
 use Rattle.rail_forms.specs.Promises.{WritesAnswer}
 use Rattle.rail_forms.specs.Purposes.{AnswersPurpose, IsRefusedIfAny, RefusesBehind}
 use Rattle.rail_forms.specs.Scenarios.{AnswersScenario, nothing_else, scenario_refusal}

@@ -22,7 +22,7 @@ use Rattle.rail_rules.specs.Numbers.{or_else}
 use Rattle.rail_rules.specs.Orders.{Input}
 use Rattle.rail_rules.specs.Accepted.{are_distinct_names, is_accepted_input}
 use Rattle.rail_rules.specs.Plant.{Plant}
-use Rattle.rail_rules.specs.Writable.{IsNamed}
+use Rattle.rail_rules.specs.WritableLines.{IsNamed}
 use Rattle.rail_laws_events.proofs.CallerLemmas.{input_parts}
 use Rattle.rail_laws_text.proofs.CallerLemmas.{accepted_named}
 use Rattle.rail_ledger.specs.declared.input.RunInput.{RunInput}

@@ -10,6 +10,8 @@ mod Writes
 mod Lists
 mod Migrations
 mod Answers
+mod Reroutings
+mod ThreeFiles
 mod TwoFiles
 mod CheckAnswers
 mod Parts

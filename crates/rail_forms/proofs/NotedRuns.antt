@@ -16,7 +16,7 @@ use Rattle.rail_delay.specs.Accounts.{account}
 use Rattle.rail_delay.specs.declared.account.Account.{Account}
 use Rattle.rail_insert.specs.Insertions.{IsInsertion}
 use Rattle.rail_insert.specs.Texts.{inserted_text}
-use Rattle.rail_insert.specs.Timely.{are_timely}
+use Rattle.rail_insert.specs.TimeBounds.{are_timely}
 use Rattle.rail_insert.specs.declared.insertion.Placed.{Placed}
 use Rattle.rail_input.specs.Inputs.{train_names}
 use Rattle.rail_laws_front.proofs.CallerLemmas.{length-listed}
@@ -27,13 +27,13 @@ use Rattle.rail_rules.specs.Orders.{Input}
 use Rattle.rail_rules.specs.Plant.{Plant, trains}
 use Rattle.rail_rules.specs.RunHistories.{Seat, is_run}
 use Rattle.rail_stairs.specs.declared.stairs.Stairs.{Stairs}
-use Rattle.rail_stairs.specs.Noted.{AreNoted, IsNoted}
+use Rattle.rail_stairs.specs.NotedHistories.{AreNoted, IsNoted}
 use Rattle.rail_stairs.specs.Stairways.{ended_at, ended_by, stairway}
 use Rattle.rail_stairs.specs.StairsTexts.{stairs_text}
 use Rattle.rail_forms.specs.Capacity.{IsCapacityText, capacity_text, line_of}
 use Rattle.rail_text.specs.Names.{NameLists, names_of}
 use Rattle.rail_forms.specs.Insertions.{IsInsertionText, IsNoPathAmong, IsRefusedRun, train_named}
-use Rattle.rail_forms.specs.Noted.{IsNotedRun, ReportsRun}
+use Rattle.rail_forms.specs.NotedRuns.{IsNotedRun, ReportsRun}
 use Rattle.rail_forms.specs.Reports.{IsReportText}
 use Rattle.rail_forms.specs.Runs.{IsFinished, IsRunWithin}
 use Rattle.rail_forms.specs.Stairs.{IsStairsText}

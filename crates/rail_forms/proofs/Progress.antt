@@ -21,7 +21,7 @@ use Rattle.rail_rules.specs.Orders.{Input}
 use Rattle.rail_policy.specs.Desks.{Table, run_seats}
 use Rattle.rail_ledger.specs.declared.ledger.Ledger.{Ledger}
 use Rattle.rail_engine.specs.Engines.{StandsFor}
-use Rattle.rail_rules.specs.Writable.{is_writable}
+use Rattle.rail_rules.specs.WritableLines.{is_writable}
 use Rattle.rail_laws_front.specs.Views.{Follows}
 use Rattle.rail_laws_front.specs.Views.Follows.{by_event, by_admission, by_hold, by_end}
 use Rattle.rail_laws_front.proofs.CallerLemmas.{well_formed_from_accepted, lawful_last}
@@ -31,10 +31,10 @@ use Rattle.rail_laws_run.proofs.CallerLemmas.{run_lawful}
 use Rattle.rail_laws_text.proofs.CallerLemmas.{line_writable}
 use Rattle.rail_ledger.specs.Inputs.{input_in}
 use Rattle.rail_ledger.specs.declared.input.RunInput.{RunInput}
-use Rattle.rail_forms.specs.Begun.{IsAtStart}
-use Rattle.rail_forms.specs.Noted.{IsCutRun, IsNext, IsNotedRun}
+use Rattle.rail_forms.specs.BegunRuns.{IsAtStart}
+use Rattle.rail_forms.specs.NotedRuns.{IsCutRun, IsNext, IsNotedRun}
 use Rattle.rail_forms.specs.Runs.{IsRunWithin}
-use Rattle.rail_forms.specs.Written.{AreWritten, IsWrittenInPart}
+use Rattle.rail_forms.specs.WrittenHistories.{AreWritten, IsWrittenInPart}
 use Rattle.rail_forms.proofs.LineBounds.{lines_at_most}
 use Rattle.rail_forms.proofs.Endings.{finished_run}
 use Rattle.rail_forms.proofs.Histories.{only_run, safe_run, timely_run}

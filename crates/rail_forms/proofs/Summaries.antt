@@ -18,7 +18,7 @@ use Rattle.rail_state.proofs.CallerLemmas.{bound_small}
 use Rattle.rail_forms.specs.declared.summary.Summary.{Summary}
 use Rattle.rail_forms.specs.declared.status.Status.{Status}
 use Rattle.rail_forms.specs.Answers.{IsAnswer}
-use Rattle.rail_forms.specs.Noted.{FollowsNoted, IsNotedRun, ReportsRun}
+use Rattle.rail_forms.specs.NotedRuns.{FollowsNoted, IsNotedRun, ReportsRun}
 use Rattle.rail_forms.specs.Summaries.{IsSummaryText, is_leaving, summary_line, summary_of}
 use Rattle.rail_forms.proofs.LineBounds.{lines_at_most}
 

@@ -29,7 +29,7 @@ use Rattle.rail_forms.specs.declared.status.Status.{Status}
 use Rattle.rail_forms.specs.declared.status.Status.TheVariants.{Refused}
 use Rattle.rail_forms.specs.Answers.{Told}
 use Rattle.rail_text.specs.Names.{NameLists, names_of, section_name, train_name}
-use Rattle.rail_forms.specs.Noted.{ReportsRun}
+use Rattle.rail_forms.specs.NotedRuns.{ReportsRun}
 use Rattle.rail_forms.specs.Scenarios.{AnswersScenario}
 
 -- the word for the line is the empty one

@@ -29,7 +29,7 @@ use Rattle.rail_forms.specs.declared.status.Status.TheVariants.{Refused}
 use Rattle.rail_forms.specs.Answers.{Decides, IsAnswer, Told}
 use Rattle.rail_forms.specs.Capacity.{window_empty}
 use Rattle.rail_forms.specs.Files.{told_of, too_large, too_many_bytes}
-use Rattle.rail_forms.specs.Noted.{ReportsRun}
+use Rattle.rail_forms.specs.NotedRuns.{ReportsRun}
 use Rattle.rail_forms.specs.Runs.{IsRunWithin}
 use Rattle.rail_forms.specs.Scenarios.{scenario_refusal}
 

@@ -5,9 +5,9 @@ pub mod Promises
 pub mod Answers
 pub mod Scenarios
 pub mod Runs
-pub mod Written
-pub mod Noted
-pub mod Begun
+pub mod WrittenHistories
+pub mod NotedRuns
+pub mod BegunRuns
 pub mod Stairs
 pub mod Reports
 pub mod Capacity
@@ -17,6 +17,7 @@ pub mod Infra
 pub mod Migration
 pub mod TwoFiles
 pub mod Plays
+pub mod Reroutes
 pub mod Checks
 pub mod SceneTexts
 pub mod Summaries

@@ -1,5 +1,5 @@
 -- The form `play`: what the player of a list answers, as a line.
-use Rattle.std.specs.Prelude.{ℕ, ◌-◌, List, [], ◌∷◌, ◌++◌, get_or, map, codes, decimal, Option}
+use Rattle.std.specs.Prelude.{◌≡◌, ℕ, ◌-◌, Bool, true, List, [], ◌∷◌, ◌++◌, get_or, map, codes, decimal, Option, Some}
 use Rattle.rail_base.specs.declared.names.Names.{Names}
 use Rattle.rail_base.specs.declared.plant.SectionRow.{SectionRow}
 use Rattle.rail_base.specs.declared.plant.TrainRow.{TrainRow}
@@ -7,6 +7,7 @@ use Rattle.rail_base.specs.declared.refusals.Refusal.{Refusal}
 use Rattle.rail_base.specs.declared.refusals.Reason.TheVariants.{ListPlaces}
 use Rattle.rail_base.specs.declared.refusals.Part.TheVariants.{Line}
 use Rattle.rail_rules.specs.Numbers.{or_else}
+use Rattle.rail_rules.specs.Moves.{Moves}
 use Rattle.rail_rules.specs.Plant.{Plant, moves_of, trains}
 use Rattle.rail_base.specs.FirstRefusals.{first_failing}
 use Rattle.rail_place.specs.Bars.{outcome}
@@ -18,6 +19,7 @@ use Rattle.rail_rules.specs.Texts.{behind}
 use Rattle.rail_words.specs.Lists.{Listed, list_line_refusal, listed_in, places_test}
 use Rattle.rail_words.specs.declared.files.Role.TheVariants as role
 use Rattle.rail_forms.specs.declared.status.Status.{Status}
+use Rattle.rail_forms.specs.declared.status.Status.TheVariants as status
 use Rattle.rail_io.specs.Writes.{Adds, AddsPrefix}
 use Rattle.rail_input.specs.Inputs.{plant_in, plant_refusal}
 use Rattle.rail_forms.specs.Answers.{Told}
@@ -49,15 +51,25 @@ listed_for plant list = listed_in (names_of plant).trains (trains plant) list
 abbrev pub shared_at : ℕ → Refusal
 shared_at line = record { reason = ListPlaces; part = Line; item = line; step = 0 }
 
--- why a list file is refused: a line, or two trains that hold one section
-abbrev pub list_refusal : Plant → List ℕ → Option Refusal
-list_refusal plant list =
-    or_else (list_line_refusal (names_of plant).trains (moves_of plant) list)
-    (first_failing (places_test (names_of plant).trains (moves_of plant) (trains plant) list ∷ []))
+-- why a list file is refused, for so many trains with these names and moves, where lines may move trains or not: a line, or
+-- two trains that hold one section
+abbrev pub places_refusal : List (List ℕ) → Moves → ℕ → Bool → List ℕ → Option Refusal
+places_refusal names plan trains may_move list =
+    or_else (list_line_refusal names plan may_move list) (first_failing (places_test names plan trains list ∷ []))
+
+-- the same for the trains of a plant
+abbrev pub list_refusal : Plant → Bool → List ℕ → Option Refusal
+list_refusal plant may_move list = places_refusal (names_of plant).trains (moves_of plant) (trains plant) may_move list
+
+-- what a list that cannot be placed ends with: its first refusal, or want of memory
+abbrev pub IsListAnswer : Option Refusal → Status → Type 0
+IsListAnswer first (status.Refused refusal) = first ≡ Some refusal
+IsListAnswer first status.OutOfMemory = Unit {0}
+IsListAnswer first _ = ⊥
 
 -- why the player refuses a scene and a list
 abbrev pub play_refusal : List ℕ → List ℕ → Option Refusal
-play_refusal bytes list = or_else (plant_refusal bytes) (list_refusal (plant_in bytes) list)
+play_refusal bytes list = or_else (plant_refusal bytes) (list_refusal (plant_in bytes) true list)
 
 -- the line that is written for a list
 abbrev pub play_text : Plant → List ℕ → List ℕ
@@ -66,6 +78,6 @@ play_text plant list = let listed : Listed = listed_for plant list in
 
 -- what the player of the scene answers to the list
 abbrev pub AnswersPlay : List ℕ → List ℕ → Told → Option (List ℕ) → Option (List ℕ) → Status → Type 0
-AnswersPlay scene list told before now status = AnswersTwoFiles role.List (λ bytes listed. list_refusal (plant_in bytes) listed)
+AnswersPlay scene list told before now status = AnswersTwoFiles role.List (λ bytes listed. list_refusal (plant_in bytes) true listed)
     (λ bytes listed. Adds before now (play_text (plant_in bytes) listed))
     (λ bytes listed. AddsPrefix before now (play_text (plant_in bytes) listed)) scene list told status

@@ -14,7 +14,7 @@ use Rattle.rail_forms.specs.declared.status.Status.TheVariants.{Refused}
 use Rattle.rail_forms.specs.Answers.{IsAnswer, Told}
 use Rattle.rail_forms.specs.Capacity.{IsCapacityText, line_refusal, with_line}
 use Rattle.rail_forms.specs.Insertions.{IsInsertionText, IsRefusedRun, refused_with, train_refusal, with_train}
-use Rattle.rail_forms.specs.Noted.{ReportsRun}
+use Rattle.rail_forms.specs.NotedRuns.{ReportsRun}
 use Rattle.rail_forms.specs.Reports.{IsReportText}
 use Rattle.rail_forms.specs.Runs.{RunsInput, RunsInputInPart}
 use Rattle.rail_words.specs.Forms.{Scenario}

@@ -7,7 +7,7 @@ use Rattle.rail_rules.specs.Fronts.{Front}
 use Rattle.rail_rules.specs.Orders.{Input}
 use Rattle.rail_forms.specs.declared.status.Status.{Status}
 use Rattle.rail_forms.specs.Answers.{Told}
-use Rattle.rail_forms.specs.Noted.{ReportsRun}
+use Rattle.rail_forms.specs.NotedRuns.{ReportsRun}
 use Rattle.rail_words.specs.Forms.{Scenario}
 use Rattle.rail_forms.specs.Scenarios.{AnswersScenario, nothing_else}
 

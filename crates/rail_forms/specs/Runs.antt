@@ -14,7 +14,7 @@ use Rattle.rail_rules.specs.Places.{completes}
 use Rattle.rail_rules.specs.Plant.{bound, moves_of, trains}
 use Rattle.rail_rules.specs.RunHistories.{Seat, is_chosen, is_run, is_run_history}
 use Rattle.rail_rules.specs.Texts.{text}
-use Rattle.rail_rules.specs.Overlaps.{NeverOverlap}
+use Rattle.rail_rules.specs.Apart.{NeverOverlap}
 use Rattle.rail_rules.specs.Orders.{Input, is_cancelled, is_closed, is_stopped, told}
 use Rattle.rail_laws_end.specs.Forks.{is_built_in_throughout}
 use Rattle.rail_policy.specs.Seats.{DeskSeat}

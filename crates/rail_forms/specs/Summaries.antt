@@ -15,7 +15,7 @@ use Rattle.rail_rules.specs.Texts.{spaced}
 use Rattle.rail_forms.specs.declared.summary.Summary.{Summary}
 use Rattle.rail_forms.specs.declared.status.Status.{Status}
 use Rattle.rail_forms.specs.Answers.{IsAnswer}
-use Rattle.rail_forms.specs.Noted.{ReportsRun}
+use Rattle.rail_forms.specs.NotedRuns.{ReportsRun}
 
 -- the line is an out line
 abbrev pub is_leaving : What → Bool

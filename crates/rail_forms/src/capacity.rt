@@ -7,7 +7,7 @@ ghost use Rattle.rail_base.specs.Refusals.{AnswersFirst};
 ghost use Rattle.rail_base.specs.declared.limits.TheConstants.{SECTIONS};
 ghost use Rattle.rail_base.specs.declared.refusals.Fault.TheVariants.{Refused};
 ghost use Rattle.rail_base.specs.declared.refusals.Refusal.{Refusal};
-ghost use Rattle.rail_text.specs.declared.line.TheConstants.{ROOM};
+ghost use Rattle.rail_text.specs.declared.line_buffer.TheConstants.{ROOM};
 ghost use Rattle.rail_capacity.specs.BlockingTimes.{are_conflict_free, block_of, taken_blocks};
 ghost use Rattle.rail_capacity.specs.Compression.{IsCompression};
 ghost use Rattle.rail_input.specs.Inputs.{refuses_file};
@@ -16,14 +16,14 @@ ghost use Rattle.rail_policy.specs.Seats.{is_fine_deck};
 ghost use Rattle.rail_rules.specs.Texts.{behind, spaced};
 ghost use Rattle.rail_words.specs.Forms.{scenario_files, scenario_in};
 ghost use Rattle.rail_forms.specs.Answers.{IsAnswer};
-ghost use Rattle.rail_forms.specs.Begun.{HasBegun, input_of, seats_of};
+ghost use Rattle.rail_forms.specs.BegunRuns.{HasBegun, input_of, seats_of};
 ghost use Rattle.rail_forms.specs.Capacity.{AnswersCapacity, IsCapacityText, IsEmptyStudy, capacity_text, line_refusal, piece_refusal, piece_refused, pieces, pieces_refusal, rate_lines, rate_word, section_named, sections_on, shift_line, study_refusal, tight_words};
 ghost use Rattle.rail_text.specs.Names.{names_in};
-ghost use Rattle.rail_forms.specs.Noted.{ReportsRun};
+ghost use Rattle.rail_forms.specs.NotedRuns.{ReportsRun};
 ghost use Rattle.rail_forms.specs.Promises.{KeepsPromise, WritesAnswer, ended, is_of_bytes};
 ghost use Rattle.rail_text.specs.Writes.{WritesText};
 
-use crate::begun::Begun;
+use crate::beginning::Begun;
 use crate::scenario;
 use crate::scenario::Purpose;
 use crate::status::Status;
@@ -33,7 +33,7 @@ use rail_capacity::{CapacityFault, Compressed, Shift, Tight, Window, compress};
 use rail_io::{Failed, Shelf, Sink, write_whole};
 use rail_policy::{Desk, Policy, Seen};
 use rail_stairs::{Stairs, ended_by, ended_intervals_are_without_conflict};
-use rail_text::Line;
+use rail_text::LineBuffer;
 use rail_words::Scenario;
 use std::alloc::{AllocError, Global};
 
@@ -96,13 +96,13 @@ pub(crate) fn report<O: Sink>(
     ensures writes { WritesAnswer O.Sink out.old out.new (ended result) }
     ensures of_bytes { is_of_bytes (ended result) ≡ true }
 {
-    let line = read_line(alloc, begun.plant().names(), study.line)?;
+    let sections = read_sections(alloc, begun.plant().names(), study.line)?;
     let mut stairs = Stairs::new(alloc, begun.plant())?;
     let Ok(engine) = begun.follow_to_end(&mut stairs);
     ended_intervals_are_without_conflict();
     let stairway = stairs.intervals(alloc, engine.plant())?;
     let intervals = ended_by(stairway, stairs.ended());
-    let compressed = compressed_by(alloc, &intervals, &line, study.window)?;
+    let compressed = compressed_by(alloc, &intervals, &sections, study.window)?;
     write_compressed(engine.plant().names(), &compressed, out)?;
     Ok(())
 }
@@ -111,16 +111,16 @@ pub(crate) fn report<O: Sink>(
 fn compressed_by(
     alloc: Global,
     intervals: &[Interval],
-    line: &[SectionNo],
+    sections: &[SectionNo],
     window: Window,
 ) -> Result<Compressed, OutOfMemory>
     requires apart { IsTrue (are_conflict_free (map block_of intervals.now)) }
-    requires filled { line.now ≢ [] }
+    requires filled { sections.now ≢ [] }
     requires ordered { window.from < window.to }
-    ensures { IfOk result (λ compressed. IsCompression (taken_blocks intervals.now line.now window) window
+    ensures { IfOk result (λ compressed. IsCompression (taken_blocks intervals.now sections.now window) window
         compressed.trains.items compressed.occupancy compressed.rate) }
 {
-    match compress(alloc, intervals, line, window) {
+    match compress(alloc, intervals, sections, window) {
         Ok(compressed) => Ok(compressed),
         Err(CapacityFault::OutOfMemory) => Err(OutOfMemory),
         Err(CapacityFault::LineEmpty | CapacityFault::WindowEmpty) => unreachable!(),
@@ -129,7 +129,7 @@ fn compressed_by(
 
 /// The sections of a line, in the order of the pieces between its commas. It is refused by its first piece that is no
 /// section's name, or names a section that stood before.
-fn read_line(alloc: Global, names: &Names, line: &str) -> Result<Vec<SectionNo>, Fault>
+fn read_sections(alloc: Global, names: &Names, line: &str) -> Result<Vec<SectionNo>, Fault>
     requires { length names.now.sections.keys ≤ SECTIONS }
     ensures sections { IfOk result (λ sections. sections.items ≡ sections_on names.now.sections.keys (pieces line.now)) }
     ensures filled { IfOk result (λ sections. sections.items ≢ []) }
@@ -211,7 +211,7 @@ fn write_shifts<O: Sink>(names: &Names, shifts: &[Shift], out: &mut O) -> Result
 fn write_shift<O: Sink>(names: &Names, shift: &Shift, out: &mut O) -> Result<(), Failed>
     ensures { WritesText O.Sink out.old out.new (shift_line (names_in names.now) shift.now) result }
 {
-    let mut line = Line::new();
+    let mut line = LineBuffer::new();
     line.put(b"train");
     line.put_train(names, shift.train);
     line.put_number(shift.earlier);
@@ -221,7 +221,7 @@ fn write_shift<O: Sink>(names: &Names, shift: &Shift, out: &mut O) -> Result<(),
 }
 
 /// Puts what a train touches.
-fn put_tight(line: &mut Line, names: &Names, tight: Tight)
+fn put_tight(line: &mut LineBuffer, names: &Names, tight: Tight)
     requires { length line.old + 40 ≤ ROOM }
     ensures text { line.new ≡ line.old ++ behind (tight_words (names_in names.now) tight) }
     ensures short { length line.new ≤ length line.old + 40 }
@@ -240,7 +240,7 @@ fn put_tight(line: &mut Line, names: &Names, tight: Tight)
 fn write_rate<O: Sink>(occupancy: u64, rate: u64, out: &mut O) -> Result<(), Failed>
     ensures { WritesText O.Sink out.old out.new (rate_lines occupancy rate) result }
 {
-    let mut line = Line::new();
+    let mut line = LineBuffer::new();
     line.put(b"occupancy");
     line.put_number(occupancy);
     line.put(b"\nrate");
@@ -250,7 +250,7 @@ fn write_rate<O: Sink>(occupancy: u64, rate: u64, out: &mut O) -> Result<(), Fai
 }
 
 /// Puts a rate as percent, with two digits behind the point.
-fn put_rate(line: &mut Line, rate: u64)
+fn put_rate(line: &mut LineBuffer, rate: u64)
     requires { length line.old + 44 ≤ ROOM }
     ensures text { line.new ≡ line.old ++ 32 ∷ rate_word rate }
     ensures short { length line.new ≤ length line.old + 44 }

@@ -19,7 +19,7 @@ use rail_input::{ReadInput, read_input};
 use rail_io::{Failed, Shelf, Sink, write_whole};
 use rail_ledger::RunInput;
 use rail_policy::{Policy, names_of};
-use rail_text::Line;
+use rail_text::LineBuffer;
 use rail_words::{Role, Scenario};
 use std::alloc::Global;
 
@@ -108,14 +108,14 @@ fn end_with(verdict: Verdict) -> Result<(), Status>
 fn write_verdict<O: Sink>(verdict: Verdict, out: &mut O) -> Result<(), Failed>
     ensures { WritesText O.Sink out.old out.new (verdict_text (judged_in verdict)) result }
 {
-    let mut line = Line::new();
+    let mut line = LineBuffer::new();
     put_verdict(&mut line, verdict);
     line.put(b"\n");
     write_whole(out, line.as_slice())
 }
 
 /// Puts the words for the verdict.
-fn put_verdict(line: &mut Line, verdict: Verdict)
+fn put_verdict(line: &mut LineBuffer, verdict: Verdict)
     requires { line.old ≡ [] }
     ensures text { line.new ≡ verdict_words (judged_in verdict) }
     ensures short { length line.new ≤ 100 }

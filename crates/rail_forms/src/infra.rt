@@ -3,7 +3,7 @@
 ghost use Rattle.std.specs.Prelude.{◌≡◌, ◌+◌, ◌≤◌, ◌++◌, ◌∷◌, [], Some, length, true};
 ghost use Rattle.rail_base.specs.declared.limits.TheConstants.{ROUTE_SECTIONS};
 ghost use Rattle.rail_rules.specs.Texts.{behind};
-ghost use Rattle.rail_text.specs.declared.line.TheConstants.{ROOM};
+ghost use Rattle.rail_text.specs.declared.line_buffer.TheConstants.{ROOM};
 ghost use Rattle.rail_scene.specs.SpelledScenes.{spelled_scene};
 ghost use Rattle.rail_input.specs.Inputs.{plant_refusal};
 ghost use Rattle.rail_words.specs.Files.{file_as};
@@ -19,7 +19,7 @@ use rail_input::read_plant;
 use rail_io::{Failed, Shelf, Sink, write_whole};
 use rail_routes::{Network, Route, Step};
 use rail_scene::Scene;
-use rail_text::Line;
+use rail_text::LineBuffer;
 use rail_words::Role;
 use std::alloc::Global;
 
@@ -71,7 +71,7 @@ fn write_routes<O: Sink>(network: &Network, out: &mut O) -> Result<(), Failed>
 fn write_counts<O: Sink>(scene: &Scene, out: &mut O) -> Result<(), Failed>
     ensures { WritesText O.Sink out.old out.new (counts_line scene.now) result }
 {
-    let mut line = Line::new();
+    let mut line = LineBuffer::new();
     line.put(b"infra");
     put_section_and_post_counts(&mut line, &scene.network);
     put_turn_and_route_counts(&mut line, &scene.network);
@@ -81,7 +81,7 @@ fn write_counts<O: Sink>(scene: &Scene, out: &mut O) -> Result<(), Failed>
 }
 
 /// Puts how many sections and posts there are.
-fn put_section_and_post_counts(line: &mut Line, network: &Network)
+fn put_section_and_post_counts(line: &mut LineBuffer, network: &Network)
     requires { length line.old + 200 ≤ ROOM }
     ensures text { line.new ≡ line.old ++ behind (section_and_post_counts network.now) }
     ensures short { length line.new ≤ length line.old + 200 }
@@ -93,7 +93,7 @@ fn put_section_and_post_counts(line: &mut Line, network: &Network)
 }
 
 /// Puts how many turns and routes there are.
-fn put_turn_and_route_counts(line: &mut Line, network: &Network)
+fn put_turn_and_route_counts(line: &mut LineBuffer, network: &Network)
     requires { length line.old + 100 ≤ ROOM }
     ensures text { line.new ≡ line.old ++ behind (turn_and_route_counts network.now) }
     ensures short { length line.new ≤ length line.old + 100 }
@@ -103,7 +103,7 @@ fn put_turn_and_route_counts(line: &mut Line, network: &Network)
 }
 
 /// Puts how many train kinds and trains there are.
-fn put_train_counts(line: &mut Line, scene: &Scene)
+fn put_train_counts(line: &mut LineBuffer, scene: &Scene)
     requires { length line.old + 100 ≤ ROOM }
     ensures text { line.new ≡ line.old ++ behind (train_counts scene.now) }
     ensures short { length line.new ≤ length line.old + 100 }
@@ -113,7 +113,7 @@ fn put_train_counts(line: &mut Line, scene: &Scene)
 }
 
 /// Puts a word and a count.
-fn put_count(line: &mut Line, word: &[u8], count: usize)
+fn put_count(line: &mut LineBuffer, word: &[u8], count: usize)
     requires room { length line.old + 50 ≤ ROOM }
     requires word { length word.now ≤ 8 }
     ensures text { line.new ≡ line.old ++ behind (count_words word.now count) }
@@ -128,7 +128,7 @@ fn write_route<O: Sink>(network: &Network, route: &Route, out: &mut O) -> Result
     requires { length route.now.steps ≤ ROUTE_SECTIONS }
     ensures { WritesText O.Sink out.old out.new (route_line network.now.sections route.now) result }
 {
-    let mut line = Line::new();
+    let mut line = LineBuffer::new();
     line.put(b"route");
     line.put_name(&route.name);
     line.put_name(&route.from);

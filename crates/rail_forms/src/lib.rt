@@ -10,7 +10,7 @@
 //! how a form is put together may be changed freely.
 #![tactic(auto)]
 
-mod begun;
+mod beginning;
 pub mod capacity;
 pub mod check;
 pub mod demand;
@@ -22,6 +22,7 @@ pub mod migrate;
 mod notes;
 pub mod play;
 mod report;
+pub mod reroute;
 mod run;
 pub mod scenario;
 pub mod scene;

@@ -3,7 +3,7 @@
 ghost use Rattle.std.specs.Prelude.{◌∷◌, OnErr, OnOk};
 ghost use Rattle.rail_rules.specs.Fronts.{Front, Line};
 ghost use Rattle.rail_rules.specs.Orders.{Input};
-ghost use Rattle.rail_forms.specs.Noted.{FollowsNoted, IsNext};
+ghost use Rattle.rail_forms.specs.NotedRuns.{FollowsNoted, IsNext};
 
 use rail_base::{Entry, TrainNo};
 use rail_delay::{Delays, a_lawful_front_is_in_order};
@@ -41,7 +41,7 @@ pub trait Notes {
 }
 
 impl Notes for Stairs {
-    ghost use Rattle.rail_stairs.specs.Noted.{AreNoted};
+    ghost use Rattle.rail_stairs.specs.NotedHistories.{AreNoted};
 
     type Fault = Infallible;
 

@@ -1,14 +1,18 @@
 //! `play SCENE LIST`: what the player answers to the list, as a line.
 
-ghost use Rattle.std.specs.Prelude.{◌≡◌, ◌+◌, ◌-◌, ◌<◌, ◌≤◌, ◌^◌, ◌++◌, ◌∷◌, [], Some, get_or, length, true};
+ghost use Rattle.std.specs.Prelude.{◌≡◌, ◌+◌, ◌-◌, ◌<◌, ◌≤◌, ◌^◌, ◌++◌, ◌∷◌, [], None, Some, IfErr, IfOk, OnOk, get_or, length, true};
 ghost use Rattle.rail_rules.specs.Texts.{behind};
-ghost use Rattle.rail_text.specs.declared.line.TheConstants.{ROOM};
+ghost use Rattle.rail_text.specs.declared.line_buffer.TheConstants.{ROOM};
 ghost use Rattle.rail_input.specs.Inputs.{plant_in};
 ghost use Rattle.rail_words.specs.Files.{file_as};
 ghost use Rattle.rail_words.specs.declared.files.Role.TheVariants as role;
 ghost use Rattle.rail_forms.specs.Answers.{IsTextAnswer};
 ghost use Rattle.rail_text.specs.Names.{names_in};
-ghost use Rattle.rail_forms.specs.Plays.{AnswersPlay, bar_words, list_refusal, play_refusal, play_text, played_line, played_words, shared_at};
+ghost use Rattle.rail_forms.specs.Plays.{AnswersPlay, IsListAnswer, bar_words, list_refusal, places_refusal, play_refusal, play_text, played_line, played_words, shared_at};
+ghost use Rattle.rail_place.specs.PlaceStates.{IsMadeFor};
+ghost use Rattle.rail_place.specs.Tables.{moves_in};
+ghost use Rattle.rail_text.specs.Lines.{lines_of};
+ghost use Rattle.rail_words.specs.ListAnswers.{IsListFor, read_of};
 ghost use Rattle.rail_forms.specs.Promises.{KeepsPromise, WritesAnswer, ended, is_of_bytes};
 ghost use Rattle.rail_text.specs.Writes.{WritesText};
 
@@ -17,10 +21,10 @@ use crate::status::Status;
 use rail_base::{Names, Part, Reason, Refusal, TrainNo};
 use rail_input::read_plant;
 use rail_io::{Failed, Shelf, Sink, write_whole};
-use rail_place::{Barred, Places, PlacesFault, Played};
+use rail_place::{Barred, Moves, Places, PlacesFault, Played};
 use rail_plan::Plant;
-use rail_text::Line;
-use rail_words::{Role, read_list};
+use rail_text::LineBuffer;
+use rail_words::{ListFile, Role, read_list};
 use std::alloc::Global;
 
 /// Writes what the player of the scene answers to the list, in the files of these names.
@@ -61,21 +65,60 @@ fn play_on_plant<O: Sink>(
     out: &mut O,
 ) -> Result<(), Status>
     requires { length list.now < 2 ^ 32 - 1 }
-    ensures answer { IsTextAnswer (list_refusal plant.now list.now) (play_text plant.now list.now)
+    ensures answer { IsTextAnswer (list_refusal plant.now true list.now) (play_text plant.now list.now)
         (O.written out.old) (O.written out.new) (ended result) }
     ensures writes { WritesAnswer O.Sink out.old out.new (ended result) }
     ensures of_bytes { is_of_bytes (ended result) ≡ true }
 {
+    let names = plant.names();
     let moves = plant.moves();
-    let file = read_list(alloc, plant.names(), moves, list)?;
-    let mut places = match Places::new(alloc, moves, file.positions()) {
-        Ok(places) => places,
-        Err(PlacesFault::OutOfMemory) => return Err(Status::OutOfMemory),
-        Err(PlacesFault::Overlap { .. }) => return Err(Status::Refused(shared(file.last_at()))),
-    };
-    let played = places.play(moves, file.list());
-    write_played(plant.names(), file.list(), played, out)?;
+    let mut placed = places_of(alloc, names, moves, list, true)?;
+    let played = placed.places.play(moves, placed.file.list());
+    write_played(names, placed.file.list(), played, out)?;
     Ok(())
+}
+
+/// A list file, and the places at which the trains stand by it.
+pub struct Placed {
+    pub file: ListFile,
+    pub places: Places,
+}
+
+impl Drop for Placed {
+    fn drop(self) {
+        let Placed {
+            file: _file,
+            places: _places,
+        } = self;
+    }
+}
+
+/// What a list file says, and the places at which the trains stand by it, which have these names and moves. Where no line of
+/// it may move a train, one that does is refused.
+pub(crate) fn places_of(
+    alloc: Global,
+    names: &Names,
+    moves: &Moves,
+    list: &[u8],
+    may_move: bool,
+) -> Result<Placed, Status>
+    requires names { length names.now.trains.keys ≡ length moves.now }
+    requires short { length list.now < 2 ^ 32 - 1 }
+    ensures accepted { OnOk result (places_refusal names.now.trains.keys (moves_in moves.now) (length moves.now) may_move list.now ≡ None) }
+    ensures listed { IfOk result (λ placed. placed.file ≡ read_of names.now.trains.keys (length moves.now) (lines_of list.now)) }
+    ensures list { IfOk result (λ placed. IsListFor moves.now placed.file) }
+    ensures places { IfOk result (λ placed. placed.places.positions ≡ placed.file.positions) }
+    ensures made { IfOk result (λ placed. IsMadeFor moves.now placed.places) }
+    ensures refused { IfErr result (IsListAnswer
+        (places_refusal names.now.trains.keys (moves_in moves.now) (length moves.now) may_move list.now)) }
+    ensures of_bytes { IfErr result (λ status. is_of_bytes status ≡ true) }
+{
+    let file = read_list(alloc, names, moves, may_move, list)?;
+    match Places::new(alloc, moves, file.positions()) {
+        Ok(places) => Ok(Placed { file, places }),
+        Err(PlacesFault::OutOfMemory) => Err(Status::OutOfMemory),
+        Err(PlacesFault::Overlap { .. }) => Err(Status::Refused(shared(file.last_at()))),
+    }
 }
 
 /// The refusal of a list where two trains hold one section.
@@ -99,14 +142,14 @@ fn write_played<O: Sink>(
 ) -> Result<(), Failed>
     ensures { WritesText O.Sink out.old out.new (played_line (names_in names.now) list.now played) result }
 {
-    let mut line = Line::new();
+    let mut line = LineBuffer::new();
     put_played(&mut line, names, list, played);
     line.put(b"\n");
     write_whole(out, line.as_slice())
 }
 
 /// Puts the answer.
-fn put_played(line: &mut Line, names: &Names, list: &[TrainNo], played: Played)
+fn put_played(line: &mut LineBuffer, names: &Names, list: &[TrainNo], played: Played)
     requires { line.old ≡ [] }
     ensures text { line.new ≡ played_words (names_in names.now) list.now played }
     ensures short { length line.new ≤ 200 }
@@ -126,7 +169,7 @@ fn put_played(line: &mut Line, names: &Names, list: &[TrainNo], played: Played)
 }
 
 /// Puts why a train may not move.
-fn put_bar(line: &mut Line, names: &Names, train: TrainNo, why: Barred)
+fn put_bar(line: &mut LineBuffer, names: &Names, train: TrainNo, why: Barred)
     requires { length line.old + 60 ≤ ROOM }
     ensures text { line.new ≡ line.old ++ behind (bar_words (names_in names.now) train why) }
     ensures short { length line.new ≤ length line.old + 60 }

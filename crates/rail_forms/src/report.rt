@@ -3,12 +3,12 @@
 ghost use Rattle.std.specs.Prelude.{◌≡◌, None, true};
 ghost use Rattle.rail_io.specs.Writes.{Adds, AddsPrefix};
 ghost use Rattle.rail_forms.specs.Answers.{IsAnswer};
-ghost use Rattle.rail_forms.specs.Begun.{HasBegun, input_of, seats_of};
-ghost use Rattle.rail_forms.specs.Noted.{ReportsRun};
+ghost use Rattle.rail_forms.specs.BegunRuns.{HasBegun, input_of, seats_of};
+ghost use Rattle.rail_forms.specs.NotedRuns.{ReportsRun};
 ghost use Rattle.rail_forms.specs.Promises.{WritesAnswer, ended, is_of_bytes};
 ghost use Rattle.rail_forms.specs.Reports.{IsReportText};
 
-use crate::begun::Begun;
+use crate::beginning::Begun;
 use crate::status::Status;
 use rail_delay::{Delays, write_report};
 use rail_io::Sink;

@@ -2,28 +2,28 @@
 
 ghost use Rattle.std.specs.Prelude.{◌≤◌, OnOk, OnErr};
 ghost use Rattle.rail_io.specs.FaultCounts.{Rose};
-ghost use Rattle.rail_forms.specs.Begun.{HasBegun, input_of, seats_of};
+ghost use Rattle.rail_forms.specs.BegunRuns.{HasBegun, input_of, seats_of};
 ghost use Rattle.rail_forms.specs.Runs.{RunsInput, RunsInputInPart};
 
-use crate::begun::Begun;
+use crate::beginning::Begun;
 use crate::notes::Notes;
 use rail_base::{Entry, TrainNo};
 use rail_history::write_entry;
 use rail_io::{Failed, Sink};
 use rail_plan::Plant;
 use rail_policy::{Desk, Seen};
-use rail_text::Line;
+use rail_text::LineBuffer;
 
 /// What hands on the lines of a history: each is put together in the same room.
 #[derive(Drop)]
 struct Writer<'o, O: Sink> {
-    line: Line,
+    line: LineBuffer,
     out: &'o mut O,
 }
 
 impl<'o, O: Sink> Notes for Writer<'o, O> {
     ghost use Rattle.std.specs.Prelude.{◌≡◌};
-    ghost use Rattle.rail_forms.specs.Written.{AreWritten, IsWrittenInPart};
+    ghost use Rattle.rail_forms.specs.WrittenHistories.{AreWritten, IsWrittenInPart};
 
     type Fault = Failed;
 
@@ -50,7 +50,7 @@ pub fn write_history<O: Sink>(begun: Begun, out: &mut O) -> Result<(), Failed>
     ensures faults_never_fall { O.faults out.old ≤ O.faults out.new }
 {
     let mut writer = Writer {
-        line: Line::new(),
+        line: LineBuffer::new(),
         out,
     };
     begun.follow_to_end(&mut writer)?;

@@ -5,11 +5,11 @@ ghost use Rattle.rail_input.specs.Inputs.{input_in as input_spelled, input_refus
 ghost use Rattle.rail_policy.specs.Seats.{handed_in, is_fine_deck, names_of};
 ghost use Rattle.rail_words.specs.Forms.{scenario_files, scenario_in};
 ghost use Rattle.rail_forms.specs.Answers.{IsAnswer};
-ghost use Rattle.rail_forms.specs.Begun.{HasBegun, input_of, seats_of};
+ghost use Rattle.rail_forms.specs.BegunRuns.{HasBegun, input_of, seats_of};
 ghost use Rattle.rail_forms.specs.Promises.{KeepsPromise, WritesAnswer, ended, is_of_bytes};
 ghost use Rattle.rail_forms.specs.Purposes.{AnswersPurpose, IsRefusedIfAny, RefusesBehind, late_refusal, part_of, refusal_of, whole_of};
 
-use crate::begun::Begun;
+use crate::beginning::Begun;
 use crate::demand::Demand;
 use crate::files::{read_file, read_if_named};
 use crate::run::write_history;

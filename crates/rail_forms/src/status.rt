@@ -2,12 +2,12 @@
 
 ghost use Rattle.std.specs.Prelude.{◌≡◌, ◌+◌, ◌≤◌, ◌++◌, ◌∷◌, [], decimal, drop, length, take};
 ghost use Rattle.rail_base.specs.Refusals.{number_of};
-ghost use Rattle.rail_text.specs.declared.line.TheConstants.{ROOM};
+ghost use Rattle.rail_text.specs.declared.line_buffer.TheConstants.{ROOM};
 ghost use Rattle.rail_forms.specs.Statuses.{exit_of, part_text, reason_text, refusal_text, status_text};
 
 use rail_base::{Fault, OutOfMemory, Part, Reason, Refusal};
 use rail_io::Failed;
-use rail_text::Line;
+use rail_text::LineBuffer;
 
 /// How a command ended.
 #[derive(Clone, Copy, Debug, PartialEq, Eq)]
@@ -51,7 +51,7 @@ impl Status {
         ensures len { result ≡ length (status_text self.now) }
         ensures rest { drop result into.new ≡ drop result into.old }
     {
-        let mut line = Line::new();
+        let mut line = LineBuffer::new();
         put_status(&mut line, *self);
         let text = line.as_slice();
         into[..text.len()].copy_from_slice(text);
@@ -93,7 +93,7 @@ impl From<Failed> for Status {
 }
 
 /// Puts the text of a status.
-fn put_status(line: &mut Line, status: Status)
+fn put_status(line: &mut LineBuffer, status: Status)
     requires { line.old ≡ [] }
     ensures text { line.new ≡ status_text status }
     ensures short { length line.new ≤ 64 }
@@ -114,7 +114,7 @@ fn put_status(line: &mut Line, status: Status)
 }
 
 /// Puts the text of a refusal.
-fn put_refusal(line: &mut Line, refusal: Refusal)
+fn put_refusal(line: &mut LineBuffer, refusal: Refusal)
     requires { line.old ≡ [] }
     ensures text { line.new ≡ refusal_text refusal }
     ensures short { length line.new ≤ 64 }
@@ -128,7 +128,7 @@ fn put_refusal(line: &mut Line, refusal: Refusal)
 }
 
 /// Puts a space and the number.
-fn put_number(line: &mut Line, number: u32)
+fn put_number(line: &mut LineBuffer, number: u32)
     requires { length line.old + 41 ≤ ROOM }
     ensures text { line.new ≡ line.old ++ 32 ∷ decimal number }
     ensures short { length line.new ≤ length line.old + 11 }

@@ -4,12 +4,12 @@ ghost use Rattle.std.specs.Prelude.{◌≡◌, ◌<◌, [], IsTrue, None, map, t
 ghost use Rattle.rail_io.specs.Writes.{Adds, AddsPrefix};
 ghost use Rattle.rail_policy.specs.Seats.{is_fine_deck};
 ghost use Rattle.rail_forms.specs.Answers.{IsAnswer};
-ghost use Rattle.rail_forms.specs.Begun.{HasBegun, input_of, seats_of};
-ghost use Rattle.rail_forms.specs.Noted.{ReportsRun};
+ghost use Rattle.rail_forms.specs.BegunRuns.{HasBegun, input_of, seats_of};
+ghost use Rattle.rail_forms.specs.NotedRuns.{ReportsRun};
 ghost use Rattle.rail_forms.specs.Promises.{WritesAnswer, ended, is_of_bytes};
 ghost use Rattle.rail_forms.specs.Summaries.{AnswersGen, IsSummaryText, summary_line, summary_of};
 
-use crate::begun::Begun;
+use crate::beginning::Begun;
 use crate::notes::Notes;
 use crate::status::Status;
 use rail_base::{Entry, Time, TrainNo, What};
@@ -19,7 +19,7 @@ use rail_input::{ReadInput, scene_input};
 use rail_io::{Sink, write_whole};
 use rail_plan::Plant;
 use rail_policy::{Desk, Policy, Seen, names_of, read_marks};
-use rail_text::Line;
+use rail_text::LineBuffer;
 use std::alloc::Global;
 use std::convert::Infallible;
 
@@ -125,10 +125,10 @@ fn summarize<O: Sink>(number: u64, begun: Begun, out: &mut O) -> Result<(), Stat
 }
 
 /// The line of a run with so many trains.
-fn text_of(number: u64, trains: u16, summary: &Summary) -> Line
+fn text_of(number: u64, trains: u16, summary: &Summary) -> LineBuffer
     ensures { result ≡ summary_line number trains summary.now }
 {
-    let mut line = Line::new();
+    let mut line = LineBuffer::new();
     line.put(b"gen");
     line.put_number(number);
     put_count(&mut line, b"trains", u64::from(trains));

@@ -4,7 +4,7 @@ use Rattle.rand_pcg.specs.Lcg.{Lcg}
 use Rattle.rail_scene.specs.Scenes.{IsScene}
 use Rattle.rail_scene.specs.declared.scene.Scene.{Scene}
 use Rattle.rail_compile.specs.Refusals.{compile_refusal}
-use Rattle.rail_gen.specs.Accepted.{is_accepted_in_order}
+use Rattle.rail_gen.specs.AcceptedNetworks.{is_accepted_in_order}
 use Rattle.rail_gen.specs.MadeScenes.{drawn, generator_of, trains_from, line_scene, made_scene}
 use Rattle.rail_gen.proofs.MadeTrains.{all_made, trains_count, trains_apart, is_scene}
 use Rattle.rail_gen.proofs.Compiled.{compiled}

@@ -1,4 +1,4 @@
 -- What the contracts of this crate speak of.
 pub mod LinePlants
-pub mod Accepted
+pub mod AcceptedNetworks
 pub mod MadeScenes

@@ -3,7 +3,7 @@
 ghost use Rattle.std.specs.Prelude.{◌≡◌, ℕ, None, IsTrue};
 ghost use Rattle.rail_scene.specs.Scenes.{IsScene};
 ghost use Rattle.rail_compile.specs.Refusals.{compile_refusal};
-ghost use Rattle.rail_gen.specs.Accepted.{is_accepted_in_order};
+ghost use Rattle.rail_gen.specs.AcceptedNetworks.{is_accepted_in_order};
 ghost use Rattle.rail_gen.specs.MadeScenes.{made_scene};
 
 /// Whatever the number, its scene keeps the limits and ranges of a scene, its network is accepted item by item, and it is

@@ -14,17 +14,13 @@ use Rattle.rail_rules.specs.Plant.{Plant, no_train}
 use Rattle.rail_rules.specs.Texts.{Item, cause_words, items_of, item_word, line_text, note_words, train_word, what_words}
 use Rattle.rail_rules.specs.Texts.{behind}
 use Rattle.rail_text.specs.Names.{HasNames, names_in, train_name}
+use Rattle.rail_text.proofs.CallerLemmas.{behind_append}
 use Rattle.rail_history.specs.Lines.{bare, brought_by_note, brought_words, item_text, line_of, note_brought_words}
 
 -- the names are those of the plant's trains
 pub name_is : (plant : Plant) (names : Names) → HasNames plant names → (t : ℕ) → train_word plant t ≡ train_name (names_in names) t
 name_is plant names named t =
     sym (ap (λ (keys : List (List ℕ)). get_or keys t []) named.trains ∙ get_or-map (λ (row : TrainRow). row.name) plant.tables.trains t no_train)
-
--- words in a row
-pub behind_append : (xs ys : List (List ℕ)) → behind (xs ++ ys) ≡ behind xs ++ behind ys
-behind_append [] ys = refl
-behind_append (x ∷ xs) ys = ap (λ rest. 32 ∷ x ++ rest) (behind_append xs ys) ∙ sym (append_assoc (32 ∷ x) (behind xs) (behind ys))
 
 items_are : (plant : Plant) (names : Names) → HasNames plant names → (kept : List ℕ) → map (item_word plant) (items_of kept) ≡ map (item_text names) (items_of kept)
 items_are plant names named kept = λ i. map (λ (item : Item). name_is plant names named item.train i ++ cond (item.count == 1) [] (42 ∷ decimal item.count)) (items_of kept)

@@ -17,7 +17,7 @@ use Rattle.rail_base.specs.declared.refusals.Refusal.{Refusal}
 use Rattle.rail_rules.specs.Plant.{Plant}
 use Rattle.rail_rules.specs.Fronts.{Line}
 use Rattle.rail_rules.specs.Texts.{line_text, line_words, text}
-use Rattle.rail_rules.specs.Writable.{IsNamed, is_writable}
+use Rattle.rail_rules.specs.WritableLines.{IsNamed, is_writable}
 use Rattle.rail_laws_text.proofs.CallerLemmas.{text_same}
 use Rattle.rail_text.specs.Names.{HasNames}
 use Rattle.rail_history.specs.HistoryLines.{IsFirstWrong, IsHistory, IsRefusedFor, IsSpelled, does_list, is_fresh, is_history_line, lines_in, lines_text, refusal_at}

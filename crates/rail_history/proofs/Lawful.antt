@@ -14,8 +14,8 @@ use Rattle.rail_rules.specs.Fronts.{Front, Line, is_admission}
 use Rattle.rail_rules.specs.Lawful.{is_lawful, may_follow}
 use Rattle.rail_rules.specs.LineCounts.{lines_that}
 use Rattle.rail_rules.specs.Orders.{Input}
-use Rattle.rail_rules.specs.Writable.{does_fit_counter, is_writable_what}
-use Rattle.rail_laws_text.specs.Limited.{is_limited_note, is_limited_what}
+use Rattle.rail_rules.specs.WritableLines.{does_fit_counter, is_writable_what}
+use Rattle.rail_laws_text.specs.LimitedLines.{is_limited_note, is_limited_what}
 use Rattle.rail_laws_text.proofs.CallerLemmas.{few_admitted, line_limited, line_writable}
 use Rattle.rail_history.specs.HistoryLines.{AreHistoryLines, is_fresh, is_history_line, is_list_within}
 use Rattle.rail_history.specs.ReadWords.{is_small, is_small_what}

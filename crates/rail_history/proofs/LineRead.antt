@@ -12,7 +12,7 @@ use Rattle.rail_base.specs.declared.plant.TrainRow.{TrainRow}
 use Rattle.rail_rules.specs.Plant.{Plant, no_section, no_train}
 use Rattle.rail_rules.specs.Fronts.{Line}
 use Rattle.rail_rules.specs.Texts.{behind, line_text, line_words, what_words}
-use Rattle.rail_rules.specs.Writable.{IsNamed, does_fit_counter, is_writable, is_writable_what}
+use Rattle.rail_rules.specs.WritableLines.{IsNamed, does_fit_counter, is_writable, is_writable_what}
 use Rattle.rail_laws_text.proofs.CallerLemmas.{AreWords, of_what, one_more}
 use Rattle.rail_io.specs.Writes.{Adds}
 use Rattle.std.specs.Io.KnownBytes.{append_known}

@@ -13,7 +13,7 @@ use Rattle.rail_rules.specs.Plant.{Plant, trains}
 use Rattle.rail_rules.specs.Fronts.{Line}
 use Rattle.rail_rules.specs.Lawful.{is_bare}
 use Rattle.rail_rules.specs.Texts.{Item, items_of, item_word, train_word, what_words, with_train}
-use Rattle.rail_rules.specs.Writable.{IsNamed, does_fit_counter, is_known_move, is_known_train, is_writable_note, is_writable_what}
+use Rattle.rail_rules.specs.WritableLines.{IsNamed, does_fit_counter, is_known_move, is_known_train, is_writable_note, is_writable_what}
 use Rattle.rail_text.specs.Names.{HasNames}
 use Rattle.rail_history.specs.HistoryLines.{expanded, is_fresh_list, is_small_item}
 use Rattle.rail_history.specs.LineReads.{AreLikelyTrains, AreNotedTrains}

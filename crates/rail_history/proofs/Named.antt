@@ -10,7 +10,7 @@ use Rattle.rail_base.specs.declared.plant.TrainRow.{TrainRow}
 use Rattle.rail_text.specs.Names.{HasNames}
 use Rattle.rail_rules.specs.Plant.{Plant, section, train, trains}
 use Rattle.rail_rules.specs.Texts.{section_word, train_word}
-use Rattle.rail_rules.specs.Writable.{IsNamed}
+use Rattle.rail_rules.specs.WritableLines.{IsNamed}
 use Rattle.rail_history.proofs.Cut.{or_len_hit, or_len_miss, position_found}
 
 -- the first element that passes is at this place

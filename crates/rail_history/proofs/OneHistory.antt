@@ -9,7 +9,7 @@ use Rattle.std.proofs.lemmas.List.Sums.{sum_by-append, sum_by-cons}
 use Rattle.rail_rules.specs.Plant.{Plant}
 use Rattle.rail_rules.specs.Fronts.{Line}
 use Rattle.rail_rules.specs.Texts.{line_text, line_words, text}
-use Rattle.rail_rules.specs.Writable.{IsNamed}
+use Rattle.rail_rules.specs.WritableLines.{IsNamed}
 use Rattle.rail_history.specs.HistoryLines.{AreHistoryLines, IsFirstWrong, IsHistory, is_fresh, is_history_line, lines_text}
 use Rattle.rail_history.specs.ReadWords.{joined}
 use Rattle.rail_history.proofs.FileLines.{is_feed}

@@ -14,7 +14,7 @@ use Rattle.rail_rules.specs.Plant.{Plant, trains}
 use Rattle.rail_rules.specs.Fronts.{Line}
 use Rattle.rail_rules.specs.Lawful.{is_bare}
 use Rattle.rail_rules.specs.Texts.{cause_words, note_words, section_word, train_word, what_words}
-use Rattle.rail_rules.specs.Writable.{IsNamed, does_fit_counter, is_known_move, is_known_section, is_known_train, is_writable_cause, is_writable_note, is_writable_what}
+use Rattle.rail_rules.specs.WritableLines.{IsNamed, does_fit_counter, is_known_move, is_known_section, is_known_train, is_writable_cause, is_writable_note, is_writable_what}
 use Rattle.rail_laws_text.proofs.CallerLemmas.{AreWords, one_more, name_free, of_what}
 use Rattle.rail_history.specs.ReadWords.{is_small_what, is_spaceless, joined, note_of, reason_of, verb_of}
 use Rattle.rail_history.specs.declared.read_words.Reason.{Reason}

@@ -8,7 +8,7 @@ use Rattle.std.proofs.lemmas.List.Folds.{list_any-append}
 use Rattle.rail_base.specs.NameForms.{is_name, is_name_byte}
 use Rattle.rail_rules.specs.Plant.{Plant, trains}
 use Rattle.rail_rules.specs.Texts.{Item, item_word, train_word}
-use Rattle.rail_rules.specs.Writable.{IsNamed, is_known_train}
+use Rattle.rail_rules.specs.WritableLines.{IsNamed, is_known_train}
 use Rattle.rail_laws_text.proofs.CallerLemmas.{name_free}
 use Rattle.rail_history.specs.HistoryLines.{expanded, is_small_item}
 use Rattle.rail_history.specs.ReadWords.{is_small, is_spaceless, joined}

@@ -16,7 +16,7 @@ use Rattle.rail_base.specs.declared.refusals.Refusal.{Refusal}
 use Rattle.rail_rules.specs.Plant.{Plant}
 use Rattle.rail_rules.specs.Fronts.{Line}
 use Rattle.rail_rules.specs.Texts.{Item, line_text, text}
-use Rattle.rail_rules.specs.Writable.{IsNamed, does_fit_counter, is_known_train, is_writable_what}
+use Rattle.rail_rules.specs.WritableLines.{IsNamed, does_fit_counter, is_known_train, is_writable_what}
 use Rattle.rail_text.specs.Names.{HasNames}
 use Rattle.rail_history.specs.Lines.{line_of}
 use Rattle.rail_history.specs.ReadWords.{is_small, is_small_what}

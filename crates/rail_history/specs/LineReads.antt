@@ -10,7 +10,7 @@ use Rattle.rail_base.specs.declared.refusals.Fault.TheVariants.{Refused, OutOfMe
 use Rattle.rail_rules.specs.Plant.{Plant}
 use Rattle.rail_rules.specs.Fronts.{Line}
 use Rattle.rail_rules.specs.Texts.{line_words, note_words, what_words}
-use Rattle.rail_rules.specs.Writable.{IsNamed, is_writable_note, is_writable_what}
+use Rattle.rail_rules.specs.WritableLines.{IsNamed, is_writable_note, is_writable_what}
 use Rattle.rail_text.specs.Names.{HasNames}
 use Rattle.rail_history.specs.declared.read_line.ReadLine.{ReadLine}
 use Rattle.rail_history.specs.declared.files.History.{History}

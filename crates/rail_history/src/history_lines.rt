@@ -7,7 +7,7 @@ ghost use Rattle.rail_history.specs.HistoryLines.{does_fit_note, is_history_line
 ghost use Rattle.rail_history.specs.Lines.{line_of};
 ghost use Rattle.rail_history.specs.ReadWords.{is_small};
 ghost use Rattle.rail_rules.specs.Plant.{Plant};
-ghost use Rattle.rail_rules.specs.Writable.{does_fit_counter, is_writable_cause};
+ghost use Rattle.rail_rules.specs.WritableLines.{does_fit_counter, is_writable_cause};
 
 use rail_base::limits::LIST_TRAINS;
 use rail_base::{Cause, Entry, Names, Note, SectionNo, Time, TrainNo, What};

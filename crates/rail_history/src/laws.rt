@@ -7,7 +7,7 @@ ghost use Rattle.rail_rules.specs.Fronts.{Front, Line};
 ghost use Rattle.rail_rules.specs.Lawful.{is_lawful};
 ghost use Rattle.rail_rules.specs.Orders.{Input};
 ghost use Rattle.rail_rules.specs.Plant.{Plant};
-ghost use Rattle.rail_rules.specs.Writable.{IsNamed};
+ghost use Rattle.rail_rules.specs.WritableLines.{IsNamed};
 
 /// A history file has one history: two lists of lines of which the bytes are the text are one.
 pub fn a_history_file_has_one_history()

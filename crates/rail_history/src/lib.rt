@@ -22,7 +22,7 @@ mod read_words;
 mod trains;
 mod words;
 mod writing;
-mod written;
+mod written_text;
 
 pub use files::{History, read_history};
 pub use laws::{

@@ -14,10 +14,10 @@ use crate::read_time::likely_time;
 use crate::read_trains::likely_trains;
 use crate::read_what::likely_what;
 use crate::writing::write_entry;
-use crate::written::Written;
+use crate::written_text::Written;
 use rail_base::limits::LIST_TRAINS;
 use rail_base::{Entry, Names, Note, OutOfMemory, TrainNo, What};
-use rail_text::Line;
+use rail_text::LineBuffer;
 use std::alloc::Global;
 
 /// A line of a history: its entry, and the trains of a fresh list or those that an end line names.
@@ -136,7 +136,7 @@ fn is_text_of(
     ensures { IfOk result (λ is. (plant : Plant) → HasNames plant names.now
         → is ≡ true ↔ IsSpelled plant (line_read line.now) bytes.now) }
 {
-    let mut room = Line::new();
+    let mut room = LineBuffer::new();
     let mut written = Written::new(alloc);
     match write_entry(
         names,

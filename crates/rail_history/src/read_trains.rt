@@ -7,7 +7,7 @@ ghost use Rattle.rail_history.specs.HistoryLines.{expanded, is_small_item};
 ghost use Rattle.rail_history.specs.ReadWords.{joined};
 ghost use Rattle.rail_rules.specs.Plant.{Plant};
 ghost use Rattle.rail_rules.specs.Texts.{Item, item_word};
-ghost use Rattle.rail_rules.specs.Writable.{IsNamed};
+ghost use Rattle.rail_rules.specs.WritableLines.{IsNamed};
 
 use crate::cutting::cut;
 use crate::read_words::{number_of, train_of};

@@ -10,7 +10,7 @@ ghost use Rattle.rail_history.specs.ReadWords.{is_small_what, joined, note_of};
 ghost use Rattle.rail_rules.specs.Fronts.{Line};
 ghost use Rattle.rail_rules.specs.Plant.{Plant, trains};
 ghost use Rattle.rail_rules.specs.Texts.{cause_words, section_word, train_word, what_words};
-ghost use Rattle.rail_rules.specs.Writable.{IsNamed, is_writable_cause, is_writable_what};
+ghost use Rattle.rail_rules.specs.WritableLines.{IsNamed, is_writable_cause, is_writable_what};
 
 use crate::cutting::cut;
 use crate::read_words::{Verb, cause_of, note_of, number_of, section_of, train_of, verb_of};

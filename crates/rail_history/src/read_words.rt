@@ -8,7 +8,7 @@ ghost use Rattle.rail_text.specs.Names.{HasNames};
 ghost use Rattle.rail_history.specs.ReadWords.{joined, note_of, rare_verb_of, reason_of, verb_of};
 ghost use Rattle.rail_rules.specs.Plant.{Plant, trains};
 ghost use Rattle.rail_rules.specs.Texts.{cause_words, section_word, train_word};
-ghost use Rattle.rail_rules.specs.Writable.{IsNamed, is_writable_cause};
+ghost use Rattle.rail_rules.specs.WritableLines.{IsNamed, is_writable_cause};
 
 use crate::cutting::cut;
 use rail_base::{Cause, Name, Names, Note, SectionNo, TrainNo};

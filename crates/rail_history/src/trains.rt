@@ -9,19 +9,19 @@ ghost use Rattle.rail_rules.specs.Texts.{behind};
 ghost use Rattle.rail_text.specs.Names.{names_in, train_name};
 ghost use Rattle.rail_history.specs.Lines.{brought_words, item_text};
 ghost use Rattle.rail_history.specs.Pieces.{IsHandedOn};
-ghost use Rattle.rail_text.specs.declared.line.TheConstants.{ROOM};
+ghost use Rattle.rail_text.specs.declared.line_buffer.TheConstants.{ROOM};
 ghost use Rattle.rail_history.specs.declared.trains.TheConstants.{FULL};
 
 use rail_base::{Entry, Names, Note, TrainNo, What};
 use rail_io::{Failed, Sink, write_whole};
-use rail_text::Line;
+use rail_text::LineBuffer;
 
 /// The bytes from which on a line is handed on before one more train is put.
 const FULL: usize = 448;
 
 /// Puts the trains that the entry brings: the items of a fresh list, or each train of an end line.
 pub(crate) fn put_brought<O: Sink>(
-    line: &mut Line,
+    line: &mut LineBuffer,
     names: &Names,
     entry: &Entry,
     kept: &[TrainNo],
@@ -48,7 +48,7 @@ pub(crate) fn put_brought<O: Sink>(
 
 /// Puts the items of a list: neighbouring equal trains are one.
 fn put_items<O: Sink>(
-    line: &mut Line,
+    line: &mut LineBuffer,
     names: &Names,
     list: &[TrainNo],
     out: &mut O,
@@ -73,7 +73,7 @@ fn put_items<O: Sink>(
 
 /// Puts each train of the list.
 fn put_trains<O: Sink>(
-    line: &mut Line,
+    line: &mut LineBuffer,
     names: &Names,
     list: &[TrainNo],
     out: &mut O,
@@ -105,7 +105,7 @@ fn repeats(train: TrainNo, list: &[TrainNo]) -> usize
 
 /// Puts the name of the train, and how often it is taken in a row from two times on.
 fn put_item<O: Sink>(
-    line: &mut Line,
+    line: &mut LineBuffer,
     names: &Names,
     train: TrainNo,
     count: usize,
@@ -129,7 +129,7 @@ fn put_item<O: Sink>(
 }
 
 /// Hands on what the line has so far, where it is full.
-fn make_room<O: Sink>(line: &mut Line, out: &mut O) -> Result<(), Failed>
+fn make_room<O: Sink>(line: &mut LineBuffer, out: &mut O) -> Result<(), Failed>
     ensures adds { OnOk result (IsHandedOn (O.written out.old) (O.written out.new) line.new line.old) }
     ensures room { OnOk result (length line.new ≤ FULL) }
     ensures failed_adds_prefix { OnErr result (AddsPrefix (O.written out.old) (O.written out.new) line.old) }

@@ -6,13 +6,13 @@ ghost use Rattle.rail_rules.specs.Texts.{cause_words, train_word, what_words};
 ghost use Rattle.rail_rules.specs.Texts.{behind};
 ghost use Rattle.rail_text.specs.Names.{HasNames};
 ghost use Rattle.rail_history.specs.Lines.{bare, note_word};
-ghost use Rattle.rail_text.specs.declared.line.TheConstants.{ROOM};
+ghost use Rattle.rail_text.specs.declared.line_buffer.TheConstants.{ROOM};
 
 use rail_base::{Cause, Entry, Names, Note, TrainNo, What};
-use rail_text::Line;
+use rail_text::LineBuffer;
 
 /// Puts the words of an entry behind its time.
-pub(crate) fn put_what(line: &mut Line, names: &Names, entry: &Entry)
+pub(crate) fn put_what(line: &mut LineBuffer, names: &Names, entry: &Entry)
     requires { length line.old + 128 ≤ ROOM }
     ensures text { (plant : Plant) → HasNames plant names.now
         → line.new ≡ line.old ++ behind (what_words plant (bare entry.now) entry.now.what) }
@@ -72,7 +72,7 @@ pub(crate) fn put_what(line: &mut Line, names: &Names, entry: &Entry)
 }
 
 /// Puts the name of a train and the number of its move.
-fn put_move(line: &mut Line, names: &Names, train: TrainNo, place: u16)
+fn put_move(line: &mut LineBuffer, names: &Names, train: TrainNo, place: u16)
     requires { length line.old + 58 ≤ ROOM }
     ensures text { (plant : Plant) → HasNames plant names.now
         → line.new ≡ line.old ++ behind (train_word plant train ∷ decimal place ∷ []) }
@@ -83,7 +83,7 @@ fn put_move(line: &mut Line, names: &Names, train: TrainNo, place: u16)
 }
 
 /// Puts a note.
-fn put_note(line: &mut Line, note: Note)
+fn put_note(line: &mut LineBuffer, note: Note)
     requires { length line.old + 9 ≤ ROOM }
     ensures text { line.new ≡ line.old ++ 32 ∷ note_word note }
     ensures short { length line.new ≤ length line.old + 9 }
@@ -96,7 +96,7 @@ fn put_note(line: &mut Line, note: Note)
 }
 
 /// Puts the words of a cause.
-fn put_cause(line: &mut Line, names: &Names, cause: Cause)
+fn put_cause(line: &mut LineBuffer, names: &Names, cause: Cause)
     requires { length line.old + 43 ≤ ROOM }
     ensures text { (plant : Plant) → HasNames plant names.now → line.new ≡ line.old ++ behind (cause_words plant cause) }
     ensures short { length line.new ≤ length line.old + 43 }

@@ -3,7 +3,7 @@ ghost use Rattle.rail_io.specs.FaultCounts.{Rose};
 ghost use Rattle.rail_io.specs.Writes.{Adds, AddsPrefix};
 ghost use Rattle.rail_rules.specs.Plant.{Plant};
 ghost use Rattle.rail_rules.specs.Texts.{line_text};
-ghost use Rattle.rail_rules.specs.Writable.{is_writable};
+ghost use Rattle.rail_rules.specs.WritableLines.{is_writable};
 ghost use Rattle.rail_text.specs.Names.{HasNames};
 ghost use Rattle.rail_history.specs.Lines.{line_of};
 
@@ -11,7 +11,7 @@ use crate::trains::put_brought;
 use crate::words::put_what;
 use rail_base::{Entry, Names, TrainNo};
 use rail_io::{Failed, Sink, write_whole};
-use rail_text::Line;
+use rail_text::LineBuffer;
 
 /// Writes the line of an entry. `kept` is the list of a fresh admission, or the trains that an end line
 /// names; at another entry it isn't looked at. The trains and sections are those of the names. The line is
@@ -21,7 +21,7 @@ pub fn write_entry<O: Sink>(
     names: &Names,
     entry: Entry,
     kept: &[TrainNo],
-    line: &mut Line,
+    line: &mut LineBuffer,
     out: &mut O,
 ) -> Result<(), Failed>
     requires { (plant : Plant) × HasNames plant names.now × IsTrue (is_writable plant (line_of entry kept.now)) }

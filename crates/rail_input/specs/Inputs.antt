@@ -42,12 +42,12 @@ abbrev pub policy_refusal : List ℕ → List (List ℕ) → Option Refusal
 policy_refusal policy deck = cond (list_any (same_name policy) deck) None (Some unknown_policy)
 
 -- the place in the deck of the first policy of this name, counted from 0
-abbrev pub place_in_deck : List ℕ → List (List ℕ) → Option ℕ
-place_in_deck policy deck = position (same_name policy) deck
+abbrev pub index_in_deck : List ℕ → List (List ℕ) → Option ℕ
+index_in_deck policy deck = position (same_name policy) deck
 
 -- the place of the policy that is in force first; 0 stands for one that the deck doesn't have
 abbrev pub force_of : List ℕ → List (List ℕ) → ℕ
-force_of policy deck = unwrap_or (place_in_deck policy deck) 0
+force_of policy deck = unwrap_or (index_in_deck policy deck) 0
 
 -- why the timetable of a plant is refused; nothing is refused without one
 abbrev pub calls_refusal : Tables → Option (List ℕ) → Option Refusal

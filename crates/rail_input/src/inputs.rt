@@ -8,7 +8,7 @@ ghost use Rattle.rail_compile.specs.Refusals.{compile_refusal};
 ghost use Rattle.rail_scene.specs.Scenes.{IsScene};
 ghost use Rattle.rail_input.specs.Inputs.{calls_refusal, commands_of, input_in, input_refusal, orders_refusal, refuses_file, scene_input, with_timetable};
 
-use crate::deck::{force_of, place_in_deck};
+use crate::deck::{force_of, index_in_deck};
 use crate::scenes::{Planned, read_plant};
 use rail_base::{Command, Fault, Name, OutOfMemory};
 use rail_command::read_commands;
@@ -87,7 +87,7 @@ pub fn scene_input(alloc: Global, scene: &Scene, deck: &[Name]) -> Result<ReadIn
         Err(Fault::OutOfMemory) => return Err(OutOfMemory),
         Err(Fault::Refused(_)) => unreachable!(),
     };
-    let force = place_in_deck(scene.policy, deck).unwrap_or(0);
+    let force = index_in_deck(scene.policy, deck).unwrap_or(0);
     let commands = Vec::new(alloc);
     Ok(ReadInput {
         plant,

@@ -2,7 +2,7 @@
 pub mod Copies
 pub mod Bars
 pub mod Insertions
-pub mod Timely
+pub mod TimeBounds
 pub mod Certificates
 -- What the code keeps.
 pub mod Tables

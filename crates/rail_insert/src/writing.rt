@@ -4,17 +4,17 @@ ghost use Rattle.std.specs.Prelude.{◌≡◌, ◌+◌, ◌≤◌, ◌∷◌, �
 ghost use Rattle.rail_insert.specs.Texts.{bar_line, copies_text, copy_text, copy_word, inserted_text, owner_word, path_line, paths_line};
 ghost use Rattle.rail_text.specs.Names.{names_in};
 ghost use Rattle.rail_text.specs.Writes.{WritesText};
-ghost use Rattle.rail_text.specs.declared.line.TheConstants.{ROOM};
+ghost use Rattle.rail_text.specs.declared.line_buffer.TheConstants.{ROOM};
 
 use crate::bars::{Bar, Owner};
 use crate::insertion::{Inserted, Placed};
 use itoa::Buffer;
 use rail_base::{Names, Time, TrainNo};
 use rail_io::{Failed, Sink, write_whole};
-use rail_text::Line;
+use rail_text::LineBuffer;
 
 /// Puts a space and the name of a copy of the train: its name, a plus sign and the number of the copy.
-fn put_copy(line: &mut Line, names: &Names, train: TrainNo, number: u64)
+fn put_copy(line: &mut LineBuffer, names: &Names, train: TrainNo, number: u64)
     requires { length line.old + 58 ≤ ROOM }
     ensures text { line.new ≡ line.old ++ 32 ∷ copy_word (names_in names.now) train number }
     ensures short { length line.new ≤ length line.old + 58 }
@@ -26,7 +26,7 @@ fn put_copy(line: &mut Line, names: &Names, train: TrainNo, number: u64)
 }
 
 /// Puts a space and the name of the owner; a copy is one of the train.
-fn put_owner(line: &mut Line, names: &Names, train: TrainNo, owner: Owner)
+fn put_owner(line: &mut LineBuffer, names: &Names, train: TrainNo, owner: Owner)
     requires { length line.old + 58 ≤ ROOM }
     ensures text { line.new ≡ line.old ++ 32 ∷ owner_word (names_in names.now) train owner }
     ensures short { length line.new ≤ length line.old + 58 }
@@ -41,7 +41,7 @@ fn put_owner(line: &mut Line, names: &Names, train: TrainNo, owner: Owner)
 fn write_bar<O: Sink>(names: &Names, train: TrainNo, bar: &Bar, out: &mut O) -> Result<(), Failed>
     ensures { WritesText O.Sink out.old out.new (bar_line (names_in names.now) train bar.now) result }
 {
-    let mut line = Line::new();
+    let mut line = LineBuffer::new();
     line.put(b"bar");
     line.put_time(bar.from);
     line.put_time(bar.to);
@@ -61,7 +61,7 @@ fn write_path<O: Sink>(
 ) -> Result<(), Failed>
     ensures { WritesText O.Sink out.old out.new (path_line (names_in names.now) train number begin) result }
 {
-    let mut line = Line::new();
+    let mut line = LineBuffer::new();
     line.put(b"path");
     put_copy(&mut line, names, train, number);
     line.put_time(begin);
@@ -73,7 +73,7 @@ fn write_path<O: Sink>(
 fn write_paths<O: Sink>(count: u64, out: &mut O) -> Result<(), Failed>
     ensures { WritesText O.Sink out.old out.new (paths_line count) result }
 {
-    let mut line = Line::new();
+    let mut line = LineBuffer::new();
     line.put(b"paths");
     line.put_number(count);
     line.put(b"\n");

@@ -2,7 +2,7 @@
 use Rattle.std.specs.Prelude.{ℕ, List, [], Option, find, unwrap_or}
 use Rattle.std.specs.Option.{option_map}
 use Rattle.std.specs.Str.{bytes_eq}
-use Rattle.rail_io.specs.declared.kept.File.{File}
+use Rattle.rail_io.specs.declared.kept_file.File.{File}
 
 -- the bytes of the first file of this name, where one is held
 abbrev pub bytes_named : List File → List ℕ → Option (List ℕ)

@@ -1,7 +1,7 @@
 -- A sink that gathers bytes before it hands them on.
 use Rattle.std.specs.Prelude.{ℕ, ◌+◌, ◌≤◌, List, length, Option}
 use Rattle.std.specs.Io.KnownBytes.{append_known}
-use Rattle.rail_io.specs.declared.gathered.GatheredSink.{GatheredSink}
+use Rattle.rail_io.specs.declared.gathered_sink.GatheredSink.{GatheredSink}
 use Rattle.rail_io.specs.Room.{kept_in, size_of}
 
 -- the sink to which the bytes are handed on

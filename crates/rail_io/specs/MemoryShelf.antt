@@ -1,6 +1,6 @@
 -- A shelf over files in memory, on which planned calls fail.
 use Rattle.std.specs.Prelude.{ℕ, List, Option, Contains}
-use Rattle.rail_io.specs.declared.kept.File.{File}
+use Rattle.rail_io.specs.declared.kept_file.File.{File}
 use Rattle.rail_io.specs.declared.memory.MemoryShelf.{MemoryShelf}
 use Rattle.rail_io.specs.declared.reading.Reading.{Reading}
 use Rattle.rail_io.specs.FaultCounts.{raised}

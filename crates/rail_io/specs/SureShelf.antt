@@ -1,6 +1,6 @@
 -- A shelf over files in memory that never fails.
 use Rattle.std.specs.Prelude.{ℕ, List, Option, Some}
-use Rattle.rail_io.specs.declared.kept.File.{File}
+use Rattle.rail_io.specs.declared.kept_file.File.{File}
 use Rattle.rail_io.specs.declared.reading.Reading.{Reading}
 use Rattle.rail_io.specs.declared.sure.SureShelf.{SureShelf}
 use Rattle.rail_io.specs.File.{bytes_or_empty}

@@ -9,8 +9,8 @@
 #![tactic(auto)]
 
 mod files;
-mod gathered;
-mod kept;
+mod gathered_sink;
+mod kept_file;
 mod memory;
 mod paper;
 mod plan;
@@ -19,13 +19,13 @@ mod room;
 mod shelf;
 mod sink;
 mod sure;
-mod whole;
+mod whole_files;
 
 pub use files::{FileShelf, OutSink};
-pub use gathered::GatheredSink;
-pub use kept::File;
+pub use gathered_sink::GatheredSink;
+pub use kept_file::File;
 pub use memory::{MemoryShelf, MemorySink};
 pub use shelf::{Shelf, StartFault};
 pub use sink::{Failed, Sink};
 pub use sure::{SureShelf, SureSink};
-pub use whole::{ReadWhole, read_whole, write_whole};
+pub use whole_files::{ReadWhole, read_whole, write_whole};

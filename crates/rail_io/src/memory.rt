@@ -4,7 +4,7 @@ ghost use Rattle.rail_io.specs.FaultCounts.{raised};
 ghost use Rattle.rail_io.specs.Reads.{fresh, begun_name, failed_name, after_begin, after_refusal, after_failure, after_move};
 ghost use Rattle.rail_io.specs.File.{bytes_named};
 
-use crate::kept::{File, begun_bytes, bytes_of, move_bytes};
+use crate::kept_file::{File, begun_bytes, bytes_of, move_bytes};
 use crate::paper::Paper;
 use crate::plan::Plan;
 use crate::reading::Reading;

@@ -1,7 +1,7 @@
 ghost use Rattle.std.specs.Prelude.{◌≡◌, ◌<◌, [], Some, None, Ok, IfOk, length, option_copied};
 ghost use Rattle.rail_io.specs.Reads.{fresh, begun_name, bytes_left};
 
-use crate::kept::{File, begun_bytes, move_bytes};
+use crate::kept_file::{File, begun_bytes, move_bytes};
 use crate::paper::Paper;
 use crate::reading::Reading;
 use crate::shelf::{Shelf, StartFault};

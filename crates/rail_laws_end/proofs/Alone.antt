@@ -5,7 +5,7 @@ use Rattle.std.proofs.lemmas.Bool.{cases_eq, cases_lt, false≢true, and_parts, 
 use Rattle.std.proofs.lemmas.List.{get_or-set_same, get_or-set_other, get_or_past, set-set}
 use Rattle.rail_rules.specs.Numbers.{is_in, any_below, all_below, are_apart}
 use Rattle.rail_rules.specs.Moves.{Moves, stand, is_valid_move, is_valid}
-use Rattle.rail_rules.specs.Places.{place_of, is_inside, holds, is_held, is_legal, after, nobody_inside, completes}
+use Rattle.rail_rules.specs.Places.{place_of, is_inside, holds, has_holder, is_legal, after, nobody_inside, completes}
 use Rattle.rail_rules.proofs.CallerLemmas.{any_below_at, any_below_none, all_below_at, list_any_none, apart_at}
 
 -- who isn't inside holds nothing
@@ -31,7 +31,7 @@ nobody_there plan s u nobody =
     (cases_lt u (length s))
 
 -- so nothing is held where nobody is inside
-pub nothing_held : (plan : Moves) (s : List ℕ) (x : ℕ) → nobody_inside plan s ≡ true → is_held plan s x ≡ false
+pub nothing_held : (plan : Moves) (s : List ℕ) (x : ℕ) → nobody_inside plan s ≡ true → has_holder plan s x ≡ false
 nothing_held plan s x nobody = any_below_none (λ u. holds plan s u x) (length s) (λ u _. outside_holds_nothing plan s u x (nobody_there plan s u nobody))
 
 -- a train needs nothing of what it stands on
@@ -69,7 +69,7 @@ module _ (plan : Moves) (valid : is_valid plan ≡ true) (s : List ℕ) (nobody 
       let room : suc m < plan.moves t = omega arith in
       let P : ℕ → Type 0 = λ p. (ltb 0 p && ltb p (plan.moves t)) ≡ true in
       let inside : is_inside plan s1 t ≡ true = subst P (sym (here (suc m))) (and_from (ltb 0 (suc m)) (ltb (suc m) (plan.moves t)) (lt-ltb 0 (suc m) (omega arith)) (lt-ltb (suc m) (plan.moves t) room)) in
-      let free : (x : ℕ) → is_in x (plan.claim t (suc m)) ≡ true → is_held plan s1 x ≡ false = λ x is.
+      let free : (x : ℕ) → is_in x (plan.claim t (suc m)) ≡ true → has_holder plan s1 x ≡ false = λ x is.
       any_below_none (λ u. holds plan s1 u x) (length s1) (λ u _.
       ⊎_elim
       (λ same.
@@ -78,10 +78,10 @@ module _ (plan : Moves) (valid : is_valid plan ≡ true) (s : List ℕ) (nobody 
       subst Q (sym same) (subst R (sym (here (suc m))) (apart_at (plan.claim t (suc m)) (stand plan t (suc m)) x (apart_from_itself plan t m valid known room) is)))
       (λ other. others (suc m) u x other)
       (cases_eq u t)) in
-      let U : ℕ → Type 0 = λ p. (ltb p (plan.moves t) && not (list_any (is_held plan s1) (plan.claim t p))) ≡ true in
+      let U : ℕ → Type 0 = λ p. (ltb p (plan.moves t) && not (list_any (has_holder plan s1) (plan.claim t p))) ≡ true in
       let legal : is_legal plan s1 t ≡ true = subst U (sym (here (suc m)))
-      (and_from (ltb (suc m) (plan.moves t)) (not (list_any (is_held plan s1) (plan.claim t (suc m)))) (lt-ltb (suc m) (plan.moves t) room)
-      (not_from_false (list_any (is_held plan s1) (plan.claim t (suc m))) (list_any_none (is_held plan s1) (plan.claim t (suc m)) free))) in
+      (and_from (ltb (suc m) (plan.moves t)) (not (list_any (has_holder plan s1) (plan.claim t (suc m)))) (lt-ltb (suc m) (plan.moves t) room)
+      (not_from_false (list_any (has_holder plan s1) (plan.claim t (suc m))) (list_any_none (has_holder plan s1) (plan.claim t (suc m)) free))) in
       let next : after s1 t ≡ set s t (suc (suc m)) = ap (λ p. set s1 t (suc p)) (here (suc m)) ∙ set-set s t (suc m) (suc (suc m)) in
       let V : List ℕ → Type 0 = λ r. completes plan r (replicate left t) ≡ true in
       and_from (is_inside plan s1 t && is_legal plan s1 t) (completes plan (after s1 t) (replicate left t))

@@ -11,7 +11,7 @@ use Rattle.rail_base.specs.declared.history.What.TheVariants.{Free, Arrive, Ente
 use Rattle.rail_base.specs.declared.orders.Command.{Command}
 use Rattle.rail_rules.specs.Numbers.{all_below, listed}
 use Rattle.rail_rules.specs.Moves.{Moves}
-use Rattle.rail_rules.specs.Places.{place_of, is_inside, is_held, is_legal, nobody_inside, completes}
+use Rattle.rail_rules.specs.Places.{place_of, is_inside, has_holder, is_legal, nobody_inside, completes}
 use Rattle.rail_rules.specs.Plant.{trains, moves, moves_of, claimed, bound}
 use Rattle.rail_rules.specs.Fronts.{Line, Front, at_time, is_end, has_ended, is_admission, admissions, places, kept, without_first, with_rest_of, same_entry, stands, lines_beside_holds}
 use Rattle.rail_rules.specs.LineCounts.{taken_over}
@@ -81,12 +81,12 @@ module _ (input : Input) (fine : IsWellFormed input.plant) (front : Front) (lawf
       (λ cancelled. absurd (omega (arith, positive, here, cancelled_never_goes input front lawful u cancelled)))
       (λ going. going)
       (cases_Bool (is_cancelled u (told input.commands front))) in
-      let legal = and_parts (ltb (place_of (places input.plant front) u) (moves input.plant u)) (not (list_any (is_held plan (places input.plant front)) (claimed input.plant u (place_of (places input.plant front) u)))) moved.1 in
-      let Q : ℕ → Type 0 = λ p. list_any (is_held plan (places input.plant front)) (claimed input.plant u p) ≡ false in
+      let legal = and_parts (ltb (place_of (places input.plant front) u) (moves input.plant u)) (not (list_any (has_holder plan (places input.plant front)) (claimed input.plant u (place_of (places input.plant front) u)))) moved.1 in
+      let Q : ℕ → Type 0 = λ p. list_any (has_holder plan (places input.plant front)) (claimed input.plant u p) ≡ false in
       let unheld = subst Q here (not-true _ legal.1) in
       let goes : is_some (cause input front u) ≡ false =
       no_cause input front u
-      (legal_unbarred input fine front lawful nothing free u (λ x is_claimed. list_any_at (is_held plan (places input.plant front)) (claimed input.plant u (place front u)) x unheld is_claimed))
+      (legal_unbarred input fine front lawful nothing free u (λ x is_claimed. list_any_at (has_holder plan (places input.plant front)) (claimed input.plant u (place front u)) x unheld is_claimed))
       (sym (ap (completes plan (places_after input front u)) (pulled (kept input.plant front) is (omega (arith, positive, here)))) ∙ both.1) in
       (known, ready_now input front u nothing known room runs, goes)
     where

@@ -8,7 +8,7 @@ use Rattle.rail_base.specs.declared.history.Cause.TheVariants.{Stopped, Closed, 
 use Rattle.rail_base.specs.declared.orders.Order.{Order}
 use Rattle.rail_rules.specs.Numbers.{or_else, first_below, is_in, any_below}
 use Rattle.rail_rules.specs.Moves.{stand}
-use Rattle.rail_rules.specs.Places.{holds, is_held}
+use Rattle.rail_rules.specs.Places.{holds, has_holder}
 use Rattle.rail_rules.specs.Analysis.{finds}
 use Rattle.rail_rules.specs.Plant.{trains, moves_of, claimed, claims, step_section}
 use Rattle.rail_rules.specs.Fronts.{Front, instant, admissions, places, stands, same_entry}
@@ -24,7 +24,7 @@ use Rattle.rail_laws_front.specs.EventLines.{IsEvent}
 use Rattle.rail_laws_front.specs.Invariant.{IsTimely}
 use Rattle.rail_laws_front.proofs.CallerLemmas.{bars_claimed, timely, place_in, places_long, are_standing, free_due, stands_or_due}
 use Rattle.rail_laws_end.specs.Remaining.{NothingIsBarred}
-use Rattle.rail_rules.specs.Overlaps.{IsStep}
+use Rattle.rail_rules.specs.Apart.{IsStep}
 
 -- nothing passes a test in an empty list
 pub none_due : {X : Type 0} (p : X → Bool) (xs : List X) → length xs ≡ 0 → list_any p xs ≡ true → ⊥
@@ -59,7 +59,7 @@ neither_some (Some x) b ha hb = absurd (false≢true (sym ha))
 neither_some None b ha hb = hb
 
 -- a section that nobody holds isn't blocked
-pub unheld_unblocked : (input : Input) → IsWellFormed input.plant → (front : Front) → is_lawful input front ≡ true → length (due_lines input front) ≡ 0 → (t x : ℕ) → is_held (moves_of input.plant) (places input.plant front) x ≡ false → blocker input front t x ≡ None
+pub unheld_unblocked : (input : Input) → IsWellFormed input.plant → (front : Front) → is_lawful input front ≡ true → length (due_lines input front) ≡ 0 → (t x : ℕ) → has_holder (moves_of input.plant) (places input.plant front) x ≡ false → blocker input front t x ≡ None
 unheld_unblocked input fine front lawful nothing t x unheld =
     first_of_none (λ u. bars input.plant t u (admissions front u) x (instant front)) (trains input.plant) (λ u lu.
     any_below_none (λ m. any_below (λ j. eqb (step_section input.plant u m j) x && contains_instant input.plant u (admissions front u) m j (instant front)) (barring input.plant t u (place front u) m)) (length (admissions front u)) (λ m lm.
@@ -102,7 +102,7 @@ no_closed orders (x ∷ sections) h = cond-false (is_closed x orders) (Some x) (
 pub legal_unbarred : (input : Input) → IsWellFormed input.plant → (front : Front) → is_lawful input front ≡ true
     → length (due_lines input front) ≡ 0 → NothingIsBarred input front → (t : ℕ)
     → ((x : ℕ) → is_in x (claimed input.plant t (place front t)) ≡ true
-    → is_held (moves_of input.plant) (places input.plant front) x ≡ false)
+    → has_holder (moves_of input.plant) (places input.plant front) x ≡ false)
     → is_some (bar input front t) ≡ false
 legal_unbarred input fine front lawful nothing free t unheld =
     let orders : List Order = told input.commands front in

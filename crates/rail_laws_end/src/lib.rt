@@ -7,7 +7,7 @@
 
 mod completion;
 mod continuation;
-mod unique;
+mod uniqueness;
 
 pub use completion::{
     a_cancelled_train_is_never_admitted, a_history_of_trains_that_all_leave_has_so_many_lines,
@@ -18,4 +18,4 @@ pub use completion::{
 pub use continuation::{
     a_front_that_has_not_ended_has_a_next_line, every_lawful_front_can_be_continued,
 };
-pub use unique::one_history;
+pub use uniqueness::one_history;

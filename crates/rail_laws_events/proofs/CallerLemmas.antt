@@ -35,7 +35,7 @@ pub use Rattle.rail_laws_events.proofs.Sums.{sum-constant, sum-plus}
 -- sums that differ by one at one number
 pub use Rattle.rail_laws_events.proofs.Sums.{sum-one_more}
 -- Shares: how many event lines a train has.
-pub use Rattle.rail_laws_events.proofs.Shares.{tally_all, train_bound}
+pub use Rattle.rail_laws_events.proofs.Shares.{tally_all}
 -- Commands: the line of each command is written once at most.
 pub use Rattle.rail_laws_events.proofs.Commands.{command_new, few_written, written_no_less}
 -- the line of a command is one that didn't stand
@@ -45,7 +45,6 @@ pub use Rattle.rail_laws_events.proofs.Commands.{all_written}
 -- Bounded: a lawful front has no more lines than the bound, hold lines aside.
 pub use Rattle.rail_laws_events.proofs.Bounded.{bounded}
 -- the event lines and admissions of a front
-pub use Rattle.rail_laws_events.proofs.Bounded.{events_and_admissions}
 -- where nothing is to come, every train has made its moves, every command is written and the end line stands, the bound is met
 pub use Rattle.rail_laws_events.proofs.Bounded.{met}
 -- Cancelled: a cancelled train is never admitted.

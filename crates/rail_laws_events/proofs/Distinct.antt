@@ -14,11 +14,11 @@ use Rattle.rail_rules.proofs.CallerLemmas.{steps_claimed}
 use Rattle.rail_rules.specs.Events.{enter_line, arrive_line, free_lines, out_lines, ready_line, move_events, moved_events, ready_events, train_events}
 use Rattle.rail_laws_front.specs.Premises.{IsWellFormed}
 use Rattle.rail_laws_front.proofs.CallerLemmas.{append_cases, gather_found, one_found, end_after_begin}
-use Rattle.rail_rules.specs.Overlaps.AreApart.{one, first, second}
+use Rattle.rail_rules.specs.Apart.AreApart.{one, first, second}
 use Rattle.rail_laws_events.specs.Accounts.{tally, all_events}
 use Rattle.rail_laws_events.proofs.Coding.{one_entry}
 use Rattle.rail_laws_events.proofs.Tallies.{tally-cons_yes, tally-cons_no, tally-append_one, tally-gather_one}
-use Rattle.rail_rules.specs.Overlaps.{AreApart, NeverOverlap}
+use Rattle.rail_rules.specs.Apart.{AreApart, NeverOverlap}
 
 -- a list of one entry has it once at most
 pub tally-single : (p : Entry → Bool) (x : Entry) → tally p (x ∷ []) ≤ 1

@@ -18,10 +18,10 @@ use Rattle.rail_laws_front.specs.EventLines.IsEvent.{entering, arriving, freeing
 use Rattle.rail_laws_front.specs.Views.{Follows}
 use Rattle.rail_laws_front.specs.Views.Follows.{by_event, by_admission, by_hold, by_end}
 use Rattle.rail_laws_front.proofs.CallerLemmas.{lawful_before, lawful_last, agree_added, length_added, ready_agrees, end_after_begin, admission_added, admission_of_other, event_admits_nothing, stands_on, waiting_parts, never_overlap}
-use Rattle.rail_rules.specs.Overlaps.AreApart.{one, first, second}
+use Rattle.rail_rules.specs.Apart.AreApart.{one, first, second}
 use Rattle.rail_laws_events.proofs.Written.{few_admissions}
 use Rattle.rail_laws_events.proofs.Rising.{one_enter, one_arrival}
-use Rattle.rail_rules.specs.Overlaps.{AreApart}
+use Rattle.rail_rules.specs.Apart.{AreApart}
 
 -- the ready lines of admitted moves stand
 pub ready_stood : (input : Input) (front : Front) → is_lawful input front ≡ true → (t m : ℕ) → m < place front t → stands front (ready_line input.plant t (admissions front t) m) ≡ true

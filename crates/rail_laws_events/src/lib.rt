@@ -11,7 +11,7 @@
 mod account;
 mod bound;
 mod command_order;
-mod due;
+mod due_lines;
 mod times;
 
 pub use account::{
@@ -21,5 +21,5 @@ pub use account::{
 };
 pub use bound::{a_history_has_at_most_so_many_lines, a_train_has_at_most_so_many_hold_lines};
 pub use command_order::commands_come_in_order;
-pub use due::due_lines_are_distinct;
+pub use due_lines::due_lines_are_distinct;
 pub use times::times_stay_below_a_limit;

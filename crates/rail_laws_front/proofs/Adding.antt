@@ -10,7 +10,7 @@ use Rattle.rail_rules.specs.Times.{does_pass, depart_time, ready_time, signal_ti
 use Rattle.rail_rules.specs.Intervals.{does_stand, is_open, timer_end, is_taken_over, end_time}
 use Rattle.rail_rules.specs.Events.{enter_line, arrive_line, ready_line}
 use Rattle.rail_rules.proofs.CallerLemmas.{start_after_signal, head_time-begun, arrive_after_run, enter_before_run, enter_before_leave, leave_before_clearing, end_needed, end_timed, end_taken, freed_from, last_not_taken, needed_not_taken, taken_from, taken_parts}
-use Rattle.rail_rules.specs.Overlaps.{HasEnded}
+use Rattle.rail_rules.specs.Apart.{HasEnded}
 use Rattle.rail_laws_front.proofs.Standing.{over_not_open}
 use Rattle.rail_laws_front.specs.Premises.{IsWellFormed}
 use Rattle.rail_laws_front.specs.EventLines.{IsEvent}

@@ -17,13 +17,13 @@ use Rattle.rail_laws_front.proofs.Viewing.{lawful_before, lawful_last}
 use Rattle.rail_laws_front.proofs.Agreeing.{agree_added, admitted_added, length_added}
 use Rattle.rail_laws_front.proofs.Adding.{end_kept, own_overlap_ended}
 use Rattle.rail_laws_front.specs.Invariant.{IsTimely}
-use Rattle.rail_rules.specs.Overlaps.AreApart.{one, first, second}
+use Rattle.rail_rules.specs.Apart.AreApart.{one, first, second}
 use Rattle.rail_laws_front.proofs.Growing.{admission_added, admission_of_other, event_admits_nothing, waiting_parts}
 use Rattle.rail_laws_front.proofs.Timely.{timely}
 use Rattle.rail_laws_front.proofs.Unblocked.{ended_on_claimed, needed_bars, other_bars}
 use Rattle.rail_laws_front.proofs.Claimed.{step_claimed}
 use Rattle.rail_rules.specs.Intervals.{barring}
-use Rattle.rail_rules.specs.Overlaps.{HasEnded, IsStep, AreApart, NeverOverlap}
+use Rattle.rail_rules.specs.Apart.{HasEnded, IsStep, AreApart, NeverOverlap}
 
 -- where a line is no admission, steps and intervals are those before it
 idle_apart : (plant : Plant) (line : Line) (front : Front) → is_admission line.entry.what ≡ false → NeverOverlap plant front → NeverOverlap plant (line ∷ front)

@@ -26,7 +26,7 @@ use Rattle.rail_laws_front.specs.Invariant.{IsTimely, AreStanding}
 use Rattle.rail_laws_front.proofs.Growing.{admission_added, admission_of_other, told_kept, waiting_parts}
 use Rattle.rail_laws_front.proofs.DueFound.{IsCommandDue, IsEventDue, due_found, due_from_event, due_from_command}
 use Rattle.rail_laws_front.proofs.PlacesKept.{standing_is_open}
-use Rattle.rail_rules.specs.Overlaps.{IsStep}
+use Rattle.rail_rules.specs.Apart.{IsStep}
 
 pub same_entry_refl : (e : Entry) → same_entry e e ≡ true
 same_entry_refl e = and_from (eqb e.at e.at) (same_numbers (code_of e.what) (code_of e.what)) (eq-eqb e.at e.at refl) ((bytes_decides (code_of e.what) (code_of e.what)).1 refl)

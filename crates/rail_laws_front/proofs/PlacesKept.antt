@@ -8,7 +8,7 @@ use Rattle.rail_base.specs.declared.history.What.{What}
 use Rattle.rail_base.specs.declared.history.What.TheVariants.{Free, Arrive, Enter, Out, Ready, Told, Untold, Admit, Hold, End}
 use Rattle.rail_rules.specs.Numbers.{listed, is_in, any_below, are_apart}
 use Rattle.rail_rules.specs.Moves.{Moves, stand}
-use Rattle.rail_rules.specs.Places.{place_of, is_inside, holds, is_held, is_legal, after, is_valid_state, completes}
+use Rattle.rail_rules.specs.Places.{place_of, is_inside, holds, has_holder, is_legal, after, is_valid_state, completes}
 use Rattle.rail_rules.specs.Plant.{Plant, trains, moves, moves_of, claimed, steps, step_section}
 use Rattle.rail_rules.specs.Fronts.{Line, Front, is_admission, admissions, places, kept, kept_after}
 use Rattle.rail_rules.specs.Orders.{Input}
@@ -28,7 +28,7 @@ use Rattle.rail_laws_front.proofs.Timely.{timely}
 use Rattle.rail_laws_front.proofs.Unblocked.{ended_on_claimed, needed_bars}
 use Rattle.rail_laws_front.proofs.Claimed.{needed_step}
 use Rattle.rail_laws_front.proofs.Standing.{stands_inside, stands_needed}
-use Rattle.rail_rules.specs.Overlaps.{IsStep}
+use Rattle.rail_rules.specs.Apart.{IsStep}
 
 -- how many items are listed, and which
 pub length-listed : {X : Type 0} (f : ℕ → X) (n : ℕ) → length (listed f n) ≡ n
@@ -114,7 +114,7 @@ unbarred_legal input fine front t h unbarred room =
     let s : List ℕ = places input.plant front in
     let known = waiting_known input.plant t (place front t) room in
     let here = place_in input.plant front t known in
-    let nobody : (x : ℕ) → is_in x (claimed input.plant t (place front t)) ≡ true → is_held plan s x ≡ false = λ x need.
+    let nobody : (x : ℕ) → is_in x (claimed input.plant t (place front t)) ≡ true → has_holder plan s x ≡ false = λ x need.
     any_below_none (λ u. holds plan s u x) (length s) (λ u lu.
     let u_known : u < trains input.plant = omega (arith, lu, places_long input.plant front) in
     ⊎_elim
@@ -126,11 +126,11 @@ unbarred_legal input fine front t h unbarred room =
     absurd (false≢true (sym over.closed ∙ found.5)))
     (λ free. free)
     (cases_Bool (holds plan s u x))) in
-    let R : ℕ → Type 0 = λ p. (ltb p (moves input.plant t) && not (list_any (is_held plan s) (claimed input.plant t p))) ≡ true in
+    let R : ℕ → Type 0 = λ p. (ltb p (moves input.plant t) && not (list_any (has_holder plan s) (claimed input.plant t p))) ≡ true in
     subst R (sym here)
-    (and_from (ltb (place front t) (moves input.plant t)) (not (list_any (is_held plan s) (claimed input.plant t (place front t))))
+    (and_from (ltb (place front t) (moves input.plant t)) (not (list_any (has_holder plan s) (claimed input.plant t (place front t))))
     (lt-ltb (place front t) (moves input.plant t) room)
-    (not_from_false (list_any (is_held plan s) (claimed input.plant t (place front t))) (list_any_none (is_held plan s) (claimed input.plant t (place front t)) nobody)))
+    (not_from_false (list_any (has_holder plan s) (claimed input.plant t (place front t))) (list_any_none (has_holder plan s) (claimed input.plant t (place front t)) nobody)))
 
 -- nobody is inside at the beginning
 start_place : (plant : Plant) (t : ℕ) → place_of (places plant []) t ≡ 0

@@ -12,7 +12,7 @@ use Rattle.rail_rules.specs.Times.{admitted}
 use Rattle.rail_rules.specs.Intervals.{is_open, end_time, contains_instant, barring, bars}
 use Rattle.rail_rules.specs.Causes.{place, bar, stop_cause, closed_cause, blocked_cause, blocker}
 use Rattle.rail_rules.proofs.CallerLemmas.{any_below_at, steps_claimed}
-use Rattle.rail_rules.specs.Overlaps.{HasEnded, IsStep}
+use Rattle.rail_rules.specs.Apart.{HasEnded, IsStep}
 
 -- neither of two where their first isn't there
 pub neither : {X : Type 0} (a b : Option X) → is_some (or_else a b) ≡ false → (is_some a ≡ false) × (is_some b ≡ false)

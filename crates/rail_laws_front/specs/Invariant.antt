@@ -12,7 +12,7 @@ use Rattle.rail_rules.specs.Intervals.{is_open}
 use Rattle.rail_rules.specs.Events.{is_written}
 use Rattle.rail_rules.specs.Causes.{place}
 use Rattle.rail_laws_front.specs.EventLines.{IsEvent}
-use Rattle.rail_rules.specs.Overlaps.{IsStep}
+use Rattle.rail_rules.specs.Apart.{IsStep}
 
 -- an event line stands in the front or isn't over
 abbrev pub IsOpenOrWritten : Front → Entry → Type 0

@@ -13,7 +13,7 @@ ghost use Rattle.rail_rules.specs.Places.{completes, is_valid_state};
 ghost use Rattle.rail_rules.specs.Plant.{moves, moves_of, step_section, trains};
 ghost use Rattle.rail_laws_front.specs.Premises.{IsWellFormed};
 ghost use Rattle.rail_laws_front.specs.Views.{Admits};
-ghost use Rattle.rail_rules.specs.Overlaps.{IsStep, NeverOverlap};
+ghost use Rattle.rail_rules.specs.Apart.{IsStep, NeverOverlap};
 
 /// Times do not fall: no line of a lawful history is earlier than the line before it.
 pub fn times_do_not_fall()

@@ -12,8 +12,8 @@ use Rattle.rail_rules.specs.Plant.{Plant, moves, steps, claims, step_section, tr
 use Rattle.rail_rules.specs.Fronts.{Front, admissions, instant, stands}
 use Rattle.rail_rules.specs.Times.{admitted, is_admitted}
 use Rattle.rail_rules.specs.Intervals.{barring, bars, blocks, contains_instant, does_stand, end_time, is_open, is_taken_over}
-use Rattle.rail_rules.specs.Overlaps.{AreApart, HasEnded, IsStep}
-use Rattle.rail_rules.specs.Overlaps.AreApart.{one, first, second}
+use Rattle.rail_rules.specs.Apart.{AreApart, HasEnded, IsStep}
+use Rattle.rail_rules.specs.Apart.AreApart.{one, first, second}
 use Rattle.rail_rules.proofs.CallerLemmas.{any_below_found, any_below_from, end_taken, last_not_taken, taken_parts}
 use Rattle.rail_rules.specs.Events.{due_lines}
 use Rattle.rail_rules.specs.Causes.{blocked_cause, blocker, is_deciding, place}

@@ -12,7 +12,7 @@ use Rattle.rail_rules.specs.Orders.{Input, told}
 use Rattle.rail_rules.specs.Plant.{steps, step_section, trains}
 use Rattle.rail_rules.specs.Fronts.{Front, admissions, at_time, instant, same_entry, stands}
 use Rattle.rail_rules.specs.Intervals.{end_time, is_open, is_taken_over, timer_end}
-use Rattle.rail_rules.specs.Overlaps.{IsStep}
+use Rattle.rail_rules.specs.Apart.{IsStep}
 use Rattle.rail_rules.specs.Lawful.{is_lawful}
 use Rattle.rail_rules.proofs.CallerLemmas.{end_timed, freed_from, last_not_taken}
 use Rattle.rail_laws_front.specs.Premises.{IsWellFormed}

@@ -8,7 +8,7 @@ use Rattle.rail_rules.specs.Fronts.{Front, admissions, instant, is_admission}
 use Rattle.rail_rules.specs.Orders.{Input}
 use Rattle.rail_rules.specs.Times.{admitted}
 use Rattle.rail_rules.specs.Intervals.{barring, end_time, has_interval, is_taken_over}
-use Rattle.rail_rules.specs.Overlaps.{IsStep}
+use Rattle.rail_rules.specs.Apart.{IsStep}
 use Rattle.rail_rules.specs.Lawful.{is_lawful}
 use Rattle.rail_rules.proofs.CallerLemmas.{admissions_kept, claims_are, end_taken, is_in-head, taken_parts}
 use Rattle.rail_laws_front.specs.Premises.{IsWellFormed}

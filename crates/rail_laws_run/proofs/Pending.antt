@@ -89,9 +89,6 @@ one_last last n le =
     )
 
 module _ (input : Input) (accepted : is_accepted input.plant ≡ true) (front : Front) (lawful : is_lawful input front ≡ true) where
-  abbrev plant : Plant
-  plant = input.plant
-
   fine : IsWellFormed input.plant
   fine = well_formed_from_accepted input.plant accepted
 

@@ -13,7 +13,7 @@ use Rattle.rail_rules.specs.Plant.{Plant, move_row, moves, overlap, claimed, ste
 use Rattle.rail_rules.specs.Fronts.{Front, Line, admissions, at_time, instant}
 use Rattle.rail_rules.specs.Times.{admitted, go, passes}
 use Rattle.rail_rules.specs.Intervals.{blocks, contains_instant, end_time, freed_at, is_open, is_taken_over, is_unfreed, timer_end}
-use Rattle.rail_rules.specs.Overlaps.{IsStep}
+use Rattle.rail_rules.specs.Apart.{IsStep}
 use Rattle.rail_rules.specs.Causes.{place}
 use Rattle.rail_rules.specs.Lawful.{is_lawful}
 use Rattle.rail_rules.proofs.CallerLemmas.{accepted_parts, move_in_range, row_in_range, any_below_at, any_below_from, claims_are, end_timed, freed_from, gather_same, last_not_taken, needed_not_taken, taken_from, taken_parts}

@@ -14,7 +14,7 @@ use Rattle.rail_rules.specs.Plant.{Plant, section, train, trains}
 use Rattle.rail_rules.specs.Fronts.{Line}
 use Rattle.rail_rules.specs.Lawful.{is_bare}
 use Rattle.rail_rules.specs.Texts.{train_word, section_word, note_words, cause_words, what_words}
-use Rattle.rail_rules.specs.Writable.{does_fit_counter, is_known_train, is_known_section, is_known_move, is_writable_cause, is_writable_note, is_writable_what, IsNamed}
+use Rattle.rail_rules.specs.WritableLines.{does_fit_counter, is_known_train, is_known_section, is_known_move, is_writable_cause, is_writable_note, is_writable_what, IsNamed}
 use Rattle.rail_laws_text.proofs.Wording.{read_on, number_back}
 
 -- the first number below a bound that passes is the only one

@@ -13,7 +13,7 @@ use Rattle.rail_rules.specs.Plant.{Plant, trains, moves, claimed}
 use Rattle.rail_rules.specs.Fronts.{Front, option_code, same_cause}
 use Rattle.rail_rules.specs.Orders.{Input, told, is_closed, is_stopped}
 use Rattle.rail_rules.specs.Causes.{place, blocker, stop_cause, closed_cause, blocked_cause, bar, list_cause, cause}
-use Rattle.rail_rules.specs.Writable.{is_known_train, is_known_section, is_writable_cause}
+use Rattle.rail_rules.specs.WritableLines.{is_known_train, is_known_section, is_writable_cause}
 use Rattle.rail_laws_text.proofs.Known.{train_known, claims_known}
 
 -- the cause, if there is one, can be written

@@ -13,7 +13,7 @@ use Rattle.rail_rules.specs.Plant.{Plant, trains}
 use Rattle.rail_rules.specs.Fronts.{Line, Front}
 use Rattle.rail_rules.specs.Lawful.{is_bare}
 use Rattle.rail_rules.specs.Texts.{Item, with_train, items_of, train_word, item_word, what_words, line_words, line_text, text}
-use Rattle.rail_rules.specs.Writable.{does_fit_counter, is_known_train, is_known_section, is_known_move, is_writable_cause, is_writable_note, is_writable_what, is_writable, IsNamed}
+use Rattle.rail_rules.specs.WritableLines.{does_fit_counter, is_known_train, is_known_section, is_known_move, is_writable_cause, is_writable_note, is_writable_what, is_writable, IsNamed}
 use Rattle.rail_laws_text.proofs.Marks.{is_feed, heads, tails, begins, ends, ends_with, split_left, split_right, joined, spaced-joined, joined_no_feed, words_back}
 use Rattle.rail_laws_text.proofs.Wording.{number_back, read_on, name_free, is_item_in_range, items_fine, line_are_words}
 use Rattle.rail_laws_text.proofs.Back.{what_back, what_is}

@@ -4,7 +4,7 @@ use Rattle.std.specs.List.{list_all}
 use Rattle.std.proofs.lemmas.Bool.{and_from, lt-ltb}
 use Rattle.rail_rules.specs.Accepted.{is_accepted}
 use Rattle.rail_rules.specs.Plant.{Plant, trains, moves, move_row, claimed, claims, step_section}
-use Rattle.rail_rules.specs.Writable.{does_fit_counter, is_known_train, is_known_section, is_known_move}
+use Rattle.rail_rules.specs.WritableLines.{does_fit_counter, is_known_train, is_known_section, is_known_move}
 use Rattle.rail_laws_front.proofs.CallerLemmas.{known_train}
 use Rattle.rail_rules.proofs.CallerLemmas.{IsRowInRange, accepted_parts, row_in_range, move_in_range, list_all_get}
 use Rattle.rail_base.specs.declared.limits.TheConstants.{ITINERARY_ROUTES}

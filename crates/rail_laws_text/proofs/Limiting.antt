@@ -27,7 +27,7 @@ use Rattle.rail_laws_front.specs.Views.Follows.{by_event, by_admission, by_hold,
 use Rattle.rail_laws_front.specs.Premises.{IsWellFormed}
 use Rattle.rail_laws_front.proofs.CallerLemmas.{well_formed_from_accepted, known_train, lawful_before, lawful_last, IsEventDue, IsCommandDue, due_found, length-listed}
 use Rattle.rail_laws_events.proofs.CallerLemmas.{admissions_counted, few_admissions, one_entry}
-use Rattle.rail_laws_text.specs.Limited.{is_limited_note, is_limited_what}
+use Rattle.rail_laws_text.specs.LimitedLines.{is_limited_note, is_limited_what}
 use Rattle.rail_laws_text.proofs.Listing.{few_moves, list_short}
 use Rattle.rail_laws_text.proofs.Writing.{below_listed, few_commands, plant_accepted, ready_moves}
 

@@ -10,7 +10,7 @@ use Rattle.rail_rules.specs.Plant.{Plant, trains, moves, moves_of}
 use Rattle.rail_rules.specs.Fronts.{Front}
 use Rattle.rail_rules.specs.Orders.{Input, told, is_cancelled}
 use Rattle.rail_rules.specs.Lawful.{is_out, remaining}
-use Rattle.rail_rules.specs.Writable.{does_fit_counter, is_known_train}
+use Rattle.rail_rules.specs.WritableLines.{does_fit_counter, is_known_train}
 use Rattle.rail_rules.proofs.CallerLemmas.{accepted_parts, row_in_range}
 use Rattle.rail_laws_events.proofs.CallerLemmas.{sum-limited}
 use Rattle.rail_list.proofs.CallerLemmas.{completing_fits, completing_listed}

@@ -10,7 +10,7 @@ use Rattle.rail_rules.specs.Numbers.{same_numbers}
 use Rattle.rail_rules.specs.Plant.{Plant, section, train, trains, no_section, no_train}
 use Rattle.rail_rules.specs.Accepted.{is_accepted, are_distinct_names}
 use Rattle.rail_rules.proofs.CallerLemmas.{accepted_parts, row_in_range, section_in_range}
-use Rattle.rail_rules.specs.Writable.{IsNamed}
+use Rattle.rail_rules.specs.WritableLines.{IsNamed}
 
 listed_name : (names : List (List ℕ)) (i : ℕ) (name : List ℕ) → i < length names → name ≡ get_or names i [] → list_any (same_numbers name) names ≡ true
 listed_name [] i name lt is = absurd (omega arith)

@@ -19,7 +19,7 @@ use Rattle.rail_rules.specs.Plant.{Plant, trains}
 use Rattle.rail_rules.specs.Fronts.{Line}
 use Rattle.rail_rules.specs.Lawful.{is_bare}
 use Rattle.rail_rules.specs.Texts.{Item, with_train, items_of, train_word, section_word, item_word, note_words, cause_words, what_words, line_words}
-use Rattle.rail_rules.specs.Writable.{does_fit_counter, is_known_train, is_known_section, is_known_move, is_writable_cause, is_writable_note, is_writable_what, is_writable, IsNamed}
+use Rattle.rail_rules.specs.WritableLines.{does_fit_counter, is_known_train, is_known_section, is_known_move, is_writable_cause, is_writable_note, is_writable_what, is_writable, IsNamed}
 use Rattle.rail_laws_text.proofs.Marks.{IsWord, AreWords, is_space, is_feed, none_of, none_in_both}
 use Rattle.rail_laws_text.proofs.Marks.AreWords.{none, one_more}
 

@@ -20,7 +20,7 @@ use Rattle.rail_rules.specs.Fronts.{Line, Front, admissions, kept, kept_after, p
 use Rattle.rail_rules.specs.Orders.{Input, told, is_cancelled}
 use Rattle.rail_rules.specs.Causes.{place, is_ready, is_deciding, cause, is_told_so, places_after}
 use Rattle.rail_rules.specs.Lawful.{is_bare, is_lawful, remaining}
-use Rattle.rail_rules.specs.Writable.{does_fit_counter, is_known_move, is_known_train, is_writable, is_writable_what, is_writable_note, is_writable_cause}
+use Rattle.rail_rules.specs.WritableLines.{does_fit_counter, is_known_move, is_known_train, is_writable, is_writable_what, is_writable_note, is_writable_cause}
 use Rattle.rail_rules.proofs.CallerLemmas.{steps_claimed}
 use Rattle.rail_laws_front.specs.EventLines.{IsEvent}
 use Rattle.rail_laws_front.specs.EventLines.IsEvent.{entering, arriving, freeing, leaving, readying}

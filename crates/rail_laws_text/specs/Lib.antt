@@ -1,2 +1,2 @@
 -- What the laws of this crate speak of.
-pub mod Limited
+pub mod LimitedLines

@@ -1,12 +1,12 @@
 ghost use Rattle.std.specs.Prelude.{◌∷◌, ◌≤◌, IsTrue};
 ghost use Rattle.rail_base.specs.Limits.{most, FreshLines};
-ghost use Rattle.rail_laws_text.specs.Limited.{is_limited_what};
+ghost use Rattle.rail_laws_text.specs.LimitedLines.{is_limited_what};
 ghost use Rattle.rail_rules.specs.Accepted.{is_accepted_input};
 ghost use Rattle.rail_rules.specs.Fronts.{Front, Line, is_admission};
 ghost use Rattle.rail_rules.specs.Lawful.{is_lawful};
 ghost use Rattle.rail_rules.specs.LineCounts.{lines_that};
 ghost use Rattle.rail_rules.specs.Orders.{Input};
-ghost use Rattle.rail_rules.specs.Writable.{is_writable};
+ghost use Rattle.rail_rules.specs.WritableLines.{is_writable};
 
 /// In a lawful front of an input that may be run each line can be written: the trains and sections that it
 /// names, those of a fresh list and of an end line too, are those of the plant, and its numbers fit a 64-bit

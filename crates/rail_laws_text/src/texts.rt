@@ -4,7 +4,7 @@ ghost use Rattle.rail_rules.specs.Accepted.{is_accepted};
 ghost use Rattle.rail_rules.specs.Fronts.{Front, Line};
 ghost use Rattle.rail_rules.specs.Plant.{Plant};
 ghost use Rattle.rail_rules.specs.Texts.{line_text, text};
-ghost use Rattle.rail_rules.specs.Writable.{IsNamed, is_writable};
+ghost use Rattle.rail_rules.specs.WritableLines.{IsNamed, is_writable};
 
 /// In a plant that may be run each train and each section has a name of its own.
 pub fn names_tell_trains_and_sections()

@@ -18,7 +18,7 @@ use Rattle.rail_rules.specs.Lawful.{is_bare, may_follow, note_fits}
 use Rattle.rail_laws_front.proofs.CallerLemmas.{place_in, places_raised, unbarred_legal, timely}
 use Rattle.rail_laws_run.specs.HolderTables.{held_cause, own_overlap}
 use Rattle.rail_judging.specs.Verdicts.{broken_law, is_forbidden, is_misplaced, is_occupied}
-use Rattle.rail_place.specs.Made.{State, IsMadeFor}
+use Rattle.rail_place.specs.PlaceStates.{State, IsMadeFor}
 use Rattle.rail_place.specs.Tables.{moves_in, MoveLists}
 use Rattle.rail_list.specs.KeptLists.{Kept}
 use Rattle.rail_queue.specs.Order.{is_sorted}
@@ -34,7 +34,7 @@ use Rattle.rail_state.specs.Admissions.{IsGivable}
 use Rattle.rail_ledger.proofs.Making.{givable}
 use Rattle.std.specs.List.{list_all}
 use Rattle.rail_rules.specs.Numbers.{or_else}
-use Rattle.rail_orders.specs.Told.{closed_in, stop_in}
+use Rattle.rail_orders.specs.OrderTables.{closed_in, stop_in}
 use Rattle.rail_orders.proofs.CallerLemmas.{closed_is, stop_is}
 use Rattle.rail_ledger.proofs.Ordered.{sections_known}
 use Rattle.rail_state.specs.SeenCauses.{seen_bar}
@@ -88,7 +88,7 @@ has_given table front old new same at t note list made room moved is = record {
   list_room = subst (λ n. sum_below (moves old.input.plant) (trains old.input.plant) ≤ n) (sym room) at.keeps.room;
 }
 
-module _ (front : Front) (ledger : Ledger) (at : IsAt front ledger) (going : ledger.state.has_ended ≡ false) (sorted : is_sorted ledger.state.queue.events ≡ true) (when t m : ℕ) (note : Note) (list : List ℕ) (held : Bool) (held_is : held ≡ has_held front) where
+module _ (front : Front) (ledger : Ledger) (at : IsAt front ledger) (going : ledger.state.has_ended ≡ false) (sorted : is_sorted ledger.state.queue.events ≡ true) (when t m : ℕ) (note : Note) (list : List ℕ) (after_hold : Bool) (after_hold_is : after_hold ≡ has_held front) where
   abbrev line : Line
   line = admission when t m note list
 
@@ -104,26 +104,26 @@ module _ (front : Front) (ledger : Ledger) (at : IsAt front ledger) (going : led
     pub not_due : is_due_now ledger.state ≡ false
     pub waits_it : train_state.waits ≡ true
     pub next : m ≡ suc train_state.place
-    pub unheld : held ≡ false
+    pub unheld : after_hold ≡ false
 
-  in_place : is_in_place ledger when t m held ≡ true → InPlace
+  in_place : is_in_place ledger when t m after_hold ≡ true → InPlace
   in_place h =
       let a = eqb when ledger.state.instant in
       let b = not (is_due_now ledger.state) in
       let c = is_next_move ledger.state.trains t m in
-      let p3 = and_parts (a && b && c) (not held) h in
+      let p3 = and_parts (a && b && c) (not after_hold) h in
       let p2 = and_parts (a && b) c p3.0 in
       let p1 = and_parts a b p2.0 in
       let q = and_parts train_state.waits (eqb m (suc train_state.place)) p2.1 in
-      record { now = eqb-true when ledger.state.instant p1.0; not_due = not-true (is_due_now ledger.state) p1.1; waits_it = q.0; next = eqb-true m (suc train_state.place) q.1; unheld = not-true held p3.1 }
+      record { now = eqb-true when ledger.state.instant p1.0; not_due = not-true (is_due_now ledger.state) p1.1; waits_it = q.0; next = eqb-true m (suc train_state.place) q.1; unheld = not-true after_hold p3.1 }
 
-  from_place : InPlace → is_in_place ledger when t m held ≡ true
+  from_place : InPlace → is_in_place ledger when t m after_hold ≡ true
   from_place f =
       let a = eqb when ledger.state.instant in
       let b = not (is_due_now ledger.state) in
       let c = is_next_move ledger.state.trains t m in
-      and_from (a && b && c) (not held) (and_from (a && b) c (and_from a b (eq-eqb when ledger.state.instant f.now) (not_from_false (is_due_now ledger.state) f.not_due))
-      (and_from train_state.waits (eqb m (suc train_state.place)) f.waits_it (eq-eqb m (suc train_state.place) f.next))) (not_from_false held f.unheld)
+      and_from (a && b && c) (not after_hold) (and_from (a && b) c (and_from a b (eq-eqb when ledger.state.instant f.now) (not_from_false (is_due_now ledger.state) f.not_due))
+      (and_from train_state.waits (eqb m (suc train_state.place)) f.waits_it (eq-eqb m (suc train_state.place) f.next))) (not_from_false after_hold f.unheld)
 
   module _ (f : InPlace) where
     waits_now : waits (input_in ledger.input) front t ≡ true
@@ -142,7 +142,7 @@ module _ (front : Front) (ledger : Ledger) (at : IsAt front ledger) (going : led
         (and_from (eqb when (instant front) && waits (input_in ledger.input) front t) (eqb m (suc (place front t)))
         (and_from (eqb when (instant front)) (waits (input_in ledger.input) front t) (eq-eqb when (instant front) (f.now ∙ at.rep.time)) waits_now)
         (eq-eqb m (suc (place front t)) (f.next ∙ ap suc place_same)))
-        (not_from_false (has_held front) (sym held_is ∙ f.unheld)))
+        (not_from_false (has_held front) (sym after_hold_is ∙ f.unheld)))
 
     known : t < trains ledger.input.plant
     known = known_of front ledger at t f.waits_it
@@ -177,15 +177,15 @@ module _ (front : Front) (ledger : Ledger) (at : IsAt front ledger) (going : led
 
   fits : may_follow (input_in ledger.input) front line ≡ true → Fits
   fits may =
-      let chain = sym (judged (dispatch_in ledger.input) ledger.input.plant front ledger.state at.rep still sorted line t m note refl held held_is) ∙ may in
+      let chain = sym (judged (dispatch_in ledger.input) ledger.input.plant front ledger.state at.rep still sorted line t m note refl after_hold after_hold_is) ∙ may in
       let p6 = and_parts _ (completes (moves_of ledger.input.plant) (after (places ledger.input.plant front) t) (kept_after ledger.input.plant (kept ledger.input.plant front) line (Admit t m note))) chain in
       let p5 = and_parts _ (note_fits line train_state.place note) p6.0 in
-      let p4 = and_parts _ (not held) p5.0 in
+      let p4 = and_parts _ (not after_hold) p5.0 in
       let p3 = and_parts _ (eqb m (suc train_state.place)) p4.0 in
       let p2 = and_parts _ (not (is_some (seen_bar (told ledger.input.commands.items front) ledger.state.holders t (own_overlap ledger.input.plant t train_state.place) (claimed ledger.input.plant t train_state.place)))) p3.0 in
       let p1 = and_parts (eqb when ledger.state.instant) (not (is_due_now ledger.state) && train_state.waits) p2.0 in
       let q = and_parts (not (is_due_now ledger.state)) train_state.waits p1.1 in
-      let f : InPlace = record { now = eqb-true when ledger.state.instant p1.0; not_due = not-true (is_due_now ledger.state) q.0; waits_it = q.1; next = eqb-true m (suc train_state.place) p3.1; unheld = not-true held p4.1 } in
+      let f : InPlace = record { now = eqb-true when ledger.state.instant p1.0; not_due = not-true (is_due_now ledger.state) q.0; waits_it = q.1; next = eqb-true m (suc train_state.place) p3.1; unheld = not-true after_hold p4.1 } in
       record {
         place_fits = f;
         allowed = ap (λ o. is_some o || is_some (closed_in ledger.orders (claimed ledger.input.plant t train_state.place))) (stop_now f)
@@ -196,7 +196,7 @@ module _ (front : Front) (ledger : Ledger) (at : IsAt front ledger) (going : led
         given = by_note f note p5.1 p6.1;
       }
     where
-      -- what bars nothing is neither a stop nor a closed section nor a held one
+      -- what bars nothing is neither a stop nor a closed section nor a taken one
       bars : InPlace → not (is_some (seen_bar (told ledger.input.commands.items front) ledger.state.holders t (own_overlap ledger.input.plant t train_state.place) (claimed ledger.input.plant t train_state.place))) ≡ true
           → (is_some (stop_cause t (told ledger.input.commands.items front)) ≡ false)
           × (is_some (closed_cause (claimed ledger.input.plant t train_state.place) (told ledger.input.commands.items front)) ≡ false)
@@ -223,7 +223,7 @@ module _ (front : Front) (ledger : Ledger) (at : IsAt front ledger) (going : led
           at_place g = place_in ledger.input.plant front t (known_of front ledger at t g.waits_it) ∙ sym (place_same g)
       by_note f Fresh fit done = and_from (not (eqb (length list) 0)) (completes (moves_of ledger.input.plant) (after (places ledger.input.plant front) t) list) fit done
 
-  pub refused_place : is_in_place ledger when t m held ≡ false → (may_follow (input_in ledger.input) front line ≡ false) × (broken_law (input_in ledger.input) front line ≡ 2)
+  pub refused_place : is_in_place ledger when t m after_hold ≡ false → (may_follow (input_in ledger.input) front line ≡ false) × (broken_law (input_in ledger.input) front line ≡ 2)
   refused_place out = (
     false_from_ne_true (may_follow (input_in ledger.input) front line) (λ may. false≢true (sym out ∙ from_place (fits may).place_fits)),
     law_is ∙ cond-true (is_misplaced (input_in ledger.input) front line t m) 2 _ (true_misplaced),
@@ -240,24 +240,24 @@ module _ (front : Front) (ledger : Ledger) (at : IsAt front ledger) (going : led
             not_due = not-true (is_due_now ledger.state) q.0;
             waits_it = q.1;
             next = eqb-true m (suc (place front t)) p2.1 ∙ ap suc (sym (at.rep.times.places t (known_of front ledger at t q.1)));
-            unheld = held_is ∙ not-true (has_held front) p3.1;
+            unheld = after_hold_is ∙ not-true (has_held front) p3.1;
           }))))
 
-  pub refused_forbidden : is_in_place ledger when t m held ≡ true → is_forbidden_by ledger.orders t (claimed ledger.input.plant t train_state.place) ≡ true → (may_follow (input_in ledger.input) front line ≡ false) × (broken_law (input_in ledger.input) front line ≡ 3)
+  pub refused_forbidden : is_in_place ledger when t m after_hold ≡ true → is_forbidden_by ledger.orders t (claimed ledger.input.plant t train_state.place) ≡ true → (may_follow (input_in ledger.input) front line ≡ false) × (broken_law (input_in ledger.input) front line ≡ 3)
   refused_forbidden here barred =
       let f = in_place here in (
         false_from_ne_true (may_follow (input_in ledger.input) front line) (λ may. false≢true (sym (fits may).allowed ∙ barred)),
         law_is ∙ cond-false (is_misplaced (input_in ledger.input) front line t m) 2 _ (placed f) ∙ cond-true (is_forbidden (input_in ledger.input) front t) 3 _ (forbidden_is f ∙ barred),
       )
 
-  pub refused_occupied : is_in_place ledger when t m held ≡ true → is_forbidden_by ledger.orders t (claimed ledger.input.plant t train_state.place) ≡ false → is_some (held_cause ledger.state.holders t (own_overlap ledger.input.plant t train_state.place) (claimed ledger.input.plant t train_state.place)) ≡ true → (may_follow (input_in ledger.input) front line ≡ false) × (broken_law (input_in ledger.input) front line ≡ 4)
+  pub refused_occupied : is_in_place ledger when t m after_hold ≡ true → is_forbidden_by ledger.orders t (claimed ledger.input.plant t train_state.place) ≡ false → is_some (held_cause ledger.state.holders t (own_overlap ledger.input.plant t train_state.place) (claimed ledger.input.plant t train_state.place)) ≡ true → (may_follow (input_in ledger.input) front line ≡ false) × (broken_law (input_in ledger.input) front line ≡ 4)
   refused_occupied here allowed taken =
       let f = in_place here in (
         false_from_ne_true (may_follow (input_in ledger.input) front line) (λ may. false≢true (sym (fits may).free ∙ taken)),
         law_is ∙ cond-false (is_misplaced (input_in ledger.input) front line t m) 2 _ (placed f) ∙ cond-false (is_forbidden (input_in ledger.input) front t) 3 _ (forbidden_is f ∙ allowed) ∙ cond-true (is_occupied (input_in ledger.input) front t) 4 5 (occupied_is f ∙ taken),
       )
 
-  pub refused_list : is_in_place ledger when t m held ≡ true → is_forbidden_by ledger.orders t (claimed ledger.input.plant t train_state.place) ≡ false → is_some (held_cause ledger.state.holders t (own_overlap ledger.input.plant t train_state.place) (claimed ledger.input.plant t train_state.place)) ≡ false
+  pub refused_list : is_in_place ledger when t m after_hold ≡ true → is_forbidden_by ledger.orders t (claimed ledger.input.plant t train_state.place) ≡ false → is_some (held_cause ledger.state.holders t (own_overlap ledger.input.plant t train_state.place) (claimed ledger.input.plant t train_state.place)) ≡ false
       → may_be_given (moves_of ledger.input.plant) (places ledger.input.plant front) (kept ledger.input.plant front) t note list ≡ false
       → (may_follow (input_in ledger.input) front line ≡ false) × (broken_law (input_in ledger.input) front line ≡ 5)
   refused_list here allowed free none =
@@ -266,10 +266,10 @@ module _ (front : Front) (ledger : Ledger) (at : IsAt front ledger) (going : led
         law_is ∙ cond-false (is_misplaced (input_in ledger.input) front line t m) 2 _ (placed f) ∙ cond-false (is_forbidden (input_in ledger.input) front t) 3 _ (forbidden_is f ∙ allowed) ∙ cond-false (is_occupied (input_in ledger.input) front t) 4 5 (occupied_is f ∙ free),
       )
 
-  pub waits_in_place : is_in_place ledger when t m held ≡ true → train_state.waits ≡ true
+  pub waits_in_place : is_in_place ledger when t m after_hold ≡ true → train_state.waits ≡ true
   waits_in_place here = (in_place here).waits_it
 
-  pub admissible_in_place : is_in_place ledger when t m held ≡ true → is_forbidden_by ledger.orders t (claimed ledger.input.plant t train_state.place) ≡ false → is_some (held_cause ledger.state.holders t (own_overlap ledger.input.plant t train_state.place) (claimed ledger.input.plant t train_state.place)) ≡ false
+  pub admissible_in_place : is_in_place ledger when t m after_hold ≡ true → is_forbidden_by ledger.orders t (claimed ledger.input.plant t train_state.place) ≡ false → is_some (held_cause ledger.state.holders t (own_overlap ledger.input.plant t train_state.place) (claimed ledger.input.plant t train_state.place)) ≡ false
       → (is_deciding (input_in ledger.input) front ≡ true) × IsAdmissible (dispatch_in ledger.input) ledger.input.plant front ledger.state.holders ledger.state.trains t
   admissible_in_place here allowed free =
       let f = in_place here in (
@@ -277,7 +277,7 @@ module _ (front : Front) (ledger : Ledger) (at : IsAt front ledger) (going : led
         record {
           known_train = known_of front ledger at t f.waits_it;
           waits = f.waits_it;
-          unheld = sym held_is
+          unheld = sym after_hold_is
               ∙ f.unheld;
           free =
               ap (λ c. or_else c (or_else (closed_cause (claimed ledger.input.plant t (place front t)) (told ledger.input.commands.items front)) (held_cause ledger.state.holders t (own_overlap ledger.input.plant t (place front t)) (claimed ledger.input.plant t (place front t)))))
@@ -296,7 +296,7 @@ module _ (front : Front) (ledger : Ledger) (at : IsAt front ledger) (going : led
   abbrev new_list : List ℕ
   new_list = given_list (moves_of ledger.input.plant) (kept ledger.input.plant front) t note list
 
-  module _ (here : is_in_place ledger when t m held ≡ true) (allowed : is_forbidden_by ledger.orders t (claimed ledger.input.plant t train_state.place) ≡ false) (free : is_some (held_cause ledger.state.holders t (own_overlap ledger.input.plant t train_state.place) (claimed ledger.input.plant t train_state.place)) ≡ false) (may : may_be_given (moves_of ledger.input.plant) (places ledger.input.plant front) (kept ledger.input.plant front) t note list ≡ true) where
+  module _ (here : is_in_place ledger when t m after_hold ≡ true) (allowed : is_forbidden_by ledger.orders t (claimed ledger.input.plant t train_state.place) ≡ false) (free : is_some (held_cause ledger.state.holders t (own_overlap ledger.input.plant t train_state.place) (claimed ledger.input.plant t train_state.place)) ≡ false) (may : may_be_given (moves_of ledger.input.plant) (places ledger.input.plant front) (kept ledger.input.plant front) t note list ≡ true) where
     pub may_keep_it : MayKeep (moves_of ledger.input.plant) (places ledger.input.plant front) (kept ledger.input.plant front) t note new_list
     may_keep_it = of note may
       where

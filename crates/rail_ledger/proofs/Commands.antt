@@ -18,7 +18,7 @@ use Rattle.rail_queue.specs.declared.event.Event.{Event}
 use Rattle.rail_queue.specs.declared.event.Class.TheVariants as class
 use Rattle.rail_queue.specs.Order.{first_time_of, goes_before}
 use Rattle.rail_queue.specs.Queue.{Queue}
-use Rattle.rail_orders.specs.Told.{AreOrders, told_after}
+use Rattle.rail_orders.specs.OrderTables.{AreOrders, told_after}
 use Rattle.rail_orders.proofs.CallerLemmas.{order_told}
 use Rattle.rail_state.specs.TrainStates.{no_state, state_of}
 use Rattle.rail_state.specs.Representation.{HasTold, IsCommandOf, Represents, bare_at}
@@ -29,7 +29,7 @@ use Rattle.rail_base.specs.declared.history.Entry.{Entry}
 use Rattle.rail_ledger.specs.declared.ledger.Ledger.{Ledger}
 use Rattle.rail_ledger.specs.declared.ledger.Listed.TheVariants as which
 use Rattle.rail_ledger.specs.Inputs.{dispatch_in, input_in}
-use Rattle.rail_ledger.specs.Ledgers.{HasHeeded, HasPassed, IsAt, IsOther, MayGoOn, is_effective, line_in, list_in, listed_in}
+use Rattle.rail_ledger.specs.Ledgers.{HasToldCommand, HasPassed, IsAt, IsOther, MayGoOn, is_effective, line_in, list_in, listed_in}
 use Rattle.rail_ledger.proofs.Admissions.{left_of}
 use Rattle.rail_ledger.proofs.Going.{kept_stays, places_stay, some_inside}
 use Rattle.rail_ledger.proofs.Ordered.{command_in_range, effective, input_parts}
@@ -139,9 +139,9 @@ module _ (front : Front) (ledger : Ledger) (at : IsAt front ledger) (going : led
       }))
 
   -- its order takes effect
-  pub heeded_at : (new : Ledger) (said : What) → HasHeeded (without_first ledger queue) new event.at event.number it.command.what said
+  pub told_at : (new : Ledger) (said : What) → HasToldCommand (without_first ledger queue) new event.at event.number it.command.what said
       → is_effective (without_first ledger queue) it.command.what ≡ true → IsAt (bare_at event.at said ∷ front) new
-  heeded_at new said has effect =
+  told_at new said has effect =
       let order : Order = it.command.what in
       let line_is : (command_line (input_in ledger.input) front it.command it.index).what ≡ Told (suc it.index) =
       cond-true (takes_effect (input_in ledger.input) front (told ledger.input.commands.items front) order) (Told (suc it.index)) (Untold (suc it.index)) (sym decided ∙ effect) in
@@ -178,7 +178,7 @@ module _ (front : Front) (ledger : Ledger) (at : IsAt front ledger) (going : led
       → ((command : Command) → slice_get ledger.input.commands.items (event.number - 1) ≡ Some command
       → is_effective (without_first ledger queue) command.what ≡ false → HasPassed (without_first ledger queue) new event.at event.number said)
       → ((command : Command) → slice_get ledger.input.commands.items (event.number - 1) ≡ Some command
-      → is_effective (without_first ledger queue) command.what ≡ true → HasHeeded (without_first ledger queue) new event.at event.number command.what said)
+      → is_effective (without_first ledger queue) command.what ≡ true → HasToldCommand (without_first ledger queue) new event.at event.number command.what said)
       → (new.input ≡ ledger.input) × IsOther (record { at = event.at; what = said }) × IsAt (line_in new (record { at = event.at; what = said }) ∷ front) new
   given new said unlisted untold told = by (is_effective (without_first ledger queue) it.command.what) refl
     where
@@ -196,4 +196,4 @@ module _ (front : Front) (ledger : Ledger) (at : IsAt front ledger) (going : led
           (ap (λ (l : Ledger). l.input) has.is, (ap is_admission has.said, ap is_hold has.said), line_with (ap (λ (l : Ledger). list_in l) has.is) (passed_at new said has none))
       by true effect =
           let has = told it.command is_listed effect in
-          (ap (λ (l : Ledger). l.input) has.is, (ap is_admission has.said, ap is_hold has.said), line_with (ap (λ (l : Ledger). list_in l) has.is) (heeded_at new said has effect))
+          (ap (λ (l : Ledger). l.input) has.is, (ap is_admission has.said, ap is_hold has.said), line_with (ap (λ (l : Ledger). list_in l) has.is) (told_at new said has effect))

@@ -12,8 +12,8 @@ use Rattle.rail_rules.specs.Plant.{moves, moves_of, trains}
 use Rattle.rail_rules.specs.Fronts.{Front, kept, places}
 use Rattle.rail_rules.specs.Causes.{is_deciding, is_ready, place}
 use Rattle.rail_laws_front.proofs.CallerLemmas.{kept_completes, unbarred_legal, timely}
-use Rattle.rail_consequence.specs.Kept.{IsAnalystFor, Tallied}
-use Rattle.rail_place.specs.Made.{IsMadeFor, State}
+use Rattle.rail_consequence.specs.AnalystStates.{IsAnalystFor, Tallied}
+use Rattle.rail_place.specs.PlaceStates.{IsMadeFor, State}
 use Rattle.rail_place.specs.Tables.{IsTable, moves_in, MoveLists}
 use Rattle.rail_list.specs.KeptLists.{HasRoomFor, Kept}
 use Rattle.rail_list.specs.Repairs.{IsNoted, is_known}

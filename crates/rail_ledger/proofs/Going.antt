@@ -11,7 +11,7 @@ use Rattle.rail_rules.specs.Plant.{Plant, trains}
 use Rattle.rail_rules.specs.Fronts.{Front, Line, at_time, has_ended, is_admission, is_hold, kept}
 use Rattle.rail_rules.specs.Lawful.{is_lawful}
 use Rattle.rail_laws_front.proofs.CallerLemmas.{kept_idle, places_idle, told_kept}
-use Rattle.rail_place.specs.Made.{State}
+use Rattle.rail_place.specs.PlaceStates.{State}
 use Rattle.rail_list.specs.KeptLists.{Kept}
 use Rattle.rail_queue.specs.declared.event.Event.{Event}
 use Rattle.rail_queue.specs.declared.event.Class.TheVariants as class
@@ -25,7 +25,7 @@ use Rattle.rail_ledger.specs.declared.ledger.Ledger.{Ledger}
 use Rattle.rail_ledger.specs.declared.ledger.Listed.TheVariants as listed
 use Rattle.rail_base.specs.declared.orders.Order.{Order}
 use Rattle.rail_laws_events.specs.Accounts.{is_train_event}
-use Rattle.rail_orders.specs.Told.{AreOrders}
+use Rattle.rail_orders.specs.OrderTables.{AreOrders}
 use Rattle.rail_ledger.specs.Inputs.{dispatch_in, input_in}
 use Rattle.rail_ledger.specs.Ledgers.{ArePlaces, IsAt, IsKept, IsNextLine, IsOther, MayGoOn}
 use Rattle.rail_state.specs.declared.run_state.RunState.{RunState}

@@ -60,7 +60,7 @@ looked front ledger at states many each = record {
   analyst = at.analyst;
 }
 
--- who is untried after the look was so before, and no held section bars the train
+-- who is untried after the look was so before, and no taken section bars the train
 untried_before : (plant : Plant) (bar : ℕ → List ℕ → List ℕ → Option Cause) (t : ℕ) (old new : TrainState) → new ≡ looked_at plant bar t old → is_untried new ≡ true → (is_untried old ≡ true) × (bar t (own_overlap plant t old.place) (claimed plant t old.place) ≡ None)
 untried_before plant bar t old new is untried_now =
     ⊎_elim

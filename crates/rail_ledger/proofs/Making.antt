@@ -16,9 +16,9 @@ use Rattle.rail_laws_run.specs.TimeLimits.{StaysBelow}
 use Rattle.rail_laws_run.proofs.CallerLemmas.{stays_below, ready_is_past}
 use Rattle.rail_block.specs.declared.times.MoveTimes.{MoveTimes}
 use Rattle.rail_block.specs.CarriedTimes.{AreBelow, times_at}
-use Rattle.rail_consequence.specs.Kept.{Tallied}
+use Rattle.rail_consequence.specs.AnalystStates.{Tallied}
 use Rattle.rail_list.specs.KeptLists.{Kept}
-use Rattle.rail_place.specs.Made.{State}
+use Rattle.rail_place.specs.PlaceStates.{State}
 use Rattle.rail_state.specs.Representation.{IsAdmissible, IsAdmitLine, MayKeep, admit_line, list_for}
 use Rattle.rail_state.proofs.CallerLemmas.{admitted_line, kept_is, lawful_line, left_of_ready, ready_it, well_formed_plant, carried_ready}
 use Rattle.rail_ledger.specs.declared.ledger.Ledger.{Ledger}

@@ -23,7 +23,7 @@ use Rattle.rail_rules.proofs.CallerLemmas.{accepted_parts, move_in_range, row_in
 use Rattle.rail_laws_events.specs.Accounts.{tally}
 use Rattle.rail_laws_run.specs.HolderTables.{held_cause}
 use Rattle.rail_queue.specs.declared.event.Event.{Event}
-use Rattle.rail_orders.specs.Told.{closed_in}
+use Rattle.rail_orders.specs.OrderTables.{closed_in}
 use Rattle.rail_orders.proofs.CallerLemmas.{closed_is, effect_is, stop_is}
 use Rattle.rail_state.specs.Events.{command_event, command_events, event_of}
 use Rattle.rail_state.specs.SeenCauses.{seen_bar}
@@ -121,7 +121,7 @@ effective front ledger at (Stop t) known = refl
 effective front ledger at (Go t) known = refl
 effective front ledger at (Priority t n) known = refl
 
--- where nothing bars a move none of its sections is held
+-- where nothing bars a move none of its sections is taken
 pub held_free : (orders : List Order) (holders : List (Option ℕ)) (t : ℕ) (own sections : List ℕ) → seen_bar orders holders t own sections ≡ None → held_cause holders t own sections ≡ None
 held_free orders holders t own sections free = last (closed_cause sections orders) _ (last (stop_cause t orders) _ free)
   where

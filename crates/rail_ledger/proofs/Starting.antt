@@ -4,7 +4,7 @@ use Rattle.std.specs.Prelude.{◌↔◌, vec_capacity}
 use Rattle.std.proofs.lemmas.Grind.{replicate_next}
 use Rattle.rail_base.specs.declared.limits.TheConstants.{TRAINS}
 use Rattle.rail_rules.specs.Accepted.{is_accepted_input}
-use Rattle.rail_orders.specs.Told.{AreOrders, first_tables}
+use Rattle.rail_orders.specs.OrderTables.{AreOrders, first_tables}
 use Rattle.rail_orders.proofs.CallerLemmas.{no_orders}
 use Rattle.rail_ledger.specs.Inputs.{dispatch_in, input_in}
 use Rattle.rail_ledger.proofs.Ordered.{input_parts}
@@ -13,9 +13,9 @@ use Rattle.rail_rules.specs.Numbers.{listed, sum_below}
 use Rattle.rail_rules.specs.Places.{holds}
 use Rattle.rail_rules.specs.Plant.{moves_of, trains}
 use Rattle.rail_laws_run.specs.MostDue.{most_due}
-use Rattle.rail_consequence.specs.Kept.{IsAnalystFor}
+use Rattle.rail_consequence.specs.AnalystStates.{IsAnalystFor}
 use Rattle.rail_list.specs.KeptLists.{HasRoomFor}
-use Rattle.rail_place.specs.Made.{IsMadeFor}
+use Rattle.rail_place.specs.PlaceStates.{IsMadeFor}
 use Rattle.rail_place.specs.Tables.{moves_in, MoveLists}
 use Rattle.rail_state.proofs.CallerLemmas.{begins}
 use Rattle.rail_ledger.specs.declared.ledger.Ledger.{Ledger}

@@ -16,8 +16,8 @@ use Rattle.rail_rules.specs.Fronts.{Front, Line, has_ended, has_held, is_admissi
 use Rattle.rail_rules.specs.Lawful.{is_lawful, may_follow}
 use Rattle.rail_judging.specs.Verdicts.{broken_law, missing_law}
 use Rattle.rail_rules.specs.RunHistories.{Seat, is_chosen, is_run}
-use Rattle.rail_place.specs.Made.{State}
-use Rattle.rail_consequence.specs.Kept.{IsAnalystFor}
+use Rattle.rail_place.specs.PlaceStates.{State}
+use Rattle.rail_consequence.specs.AnalystStates.{IsAnalystFor}
 use Rattle.rail_list.specs.KeptLists.{Kept}
 use Rattle.rail_queue.specs.Order.{first_time_of}
 use Rattle.rail_state.specs.declared.train.TrainState.{TrainState}
@@ -30,12 +30,12 @@ use Rattle.rail_ledger.specs.declared.ledger.Listed.{Listed}
 use Rattle.rail_ledger.specs.declared.ledger.Listed.TheVariants as listed
 use Rattle.rail_rules.specs.Orders.{told}
 use Rattle.rail_rules.specs.Accepted.{is_accepted_input}
-use Rattle.rail_orders.specs.Told.{AreOrders, Told, closed_in, stop_in, takes_effect_in, told_after}
+use Rattle.rail_orders.specs.OrderTables.{AreOrders, Told, closed_in, stop_in, takes_effect_in, told_after}
 use Rattle.rail_base.specs.declared.history.What.{What}
 use Rattle.rail_base.specs.declared.history.What.TheVariants as what
 use Rattle.rail_base.specs.declared.orders.Order.{Order}
 use Rattle.rail_base.specs.declared.orders.Order.TheVariants.{Cancel}
-use Rattle.rail_state.specs.SeenCauses.{stays}
+use Rattle.rail_state.specs.SeenCauses.{is_uncancelled}
 use Rattle.rail_ledger.specs.Inputs.{dispatch_in, input_in}
 use Rattle.rail_state.specs.declared.pushes.TheConstants.{MOVE_EVENTS}
 
@@ -78,10 +78,10 @@ pub record HasPassed (old new : Ledger) (at number : ℕ) (result : What) : Type
   pub is : new ≡ record old { state = record old.state { instant = at } }
 
 -- the command of this number, with this order, is told
-pub record HasHeeded (old new : Ledger) (at number : ℕ) (order : Order) (result : What) : Type 0 where
+pub record HasToldCommand (old new : Ledger) (at number : ℕ) (order : Order) (result : What) : Type 0 where
   pub said : result ≡ what.Told number
   pub is : new ≡ record old { orders = told_after order old.orders; state = new.state }
-  pub events : new.state.queue.events ≡ filter (stays (order ∷ [])) old.state.queue.events
+  pub events : new.state.queue.events ≡ filter (is_uncancelled (order ∷ [])) old.state.queue.events
   pub room : length new.state.queue.events + new.state.queue.spare ≡ length old.state.queue.events + old.state.queue.spare
   pub holders : new.state.holders ≡ old.state.holders
   pub many : length new.state.trains ≡ length old.state.trains
@@ -217,20 +217,20 @@ IsRefused ledger line law = (front : Front) → IsAt front ledger
 
 -- the ledger stands for the front, and this says whether its last line is a hold line
 abbrev pub IsAtWith : Bool → Ledger → Front → Type 0
-IsAtWith held ledger front = IsAt front ledger × (held ≡ has_held front)
+IsAtWith after_hold ledger front = IsAt front ledger × (after_hold ≡ has_held front)
 
 -- the ledger stands for some front of which this says whether its last line is a hold line
-pub record IsSomewhereWith (held : Bool) (ledger : Ledger) : Type 0 where
+pub record IsSomewhereWith (after_hold : Bool) (ledger : Ledger) : Type 0 where
   pub front : Front
-  pub at : IsAtWith held ledger front
+  pub at : IsAtWith after_hold ledger front
 
 -- the line may follow each such front for which the ledger stood, and it stands for the front with the line
 abbrev pub TakesLineWith : Bool → Ledger → Ledger → Line → Type 0
-TakesLineWith held old new line = (front : Front) → IsAtWith held old front → IsAt (line ∷ front) new
+TakesLineWith after_hold old new line = (front : Front) → IsAtWith after_hold old front → IsAt (line ∷ front) new
 
 -- the line may not follow each such front for which the ledger stands, and this is the law that it breaks
 abbrev pub IsRefusedWith : Bool → Ledger → Line → ℕ → Type 0
-IsRefusedWith held ledger line law = (front : Front) → IsAtWith held ledger front
+IsRefusedWith after_hold ledger line law = (front : Front) → IsAtWith after_hold ledger front
     → (may_follow (input_in ledger.input) front line ≡ false) × (law ≡ broken_law (input_in ledger.input) front line)
 
 -- nothing is due at the instant of a front for which the ledger stands, and nothing but a list is wanting for the train's next move
@@ -283,8 +283,8 @@ is_next_move states t m = (state_of states t).waits && (m == suc (state_of state
 
 -- the train waits at this instant, this is its next move, and no hold line stands before in the round
 abbrev pub is_in_place : Ledger → ℕ → ℕ → ℕ → Bool → Bool
-is_in_place ledger at t m held = (at == ledger.state.instant) && not (is_due_now ledger.state)
-    && is_next_move ledger.state.trains t m && not held
+is_in_place ledger at t m after_hold = (at == ledger.state.instant) && not (is_due_now ledger.state)
+    && is_next_move ledger.state.trains t m && not after_hold
 
 -- places and kept list are those after an admission of the train with this note and list
 pub record HasGiven (front : Front) (old new : Ledger) (t : ℕ) (note : Note) (list : List ℕ) : Type 0 where

@@ -31,13 +31,13 @@ pub enum Left {
 impl Ledger {
     /// Takes a line, with the list of a fresh admission or the trains that an end line names, and without trains else:
     /// `None` where it may follow, and then what is kept stands for the lines with it; else the law that it breaks,
-    /// and then what is kept stands for the lines so far. `held` tells whether the last line was a hold line. The
+    /// and then what is kept stands for the lines so far. `after_hold` tells whether the last line was a hold line. The
     /// line may name any train, section and command.
-    pub fn take(&mut self, entry: Entry, trains: &[TrainNo], held: bool) -> Option<u8>
-        requires running { IsSomewhereWith held self.old }
+    pub fn take(&mut self, entry: Entry, trains: &[TrainNo], after_hold: bool) -> Option<u8>
+        requires running { IsSomewhereWith after_hold self.old }
         ensures input { self.new.input ≡ self.old.input }
-        ensures taken { IsNone result → TakesLineWith held self.old self.new (line_taken entry trains.now) }
-        ensures refused { IfSome result (IsRefusedWith held self.old (line_taken entry trains.now)) }
+        ensures taken { IsNone result → TakesLineWith after_hold self.old self.new (line_taken entry trains.now) }
+        ensures refused { IfSome result (IsRefusedWith after_hold self.old (line_taken entry trains.now)) }
         ensures stays { IsSome result → StandsAsBefore self.old self.new }
     {
         if self.state.has_ended {
@@ -46,9 +46,9 @@ impl Ledger {
         let what = entry.what;
         match what {
             What::Admit { train, place, note } => {
-                self.take_admission(entry.at, train, place, note, trains, held)
+                self.take_admission(entry.at, train, place, note, trains, after_hold)
             }
-            _ => self.take_other(entry, trains, held),
+            _ => self.take_other(entry, trains, after_hold),
         }
     }
 
@@ -77,9 +77,9 @@ impl Ledger {
 
     /// What is left to decide at this instant, at which nothing is pending. No line is given. Where the last line
     /// was a hold line each train that waits has a known cause.
-    fn left_to_decide(&mut self, held: bool) -> Left
+    fn left_to_decide(&mut self, after_hold: bool) -> Left
         requires running { IsSomewhere self.old }
-        requires known { held ≡ true → AreAllKnown self.old.input.plant self.old.state.trains }
+        requires known { after_hold ≡ true → AreAllKnown self.old.input.plant self.old.state.trains }
         requires going { self.old.state.has_ended ≡ false }
         requires unsettled { self.old.state.is_settled ≡ false }
         requires none_due { first_time_of self.old.state.queue.events ≢ Some self.old.state.instant }
@@ -92,7 +92,7 @@ impl Ledger {
         ensures hold { (train : ℕ) → result ≡ HoldOf train → IsHoldDue self.new train }
         ensures nothing { result ≡ Nothing → IsSettled self.old self.new }
     {
-        while let Some(train) = self.look_unless(held) {
+        while let Some(train) = self.look_unless(after_hold) {
             if self.knows_list(train) {
                 return Left::Admission;
             }
@@ -125,10 +125,10 @@ impl Ledger {
     }
 
     /// Takes a line that is no admission: `None` where it may follow, and then what is kept stands for the lines
-    /// with it; else the law that it breaks, and then what is kept stands for the lines so far. `held` tells whether
+    /// with it; else the law that it breaks, and then what is kept stands for the lines so far. `after_hold` tells whether
     /// the last line was a hold line.
-    fn take_other(&mut self, entry: Entry, trains: &[TrainNo], held: bool) -> Option<u8>
-        requires running { IsSomewhereWith held self.old }
+    fn take_other(&mut self, entry: Entry, trains: &[TrainNo], after_hold: bool) -> Option<u8>
+        requires running { IsSomewhereWith after_hold self.old }
         requires other { is_admission entry.what ≡ false }
         ensures input { self.new.input ≡ self.old.input }
         ensures taken { IsNone result → TakesLine self.old self.new (line_with entry trains.now) }
@@ -142,7 +142,7 @@ impl Ledger {
         if self.may_go_on() {
             return self.take_next(entry, trains);
         }
-        match self.left_to_decide(held) {
+        match self.left_to_decide(after_hold) {
             Left::Admission => Some(6),
             Left::Hold(train) => self.take_hold(entry, trains, train),
             Left::Nothing => self.take_next(entry, trains),
@@ -234,7 +234,7 @@ impl Ledger {
     }
 
     /// Takes an admission: `None` where it may follow, and then what is kept stands for the lines with it;
-    /// else the law that it breaks, and then what is kept stands for the lines so far. `held` tells whether the last line was a hold line.
+    /// else the law that it breaks, and then what is kept stands for the lines so far. `after_hold` tells whether the last line was a hold line.
     fn take_admission(
         &mut self,
         at: Time,
@@ -242,16 +242,16 @@ impl Ledger {
         place: u16,
         note: Note,
         list: &[TrainNo],
-        held: bool,
+        after_hold: bool,
     ) -> Option<u8>
-        requires running { IsSomewhereWith held self.old }
+        requires running { IsSomewhereWith after_hold self.old }
         requires going { self.old.state.has_ended ≡ false }
         ensures input { self.new.input ≡ self.old.input }
-        ensures taken { IsNone result → TakesLineWith held self.old self.new (admission at train place note list.now) }
-        ensures refused { IfSome result (IsRefusedWith held self.old (admission at train place note list.now)) }
+        ensures taken { IsNone result → TakesLineWith after_hold self.old self.new (admission at train place note list.now) }
+        ensures refused { IfSome result (IsRefusedWith after_hold self.old (admission at train place note list.now)) }
         ensures stays { IsSome result → StandsAsBefore self.old self.new }
     {
-        if !self.is_in_place(at, train, place, held) {
+        if !self.is_in_place(at, train, place, after_hold) {
             return Some(2);
         }
         if self.is_forbidden(train) {
@@ -270,16 +270,16 @@ impl Ledger {
 
     /// Whether the train waits at this instant, this is its next move, and no hold line stands before in the
     /// round.
-    fn is_in_place(&self, at: Time, train: TrainNo, place: u16, held: bool) -> bool
+    fn is_in_place(&self, at: Time, train: TrainNo, place: u16, after_hold: bool) -> bool
         requires { IsSomewhere self.now }
-        ensures exact { result ≡ is_in_place self.now at train place held }
+        ensures exact { result ≡ is_in_place self.now at train place after_hold }
         ensures sorted { IsTrue (is_sorted self.now.state.queue.events) }
     {
         let first = self.state.queue.first_time();
         at == self.state.instant
             && first != Some(self.state.instant)
             && self.is_next_move(train, place)
-            && !held
+            && !after_hold
     }
 
     /// Whether the train waits, and this is its next move.

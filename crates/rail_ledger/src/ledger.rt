@@ -8,12 +8,12 @@ ghost use Rattle.rail_queue.specs.declared.event.Class.TheVariants as class;
 ghost use Rattle.rail_rules.specs.Accepted.{is_accepted_input};
 ghost use Rattle.rail_rules.specs.Plant.{moves, trains};
 ghost use Rattle.rail_ledger.specs.Inputs.{input_in};
-ghost use Rattle.rail_ledger.specs.Ledgers.{AreAlike, AreUnbarred, ContinuesRun, GivesEntry, HasHeeded, HasList, HasPassed, HasTried, IsAdmissionOf, IsAt, IsDeciding, IsNextLine, IsNextTrain, IsOther, IsSettled, IsSomewhere, MayGoOn, StandsAsBefore, is_effective, list_in, list_with, untried};
+ghost use Rattle.rail_ledger.specs.Ledgers.{AreAlike, AreUnbarred, ContinuesRun, GivesEntry, HasToldCommand, HasList, HasPassed, HasTried, IsAdmissionOf, IsAt, IsDeciding, IsNextLine, IsNextTrain, IsOther, IsSettled, IsSomewhere, MayGoOn, StandsAsBefore, is_effective, list_in, list_with, untried};
 ghost use Rattle.rail_ledger.specs.declared.ledger.Listed.TheVariants as which;
 ghost use Rattle.rail_base.specs.declared.limits.TheConstants.{TRAINS};
-ghost use Rattle.rail_consequence.specs.Kept.{IsAnalystFor};
+ghost use Rattle.rail_consequence.specs.AnalystStates.{IsAnalystFor};
 ghost use Rattle.rail_list.specs.KeptLists.{HasRoomFor};
-ghost use Rattle.rail_place.specs.Made.{IsMadeFor};
+ghost use Rattle.rail_place.specs.PlaceStates.{IsMadeFor};
 ghost use Rattle.rail_place.specs.Tables.{moves_in};
 ghost use Rattle.rail_queue.specs.Order.{first_time_of, goes_before, is_sorted};
 ghost use Rattle.rail_rules.specs.Causes.{could_go};
@@ -323,7 +323,7 @@ impl Ledger {
         ensures untold { (command : Command) → slice_get self.old.input.commands.items (number - 1) ≡ Some command
             → is_effective self.old command.what ≡ false → HasPassed self.old self.new at number result }
         ensures told { (command : Command) → slice_get self.old.input.commands.items (number - 1) ≡ Some command
-            → is_effective self.old command.what ≡ true → HasHeeded self.old self.new at number command.what result }
+            → is_effective self.old command.what ≡ true → HasToldCommand self.old self.new at number command.what result }
     {
         let order = self.input.commands[usize::from(number) - 1].what;
         if !self.is_effective(&order) {

@@ -6,7 +6,7 @@ use Rattle.std.proofs.lemmas.List.{get_or-set_same, length-set}
 use Rattle.std.proofs.lemmas.List.Elements.{All-nil, All-cons}
 use Rattle.rail_rules.specs.Numbers.{any_below, sum_below, is_in, are_apart}
 use Rattle.rail_rules.specs.Moves.{Moves, stand, is_valid}
-use Rattle.rail_rules.specs.Places.{place_of, holds, is_held, is_inside, is_legal, after, completes}
+use Rattle.rail_rules.specs.Places.{place_of, holds, has_holder, is_inside, is_legal, after, completes}
 use Rattle.rail_rules.specs.Analysis.{Leg, is_safe, needs_later}
 use Rattle.rail_rules.proofs.CallerLemmas.{any_below_at, any_below_found, any_below_none, apart_at, apart_from, apart_sym, list_any_at, list_any_none, sum_below-le}
 use Rattle.rail_place.specs.Plays.{IsPlayed}
@@ -48,8 +48,8 @@ alone_legal : (plan : Moves) (s : List ℕ) (t : ℕ) → is_valid plan ≡ true
 alone_legal plan s t valid lt some more alone =
     let needed : List ℕ = plan.claim t (place_of s t) in
     let own = apart_own plan t (place_of s t) valid lt some more in
-    and_from (ltb (place_of s t) (plan.moves t)) (not (list_any (is_held plan s) needed)) (lt-ltb (place_of s t) (plan.moves t) more)
-    (not_from_false (list_any (is_held plan s) needed) (list_any_none (is_held plan s) needed (λ x is.
+    and_from (ltb (place_of s t) (plan.moves t)) (not (list_any (has_holder plan s) needed)) (lt-ltb (place_of s t) (plan.moves t) more)
+    (not_from_false (list_any (has_holder plan s) needed) (list_any_none (has_holder plan s) needed (λ x is.
     any_below_none (λ u. holds plan s u x) (length s) (λ u _.
     ⊎_elim
     (λ same. let P : ℕ → Type 0 = λ k. holds plan s k x ≡ false in subst P (sym same) (apart_at needed (stand plan t (place_of s t)) x own is))

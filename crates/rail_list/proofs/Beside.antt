@@ -5,7 +5,7 @@ use Rattle.std.proofs.lemmas.List.{get_or-set_same, length-set}
 use Rattle.std.specs.List.{list_any}
 use Rattle.rail_rules.specs.Numbers.{is_in, are_apart}
 use Rattle.rail_rules.specs.Moves.{Moves, stand}
-use Rattle.rail_rules.specs.Places.{place_of, holds, is_held, is_legal, after}
+use Rattle.rail_rules.specs.Places.{place_of, holds, has_holder, is_legal, after}
 use Rattle.rail_rules.proofs.CallerLemmas.{any_below_at, apart_at, apart_from, apart_sym, list_any_at}
 use Rattle.rail_consequence.proofs.CallerLemmas.{legal_kept}
 use Rattle.rail_list.proofs.Pulling.{place_kept}
@@ -44,11 +44,11 @@ apart_then plan s t u lt ne legal =
     let p : ℕ = suc (place_of s t) in
     let r : List ℕ = after s t in
     let needed : List ℕ = plan.claim u (place_of r u) in
-    let parts = and_parts (ltb (place_of r u) (plan.moves u)) (not (list_any (is_held plan r) needed)) legal in
-    let nobody = not-true (list_any (is_held plan r) needed) parts.1 in
+    let parts = and_parts (ltb (place_of r u) (plan.moves u)) (not (list_any (has_holder plan r) needed)) legal in
+    let nobody = not-true (list_any (has_holder plan r) needed) parts.1 in
     apart_from (plan.claim u (place_of s u)) (stand plan t p) (λ x is.
     let stays : is_in x needed ≡ true = ap (λ k. is_in x (plan.claim u k)) (place_kept s u t ne) ∙ is in
-    let free : holds plan r t x ≡ false = any_below_at (λ v. holds plan r v x) (length r) t (list_any_at (is_held plan r) needed x nobody stays) (omega (arith, length-set s t p, lt)) in
+    let free : holds plan r t x ≡ false = any_below_at (λ v. holds plan r v x) (length r) t (list_any_at (has_holder plan r) needed x nobody stays) (omega (arith, length-set s t p, lt)) in
     sym (ap (λ k. is_in x (stand plan t k)) (get_or-set_same s t p 0 lt)) ∙ free)
 
 pub legal_beside : (plan : Moves) (s : List ℕ) (t u : ℕ) → t < length s → u ≢ t → is_legal plan s u ≡ true

@@ -2,7 +2,7 @@
 use Rattle.std.proofs.Common.{◌≡◌, ℕ, ◌<◌, List, length, sym, arith}
 use Rattle.rail_rules.specs.Places.{after}
 use Rattle.rail_place.specs.Tables.{moves_in, MoveLists}
-use Rattle.rail_place.specs.Made.{State, IsMadeFor}
+use Rattle.rail_place.specs.PlaceStates.{State, IsMadeFor}
 use Rattle.rail_place.proofs.CallerLemmas.{made_long, IsWayBack, way_back}
 
 -- the train's move can be taken back

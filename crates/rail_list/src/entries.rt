@@ -5,7 +5,7 @@ ghost use Rattle.std.specs.List.{All, remove};
 ghost use Rattle.rail_base.specs.declared.limits.TheConstants.{SECTIONS};
 ghost use Rattle.rail_rules.specs.Numbers.{are_apart, is_in};
 ghost use Rattle.rail_rules.specs.Places.{completes};
-ghost use Rattle.rail_place.specs.Made.{IsMadeFor};
+ghost use Rattle.rail_place.specs.PlaceStates.{IsMadeFor};
 ghost use Rattle.rail_place.specs.Tables.{moves_in};
 ghost use Rattle.rail_list.specs.KeptLists.{before_first, is_free_before};
 

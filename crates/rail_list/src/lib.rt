@@ -16,15 +16,15 @@
 #![tactic(auto)]
 
 mod entries;
-mod given;
-mod kept;
+mod given_admission;
+mod kept_list;
 mod laws;
 mod needers;
 mod notes;
 mod repair;
 
-pub use given::admit_given;
-pub use kept::KeptList;
+pub use given_admission::admit_given;
+pub use kept_list::KeptList;
 pub use laws::{
     a_completing_list_fits,
     a_pulled_list_completes_exactly_where_no_earlier_entry_needs_what_the_train_stands_on,

@@ -4,7 +4,7 @@ ghost use Rattle.std.specs.Prelude.{◌≡◌, ℕ, ◌<◌, ◌&&◌, length, n
 ghost use Rattle.rail_base.specs.declared.limits.TheConstants.{SECTIONS};
 ghost use Rattle.rail_rules.specs.Analysis.{needs_later};
 ghost use Rattle.rail_rules.specs.Numbers.{any_below, are_apart, is_in};
-ghost use Rattle.rail_place.specs.Made.{IsMadeFor};
+ghost use Rattle.rail_place.specs.PlaceStates.{IsMadeFor};
 ghost use Rattle.rail_place.specs.Tables.{moves_in};
 
 use rail_base::{SectionNo, TrainNo};

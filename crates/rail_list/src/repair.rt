@@ -1,9 +1,9 @@
 ghost use Rattle.std.specs.Prelude.{◌≡◌, ℕ, ◌<◌, true, false, length, IsTrue, IsNone, IsSome, IfSome};
 ghost use Rattle.rail_rules.specs.Analysis.{finds};
 ghost use Rattle.rail_rules.specs.Places.{after, completes, is_legal};
-ghost use Rattle.rail_place.specs.Made.{IsMadeFor};
+ghost use Rattle.rail_place.specs.PlaceStates.{IsMadeFor};
 ghost use Rattle.rail_place.specs.Tables.{moves_in};
-ghost use Rattle.rail_consequence.specs.Kept.{IsAnalystFor};
+ghost use Rattle.rail_consequence.specs.AnalystStates.{IsAnalystFor};
 ghost use Rattle.rail_list.specs.KeptLists.{HasRoomFor};
 ghost use Rattle.rail_list.specs.Repairs.{IsNoted, is_known, is_repairable_for};
 

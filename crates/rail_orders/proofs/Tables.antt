@@ -14,7 +14,7 @@ use Rattle.rail_base.specs.declared.plant.TrainRow.{TrainRow}
 use Rattle.rail_rules.specs.Plant.{Plant, no_train, train, trains}
 use Rattle.rail_rules.specs.Orders.{Dispatch, Input, first_force, in_force, input_of, is_cancelled, is_closed, is_in_deck, is_retired, is_stopped, priority_of, takes_effect}
 use Rattle.rail_rules.specs.Causes.{closed_cause, stop_cause}
-use Rattle.rail_orders.specs.Told.{AreOrders, Told, closed_in, first_tables, has_policy, stop_in, takes_effect_in, told_after}
+use Rattle.rail_orders.specs.OrderTables.{AreOrders, Told, closed_in, first_tables, has_policy, stop_in, takes_effect_in, told_after}
 
 -- what is read of a list in which an item was set: that item at its place, else what stood there
 read_after : {X : Type 0} (items : List X) (i j : ℕ) (x none : X) → j < length items → get_or (set items i x) j none ≡ cond (i == j) x (get_or items j none)

@@ -1,2 +1,2 @@
 -- What the commands told so far mean.
-pub mod Told
+pub mod OrderTables

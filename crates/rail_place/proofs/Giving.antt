@@ -5,7 +5,7 @@ use Rattle.std.proofs.lemmas.List.{get_or-set_same, get_or-set_other, length-set
 use Rattle.rail_rules.specs.Numbers.{is_in, or_else}
 use Rattle.rail_rules.proofs.CallerLemmas.{is_in-head}
 use Rattle.rail_place.specs.declared.barring.Barred.TheVariants.{Held}
-use Rattle.rail_place.specs.Bars.{held_by}
+use Rattle.rail_place.specs.Bars.{barred_by}
 use Rattle.rail_place.specs.Owners.{given, first_owned_in}
 
 pub length-given : {X : Type 0} → (owners : List X) (xs : List ℕ) (owner : X) → length (given owners xs owner) ≡ length owners
@@ -49,4 +49,4 @@ range_at xs i x n h lt is = h x (ap (λ y. is_in y xs) is ∙ is_in-get_or xs i 
 pub first_owned-here : (owners : List (Option ℕ)) (xs : List ℕ) (i x u : ℕ) → i < length xs → x ≡ get_or xs i x → get_or owners x None ≡ Some u → first_owned_in owners (drop i xs) ≡ Some (Held x u)
 first_owned-here owners xs i x u lt is owner =
     let same : drop i xs ≡ x ∷ drop (i + 1) xs = drop_more xs i x lt ∙ ap (λ y. y ∷ drop (i + 1) xs) (sym is) in
-    ap (first_owned_in owners) same ∙ ap (λ o. or_else (held_by x o) (first_owned_in owners (drop (i + 1) xs))) owner
+    ap (first_owned_in owners) same ∙ ap (λ o. or_else (barred_by x o) (first_owned_in owners (drop (i + 1) xs))) owner

@@ -7,14 +7,14 @@ use Rattle.std.specs.List.{list_any}
 use Rattle.rail_base.specs.declared.limits.TheConstants.{SECTIONS}
 use Rattle.rail_rules.specs.Numbers.{or_else, is_in, are_apart}
 use Rattle.rail_rules.specs.Moves.{Moves, stand, is_valid}
-use Rattle.rail_rules.specs.Places.{place_of, holds, is_held, is_legal, is_valid_state}
+use Rattle.rail_rules.specs.Places.{place_of, holds, has_holder, is_legal, is_valid_state}
 use Rattle.rail_rules.proofs.CallerLemmas.{any_below_at, list_any_at, apart_at, apart_from, state_parts, state_from_parts, stand_needed}
 use Rattle.rail_place.specs.declared.barring.Barred.{Barred}
 use Rattle.rail_place.specs.declared.barring.Barred.TheVariants.{Out, Held}
 use Rattle.rail_place.specs.Tables.{moves_in, MoveLists}
-use Rattle.rail_place.specs.Made.{State, IsMadeFor}
+use Rattle.rail_place.specs.PlaceStates.{State, IsMadeFor}
 use Rattle.rail_place.specs.Owners.{given, first_owned_in}
-use Rattle.rail_place.specs.Bars.{holder_of, held_by, first_held, bar_of}
+use Rattle.rail_place.specs.Bars.{holder_of, barred_by, first_taken, bar_of}
 use Rattle.rail_place.proofs.Tables.{stand_in_range}
 use Rattle.rail_place.proofs.Giving.{length-given, given-other, given-named}
 use Rattle.rail_place.proofs.Firsts.{first_below_nothing, first_below_at, first_below_any}
@@ -49,59 +49,59 @@ holder_is plan s owners x (Some u) told e =
 pub owner_is : (plan : Moves) (s : List ℕ) (owners : List (Option ℕ)) (x : ℕ) → Told plan s owners → get_or owners x None ≡ holder_of plan s x
 owner_is plan s owners x told = holder_is plan s owners x (get_or owners x None) told refl
 
-pub first_owned-held : (plan : Moves) (s : List ℕ) (owners : List (Option ℕ)) (xs : List ℕ) → Told plan s owners → first_owned_in owners xs ≡ first_held plan s xs
-first_owned-held plan s owners [] told = refl
-first_owned-held plan s owners (x ∷ xs) told =
-    ap (λ o. or_else (held_by x o) (first_owned_in owners xs)) (owner_is plan s owners x told)
-    ∙ ap (λ o. or_else (held_by x (holder_of plan s x)) o) (first_owned-held plan s owners xs told)
+pub first_owned-taken : (plan : Moves) (s : List ℕ) (owners : List (Option ℕ)) (xs : List ℕ) → Told plan s owners → first_owned_in owners xs ≡ first_taken plan s xs
+first_owned-taken plan s owners [] told = refl
+first_owned-taken plan s owners (x ∷ xs) told =
+    ap (λ o. or_else (barred_by x o) (first_owned_in owners xs)) (owner_is plan s owners x told)
+    ∙ ap (λ o. or_else (barred_by x (holder_of plan s x)) o) (first_owned-taken plan s owners xs told)
 
 -- nobody holds the section where there is no first holder
-holder_none : (plan : Moves) (s : List ℕ) (x : ℕ) (o rest : Option Barred) (h : Option ℕ) → holder_of plan s x ≡ h → or_else (held_by x h) rest ≡ None → (is_held plan s x ≡ false) × (rest ≡ None)
+holder_none : (plan : Moves) (s : List ℕ) (x : ℕ) (o rest : Option Barred) (h : Option ℕ) → holder_of plan s x ≡ h → or_else (barred_by x h) rest ≡ None → (has_holder plan s x ≡ false) × (rest ≡ None)
 holder_none plan s x o rest None e h = (first_below_any (λ u. holds plan s u x) (length s) e, h)
 holder_none plan s x o rest (Some u) e h = absurd (none-some (Held x u) (sym h))
 
-pub unheld_from_none : (plan : Moves) (s xs : List ℕ) → first_held plan s xs ≡ None → list_any (is_held plan s) xs ≡ false
-unheld_from_none plan s [] h = refl
-unheld_from_none plan s (x ∷ xs) h =
-    let parts = holder_none plan s x None (first_held plan s xs) (holder_of plan s x) refl h in
-    or_from (is_held plan s x) (list_any (is_held plan s) xs) parts.0 (unheld_from_none plan s xs parts.1)
+pub untaken_from_none : (plan : Moves) (s xs : List ℕ) → first_taken plan s xs ≡ None → list_any (has_holder plan s) xs ≡ false
+untaken_from_none plan s [] h = refl
+untaken_from_none plan s (x ∷ xs) h =
+    let parts = holder_none plan s x None (first_taken plan s xs) (holder_of plan s x) refl h in
+    or_from (has_holder plan s x) (list_any (has_holder plan s) xs) parts.0 (untaken_from_none plan s xs parts.1)
 
-pub none_from_unheld : (plan : Moves) (s xs : List ℕ) → list_any (is_held plan s) xs ≡ false → first_held plan s xs ≡ None
-none_from_unheld plan s [] h = refl
-none_from_unheld plan s (x ∷ xs) h =
-    let parts = or_parts (is_held plan s x) (list_any (is_held plan s) xs) h in
+pub none_from_untaken : (plan : Moves) (s xs : List ℕ) → list_any (has_holder plan s) xs ≡ false → first_taken plan s xs ≡ None
+none_from_untaken plan s [] h = refl
+none_from_untaken plan s (x ∷ xs) h =
+    let parts = or_parts (has_holder plan s x) (list_any (has_holder plan s) xs) h in
     let nobody : holder_of plan s x ≡ None = first_below_nothing (λ u. holds plan s u x) (length s) (λ u lt. any_below_at (λ v. holds plan s v x) (length s) u parts.0 lt) in
-    ap (λ o. or_else (held_by x o) (first_held plan s xs)) nobody ∙ none_from_unheld plan s xs parts.1
+    ap (λ o. or_else (barred_by x o) (first_taken plan s xs)) nobody ∙ none_from_untaken plan s xs parts.1
 
 -- a move is legal exactly where nothing bars it
 pub legal_from_none : (plan : Moves) (s : List ℕ) (t : ℕ) → bar_of plan s t ≡ None → is_legal plan s t ≡ true
 legal_from_none plan s t h =
     let xs : List ℕ = plan.claim t (place_of s t) in
-    let rest : Option Barred = first_held plan s xs in
+    let rest : Option Barred = first_taken plan s xs in
     ⊎_elim
     (λ more.
     let none : rest ≡ None = sym (cond-true (ltb (place_of s t) (plan.moves t)) rest (Some Out) more) ∙ h in
-    and_from (ltb (place_of s t) (plan.moves t)) (not (list_any (is_held plan s) xs)) more (not_from_false (list_any (is_held plan s) xs) (unheld_from_none plan s xs none)))
+    and_from (ltb (place_of s t) (plan.moves t)) (not (list_any (has_holder plan s) xs)) more (not_from_false (list_any (has_holder plan s) xs) (untaken_from_none plan s xs none)))
     (λ out. absurd (none-some Out (sym h ∙ cond-false (ltb (place_of s t) (plan.moves t)) rest (Some Out) out)))
     (cases_Bool (ltb (place_of s t) (plan.moves t)))
 
 pub none_from_legal : (plan : Moves) (s : List ℕ) (t : ℕ) → is_legal plan s t ≡ true → bar_of plan s t ≡ None
 none_from_legal plan s t h =
     let xs : List ℕ = plan.claim t (place_of s t) in
-    let parts = and_parts (ltb (place_of s t) (plan.moves t)) (not (list_any (is_held plan s) xs)) h in
-    cond-true (ltb (place_of s t) (plan.moves t)) (first_held plan s xs) (Some Out) parts.0
-    ∙ none_from_unheld plan s xs (not-true (list_any (is_held plan s) xs) parts.1)
+    let parts = and_parts (ltb (place_of s t) (plan.moves t)) (not (list_any (has_holder plan s) xs)) h in
+    cond-true (ltb (place_of s t) (plan.moves t)) (first_taken plan s xs) (Some Out) parts.0
+    ∙ none_from_untaken plan s xs (not-true (list_any (has_holder plan s) xs) parts.1)
 
 pub legal_ahead : (plan : Moves) (s : List ℕ) (t : ℕ) → is_legal plan s t ≡ true → place_of s t < plan.moves t
 legal_ahead plan s t h =
-    let parts = and_parts (ltb (place_of s t) (plan.moves t)) (not (list_any (is_held plan s) (plan.claim t (place_of s t)))) h in
+    let parts = and_parts (ltb (place_of s t) (plan.moves t)) (not (list_any (has_holder plan s) (plan.claim t (place_of s t)))) h in
     ltb-true (place_of s t) (plan.moves t) parts.0
 
 -- nobody holds a section that a legal move needs
 pub legal_free : (plan : Moves) (s : List ℕ) (t x u : ℕ) → is_legal plan s t ≡ true → is_in x (plan.claim t (place_of s t)) ≡ true → holds plan s u x ≡ false
 legal_free plan s t x u h is =
-    let parts = and_parts (ltb (place_of s t) (plan.moves t)) (not (list_any (is_held plan s) (plan.claim t (place_of s t)))) h in
-    let nobody = list_any_at (is_held plan s) (plan.claim t (place_of s t)) x (not-true (list_any (is_held plan s) (plan.claim t (place_of s t))) parts.1) is in
+    let parts = and_parts (ltb (place_of s t) (plan.moves t)) (not (list_any (has_holder plan s) (plan.claim t (place_of s t)))) h in
+    let nobody = list_any_at (has_holder plan s) (plan.claim t (place_of s t)) x (not-true (list_any (has_holder plan s) (plan.claim t (place_of s t))) parts.1) is in
     ⊎_elim
     (λ lt. any_below_at (λ v. holds plan s v x) (length s) u nobody lt)
     (λ past. holds_past plan s u x past)
@@ -135,10 +135,10 @@ told_moved plan s owners t p n told lt size range free =
       λ owned.
           let same : t ≡ u = same_Some t u (sym now ∙ owned) in
           ap (λ v. holds plan (set s t p) v x) (sym same) ∙ mine ∙ is,
-      λ held.
+      λ taken.
           ⊎_elim
           (λ same. now ∙ ap (λ v. Some v) (sym same))
-          (λ other. absurd (false≢true (sym (free u x other is) ∙ sym (theirs other) ∙ held)))
+          (λ other. absurd (false≢true (sym (free u x other is) ∙ sym (theirs other) ∙ taken)))
           (cases_eq u t),
     ) in
     let out_case : is_in x new ≡ false → goal = λ out.
@@ -146,24 +146,24 @@ told_moved plan s owners t p n told lt size range free =
     let was_case : is_in x old ≡ true → goal = λ was.
     let none : get_or freed x None ≡ None = given-named owners old None None x was (omega (arith, size, range (place_of s t) x was)) in (
       λ owned. absurd (none-some u (sym none ∙ sym now ∙ owned)),
-      λ held.
+      λ taken.
           ⊎_elim
-          (λ same. absurd (false≢true (sym out ∙ sym mine ∙ ap (λ v. holds plan (set s t p) v x) (sym same) ∙ held)))
-          (λ other. absurd (other (sym (one_holder plan s owners x t u told was (sym (theirs other) ∙ held)))))
+          (λ same. absurd (false≢true (sym out ∙ sym mine ∙ ap (λ v. holds plan (set s t p) v x) (sym same) ∙ taken)))
+          (λ other. absurd (other (sym (one_holder plan s owners x t u told was (sym (theirs other) ∙ taken)))))
           (cases_eq u t),
     ) in
     let not_case : is_in x old ≡ false → goal = λ was.
     let kept : get_or freed x None ≡ get_or owners x None = given-other owners old None None x was in (
       λ owned.
-          let held : holds plan s u x ≡ true = (told x u).0 (sym kept ∙ sym now ∙ owned) in
+          let taken : holds plan s u x ≡ true = (told x u).0 (sym kept ∙ sym now ∙ owned) in
           ⊎_elim
-          (λ same. absurd (false≢true (sym was ∙ ap (λ v. holds plan s v x) (sym same) ∙ held)))
-          (λ other. theirs other ∙ held)
+          (λ same. absurd (false≢true (sym was ∙ ap (λ v. holds plan s v x) (sym same) ∙ taken)))
+          (λ other. theirs other ∙ taken)
           (cases_eq u t),
-      λ held.
+      λ taken.
           ⊎_elim
-          (λ same. absurd (false≢true (sym out ∙ sym mine ∙ ap (λ v. holds plan (set s t p) v x) (sym same) ∙ held)))
-          (λ other. now ∙ kept ∙ (told x u).1 (sym (theirs other) ∙ held))
+          (λ same. absurd (false≢true (sym out ∙ sym mine ∙ ap (λ v. holds plan (set s t p) v x) (sym same) ∙ taken)))
+          (λ other. now ∙ kept ∙ (told x u).1 (sym (theirs other) ∙ taken))
           (cases_eq u t),
     ) in
     ⊎_elim was_case not_case (cases_Bool (is_in x old)) in
@@ -249,10 +249,10 @@ pub made_stepped :
     → owners1 ≡ given s.owners old None → new ≡ stand (moves_in table) t p
     → owners2 ≡ given owners1 new (Some t)
     → IsMadeFor table (record { positions = positions; owners = owners2; played = n })
-made_stepped table s t p n positions owners1 owners2 old new counted made lt high apart at was freed next held =
+made_stepped table s t p n positions owners1 owners2 old new counted made lt high apart at was freed next taken =
     let plan : Moves = moves_in table in
     let owners : owners2 ≡ owners_moved plan s.positions s.owners t p =
-    held ∙ ap (λ o. given o new (Some t)) (freed ∙ ap (λ xs. given s.owners xs None) was)
+    taken ∙ ap (λ o. given o new (Some t)) (freed ∙ ap (λ xs. given s.owners xs None) was)
     ∙ ap (λ xs. given (given s.owners (stand plan t (place_of s.positions t)) None) xs (Some t)) next in
     let moved : State = record { positions = set s.positions t p; owners = owners_moved plan s.positions s.owners t p; played = n } in
     let result : State = record { positions = positions; owners = owners2; played = n } in
@@ -266,7 +266,7 @@ room_freed owners owners1 old freed room = ap length freed ∙ length-given owne
 pub bar_ahead : (plan : Moves) (s : List ℕ) (owners : List (Option ℕ)) (t place : ℕ) (xs : List ℕ) → Told plan s owners → place ≡ place_of s t → place < plan.moves t → xs ≡ plan.claim t place → bar_of plan s t ≡ first_owned_in owners xs
 bar_ahead plan s owners t place xs told same more needed =
     let now : place_of s t < plan.moves t = omega arith in
-    cond-true (ltb (place_of s t) (plan.moves t)) (first_held plan s (plan.claim t (place_of s t))) (Some Out) (lt-ltb (place_of s t) (plan.moves t) now)
-    ∙ ap (λ p. first_held plan s (plan.claim t p)) (sym same)
-    ∙ ap (first_held plan s) (sym needed)
-    ∙ sym (first_owned-held plan s owners xs told)
+    cond-true (ltb (place_of s t) (plan.moves t)) (first_taken plan s (plan.claim t (place_of s t))) (Some Out) (lt-ltb (place_of s t) (plan.moves t) now)
+    ∙ ap (λ p. first_taken plan s (plan.claim t p)) (sym same)
+    ∙ ap (first_taken plan s) (sym needed)
+    ∙ sym (first_owned-taken plan s owners xs told)

@@ -11,7 +11,7 @@ use Rattle.rail_rules.specs.Places.{place_of, is_inside, is_legal, after, is_val
 use Rattle.rail_rules.specs.Analysis.{moves_left}
 use Rattle.rail_rules.proofs.CallerLemmas.{any_below_at, sum_below-lt, apart_sym, apart_from, state_parts, legal_move_kept}
 use Rattle.rail_place.specs.Tables.{moves_in, MoveLists}
-use Rattle.rail_place.specs.Made.{State, IsMadeFor}
+use Rattle.rail_place.specs.PlaceStates.{State, IsMadeFor}
 use Rattle.rail_place.specs.Plays.{IsPlayed}
 use Rattle.rail_place.specs.declared.barring.Barred.{Barred}
 use Rattle.rail_place.specs.declared.barring.Barred.TheVariants.{Outside}

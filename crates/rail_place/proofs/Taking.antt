@@ -12,7 +12,7 @@ use Rattle.rail_place.specs.declared.barring.PlacesFault.TheVariants.{Overlap, O
 use Rattle.rail_place.specs.declared.holdings.Holding.{Holding}
 use Rattle.rail_place.specs.declared.holdings.Holding.TheVariants.{Free, One, Two}
 use Rattle.rail_place.specs.Tables.{moves_in, IsTable, MoveLists}
-use Rattle.rail_place.specs.Made.{IsMadeFor}
+use Rattle.rail_place.specs.PlaceStates.{IsMadeFor}
 use Rattle.rail_place.specs.Holdings.{with_train, taken_up, TellsBelow, owner_in, IsShared, IsFirstShared}
 use Rattle.rail_place.specs.Overlaps.{IsFault}
 use Rattle.rail_place.proofs.Tables.{stand_in_range}
@@ -69,10 +69,10 @@ tells_same plan s x n Free out told = λ u lt.
 tells_same plan s x n (One a) out told = (
   omega (arith, told.0),
   told.1,
-  λ u lt held.
+  λ u lt taken.
       ⊎_elim
-      (λ below. told.2 u below held)
-      (λ above. let same : n ≡ u = omega arith in absurd (false≢true (sym out ∙ ap (λ v. holds plan s v x) same ∙ held)))
+      (λ below. told.2 u below taken)
+      (λ above. let same : n ≡ u = omega arith in absurd (false≢true (sym out ∙ ap (λ v. holds plan s v x) same ∙ taken)))
       (cases_lt u n),
 )
 tells_same plan s x n (Two a b) out told = (told.0, omega (arith, told.1), told.2, told.3, told.4)
@@ -81,9 +81,9 @@ tells_more : (plan : Moves) (s : List ℕ) (x n : ℕ) (h : Holding) → holds p
 tells_more plan s x n Free is told = (
   omega arith,
   is,
-  λ u lt held.
+  λ u lt taken.
       ⊎_elim
-      (λ below. absurd (false≢true (sym (told u below) ∙ held)))
+      (λ below. absurd (false≢true (sym (told u below) ∙ taken)))
       (λ above. let same : u ≡ n = omega arith in same)
       (cases_lt u n),
 )
@@ -102,19 +102,19 @@ tells_on plan s hs x n xs lt at told =
     let P : Holding → Type 0 = λ h. TellsBelow plan s x (n + 1) h in
     ⊎_elim
     (λ is.
-    let held : holds plan s n x ≡ true = ap (is_in x) (sym at) ∙ is in
-    subst P (sym (taken_up-named hs xs n x is lt)) (tells_more plan s x n (get_or hs x Free) held told))
+    let taken : holds plan s n x ≡ true = ap (is_in x) (sym at) ∙ is in
+    subst P (sym (taken_up-named hs xs n x is lt)) (tells_more plan s x n (get_or hs x Free) taken told))
     (λ out.
-    let not_held : holds plan s n x ≡ false = ap (is_in x) (sym at) ∙ out in
-    subst P (sym (taken_up-other hs xs n x Free out)) (tells_same plan s x n (get_or hs x Free) not_held told))
+    let not_taken : holds plan s n x ≡ false = ap (is_in x) (sym at) ∙ out in
+    subst P (sym (taken_up-other hs xs n x Free out)) (tells_same plan s x n (get_or hs x Free) not_taken told))
     (cases_Bool (is_in x xs))
 
 -- of all trains: a section that no two hold has this owner
 owner_told : (plan : Moves) (s : List ℕ) (x u : ℕ) (h : Holding) → TellsBelow plan s x (length s) h → (IsShared h → ⊥) → (owner_in h ≡ Some u) ↔ (holds plan s u x ≡ true)
-owner_told plan s x u Free told single = (λ e. absurd (none-some u e), λ held. absurd (false≢true (sym (told u (holder_listed plan s u x held)) ∙ held)))
+owner_told plan s x u Free told single = (λ e. absurd (none-some u e), λ taken. absurd (false≢true (sym (told u (holder_listed plan s u x taken)) ∙ taken)))
 owner_told plan s x u (One a) told single = (
   λ e. ap (λ v. holds plan s v x) (sym (same_Some a u e)) ∙ told.1,
-  λ held. ap (λ v. Some v) (sym (told.2 u (holder_listed plan s u x held) held)),
+  λ taken. ap (λ v. Some v) (sym (told.2 u (holder_listed plan s u x taken) taken)),
 )
 owner_told plan s x u (Two a b) told single = absurd (single tt)
 
@@ -129,11 +129,11 @@ owners_told table s hs owners h long room at told single =
     (λ lt.
     let read : get_or owners x None ≡ owner_in (get_or hs x Free) = ap (λ o. get_or o x None) at ∙ get_or-map owner_in hs x Free None lt in
     let both = owner_told (moves_in table) s x u (get_or hs x Free) (told x (omega (arith, room))) (single x lt) in
-    (λ e. both.0 (sym read ∙ e), λ held. read ∙ both.1 held))
+    (λ e. both.0 (sym read ∙ e), λ taken. read ∙ both.1 taken))
     (λ past.
     let none : get_or owners x None ≡ None = get_or_past owners x None (omega (arith, ap length at, length-map hs owner_in)) in (
       λ e. absurd (none-some u (sym none ∙ e)),
-      λ held. absurd (omega (arith, room, stand_in_range table u (place_of s u) x h (omega (arith, long, holder_listed (moves_in table) s u x held)) held)),
+      λ taken. absurd (omega (arith, room, stand_in_range table u (place_of s u) x h (omega (arith, long, holder_listed (moves_in table) s u x taken)) taken)),
     ))
     (cases_lt x (length hs))
 
@@ -167,7 +167,7 @@ pub made_outside : (table : List MoveLists) → IsTable table → IsMadeFor tabl
 made_outside table h =
     let n = length table in
     let all : (x u : ℕ) → (get_or (replicate SECTIONS None) x None ≡ Some u) ↔ (holds (moves_in table) (replicate n 0) u x ≡ true) = λ x u.
-    ((λ owner. absurd (none-some u (sym (nothing_else {A = Option ℕ} None SECTIONS x) ∙ owner))), (λ held. absurd (false≢true (sym (holds_nothing (moves_in table) n u x) ∙ held)))) in
+    ((λ owner. absurd (none-some u (sym (nothing_else {A = Option ℕ} None SECTIONS x) ∙ owner))), (λ taken. absurd (false≢true (sym (holds_nothing (moves_in table) n u x) ∙ taken)))) in
     record {
       moves = h;
       valid = told_valid (moves_in table) (replicate n 0) (replicate SECTIONS None) (length-replicate {A = ℕ} n 0) (λ t lt. rw (nothing_else {A = ℕ} 0 n t) omega arith) all;

@@ -13,18 +13,18 @@ abbrev pub holder_of : Moves → List ℕ → ℕ → Option ℕ
 holder_of plan s x = first_below (λ u. holds plan s u x) (length s)
 
 -- a section that has a holder bars a move over it
-abbrev pub held_by : ℕ → Option ℕ → Option Barred
-held_by x None = None
-held_by x (Some u) = Some (Held x u)
+abbrev pub barred_by : ℕ → Option ℕ → Option Barred
+barred_by x None = None
+barred_by x (Some u) = Some (Held x u)
 
--- the first of the sections that is held, with its holder
-abbrev pub first_held : Moves → List ℕ → List ℕ → Option Barred
-first_held plan s [] = None
-first_held plan s (x ∷ xs) = or_else (held_by x (holder_of plan s x)) (first_held plan s xs)
+-- the first of the sections that is taken, with its holder
+abbrev pub first_taken : Moves → List ℕ → List ℕ → Option Barred
+first_taken plan s [] = None
+first_taken plan s (x ∷ xs) = or_else (barred_by x (holder_of plan s x)) (first_taken plan s xs)
 
--- why the next move of the train is not legal: the train is out, or a claimed section is held
+-- why the next move of the train is not legal: the train is out, or a claimed section is taken
 abbrev pub bar_of : Moves → List ℕ → ℕ → Option Barred
-bar_of plan s t = cond (nat_lt (place_of s t) (plan.moves t)) (first_held plan s (plan.claim t (place_of s t))) (Some Out)
+bar_of plan s t = cond (nat_lt (place_of s t) (plan.moves t)) (first_taken plan s (plan.claim t (place_of s t))) (Some Out)
 
 -- why a list may not name the train next: it is not inside, or its move is not legal
 abbrev pub bar_in_list : Moves → List ℕ → ℕ → Option Barred

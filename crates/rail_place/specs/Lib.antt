@@ -1,6 +1,6 @@
 -- What a table of moves spells, what places tell, and what the player answers.
 pub mod Tables
-pub mod Made
+pub mod PlaceStates
 pub mod Bars
 pub mod Owners
 pub mod Plays

@@ -10,7 +10,7 @@ pub enum Barred {
     Outside,
     /// The train has made all its moves.
     Out,
-    /// A claimed section is held; this is the first such, the route before the overlap.
+    /// A claimed section is taken; this is the first such, the route before the overlap.
     Held { section: SectionNo, holder: TrainNo },
 }
 

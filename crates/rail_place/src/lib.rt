@@ -1,7 +1,7 @@
 //! Where the trains stand: the moves of each train, places, and the player of lists of moves.
 //!
 //! This layer stands on the plain data of `rail_base` and on the definitions of `rail_rules`: what is
-//! held, legal and complete is defined there, and nothing here adds to it. `Moves` keeps which sections
+//! taken, legal and complete is defined there, and nothing here adds to it. `Moves` keeps which sections
 //! each move claims, which of them are its overlap, and where each train stands after it. `Places` keeps how many moves each train has
 //! made, and a table from each section to the train that holds it, so that a move costs the sections
 //! that it names and no scan of the trains. `specs/` says which moves a table of rows spells, that

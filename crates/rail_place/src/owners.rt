@@ -8,7 +8,7 @@ use crate::barring::Barred;
 use rail_base::{SectionNo, TrainNo};
 use std::alloc::{AllocError, Global};
 
-/// The table of so many sections in which none is held.
+/// The table of so many sections in which none is taken.
 pub fn no_owners(alloc: Global, sections: usize) -> Result<Vec<Option<TrainNo>>, AllocError>
     ensures { IfOk result (λ owners. owners.items ≡ replicate sections None) }
 {
@@ -16,7 +16,7 @@ pub fn no_owners(alloc: Global, sections: usize) -> Result<Vec<Option<TrainNo>>,
 }
 
 /// Gives each of the sections to the train.
-pub fn hold(owners: &mut Vec<Option<TrainNo>>, sections: &[SectionNo], train: TrainNo)
+pub fn occupy(owners: &mut Vec<Option<TrainNo>>, sections: &[SectionNo], train: TrainNo)
     requires { (x : ℕ) → IsTrue (is_in x sections.now) → x < length owners.old.items }
     ensures { owners.new.items ≡ given owners.old.items sections.now (Some train) }
 {

@@ -3,14 +3,14 @@ ghost use Rattle.rail_rules.specs.Numbers.{are_apart};
 ghost use Rattle.rail_rules.specs.Moves.{stand};
 ghost use Rattle.rail_rules.specs.Places.{after, is_legal, place_of};
 ghost use Rattle.rail_place.specs.Tables.{moves_in, MoveLists};
-ghost use Rattle.rail_place.specs.Made.{IsMadeFor};
+ghost use Rattle.rail_place.specs.PlaceStates.{IsMadeFor};
 ghost use Rattle.rail_place.specs.Bars.{bar_of};
 ghost use Rattle.rail_place.specs.Overlaps.{IsFault};
 
 use crate::barring::{Barred, PlacesFault};
 use crate::holdings::{holdings_of, owners_of};
 use crate::moves::Moves;
-use crate::owners::{first_owned, hold, no_owners, release};
+use crate::owners::{first_owned, no_owners, occupy, release};
 use rail_base::limits::{SECTIONS, TRAINS};
 use rail_base::{OutOfMemory, SectionNo, TrainNo};
 use std::alloc::Global;
@@ -37,7 +37,7 @@ impl Drop for Places {
 }
 
 impl Model for Places {
-    ghost use Rattle.rail_place.specs.Made.{State};
+    ghost use Rattle.rail_place.specs.PlaceStates.{State};
 
     ghost Value = { State };
 
@@ -117,7 +117,7 @@ impl Places {
     }
 
     /// Whether the train's next move is legal, and else why not: `Out` where the train has made all its
-    /// moves, and `Held` with the first claimed section that is held, and its holder.
+    /// moves, and `Held` with the first claimed section that is taken, and its holder.
     pub fn legal(&self, moves: &Moves, train: TrainNo) -> Result<(), Barred>
         requires made { IsMadeFor moves.now self.now }
         requires train { train < length moves.now }
@@ -147,7 +147,7 @@ impl Places {
     {
         let place = self.positions[usize::from(train.0)];
         release(&mut self.owners, moves.stand(train, place));
-        hold(&mut self.owners, moves.stand(train, place + 1), train);
+        occupy(&mut self.owners, moves.stand(train, place + 1), train);
         self.positions[usize::from(train.0)] = place + 1;
         self.played = self.played.saturating_add(1);
     }
@@ -184,7 +184,7 @@ impl Places {
     {
         let before = self.positions[usize::from(train.0)];
         release(&mut self.owners, moves.stand(train, before));
-        hold(&mut self.owners, moves.stand(train, place), train);
+        occupy(&mut self.owners, moves.stand(train, place), train);
         self.positions[usize::from(train.0)] = place;
     }
 

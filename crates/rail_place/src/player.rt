@@ -5,7 +5,7 @@ ghost use Rattle.std.specs.List.{All};
 ghost use Rattle.rail_rules.specs.Numbers.{first_below};
 ghost use Rattle.rail_rules.specs.Places.{completes, is_inside, is_legal, is_valid_state};
 ghost use Rattle.rail_place.specs.Tables.{moves_in};
-ghost use Rattle.rail_place.specs.Made.{IsMadeFor};
+ghost use Rattle.rail_place.specs.PlaceStates.{IsMadeFor};
 ghost use Rattle.rail_place.specs.Bars.{bar_in_list, ending, moves_made, outcome};
 ghost use Rattle.rail_place.specs.Plays.{IsPlayed};
 

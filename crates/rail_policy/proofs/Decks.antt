@@ -10,15 +10,15 @@ use Rattle.rail_policy.specs.Seats.{DeskSeat, are_marks_small, no_seat, seat_at}
 
 module _ {X : Type 0} (seat : X → DeskSeat) where
   -- one policy is replaced by another, which is seen as the change says; all others stay
-  pub map-changed : (change : DeskSeat → DeskSeat) (deck : List X) (place : ℕ) (old new : X) → place < length deck
-      → seat new ≡ change (seat (get_or deck place old)) → map seat (set deck place new) ≡ set (map seat deck) place (change (seat_at (map seat deck) place))
-  map-changed change deck place old new lt new_is =
-      map-set seat deck place new
-      ∙ ap (set (map seat deck) place) (new_is ∙ ap change (sym (get_or-map seat deck place old no_seat lt)))
+  pub map-changed : (change : DeskSeat → DeskSeat) (deck : List X) (index : ℕ) (old new : X) → index < length deck
+      → seat new ≡ change (seat (get_or deck index old)) → map seat (set deck index new) ≡ set (map seat deck) index (change (seat_at (map seat deck) index))
+  map-changed change deck index old new lt new_is =
+      map-set seat deck index new
+      ∙ ap (set (map seat deck) index) (new_is ∙ ap change (sym (get_or-map seat deck index old no_seat lt)))
 
-  -- the policy at a place, as it is seen
-  pub seat_at-map : (deck : List X) (place : ℕ) (policy : X) → place < length deck → policy ≡ get_or deck place policy → seat_at (map seat deck) place ≡ seat policy
-  seat_at-map deck place policy lt policy_is = get_or-map seat deck place policy no_seat lt ∙ ap seat (sym policy_is)
+  -- the policy at a index, as it is seen
+  pub seat_at-map : (deck : List X) (index : ℕ) (policy : X) → index < length deck → policy ≡ get_or deck index policy → seat_at (map seat deck) index ≡ seat policy
+  seat_at-map deck index policy lt policy_is = get_or-map seat deck index policy no_seat lt ∙ ap seat (sym policy_is)
 
   pub list_any-map : (test : DeskSeat → Bool) (deck : List X) → list_any test (map seat deck) ≡ list_any (λ x. test (seat x)) deck
   list_any-map test [] = refl
@@ -33,11 +33,11 @@ module _ {X : Type 0} (seat : X → DeskSeat) where
       let found = prefix_len-map (λ s. not (test s)) deck in
       λ i. cond (nat_lt (found i) (length-map deck seat i)) (Some (found i)) None
 
-  pub map-remove : (deck : List X) (place : ℕ) → map seat (remove deck place) ≡ remove (map seat deck) place
-  map-remove deck place =
-      map-append seat (take place deck) (drop (suc place) deck)
-      ∙ ap (λ (front : List DeskSeat). front ++ map seat (drop (suc place) deck)) (sym (take-map seat place deck))
-      ∙ ap (λ (back : List DeskSeat). take place (map seat deck) ++ back) (sym (drop-map seat (suc place) deck))
+  pub map-remove : (deck : List X) (index : ℕ) → map seat (remove deck index) ≡ remove (map seat deck) index
+  map-remove deck index =
+      map-append seat (take index deck) (drop (suc index) deck)
+      ∙ ap (λ (front : List DeskSeat). front ++ map seat (drop (suc index) deck)) (sym (take-map seat index deck))
+      ∙ ap (λ (back : List DeskSeat). take index (map seat deck) ++ back) (sym (drop-map seat (suc index) deck))
 
   -- a small mark passes the test
   small_test : (mark : ℕ) → mark < 65536 → nat_lt mark 65536 ≡ true

@@ -31,57 +31,57 @@ transitive (x ∷ xs) (y ∷ ys) [] g h = absurd (false≢true h)
 transitive (x ∷ xs) (y ∷ ys) (z ∷ zs) g h =
     before_third x y z (comes_before xs ys) (comes_before ys zs) (comes_before xs zs) g h (transitive xs ys zs)
 
--- the offer at this place is there, and none of those so far goes before it
-pub record IsLeastOf (kind : PolicyKind) (mark : ℕ) (offers : List Offer) (upto place : ℕ) : Type 0 where
-  pub inside : place < length offers
-  pub least : (k : ℕ) (d : Offer) → k < upto → goes_before kind mark (get_or offers k d) (get_or offers place d) ≡ false
+-- the offer at this index is there, and none of those so far goes before it
+pub record IsLeastOf (kind : PolicyKind) (mark : ℕ) (offers : List Offer) (upto index : ℕ) : Type 0 where
+  pub inside : index < length offers
+  pub least : (k : ℕ) (d : Offer) → k < upto → goes_before kind mark (get_or offers k d) (get_or offers index d) ≡ false
 
--- the offer at a place, whatever is read past the end
+-- the offer at a index, whatever is read past the end
 read : (offers : List Offer) (i : ℕ) (x d : Offer) → i < length offers → x ≡ get_or offers i x → get_or offers i d ≡ x
 read offers i x d lt is = get_or_from_slice_get offers i x d (slice_get_read offers (length offers) i x refl lt is)
 
 module _ (kind : PolicyKind) (mark : ℕ) (offers : List Offer) where
   -- what is known of two offers, at their places
-  at_places : (i j : ℕ) (x y d : Offer) (b : Bool) → i < length offers → j < length offers → x ≡ get_or offers i x → y ≡ get_or offers j y
+  at_indices : (i j : ℕ) (x y d : Offer) (b : Bool) → i < length offers → j < length offers → x ≡ get_or offers i x → y ≡ get_or offers j y
       → goes_before kind mark x y ≡ b → goes_before kind mark (get_or offers i d) (get_or offers j d) ≡ b
-  at_places i j x y d b i_lt j_lt x_is y_is h =
+  at_indices i j x y d b i_lt j_lt x_is y_is h =
       ap (λ (a : Offer). goes_before kind mark a (get_or offers j d)) (read offers i x d i_lt x_is)
       ∙ ap (λ (a : Offer). goes_before kind mark x a) (read offers j y d j_lt y_is) ∙ h
 
   -- the next offer doesn't go before it
-  pub least_stays : (upto place : ℕ) (x y : Offer) → IsLeastOf kind mark offers upto place → upto < length offers
-      → x ≡ get_or offers upto x → y ≡ get_or offers place y → goes_before kind mark x y ≡ false → IsLeastOf kind mark offers (upto + 1) place
-  least_stays upto place x y so_far lt x_is y_is stays =
+  pub least_stays : (upto index : ℕ) (x y : Offer) → IsLeastOf kind mark offers upto index → upto < length offers
+      → x ≡ get_or offers upto x → y ≡ get_or offers index y → goes_before kind mark x y ≡ false → IsLeastOf kind mark offers (upto + 1) index
+  least_stays upto index x y so_far lt x_is y_is stays =
       record {
         inside = so_far.inside;
         least = λ k d below. below_more
-            (λ (n : ℕ). goes_before kind mark (get_or offers n d) (get_or offers place d) ≡ false) upto (λ n n_lt. so_far.least n d n_lt)
-            (at_places upto place x y d false lt so_far.inside x_is y_is stays) k below;
+            (λ (n : ℕ). goes_before kind mark (get_or offers n d) (get_or offers index d) ≡ false) upto (λ n n_lt. so_far.least n d n_lt)
+            (at_indices upto index x y d false lt so_far.inside x_is y_is stays) k below;
       }
 
   -- the next offer goes before it, and is the least one from now on
-  pub least_changes : (upto place : ℕ) (x y : Offer) → IsLeastOf kind mark offers upto place → upto < length offers
-      → x ≡ get_or offers upto x → y ≡ get_or offers place y → goes_before kind mark x y ≡ true → IsLeastOf kind mark offers (upto + 1) upto
-  least_changes upto place x y so_far lt x_is y_is changes =
+  pub least_changes : (upto index : ℕ) (x y : Offer) → IsLeastOf kind mark offers upto index → upto < length offers
+      → x ≡ get_or offers upto x → y ≡ get_or offers index y → goes_before kind mark x y ≡ true → IsLeastOf kind mark offers (upto + 1) upto
+  least_changes upto index x y so_far lt x_is y_is changes =
       record {
         inside = lt;
         least = λ k d below. below_more
             (λ (n : ℕ). goes_before kind mark (get_or offers n d) (get_or offers upto d) ≡ false) upto
             (λ n n_lt. false_from_ne_true (goes_before kind mark (get_or offers n d) (get_or offers upto d)) (λ before.
-            false≢true (sym (so_far.least n d n_lt) ∙ transitive (offer_key kind mark (get_or offers n d)) (offer_key kind mark (get_or offers upto d)) (offer_key kind mark (get_or offers place d)) before
-            (at_places upto place x y d true lt so_far.inside x_is y_is changes))))
+            false≢true (sym (so_far.least n d n_lt) ∙ transitive (offer_key kind mark (get_or offers n d)) (offer_key kind mark (get_or offers upto d)) (offer_key kind mark (get_or offers index d)) before
+            (at_indices upto index x y d true lt so_far.inside x_is y_is changes))))
             (irreflexive (offer_key kind mark (get_or offers upto d))) k below;
       }
 
   -- of all offers it has the least key
-  pub least_of_all : (place : ℕ) → IsLeastOf kind mark offers (length offers) place → HasLeastKey kind mark offers place
-  least_of_all place so_far =
-      elim (slice_get_cases offers place).1 [
+  pub least_of_all : (index : ℕ) → IsLeastOf kind mark offers (length offers) index → HasLeastKey kind mark offers index
+  least_of_all index so_far =
+      elim (slice_get_cases offers index).1 [
         | inl found ↦ record {
           chosen = found.0;
           there = found.2;
           least = λ k d lt.
-              ap (λ (c : Offer). goes_before kind mark (get_or offers k d) c) (sym (get_or_from_slice_get offers place found.0 d found.2)) ∙ so_far.least k d lt;
+              ap (λ (c : Offer). goes_before kind mark (get_or offers k d) c) (sym (get_or_from_slice_get offers index found.0 d found.2)) ∙ so_far.least k d lt;
         }
         | inr past ↦ absurd (omega (arith, past.0, so_far.inside))
       ]

@@ -5,10 +5,10 @@ use Rattle.rail_base.specs.declared.orders.PolicyKind.TheVariants.{Custom}
 use Rattle.rail_policy.specs.declared.offer.Offer.{Offer}
 use Rattle.rail_policy.specs.Keys.{goes_before}
 
--- the offer at this place is there, and no offer goes before it
-pub record HasLeastKey (kind : PolicyKind) (mark : ℕ) (offers : List Offer) (place : ℕ) : Type 0 where
+-- the offer at this index is there, and no offer goes before it
+pub record HasLeastKey (kind : PolicyKind) (mark : ℕ) (offers : List Offer) (index : ℕ) : Type 0 where
   pub chosen : Offer
-  pub there : slice_get offers place ≡ Some chosen
+  pub there : slice_get offers index ≡ Some chosen
   pub least : All (λ offer. goes_before kind mark offer chosen ≡ false) offers
 
 -- a policy of a built-in kind chooses an offer with the least key, and a custom one answers anything

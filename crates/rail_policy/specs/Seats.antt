@@ -41,9 +41,9 @@ noted seat admitted = record seat { mark = mark_when_noted seat.kind admitted se
 abbrev pub no_seat : DeskSeat
 no_seat = record { name = []; kind = Custom; mark = 0; answered = 0 }
 
--- the box at this place
+-- the box at this index
 abbrev pub seat_at : List DeskSeat → ℕ → DeskSeat
-seat_at seats place = get_or seats place no_seat
+seat_at seats index = get_or seats index no_seat
 
 -- the names of the boxes, in order
 abbrev pub names_of : List DeskSeat → List (List ℕ)
@@ -57,9 +57,9 @@ handed_in seats = map (λ (seat : DeskSeat). record { name = seat.name; kind = s
 abbrev pub is_named : List ℕ → DeskSeat → Bool
 is_named name seat = same_numbers seat.name name
 
--- the place of the box of this name, where there is one
-abbrev pub place_of : List DeskSeat → List ℕ → Option ℕ
-place_of seats name = position (is_named name) seats
+-- the index of the box of this name, where there is one
+abbrev pub index_of : List DeskSeat → List ℕ → Option ℕ
+index_of seats name = position (is_named name) seats
 
 -- no two boxes have one name
 abbrev pub have_distinct_names : List DeskSeat → Bool

@@ -1,7 +1,7 @@
 ghost use Rattle.std.specs.Prelude.{◌≡◌, ◌+◌, ◌<◌, true, length, map, set, vec_len, IfOk};
 ghost use Rattle.std.specs.List.{list_any, remove};
 ghost use Rattle.rail_policy.specs.Choices.{MayChoose};
-ghost use Rattle.rail_policy.specs.Seats.{are_marks_small, asked, noted, have_distinct_names, is_fine_deck, is_named, names_of, place_of, seat_at};
+ghost use Rattle.rail_policy.specs.Seats.{are_marks_small, asked, noted, have_distinct_names, is_fine_deck, is_named, names_of, index_of, seat_at};
 
 use crate::offer::Offer;
 use crate::policy::Policy;
@@ -79,36 +79,36 @@ fn is_named<P: Policy>(policy: &P, name: Name) -> bool
     policy.name() == name
 }
 
-/// The place of the policy of this name, where there is one.
-pub(crate) fn place_of<P: Policy>(deck: &[P], name: Name) -> Option<usize>
-    ensures { result ≡ place_of (map P.seat deck.now) name }
+/// The index of the policy of this name, where there is one.
+pub(crate) fn index_of<P: Policy>(deck: &[P], name: Name) -> Option<usize>
+    ensures { result ≡ index_of (map P.seat deck.now) name }
 {
     deck.iter().position(|policy| is_named(policy, name))
 }
 
-/// The answer of the policy at this place to the offers.
-pub(crate) fn ask<P: Policy>(deck: &mut [P], place: usize, offers: &[Offer]) -> usize
-    requires place { place < length deck.old }
+/// The answer of the policy at this index to the offers.
+pub(crate) fn ask<P: Policy>(deck: &mut [P], index: usize, offers: &[Offer]) -> usize
+    requires index { index < length deck.old }
     requires offers { 0 < length offers.now }
-    ensures seats { let seats = map P.seat deck.old in map P.seat deck.new ≡ set seats place (asked (seat_at seats place) result) }
-    ensures choice { let seat = seat_at (map P.seat deck.old) place in MayChoose seat.kind seat.mark offers.now result }
+    ensures seats { let seats = map P.seat deck.old in map P.seat deck.new ≡ set seats index (asked (seat_at seats index) result) }
+    ensures choice { let seat = seat_at (map P.seat deck.old) index in MayChoose seat.kind seat.mark offers.now result }
 {
-    deck[place].choose(offers)
+    deck[index].choose(offers)
 }
 
-/// Tells the policy at this place which train was admitted.
-pub(crate) fn tell<P: Policy>(deck: &mut [P], place: usize, admitted: TrainNo)
-    requires { place < length deck.old }
-    ensures { let seats = map P.seat deck.old in map P.seat deck.new ≡ set seats place (noted (seat_at seats place) admitted) }
+/// Tells the policy at this index which train was admitted.
+pub(crate) fn note_admission<P: Policy>(deck: &mut [P], index: usize, admitted: TrainNo)
+    requires { index < length deck.old }
+    ensures { let seats = map P.seat deck.old in map P.seat deck.new ≡ set seats index (noted (seat_at seats index) admitted) }
 {
-    deck[place].note(admitted);
+    deck[index].note(admitted);
 }
 
-/// Drops the policy at this place.
-pub(crate) fn drop_at<P: Policy>(deck: &mut Vec<P>, place: usize)
-    requires { place < vec_len deck.old }
-    ensures seats { map P.seat deck.new.items ≡ remove (map P.seat deck.old.items) place }
+/// Drops the policy at this index.
+pub(crate) fn drop_at<P: Policy>(deck: &mut Vec<P>, index: usize)
+    requires { index < vec_len deck.old }
+    ensures seats { map P.seat deck.new.items ≡ remove (map P.seat deck.old.items) index }
     ensures len { vec_len deck.new + 1 ≡ vec_len deck.old }
 {
-    deck.remove(place);
+    deck.remove(index);
 }

@@ -1,7 +1,7 @@
 ghost use Rattle.std.specs.Prelude.{◌≡◌, ◌≢◌, ◌<◌, ◌↔◌, IfOk, IfSome, Some, None, IsErr, IsErrOf, IsTrue, OnOk, OnErr, length, map, vec_len};
 ghost use Rattle.rail_policy.specs.Choices.{HasLeastKey, MayChoose};
 ghost use Rattle.rail_policy.specs.Desks.{Drops, PutsInForce, after_answer, after_note, after_turn, seat_in_force, within, without};
-ghost use Rattle.rail_policy.specs.Seats.{is_fine_deck, names_of, place_of, seat_at};
+ghost use Rattle.rail_policy.specs.Seats.{is_fine_deck, names_of, index_of, seat_at};
 
 use crate::deck;
 use crate::offer::Offer;
@@ -51,7 +51,7 @@ impl Drop for Desk {
 }
 
 impl Desk {
-    /// A desk over the deck, where the policy at the place `force` is in force. It takes no memory.
+    /// A desk over the deck, where the policy at the index `force` is in force. It takes no memory.
     pub fn new(deck: Vec<Box<dyn Policy>>, force: usize) -> Desk
         requires fine { IsTrue (is_fine_deck (map ⟦<Box<dyn Policy> as Policy>⟧.seat deck.items)) }
         requires force { force < vec_len deck }
@@ -72,7 +72,7 @@ impl Desk {
         self.deck.len()
     }
 
-    /// The name of the policy at this place.
+    /// The name of the policy at this index.
     pub fn name_at(&self, index: usize) -> Name
         requires { index < length (⟦<Desk as Seen>⟧.table self.now).seats }
         ensures { result ≡ (seat_at (⟦<Desk as Seen>⟧.table self.now).seats index).name }
@@ -87,9 +87,9 @@ impl Desk {
         deck::names_in(alloc, &self.deck)
     }
 
-    /// The place of the policy in force.
+    /// The index of the policy in force.
     pub fn force(&self) -> usize
-        ensures place { result ≡ (⟦<Desk as Seen>⟧.table self.now).force }
+        ensures index { result ≡ (⟦<Desk as Seen>⟧.table self.now).force }
         ensures in_range { result < length (⟦<Desk as Seen>⟧.table self.now).seats }
     {
         self.force
@@ -111,60 +111,60 @@ impl Desk {
 
     /// Puts the policy of this name in force.
     pub fn exchange(&mut self, name: Name) -> Result<(), UnknownName>
-        ensures unknown { IsErr result ↔ (place_of (⟦<Desk as Seen>⟧.table self.old).seats name ≡ None) }
+        ensures unknown { IsErr result ↔ (index_of (⟦<Desk as Seen>⟧.table self.old).seats name ≡ None) }
         ensures ok { let table = ⟦<Desk as Seen>⟧.table in OnOk result (PutsInForce (table self.old) (table self.new) name) }
         ensures in_force { OnOk result ((seat_in_force (⟦<Desk as Seen>⟧.table self.new)).name ≡ name) }
         ensures refused { OnErr result (self.new ≡ self.old) }
         ensures unchanged { let table = ⟦<Desk as Seen>⟧.table in OnErr result (table self.new ≡ table self.old) }
     {
-        let Some(place) = self.place_of(name) else {
+        let Some(index) = self.index_of(name) else {
             return Err(UnknownName);
         };
-        self.force = place;
+        self.force = index;
         Ok(())
     }
 
     /// Drops the policy of this name, which is not in force. The others stay in their order.
     pub fn retire(&mut self, name: Name) -> Result<(), Retire>
-        ensures unknown { IsErrOf result Retire.Unknown ↔ (place_of (⟦<Desk as Seen>⟧.table self.old).seats name ≡ None) }
+        ensures unknown { IsErrOf result Retire.Unknown ↔ (index_of (⟦<Desk as Seen>⟧.table self.old).seats name ≡ None) }
         ensures in_force { let old = ⟦<Desk as Seen>⟧.table self.old in
-            IsErrOf result Retire.InForce ↔ (place_of old.seats name ≡ Some old.force) }
+            IsErrOf result Retire.InForce ↔ (index_of old.seats name ≡ Some old.force) }
         ensures ok { let table = ⟦<Desk as Seen>⟧.table in OnOk result (Drops (table self.old) (table self.new) name) }
         ensures same_in_force { let table = ⟦<Desk as Seen>⟧.table in seat_in_force (table self.new) ≡ seat_in_force (table self.old) }
         ensures refused { OnErr result (self.new ≡ self.old) }
         ensures unchanged { let table = ⟦<Desk as Seen>⟧.table in OnErr result (table self.new ≡ table self.old) }
     {
-        let Some(place) = self.place_of(name) else {
+        let Some(index) = self.index_of(name) else {
             return Err(Retire::Unknown);
         };
-        if place == self.force {
+        if index == self.force {
             return Err(Retire::InForce);
         }
-        self.drop_at(place);
+        self.drop_at(index);
         Ok(())
     }
 
-    /// The place of the policy of this name, where there is one.
-    fn place_of(&self, name: Name) -> Option<usize>
-        ensures place { result ≡ place_of (⟦<Desk as Seen>⟧.table self.now).seats name }
-        ensures in_range { IfSome result (λ place. place < length (⟦<Desk as Seen>⟧.table self.now).seats) }
+    /// The index of the policy of this name, where there is one.
+    fn index_of(&self, name: Name) -> Option<usize>
+        ensures index { result ≡ index_of (⟦<Desk as Seen>⟧.table self.now).seats name }
+        ensures in_range { IfSome result (λ index. index < length (⟦<Desk as Seen>⟧.table self.now).seats) }
     {
-        deck::place_of(&self.deck, name)
+        deck::index_of(&self.deck, name)
     }
 
-    /// Drops the policy at this place, which is not in force.
-    fn drop_at(&mut self, place: usize)
-        requires place { place < length (⟦<Desk as Seen>⟧.table self.old).seats }
-        requires stays { place ≢ (⟦<Desk as Seen>⟧.table self.old).force }
-        ensures { let table = ⟦<Desk as Seen>⟧.table in table self.new ≡ without (table self.old) place }
+    /// Drops the policy at this index, which is not in force.
+    fn drop_at(&mut self, index: usize)
+        requires index { index < length (⟦<Desk as Seen>⟧.table self.old).seats }
+        requires stays { index ≢ (⟦<Desk as Seen>⟧.table self.old).force }
+        ensures { let table = ⟦<Desk as Seen>⟧.table in table self.new ≡ without (table self.old) index }
     {
-        deck::drop_at(&mut self.deck, place);
-        if place < self.force {
+        deck::drop_at(&mut self.deck, index);
+        if index < self.force {
             self.force -= 1;
         }
     }
 
-    /// The place of the offer that the policy in force chooses. Its answer counts as the first offer where it
+    /// The index of the offer that the policy in force chooses. Its answer counts as the first offer where it
     /// is out of range.
     pub fn turn(&mut self, offers: &[Offer]) -> usize
         requires { 0 < length offers.now }
@@ -197,6 +197,6 @@ impl Desk {
     pub fn noted(&mut self, admitted: TrainNo)
         ensures { let table = ⟦<Desk as Seen>⟧.table in table self.new ≡ after_note (table self.old) admitted }
     {
-        deck::tell(&mut self.deck, self.force, admitted);
+        deck::note_admission(&mut self.deck, self.force, admitted);
     }
 }

@@ -13,14 +13,14 @@
 #![tactic(auto)]
 
 mod boxes;
-mod built_in;
+mod built_in_policies;
 mod deck;
 mod desk;
 mod offer;
 mod policy;
 mod seen;
 
-pub use built_in::{FcfsPolicy, PriorityPolicy, RotatingPolicy, TimetablePolicy};
+pub use built_in_policies::{FcfsPolicy, PriorityPolicy, RotatingPolicy, TimetablePolicy};
 pub use deck::{deck_is_fine, names_of, read_marks};
 pub use desk::{Asked, Desk, Retire, UnknownName};
 pub use offer::Offer;

@@ -28,7 +28,7 @@ pub trait Policy: Drop {
     fn answered(&self) -> usize
         ensures { result ≡ (seat self.now).answered };
 
-    /// The place of the offer that it chooses, counted from 0. That of a custom policy may be out of range.
+    /// The index of the offer that it chooses, counted from 0. That of a custom policy may be out of range.
     fn choose(&mut self, offers: &[Offer]) -> usize
         requires { 0 < length offers.now }
         ensures seat { seat self.new ≡ asked (seat self.old) result }

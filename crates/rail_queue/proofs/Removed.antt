@@ -8,18 +8,18 @@ use Rattle.rail_slots.specs.Slots.{Room, StandsAt, first_slot, behind_first, lef
 use Rattle.rail_queue.specs.declared.event.Event.{Event}
 use Rattle.rail_queue.specs.Order.{goes_before, is_sorted, placed, in_order}
 use Rattle.rail_queue.specs.Ring.{events_in, near_events, all_events, LiesIn, IsRing, ring}
-use Rattle.rail_queue.specs.Removal.{staying, first_stays, in_use, IsCleared, IsSwept, IsThinned, AreThinned}
+use Rattle.rail_queue.specs.Removal.{passing, first_passes, in_use, IsCleared, IsSwept, IsThinned, AreThinned}
 use Rattle.rail_queue.proofs.Filtered.{sorted_left}
 use Rattle.rail_queue.proofs.Stable.{first_of_all, in_order_sorted, not_trans}
 use Rattle.rail_queue.proofs.Place.{begins, first_in}
 use Rattle.rail_queue.proofs.Ringed.{each_map, ring_is}
 use Rattle.rail_queue.proofs.Chosen.{each_none}
 
-stay_in : (test : Event → Bool) (x : ℕ × Event) (xs : List (ℕ × Event)) → test x.1 ≡ true → staying test (x ∷ xs) ≡ x ∷ staying test xs
-stay_in test x xs is = cond-true (test x.1) (x ∷ staying test xs) (staying test xs) is
+pub passing_in : (test : Event → Bool) (x : ℕ × Event) (xs : List (ℕ × Event)) → test x.1 ≡ true → passing test (x ∷ xs) ≡ x ∷ passing test xs
+passing_in test x xs is = cond-true (test x.1) (x ∷ passing test xs) (passing test xs) is
 
-stay_out : (test : Event → Bool) (x : ℕ × Event) (xs : List (ℕ × Event)) → test x.1 ≡ false → staying test (x ∷ xs) ≡ staying test xs
-stay_out test x xs out = cond-false (test x.1) (x ∷ staying test xs) (staying test xs) out
+pub passing_out : (test : Event → Bool) (x : ℕ × Event) (xs : List (ℕ × Event)) → test x.1 ≡ false → passing test (x ∷ xs) ≡ passing test xs
+passing_out test x xs out = cond-false (test x.1) (x ∷ passing test xs) (passing test xs) out
 
 -- an item that was given was taken out
 pub given : (o : Option Event) (x : Event) (A B : Type 0) → o ≡ Some x → MatchOption o A (λ _. B) → B
@@ -43,12 +43,12 @@ cleared_more test old new after k first item rest within so_far is out chains sp
     record {
       left = rest;
       chains = chains ∙ ap (λ l. set new.chains k (behind_first l)) is ∙ ap (λ cs. set cs k rest) so_far.chains ∙ set-set old.chains k so_far.left rest;
-      same = sym (stay_out test (first, item) rest out) ∙ ap (staying test) (sym left) ∙ so_far.same;
+      same = sym (passing_out test (first, item) rest out) ∙ ap (passing test) (sym left) ∙ so_far.same;
       room = omega (arith, ap length left, spare, so_far.room);
     }
 
 -- the events behind the first one
-pub swept_first : (test : Event → Bool) (room : Room Event) (k first : ℕ) → k < length room.chains → first_slot (get_or room.chains k []) ≡ Some first → first_stays test (get_or room.chains k []) ≡ true → IsSwept test room room k first
+pub swept_first : (test : Event → Bool) (room : Room Event) (k first : ℕ) → k < length room.chains → first_slot (get_or room.chains k []) ≡ Some first → first_passes test (get_or room.chains k []) ≡ true → IsSwept test room room k first
 swept_first test room k first within h is =
     let chain = begins room.chains k first within h in
     record {
@@ -57,7 +57,7 @@ swept_first test room k first within h is =
       rest = chain.rest;
       within = within;
       chains = sym (set-get_or room.chains k []) ∙ ap (set room.chains k) chain.is;
-      same = ap (staying test) chain.is ∙ stay_in test (first, chain.item) chain.rest (ap (first_stays test) (sym chain.is) ∙ is);
+      same = ap (passing test) chain.is ∙ passing_in test (first, chain.item) chain.rest (ap (first_passes test) (sym chain.is) ∙ is);
       room = ap (λ l. length l + room.spare) (sym chain.is);
     }
 
@@ -98,7 +98,7 @@ fewer_left new after taken slot None x same is fewer = absurd (cc)
 fewer_left new after taken slot (Some y) x same is fewer = omega (arith, fewer, ap (λ cs. left_from cs slot) same)
 
 pub swept_keep : (test : Event → Bool) (old new after : Room Event) (k slot n : ℕ) (item : Event) (more : List (ℕ × Event)) (swept : IsSwept test old new k slot) → swept.rest ≡ (n, item) ∷ more → test item ≡ true → after.chains ≡ new.chains → after.spare ≡ new.spare → IsSwept test old after k n
-swept_keep test old new after k slot n item more swept is stays chains spare =
+swept_keep test old new after k slot n item more swept is passes chains spare =
     let front : List (ℕ × Event) = swept.front ++ (slot, swept.item) ∷ [] in
     let shape : swept.front ++ (slot, swept.item) ∷ swept.rest ≡ front ++ (n, item) ∷ more =
     ap (λ l. swept.front ++ (slot, swept.item) ∷ l) is ∙ sym (append_assoc swept.front ((slot, swept.item) ∷ []) ((n, item) ∷ more)) in
@@ -108,8 +108,8 @@ swept_keep test old new after k slot n item more swept is stays chains spare =
       rest = more;
       within = swept.within;
       chains = chains ∙ swept.chains ∙ ap (set old.chains k) shape;
-      same = swept.same ∙ ap (λ l. swept.front ++ (slot, swept.item) ∷ l) (ap (staying test) is ∙ stay_in test (n, item) more stays)
-          ∙ sym (append_assoc swept.front ((slot, swept.item) ∷ []) ((n, item) ∷ staying test more));
+      same = swept.same ∙ ap (λ l. swept.front ++ (slot, swept.item) ∷ l) (ap (passing test) is ∙ passing_in test (n, item) more passes)
+          ∙ sym (append_assoc swept.front ((slot, swept.item) ∷ []) ((n, item) ∷ passing test more));
       room = omega (arith, ap length shape, spare, swept.room);
     }
 
@@ -124,14 +124,14 @@ swept_take test old new after k slot n item more swept is out chains spare =
       within = swept.within;
       chains = chains ∙ ap (λ l. set new.chains k (swept.front ++ (slot, swept.item) ∷ behind_first l)) is ∙ ap (λ cs. set cs k list) swept.chains
           ∙ set-set old.chains k (swept.front ++ (slot, swept.item) ∷ swept.rest) list;
-      same = swept.same ∙ ap (λ l. swept.front ++ (slot, swept.item) ∷ l) (ap (staying test) is ∙ stay_out test (n, item) more out);
+      same = swept.same ∙ ap (λ l. swept.front ++ (slot, swept.item) ∷ l) (ap (passing test) is ∙ passing_out test (n, item) more out);
       room = omega (arith, ap length is, spare, swept.room, length-append swept.front ((slot, swept.item) ∷ swept.rest), length-append swept.front ((slot, swept.item) ∷ more));
     }
 
 pub swept_end : (test : Event → Bool) (old new after : Room Event) (k slot : ℕ) (swept : IsSwept test old new k slot) → swept.rest ≡ [] → after.chains ≡ new.chains → after.spare ≡ new.spare → IsThinned test old after k
 swept_end test old new after k slot swept none chains spare =
     let list : List (ℕ × Event) = swept.front ++ (slot, swept.item) ∷ swept.rest in
-    let same : list ≡ staying test (get_or old.chains k []) = ap (λ l. swept.front ++ (slot, swept.item) ∷ l) (none ∙ sym (ap (staying test) none)) ∙ sym swept.same in
+    let same : list ≡ passing test (get_or old.chains k []) = ap (λ l. swept.front ++ (slot, swept.item) ∷ l) (none ∙ sym (ap (passing test) none)) ∙ sym swept.same in
     record {
       chains = chains ∙ swept.chains ∙ ap (set old.chains k) same;
       room = omega (arith, ap length same, spare, swept.room);
@@ -141,15 +141,15 @@ swept_end test old new after k slot swept none chains spare =
 pub thinned_both : (test : Event → Bool) (old mid new : Room Event) (k : ℕ) → k < length old.chains → IsCleared test old mid k → IsThinned test mid new k → IsThinned test old new k
 thinned_both test old mid new k within cleared thinned =
     let here : get_or mid.chains k [] ≡ cleared.left = cleared_here test old mid k within cleared in
-    let same : staying test (get_or mid.chains k []) ≡ staying test (get_or old.chains k []) = ap (staying test) here ∙ cleared.same in
-    let list : List (ℕ × Event) = staying test (get_or old.chains k []) in
+    let same : passing test (get_or mid.chains k []) ≡ passing test (get_or old.chains k []) = ap (passing test) here ∙ cleared.same in
+    let list : List (ℕ × Event) = passing test (get_or old.chains k []) in
     record {
       chains = thinned.chains ∙ ap (set mid.chains k) same ∙ ap (λ cs. set cs k list) cleared.chains ∙ set-set old.chains k cleared.left list;
       room = omega (arith, thinned.room, ap length same, ap length here, cleared.room);
     }
 
 -- all chains
-in_use_set : (chains : List (List (ℕ × Event))) (k : ℕ) (new : List (ℕ × Event)) → k < length chains → in_use (set chains k new) + length (get_or chains k []) ≡ in_use chains + length new
+pub in_use_set : (chains : List (List (ℕ × Event))) (k : ℕ) (new : List (ℕ × Event)) → k < length chains → in_use (set chains k new) + length (get_or chains k []) ≡ in_use chains + length new
 in_use_set [] k new within = absurd (omega (arith, within))
 in_use_set (x ∷ xs) zero new within = omega arith
 in_use_set (x ∷ xs) (suc k) new within = omega (arith, in_use_set xs k new (omega (arith, within)))
@@ -157,13 +157,13 @@ in_use_set (x ∷ xs) (suc k) new within = omega (arith, in_use_set xs k new (om
 pub all_thinned_more : (test : Event → Bool) (old new after : Room Event) (k : ℕ) → k < length old.chains → AreThinned test old new k → IsThinned test new after k → AreThinned test old after (k + 1)
 all_thinned_more test old new after k within so_far thinned =
     let inside : k < length new.chains = omega (arith, within, so_far.long) in
-    let list : List (ℕ × Event) = staying test (get_or new.chains k []) in
+    let list : List (ℕ × Event) = passing test (get_or new.chains k []) in
     let here : get_or after.chains k [] ≡ list = ap (λ cs. get_or cs k []) thinned.chains ∙ get_or-set_same new.chains k list [] inside in
     let there : (c : ℕ) → c ≢ k → get_or after.chains c [] ≡ get_or new.chains c [] = λ c ne. ap (λ cs. get_or cs c []) thinned.chains ∙ get_or-set_other new.chains k c list [] ne in
     record {
       long = ap length thinned.chains ∙ length-set new.chains k list ∙ so_far.long;
       thin = λ c low. ⊎_elim
-          (λ (e : c ≡ k). ap (λ n. get_or after.chains n []) e ∙ here ∙ ap (staying test) (so_far.same k (omega arith)) ∙ ap (λ n. staying test (get_or old.chains n [])) (sym e))
+          (λ (e : c ≡ k). ap (λ n. get_or after.chains n []) e ∙ here ∙ ap (passing test) (so_far.same k (omega arith)) ∙ ap (λ n. passing test (get_or old.chains n [])) (sym e))
           (λ (ne : c ≢ k). there c ne ∙ so_far.thin c (let less : c < k = ⊎_elim (λ l. l) (λ most. absurd (ne (omega (arith, low, most)))) (cases_lt c k) in less))
           (cases_eq c k);
       same = λ c high. there c (λ e. omega (arith, high, e)) ∙ so_far.same c (omega (arith, high));
@@ -171,15 +171,15 @@ all_thinned_more test old new after k within so_far thinned =
     }
 
 -- what is left of the events
-events_left : (test : Event → Bool) (list : List (ℕ × Event)) → events_in (staying test list) ≡ filter test (events_in list)
+events_left : (test : Event → Bool) (list : List (ℕ × Event)) → events_in (passing test list) ≡ filter test (events_in list)
 events_left test [] = refl
 events_left test (x ∷ xs) =
     ⊎_elim
-    (λ is. ap events_in (stay_in test x xs is) ∙ ap (λ l. x.1 ∷ l) (events_left test xs) ∙ sym (cond-true (test x.1) (x.1 ∷ filter test (events_in xs)) (filter test (events_in xs)) is))
-    (λ out. ap events_in (stay_out test x xs out) ∙ events_left test xs ∙ sym (cond-false (test x.1) (x.1 ∷ filter test (events_in xs)) (filter test (events_in xs)) out))
+    (λ is. ap events_in (passing_in test x xs is) ∙ ap (λ l. x.1 ∷ l) (events_left test xs) ∙ sym (cond-true (test x.1) (x.1 ∷ filter test (events_in xs)) (filter test (events_in xs)) is))
+    (λ out. ap events_in (passing_out test x xs out) ∙ events_left test xs ∙ sym (cond-false (test x.1) (x.1 ∷ filter test (events_in xs)) (filter test (events_in xs)) out))
     (cases_Bool (test x.1))
 
-near_left : (test : Event → Bool) (n : ℕ) (old new : List (List (ℕ × Event))) → length new ≡ length old → ((c : ℕ) → c < n → get_or new c [] ≡ staying test (get_or old c [])) → near_events n new ≡ filter test (near_events n old)
+near_left : (test : Event → Bool) (n : ℕ) (old new : List (List (ℕ × Event))) → length new ≡ length old → ((c : ℕ) → c < n → get_or new c [] ≡ passing test (get_or old c [])) → near_events n new ≡ filter test (near_events n old)
 near_left test zero old new long thin = refl
 near_left test (suc n) [] [] long thin = refl
 near_left test (suc n) [] (y ∷ new) long thin = absurd (omega (arith, long))
@@ -189,7 +189,7 @@ near_left test (suc n) (x ∷ old) (y ∷ new) long thin =
     ∙ ap (λ l. filter test (events_in x) ++ l) (near_left test n old new (omega (arith, long)) (λ c low. thin (suc c) (omega (arith, low))))
     ∙ sym (filter-append test (events_in x) (near_events n old))
 
-all_left : (test : Event → Bool) (n : ℕ) (old new : List (List (ℕ × Event))) → length new ≡ length old → ((c : ℕ) → c < suc n → get_or new c [] ≡ staying test (get_or old c [])) → all_events n new ≡ filter test (all_events n old)
+all_left : (test : Event → Bool) (n : ℕ) (old new : List (List (ℕ × Event))) → length new ≡ length old → ((c : ℕ) → c < suc n → get_or new c [] ≡ passing test (get_or old c [])) → all_events n new ≡ filter test (all_events n old)
 all_left test n old new long thin =
     ap (λ l. events_in l ++ near_events n new) (thin n (omega arith)) ∙ ap (λ l. l ++ near_events n new) (events_left test (get_or old n []))
     ∙ ap (λ l. filter test (events_in (get_or old n [])) ++ l) (near_left test n old new long (λ c low. thin c (omega (arith, low))))
@@ -214,18 +214,18 @@ placed_out test e (x ∷ xs) out =
 
 -- and one that passes it finds the same place among what passes
 placed_in : (test : Event → Bool) (e : Event) (list : List Event) → is_sorted list ≡ true → test e ≡ true → filter test (placed e list) ≡ placed e (filter test list)
-placed_in test e [] sorted stays = cond-true (test e) (e ∷ []) [] stays
-placed_in test e (x ∷ xs) sorted stays =
+placed_in test e [] sorted passes = cond-true (test e) (e ∷ []) [] passes
+placed_in test e (x ∷ xs) sorted passes =
     let parts = and_parts (not (list_any (λ later. goes_before later x) xs)) (is_sorted xs) sorted in
     let none : AllByRecursion (λ y. goes_before y x ≡ false) xs = each_none x xs (not-true (list_any (λ later. goes_before later x) xs) parts.0) in
     ⊎_elim
-    (λ (is : goes_before x e ≡ true). ap (filter test) (cond-true (goes_before x e) (x ∷ placed e xs) (e ∷ x ∷ xs) is) ∙ ap (λ l. cond (test x) (x ∷ l) l) (placed_in test e xs parts.1 stays)
+    (λ (is : goes_before x e ≡ true). ap (filter test) (cond-true (goes_before x e) (x ∷ placed e xs) (e ∷ x ∷ xs) is) ∙ ap (λ l. cond (test x) (x ∷ l) l) (placed_in test e xs parts.1 passes)
     ∙ ⊎_elim
     (λ (t : test x ≡ true). cond-true (test x) (x ∷ placed e (filter test xs)) (placed e (filter test xs)) t ∙ sym (cond-true (goes_before x e) (x ∷ placed e (filter test xs)) (e ∷ x ∷ filter test xs) is)
     ∙ ap (placed e) (sym (cond-true (test x) (x ∷ filter test xs) (filter test xs) t)))
     (λ (f : test x ≡ false). cond-false (test x) (x ∷ placed e (filter test xs)) (placed e (filter test xs)) f ∙ ap (placed e) (sym (cond-false (test x) (x ∷ filter test xs) (filter test xs) f)))
     (cases_Bool (test x)))
-    (λ (out : goes_before x e ≡ false). ap (filter test) (cond-false (goes_before x e) (x ∷ placed e xs) (e ∷ x ∷ xs) out) ∙ cond-true (test e) (e ∷ filter test (x ∷ xs)) (filter test (x ∷ xs)) stays
+    (λ (out : goes_before x e ≡ false). ap (filter test) (cond-false (goes_before x e) (x ∷ placed e xs) (e ∷ x ∷ xs) out) ∙ cond-true (test e) (e ∷ filter test (x ∷ xs)) (filter test (x ∷ xs)) passes
     ∙ sym (first_of_all e (filter test (x ∷ xs)) (each_left test (λ y. goes_before y e ≡ false) (x ∷ xs) (out, each_map (λ y. goes_before y x ≡ false) (λ y. goes_before y e ≡ false) xs (λ y h. not_trans y x e h out) none))))
     (cases_Bool (goes_before x e))
 
@@ -270,7 +270,7 @@ pub record Left (test : Event → Bool) (base : ℕ) (old new : Room Event) : Ty
 
 pub left_of : (test : Event → Bool) (base : ℕ) (old new : Room Event) → IsRing ring base old.chains → AreThinned test old new 1025 → Left test base old new
 left_of test base old new whole thinned =
-    let thin : (c : ℕ) → c < suc ring → get_or new.chains c [] ≡ staying test (get_or old.chains c []) = λ c low. thinned.thin c (omega (arith, low, ring_is)) in
+    let thin : (c : ℕ) → c < suc ring → get_or new.chains c [] ≡ passing test (get_or old.chains c []) = λ c low. thinned.thin c (omega (arith, low, ring_is)) in
     let events : (c : ℕ) → c < suc ring → events_in (get_or new.chains c []) ≡ filter test (events_in (get_or old.chains c [])) = λ c low. ap events_in (thin c low) ∙ events_left test (get_or old.chains c []) in
     let long : length new.chains ≡ suc ring = thinned.long ∙ whole.long in
     record {

@@ -10,7 +10,7 @@ use Rattle.rail_queue.specs.declared.event.Event.{Event}
 use Rattle.rail_queue.specs.Order.{goes_before, inserted, is_sorted}
 use Rattle.std.specs.List.{AllByRecursion}
 use Rattle.rail_queue.specs.Order.{placed, in_order}
-use Rattle.rail_queue.specs.Ring.{bucket, events_in, near_events, all_events, LiesIn, IsRing, IsPut, ring, chain_at}
+use Rattle.rail_queue.specs.Ring.{bucket, events_in, near_events, all_events, LiesIn, IsRing, IsPut, ring, chain_at, chain_in}
 use Rattle.rail_queue.proofs.Ordered.{asymmetric}
 use Rattle.rail_queue.proofs.Stable.{Apart, in_order_more}
 use Rattle.rail_queue.proofs.Place.{events_in-append, each-append, each_front, each_back}
@@ -187,16 +187,20 @@ ring_put n base old new c event ring low mine put =
           (cases_eq k c);
     }
 
+-- the chain of a bucket
+pub bucket_within : (base b : ℕ) → chain_in base b ≤ 1024
+bucket_within base b =
+    ⊎_elim
+    (λ (is : (nat_le base b && nat_lt b (base + 1024)) ≡ true). rw is (omega arith))
+    (λ (no : (nat_le base b && nat_lt b (base + 1024)) ≡ false). rw no (omega arith))
+    (cases_Bool (nat_le base b && nat_lt b (base + 1024)))
+
 -- the chain of an event
 pub chain_within : (base : ℕ) (event : Event) → chain_at base event ≤ 1024
-chain_within base event =
-    ⊎_elim
-    (λ (is : (nat_le base (bucket event) && nat_lt (bucket event) (base + 1024)) ≡ true). rw is (omega arith))
-    (λ (no : (nat_le base (bucket event) && nat_lt (bucket event) (base + 1024)) ≡ false). rw no (omega arith))
-    (cases_Bool (nat_le base (bucket event) && nat_lt (bucket event) (base + 1024)))
+chain_within base event = bucket_within base (bucket event)
 
 -- how many events pass a test
-pub tally : (Event → Bool) → List Event → ℕ
+unfoldable pub tally : (Event → Bool) → List Event → ℕ
 tally p [] = 0
 tally p (x ∷ xs) = cond (p x) 1 0 + tally p xs
 
@@ -205,7 +209,7 @@ unfolding tally
 is_tally p [] = refl
 is_tally p (x ∷ xs) = sum_by-cons (λ e. cond (p e) 1 0) x xs ∙ ap (λ n. cond (p x) 1 0 + n) (is_tally p xs)
 
-tally-append : (p : Event → Bool) (xs ys : List Event) → tally p (xs ++ ys) ≡ tally p xs + tally p ys
+pub tally-append : (p : Event → Bool) (xs ys : List Event) → tally p (xs ++ ys) ≡ tally p xs + tally p ys
 unfolding tally
 tally-append p [] ys = omega arith
 tally-append p (x ∷ xs) ys = omega (arith, tally-append p xs ys)
@@ -228,7 +232,7 @@ tally_inserted p e (x ∷ xs) =
     (λ (no : goes_before e x ≡ false). rw no (omega (arith, tally_inserted p e xs)))
     (cases_Bool (goes_before e x))
 
-tally_in_order : (p : Event → Bool) (list : List Event) → tally p (in_order list) ≡ tally p list
+pub tally_in_order : (p : Event → Bool) (list : List Event) → tally p (in_order list) ≡ tally p list
 unfolding tally
 tally_in_order p [] = refl
 tally_in_order p (x ∷ xs) = tally_placed p x (in_order xs) ∙ ap (λ n. cond {A = ℕ} (p x) 1 0 + n) (tally_in_order p xs)

@@ -12,9 +12,13 @@ bucket event = event.at / 64
 unfoldable pub ring : ℕ
 ring = 1024
 
--- the chain of an event: that of its bucket where it lies in the ring that begins with a bucket, else the far one
+-- the chain of a bucket: its own where it lies in the ring that begins with another bucket, else the far one
+abbrev pub chain_in : ℕ → ℕ → ℕ
+chain_in base b = cond (nat_le base b && nat_lt b (base + 1024)) (b % 1024) 1024
+
+-- the chain of an event: that of its bucket
 abbrev pub chain_at : ℕ → Event → ℕ
-chain_at base event = cond (nat_le base (bucket event) && nat_lt (bucket event) (base + 1024)) (bucket event % 1024) 1024
+chain_at base event = chain_in base (bucket event)
 
 -- the events of a chain
 abbrev pub events_in : List (ℕ × Event) → List Event

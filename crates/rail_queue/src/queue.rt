@@ -2,13 +2,13 @@ ghost use Rattle.std.specs.Prelude.{◌≡◌, ℕ, ◌+◌, ◌/◌, ◌<◌, �
 ghost use Rattle.std.specs.List.{filter, list_any};
 ghost use Rattle.rail_queue.specs.declared.event.Event.{Event};
 ghost use Rattle.rail_queue.specs.Order.{goes_before, in_order, inserted, is_of, is_sorted, first_time_of};
-ghost use Rattle.rail_queue.specs.Ring.{all_events, bucket, chain_at, IsPut, IsRing, ring};
+ghost use Rattle.rail_queue.specs.Ring.{all_events, bucket, chain_at, chain_in, IsPut, IsRing, ring};
 
 use crate::chains::put_in_order;
 use crate::choice::{earliest, first_event, first_with};
-use crate::event::{Class, Event};
+use crate::event::{Class, Event, bucket_of};
 use crate::marks::Marks;
-use crate::removal::take_out;
+use crate::removal::{take_out, take_out_of};
 use rail_base::{OutOfMemory, Time};
 use rail_slots::Slots;
 use std::alloc::Global;
@@ -25,8 +25,8 @@ pub(crate) const RING: usize = 1024;
 /// modulo 1,024; all others lie in the far chain. So a push into a near bucket looks at held events of this bucket
 /// and at the one that comes first of all, however many are pending.
 ///
-/// The chain with the event that comes first is kept. So to ask for this event searches nothing, and only `pop` and
-/// `forget` look for the chain anew.
+/// The chain with the event that comes first is kept. So to ask for this event searches nothing, and only `pop`,
+/// `forget` and `forget_at` look for the chain anew.
 #[derive(Debug)]
 pub struct EventQueue {
     slots: Slots<Event>,
@@ -59,11 +59,10 @@ impl Model for EventQueue {
     ghost invariant = { λ queue. IsKept queue.base queue.marks.words queue.slots.chains queue.first_chain };
 }
 
-/// The chain of an event in the ring that begins with the bucket `base`.
-fn chain_of(base: u64, event: &Event) -> usize
-    ensures { result ≡ chain_at base event.now }
+/// The chain of a bucket in the ring that begins with the bucket `base`.
+fn chain_of(base: u64, bucket: u64) -> usize
+    ensures { result ≡ chain_in base bucket }
 {
-    let bucket = event.bucket();
     if base <= bucket && bucket - base < RING as u64 {
         (bucket % RING as u64) as usize
     } else {
@@ -126,7 +125,7 @@ impl EventQueue {
         ensures near { self.old.base ≤ bucket event → bucket event < self.old.base + 1024
             → self.new.slots.walked ≤ self.old.slots.walked + count_by (λ held. nat_eq (bucket held) (bucket event)) self.old.events }
     {
-        let chain = chain_of(self.base, &event);
+        let chain = chain_of(self.base, event.bucket());
         self.first_chain = Some(first_with(&self.slots, self.first_chain, chain, &event));
         put_in_order(&mut self.slots, chain, event);
         self.marks.mark(chain);
@@ -174,6 +173,32 @@ impl EventQueue {
     {
         take_out(&mut self.slots, RING + 1, class, number);
         self.marks.note_all(&self.slots);
+        self.first_chain = earliest(&self.slots, &self.marks, self.base);
+    }
+
+    /// Takes out the event of the class with the number, where there is one: there are no more. The others stay in
+    /// their order.
+    ///
+    /// It is looked for in the chain of the time first, and found there where it happens then and was near at its
+    /// push. That looks at the events of this chain alone, which are those of its bucket, or all the far ones where
+    /// the time is far. Only where none is found there is it sought as `forget` does it: so a wrong time costs time,
+    /// and nothing else.
+    pub fn forget_at(&mut self, at: Time, class: Class, number: u16)
+        requires single { count_by (is_of class number) self.old.events ≤ 1 }
+        ensures events { self.new.events ≡ filter (λ event. not (is_of class number event)) self.old.events }
+        ensures counted { (p : Event → Bool)
+            → count_by p self.new.events ≡ count_by (λ event. not (is_of class number event) && p event) self.old.events }
+        ensures room { length self.new.events + self.new.spare ≡ length self.old.events + self.old.spare }
+        ensures base { self.new.base ≡ self.old.base }
+    {
+        let chain = chain_of(self.base, bucket_of(at));
+        let spare = self.slots.spare();
+        take_out_of(&mut self.slots, chain, class, number);
+        if self.slots.spare() == spare {
+            self.forget(class, number);
+            return;
+        }
+        self.marks.note(&self.slots, chain);
         self.first_chain = earliest(&self.slots, &self.marks, self.base);
     }
 

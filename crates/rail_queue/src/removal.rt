@@ -1,7 +1,7 @@
 //! The events of a class with a number taken out of all chains.
 
 ghost use Rattle.std.specs.Prelude.{◌≡◌, ◌<◌, true, length, get_or, [], Some};
-ghost use Rattle.rail_queue.specs.Removal.{AreThinned, IsCleared, IsThinned, first_stays, stays};
+ghost use Rattle.rail_queue.specs.Removal.{AreThinned, IsCleared, IsThinned, first_passes, is_other};
 ghost use Rattle.rail_slots.specs.Slots.{first_slot};
 
 use crate::event::{Class, Event};
@@ -11,17 +11,17 @@ use rail_slots::Slots;
 /// and at each held event once.
 pub(crate) fn take_out(slots: &mut Slots<Event>, chains: usize, class: Class, number: u16)
     requires { length slots.old.chains ≡ chains }
-    ensures { AreThinned (stays class number) slots.old slots.new chains }
+    ensures { AreThinned (is_other class number) slots.old slots.new chains }
 {
     for chain in 0..chains {
         take_out_of(slots, chain, class, number);
     }
 }
 
-/// Takes the events of the class with the number out of the chain.
-fn take_out_of(slots: &mut Slots<Event>, chain: usize, class: Class, number: u16)
+/// Takes the events of the class with the number out of the chain. It looks at each event of the chain once.
+pub(crate) fn take_out_of(slots: &mut Slots<Event>, chain: usize, class: Class, number: u16)
     requires { chain < length slots.old.chains }
-    ensures { IsThinned (stays class number) slots.old slots.new chain }
+    ensures { IsThinned (is_other class number) slots.old slots.new chain }
 {
     take_out_first(slots, chain, class, number);
     let Some(first) = slots.first(chain) else {
@@ -33,8 +33,8 @@ fn take_out_of(slots: &mut Slots<Event>, chain: usize, class: Class, number: u16
 /// Takes the events of the class with the number out that stand before all others in the chain.
 fn take_out_first(slots: &mut Slots<Event>, chain: usize, class: Class, number: u16)
     requires { chain < length slots.old.chains }
-    ensures cleared { IsCleared (stays class number) slots.old slots.new chain }
-    ensures first { first_stays (stays class number) (get_or slots.new.chains chain []) ≡ true }
+    ensures cleared { IsCleared (is_other class number) slots.old slots.new chain }
+    ensures first { first_passes (is_other class number) (get_or slots.new.chains chain []) ≡ true }
 {
     while let Some(first) = slots.first(chain) {
         if !slots.item(first).is_of(class, number) {
@@ -44,12 +44,12 @@ fn take_out_first(slots: &mut Slots<Event>, chain: usize, class: Class, number: 
     }
 }
 
-/// Takes the events of the class with the number out of the chain behind its first slot, whose event stays.
+/// Takes the events of the class with the number out of the chain behind its first slot, whose event is another.
 fn take_out_behind(slots: &mut Slots<Event>, chain: usize, first: usize, class: Class, number: u16)
     requires chain { chain < length slots.old.chains }
     requires first { first_slot (get_or slots.old.chains chain []) ≡ Some first }
-    requires stays { first_stays (stays class number) (get_or slots.old.chains chain []) ≡ true }
-    ensures { IsThinned (stays class number) slots.old slots.new chain }
+    requires is_other { first_passes (is_other class number) (get_or slots.old.chains chain []) ≡ true }
+    ensures { IsThinned (is_other class number) slots.old slots.new chain }
 {
     let mut at = first;
     while let Some(next) = slots.next(at) {

@@ -53,7 +53,7 @@ impl Holders {
     /// Nobody holds the section from now on. The answer is the train that held it.
     pub fn free(&mut self, section: SectionNo) -> TrainNo
         requires section { section < length self.old }
-        requires held { IsSome (get_or self.old section None) }
+        requires taken { IsSome (get_or self.old section None) }
         ensures holder { Some result ≡ get_or self.old section None }
         ensures freed { self.new ≡ set self.old section None }
     {

@@ -17,6 +17,8 @@ mod explanations;
 #[cfg(test)]
 mod histories;
 #[cfg(test)]
+mod insertions;
+#[cfg(test)]
 mod reports;
 #[cfg(test)]
 mod timetables;

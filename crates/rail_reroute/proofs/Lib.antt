@@ -1,7 +1,6 @@
 -- Lemmas on reroutings.
 mod Changed
 mod Itineraries
-mod Items
 mod JoinedLines
 mod Judging
 mod OneAnswer
@@ -9,4 +8,3 @@ mod Proposed
 mod Ready
 mod Refused
 mod States
-mod Ways

@@ -5,14 +5,14 @@ ghost use Rattle.std.specs.List.{prefix_len};
 ghost use Rattle.rail_rules.specs.Texts.{behind, items_of};
 ghost use Rattle.rail_text.specs.Names.{section_name, train_name};
 ghost use Rattle.rail_text.specs.Writes.{WritesText};
-ghost use Rattle.rail_text.specs.declared.line.TheConstants.{ROOM};
+ghost use Rattle.rail_text.specs.declared.line_buffer.TheConstants.{ROOM};
 ghost use Rattle.rail_reroute.specs.Lines.{head_words, item_word, judged_line, list_words, scene_names};
 
 use crate::judgements::Judged;
 use rail_base::{SectionNo, TrainNo};
 use rail_io::{Failed, Sink, write_whole};
 use rail_scene::Scene;
-use rail_text::Line;
+use rail_text::LineBuffer;
 
 /// Writes the answer to the proposal on this line of its file. The sections and trains in it are those of the scene.
 pub fn write_judged<O: Sink>(
@@ -32,7 +32,7 @@ pub fn write_judged<O: Sink>(
 fn write_head<O: Sink>(scene: &Scene, line: u32, judged: &Judged, out: &mut O) -> Result<(), Failed>
     ensures { WritesText O.Sink out.old out.new (codes "line" ++ behind (decimal line ∷ head_words (scene_names scene.now) judged.now)) result }
 {
-    let mut text = Line::new();
+    let mut text = LineBuffer::new();
     text.put(b"line");
     text.put_number(u64::from(line));
     put_judged(&mut text, scene, judged);
@@ -40,7 +40,7 @@ fn write_head<O: Sink>(scene: &Scene, line: u32, judged: &Judged, out: &mut O) -
 }
 
 /// Puts the answer, but for its list.
-fn put_judged(line: &mut Line, scene: &Scene, judged: &Judged)
+fn put_judged(line: &mut LineBuffer, scene: &Scene, judged: &Judged)
     requires { length line.old + 80 ≤ ROOM }
     ensures { line.new ≡ line.old ++ behind (head_words (scene_names scene.now) judged.now) }
 {
@@ -113,7 +113,7 @@ fn write_item<O: Sink>(
 ) -> Result<(), Failed>
     ensures { WritesText O.Sink out.old out.new (32 ∷ item_word (scene_names scene.now) (record { train = train; count = count })) result }
 {
-    let mut text = Line::new();
+    let mut text = LineBuffer::new();
     put_train(&mut text, scene, train);
     if count != 1 {
         text.put_count(count as u64);
@@ -122,7 +122,7 @@ fn write_item<O: Sink>(
 }
 
 /// Puts a space and the name of the train; nothing but the space where no train has the number.
-fn put_train(line: &mut Line, scene: &Scene, train: TrainNo)
+fn put_train(line: &mut LineBuffer, scene: &Scene, train: TrainNo)
     requires { length line.old + 17 ≤ ROOM }
     ensures text { line.new ≡ line.old ++ 32 ∷ train_name (scene_names scene.now) train }
     ensures short { length line.new ≤ length line.old + 17 }
@@ -134,7 +134,7 @@ fn put_train(line: &mut Line, scene: &Scene, train: TrainNo)
 }
 
 /// Puts a space and the name of the section; nothing but the space where no section has the number.
-fn put_section(line: &mut Line, scene: &Scene, section: SectionNo)
+fn put_section(line: &mut LineBuffer, scene: &Scene, section: SectionNo)
     requires { length line.old + 17 ≤ ROOM }
     ensures text { line.new ≡ line.old ++ 32 ∷ section_name (scene_names scene.now) section }
     ensures short { length line.new ≤ length line.old + 17 }

@@ -4,19 +4,18 @@ ghost use Rattle.std.specs.Prelude.{◌≡◌, ◌-◌, ◌<◌, ◌≤◌, ◌^
 ghost use Rattle.std.specs.List.{list_all};
 ghost use Rattle.rail_base.specs.FirstRefusals.{first_failing};
 ghost use Rattle.rail_base.specs.Lists.{are_distinct};
-ghost use Rattle.rail_base.specs.NameForms.{is_name};
 ghost use Rattle.rail_base.specs.Refusals.{AnswersFirst};
 ghost use Rattle.rail_compile.specs.Ways.{AreLookups};
 ghost use Rattle.rail_scene.specs.Scenes.{IsScene, is_one_train};
 ghost use Rattle.rail_scene.specs.declared.scene.SceneTrain.{SceneTrain};
 ghost use Rattle.rail_text.specs.Lines.{line_at, number_of_name, words};
-ghost use Rattle.rail_reroute.specs.Proposals.{are_in, is_in_names, is_proposal, is_ready, line_tests, lines_refusal, proposal_on, proposals_in, proposals_refusal, route_names, train_names};
+ghost use Rattle.rail_reroute.specs.Proposals.{are_in, is_in_names, is_proposal, is_ready, line_tests, proposal_on, proposals_in, proposals_refusal, route_names, train_names};
 
 use indexmap::IndexSet;
 use rail_base::{Fault, Name, Reason, Seq, TrainNo};
 use rail_compile::Lookups;
 use rail_scene::{Scene, SceneTrain};
-use rail_text::{NumberedLine, next_word, numbered_lines, refused_at};
+use rail_text::{NumberedLine, next_word, numbered_lines, read_names, refused_at};
 use std::alloc::{AllocError, Global};
 
 /// A proposal: a train, and the routes that it would take from where it stands.
@@ -159,30 +158,13 @@ fn way_on(alloc: Global, line: &[u8]) -> Result<Option<(Name, Vec<Name>)>, Alloc
     let Some(train) = Name::read(word) else {
         return Ok(None);
     };
-    let Some(routes) = names(alloc, rest)? else {
+    let Some(routes) = read_names(alloc, rest)? else {
         return Ok(None);
     };
     if routes.is_empty() {
         return Ok(None);
     }
     Ok(Some((train, routes)))
-}
-
-/// The names that the words are: `None` exactly where a word is no name.
-fn names(alloc: Global, args: &[u8]) -> Result<Option<Vec<Name>>, AllocError>
-    ensures { IfOk result (λ read.
-        option_map (λ names. names.items) read ≡ cond (list_all is_name (words args.now)) (Some (words args.now)) None) }
-{
-    let mut names = Vec::new(alloc);
-    let mut left = args;
-    while let Some((word, rest)) = next_word(left) {
-        let Some(name) = Name::read(word) else {
-            return Ok(None);
-        };
-        names.push(name)?;
-        left = rest;
-    }
-    Ok(Some(names))
 }
 
 /// The number of the train, where it and the routes are known.

@@ -1,7 +1,7 @@
 //! What a state of places leads to.
 
 ghost use Rattle.std.specs.Prelude.{◌≡◌, ◌≤◌, ◌<◌, ℕ, List as ListOf, length, slice_index, IfOk};
-ghost use Rattle.rail_place.specs.Made.{IsMadeFor};
+ghost use Rattle.rail_place.specs.PlaceStates.{IsMadeFor};
 ghost use Rattle.rail_place.specs.Overlaps.{IsFault, IsOverlap};
 ghost use Rattle.rail_place.specs.Tables.{IsTable, MoveLists, moves_in};
 ghost use Rattle.rail_rules.specs.Moves.{Moves};

@@ -9,7 +9,7 @@ use Rattle.rail_base.specs.NameForms.{same_name}
 use Rattle.rail_base.specs.declared.limits.TheConstants.{POSTS, TURNS}
 use Rattle.rail_track.specs.declared.section.Section.{Section}
 use Rattle.rail_track.specs.Lists.{without}
-use Rattle.rail_track.specs.Sound.{IsSoundTrack}
+use Rattle.rail_track.specs.SoundTracks.{IsSoundTrack}
 use Rattle.rail_base.proofs.CallerLemmas.{all_passed}
 use Rattle.rail_track.proofs.CallerLemmas.{same_from_name, count_by_none, count_by-without-le, length-without-le}
 use Rattle.rail_routes.specs.declared.items.Post.{Post}
@@ -21,7 +21,7 @@ use Rattle.rail_routes.specs.PostRules.{post_tests, post_refusal, is_taken_as, s
 use Rattle.rail_routes.specs.TurnRules.{turn_tests, turn_refusal}
 use Rattle.rail_routes.specs.RouteRules.{route_tests, route_refusal}
 use Rattle.rail_routes.specs.PostChanges.{without_post}
-use Rattle.rail_routes.specs.Distinct.{IsDistinctNetwork}
+use Rattle.rail_routes.specs.DistinctNetworks.{IsDistinctNetwork}
 use Rattle.rail_routes.proofs.Places.{one_if, count_by-push}
 use Rattle.rail_routes.proofs.Tables.{route_fits}
 use Rattle.rail_routes.proofs.Lists.{both_true, both_false}

@@ -12,7 +12,7 @@ use Rattle.rail_routes.specs.declared.items.Role.TheVariants.{Portal, Signal, Bo
 use Rattle.rail_routes.specs.declared.items.Step.{Step}
 use Rattle.rail_routes.specs.PostRules.{stands_as, has_joint_ahead}
 use Rattle.rail_routes.specs.RouteRules.{is_ahead_of, begins, goes_on, ends, leads_on, leads_from, is_beyond}
-use Rattle.rail_routes.specs.Sound.{lead_to, lead_on, is_sound_path, is_sound_overlap, lead_between}
+use Rattle.rail_routes.specs.SoundNetworks.{lead_to, lead_on, is_sound_path, is_sound_overlap, lead_between}
 use Rattle.rail_routes.proofs.Lists.{both_false, last_kept}
 
 -- a section of this name is still there

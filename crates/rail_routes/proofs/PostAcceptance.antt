@@ -16,7 +16,7 @@ use Rattle.rail_routes.specs.declared.items.Role.{Role}
 use Rattle.rail_routes.specs.declared.items.Role.TheVariants.{Portal, Signal, Board}
 use Rattle.rail_routes.specs.Net.{Net, posts, is_post, stands_at, guards, guards_at}
 use Rattle.rail_routes.specs.PostRules.{is_formed, is_formed_as, has_times, stands_well, stands_as, has_joint_ahead, is_taken, is_taken_as, is_astray, post_tests, post_refusal}
-use Rattle.rail_routes.specs.Sound.{IsSoundNetwork, same_role, is_timed, is_sound_post}
+use Rattle.rail_routes.specs.SoundNetworks.{IsSoundNetwork, same_role, is_timed, is_sound_post}
 use Rattle.rail_routes.proofs.Uses.{list_any-find}
 use Rattle.rail_routes.proofs.SectionChanges.{same_from_role}
 

@@ -21,7 +21,7 @@ use Rattle.rail_routes.specs.PostRules.{post_tests, post_refusal, is_formed, is_
 use Rattle.rail_routes.specs.TurnRules.{turns_well}
 use Rattle.rail_routes.specs.PostChanges.{without_post}
 use Rattle.rail_routes.specs.Uses.{turns_at, goes_to, is_post_used}
-use Rattle.rail_routes.specs.Sound.{IsSoundNetwork, same_role, is_timed, is_sound_post, is_sound_turn, is_sound_route, have_one_section, lead_between}
+use Rattle.rail_routes.specs.SoundNetworks.{IsSoundNetwork, same_role, is_timed, is_sound_post, is_sound_turn, is_sound_route, have_one_section, lead_between}
 use Rattle.rail_routes.proofs.Uses.{list_any-find}
 use Rattle.rail_routes.proofs.Lists.{both_true, both_false, not_false, find-push_other, find-without_other, all_kept, all_more, all_push}
 use Rattle.rail_routes.proofs.Distinctness.{distinct_portal, distinct_signal, distinct_board, distinct_without_post}

@@ -18,7 +18,7 @@ use Rattle.rail_routes.specs.PostChanges.{PostStoodAt, posts_of, post_position, 
 use Rattle.rail_routes.specs.PostRules.{is_formed, post_refusal, post_tests, stands_well}
 use Rattle.rail_routes.specs.RouteRules.{route_refusal, route_tests}
 use Rattle.rail_routes.specs.TurnRules.{turn_refusal, turn_tests}
-use Rattle.rail_routes.specs.Sound.{IsSoundNetwork, is_sound_post, is_timed, same_role}
+use Rattle.rail_routes.specs.SoundNetworks.{IsSoundNetwork, is_sound_post, is_timed, same_role}
 use Rattle.rail_routes.proofs.Lists.{any_from_found, both_false, both_true, find_true}
 use Rattle.rail_routes.proofs.Removals.{post_of_lists}
 use Rattle.rail_routes.proofs.SectionChanges.{same_from_role}

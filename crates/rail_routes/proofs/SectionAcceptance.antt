@@ -4,11 +4,11 @@ use Rattle.rail_base.specs.FirstRefusals.{first_failing}
 use Rattle.rail_track.specs.declared.section.Section.{Section}
 use Rattle.rail_track.specs.Joints.{is_full}
 use Rattle.rail_track.specs.SectionRules.{section_tests}
-use Rattle.rail_track.specs.Sound.{IsSoundTrack}
+use Rattle.rail_track.specs.SoundTracks.{IsSoundTrack}
 use Rattle.rail_track.proofs.CallerLemmas.{accepted_after}
 use Rattle.rail_routes.specs.Net.{Net}
 use Rattle.rail_routes.specs.SectionRules.{net_section_refusal}
-use Rattle.rail_routes.specs.Sound.{IsSoundNetwork}
+use Rattle.rail_routes.specs.SoundNetworks.{IsSoundNetwork}
 
 or_false : (b : Bool) → (b || false) ≡ b
 or_false true = refl

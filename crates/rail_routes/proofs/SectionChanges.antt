@@ -9,7 +9,7 @@ use Rattle.rail_base.specs.NameForms.{same_name}
 use Rattle.rail_track.specs.declared.section.Section.{Section}
 use Rattle.rail_track.specs.Lists.{without}
 use Rattle.rail_track.specs.Joints.{is_named, is_full, section_named, section_has, sections_at, has_joint}
-use Rattle.rail_track.specs.Sound.{IsSoundTrack}
+use Rattle.rail_track.specs.SoundTracks.{IsSoundTrack}
 use Rattle.rail_track.proofs.CallerLemmas.{IsAccepted, accepted, fails_at, one_more, sections_at-push, same_name-comm, same_from_name, count_by-without, list_any-map}
 use Rattle.rail_routes.specs.declared.items.Post.{Post}
 use Rattle.rail_routes.specs.declared.items.Role.{Role}
@@ -20,7 +20,7 @@ use Rattle.rail_routes.specs.Net.{Net, posts, post_named, stands_at}
 use Rattle.rail_routes.specs.PostRules.{stands_as, stands_well, is_formed, has_joint_ahead}
 use Rattle.rail_routes.specs.SectionRules.{is_closed_by, net_section_refusal}
 use Rattle.rail_routes.specs.Uses.{sections_in, is_section_used, claims, section_removal}
-use Rattle.rail_routes.specs.Sound.{IsSoundNetwork, same_role, is_timed, is_sound_post, is_sound_route, lead_between}
+use Rattle.rail_routes.specs.SoundNetworks.{IsSoundNetwork, same_role, is_timed, is_sound_post, is_sound_route, lead_between}
 use Rattle.rail_routes.proofs.Uses.{any_swap, any_agree, any_or, any_false}
 use Rattle.rail_routes.proofs.Lists.{both_true, both_false, last_kept, find-more, find-without_other, find_true, all_kept, all_more}
 use Rattle.rail_routes.proofs.Kept.{Keeps, has_kept, way_kept, stands_same}

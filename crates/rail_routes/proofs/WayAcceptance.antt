@@ -25,7 +25,7 @@ use Rattle.rail_routes.specs.declared.items.Route.{Route}
 use Rattle.rail_routes.specs.Net.{Net, posts, is_post, is_turn, is_route, post_named}
 use Rattle.rail_routes.specs.TurnRules.{turn_tests, turns_well, turn_refusal}
 use Rattle.rail_routes.specs.RouteRules.{occurred, repeats_behind, repeat_tests, begins, leads_on, leads_from, goes_on, ends, step_tests, lead_tests, is_beyond, path_from, overlap_from, way_tests, misses_section, route_refusal}
-use Rattle.rail_routes.specs.Sound.{IsSoundNetwork, is_sound_turn, is_sound_route, have_one_section, lead_to, lead_on, is_sound_path, is_sound_overlap, lead_between}
+use Rattle.rail_routes.specs.SoundNetworks.{IsSoundNetwork, is_sound_turn, is_sound_route, have_one_section, lead_to, lead_on, is_sound_path, is_sound_overlap, lead_between}
 use Rattle.rail_routes.proofs.Uses.{list_any-find}
 use Rattle.rail_routes.proofs.Lists.{distinct_front}
 use Rattle.rail_routes.proofs.WayChanges.{well_led}

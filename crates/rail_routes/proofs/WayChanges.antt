@@ -10,7 +10,7 @@ use Rattle.rail_base.specs.Lists.{are_distinct}
 use Rattle.rail_track.specs.Lists.{without}
 use Rattle.rail_base.specs.FirstRefusals.{Test, tests_over}
 use Rattle.rail_track.specs.NetFaults.{refused_where}
-use Rattle.rail_track.specs.Sound.{IsSoundTrack}
+use Rattle.rail_track.specs.SoundTracks.{IsSoundTrack}
 use Rattle.rail_base.proofs.CallerLemmas.{AllPassed, all_passed}
 use Rattle.rail_track.proofs.CallerLemmas.{same_name-comm, list_all-without, are_distinct-push}
 use Rattle.rail_routes.specs.declared.items.Post.{Post}
@@ -21,7 +21,7 @@ use Rattle.rail_routes.specs.declared.items.Route.{Route}
 use Rattle.rail_routes.specs.Net.{Net, posts, is_post, post_named}
 use Rattle.rail_routes.specs.TurnRules.{turn_tests, turn_refusal, turns_well}
 use Rattle.rail_routes.specs.RouteRules.{occurred, repeats_behind, repeat_tests, begins, step_tests, leads_on, leads_from, lead_tests, path_from, overlap_from, way_tests, route_tests, route_refusal}
-use Rattle.rail_routes.specs.Sound.{IsSoundNetwork, is_sound_post, is_sound_turn, is_sound_route, have_one_section, lead_to, lead_on, is_sound_path, is_sound_overlap, lead_between}
+use Rattle.rail_routes.specs.SoundNetworks.{IsSoundNetwork, is_sound_post, is_sound_turn, is_sound_route, have_one_section, lead_to, lead_on, is_sound_path, is_sound_overlap, lead_between}
 use Rattle.rail_routes.proofs.Uses.{list_any-find}
 use Rattle.rail_routes.proofs.Lists.{both_true, not_false, all_more, all_push}
 use Rattle.rail_routes.proofs.Tables.{is_short}

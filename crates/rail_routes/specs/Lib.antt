@@ -8,5 +8,5 @@ pub mod PostFields
 pub mod SectionRules
 pub mod NetworkFields
 pub mod PostChanges
-pub mod Distinct
-pub mod Sound
+pub mod DistinctNetworks
+pub mod SoundNetworks

@@ -1,10 +1,12 @@
 -- Networks: what stands in one, by name and by place.
-use Rattle.std.specs.Prelude.{ℕ, Bool, false, ◌&&◌, List, ◌++◌, Option}
+use Rattle.std.specs.Prelude.{ℕ, Bool, false, ◌&&◌, List, [], ◌++◌, Option, None}
 use Rattle.std.specs.List.{find}
 use Rattle.std.specs.Option.{option_map_or}
 use Rattle.rail_base.specs.NameForms.{same_name}
 use Rattle.rail_track.specs.declared.section.Section.{Section}
+use Rattle.rail_track.specs.declared.section.SectionKind.TheVariants.{Plain}
 use Rattle.rail_routes.specs.declared.items.Post.{Post}
+use Rattle.rail_routes.specs.declared.items.Role.TheVariants.{Board}
 use Rattle.rail_routes.specs.declared.items.Turn.{Turn}
 use Rattle.rail_routes.specs.declared.items.Route.{Route}
 
@@ -48,3 +50,19 @@ guards section post = option_map_or (same_name section) post.ahead false
 -- the post stands at the joint and has this section ahead
 abbrev pub guards_at : List ℕ → List ℕ → Post → Bool
 guards_at joint section post = stands_at joint post && guards section post
+
+-- what stands for a section that the network doesn't have
+abbrev pub no_section : Section
+no_section = record { name = []; kind = Plain; length = 0; speed = 0; joints = [] }
+
+-- what stands for a post that the network doesn't have
+abbrev pub no_post : Post
+no_post = record { name = []; role = Board; joint = []; ahead = None; setting = 0; watching = 0; approach = 0 }
+
+-- what stands for a turn that the network doesn't have
+abbrev pub no_turn : Turn
+no_turn = record { arriving = []; leaving = []; time = 0 }
+
+-- what stands for a route that the network doesn't have
+abbrev pub no_route : Route
+no_route = record { name = []; from = []; to = []; steps = []; overlap = [] }

@@ -8,7 +8,7 @@ use Rattle.rail_routes.specs.declared.items.Turn.{Turn}
 use Rattle.rail_routes.specs.declared.items.Route.{Route}
 use Rattle.rail_routes.specs.declared.network.Network.TheInside.{Inside}
 use Rattle.rail_routes.specs.Net.{Net}
-use Rattle.rail_routes.specs.Sound.{IsSoundNetwork}
+use Rattle.rail_routes.specs.SoundNetworks.{IsSoundNetwork}
 use Rattle.rail_routes.specs.Uses.{sections_of}
 
 -- the six lists of the network

@@ -10,7 +10,7 @@ ghost use Rattle.rail_routes.specs.SectionRules.{net_section_refusal};
 ghost use Rattle.rail_routes.specs.PostRules.{post_refusal};
 ghost use Rattle.rail_routes.specs.TurnRules.{turn_refusal};
 ghost use Rattle.rail_routes.specs.RouteRules.{route_refusal};
-ghost use Rattle.rail_routes.specs.Sound.{IsSoundNetwork};
+ghost use Rattle.rail_routes.specs.SoundNetworks.{IsSoundNetwork};
 
 /// The sections, and then the posts of a sound network are accepted one after the other in their order, each beside the
 /// items before it alone. So a network that was changed in any order may be written out list by list, and built again

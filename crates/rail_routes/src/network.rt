@@ -77,7 +77,7 @@ impl Network {
     ghost use Rattle.rail_routes.specs.TurnRules.{turn_refusal};
     ghost use Rattle.rail_routes.specs.RouteRules.{route_refusal};
     ghost use Rattle.rail_routes.specs.Uses.{section_removal, post_removal, turn_removal, route_removal};
-    ghost use Rattle.rail_routes.specs.Sound.{IsSoundNetwork};
+    ghost use Rattle.rail_routes.specs.SoundNetworks.{IsSoundNetwork};
     ghost use Rattle.rail_routes.specs.PostChanges.{with_post, without_post, post_position, PostStoodAt};
 
     /// A network without items. It takes no memory.

@@ -5,7 +5,7 @@ use Rattle.std.proofs.lemmas.List.{get_or-set_same, get_or-set_other, length-set
 use Rattle.std.specs.List.{list_any, list_all}
 use Rattle.rail_rules.specs.Numbers.{all_below, is_in, are_apart}
 use Rattle.rail_rules.specs.Moves.{Moves, stand, is_valid_move, is_valid}
-use Rattle.rail_rules.specs.Places.{place_of, holds, is_held, is_legal, after, is_valid_state}
+use Rattle.rail_rules.specs.Places.{place_of, holds, has_holder, is_legal, after, is_valid_state}
 use Rattle.rail_rules.proofs.Below.{all_below_at, all_below_from, any_below_at}
 use Rattle.rail_rules.proofs.Members.{list_any_at, list_all_at, apart_from, apart_sym}
 
@@ -62,11 +62,11 @@ stand_needed plan t p x valid lt is =
 moved_apart : (plan : Moves) (s : List ℕ) (t u : ℕ) → is_valid plan ≡ true → IsState plan s → is_legal plan s t ≡ true → t < length s → u < length s → are_apart (stand plan t (suc (place_of s t))) (stand plan u (place_of s u)) ≡ true
 moved_apart plan s t u valid h legal lt lu =
     let sections : List ℕ = plan.claim t (place_of s t) in
-    let parts = and_parts (ltb (place_of s t) (plan.moves t)) (not (list_any (is_held plan s) sections)) legal in
-    let nobody = not-true (list_any (is_held plan s) sections) parts.1 in
+    let parts = and_parts (ltb (place_of s t) (plan.moves t)) (not (list_any (has_holder plan s) sections)) legal in
+    let nobody = not-true (list_any (has_holder plan s) sections) parts.1 in
     apart_from (stand plan t (suc (place_of s t))) (stand plan u (place_of s u)) (λ x is.
     let needed = stand_needed plan t (place_of s t) x valid (omega (arith, h.long)) is in
-    any_below_at (λ v. holds plan s v x) (length s) u (list_any_at (is_held plan s) sections x nobody needed) lu)
+    any_below_at (λ v. holds plan s v x) (length s) u (list_any_at (has_holder plan s) sections x nobody needed) lu)
 
 moved_state : (plan : Moves) (s : List ℕ) (t : ℕ) → is_valid plan ≡ true → IsState plan s → is_legal plan s t ≡ true → t < length s → IsState plan (after s t)
 moved_state plan s t valid h legal lt =
@@ -74,7 +74,7 @@ moved_state plan s t valid h legal lt =
     let size : length (set s t next) ≡ length s = length-set s t next in
     let here : place_of (set s t next) t ≡ next = get_or-set_same s t next 0 lt in
     let there : (u : ℕ) → (u ≡ t → ⊥) → place_of (set s t next) u ≡ place_of s u = λ u ne. get_or-set_other s t u next 0 ne in
-    let parts = and_parts (ltb (place_of s t) (plan.moves t)) (not (list_any (is_held plan s) (plan.claim t (place_of s t)))) legal in
+    let parts = and_parts (ltb (place_of s t) (plan.moves t)) (not (list_any (has_holder plan s) (plan.claim t (place_of s t)))) legal in
     let more : place_of s t < plan.moves t = ltb-true (place_of s t) (plan.moves t) parts.0 in
     record {
       long = size ∙ h.long;

@@ -15,5 +15,5 @@ pub mod RunHistories
 pub mod Texts
 pub mod Accepted
 pub mod LineCounts
-pub mod Writable
-pub mod Overlaps
+pub mod WritableLines
+pub mod Apart

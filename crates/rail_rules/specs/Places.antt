@@ -17,12 +17,12 @@ abbrev pub holds : Moves → List ℕ → ℕ → ℕ → Bool
 holds plan s t x = is_in x (stand plan t (place_of s t))
 
 -- some train holds the section
-abbrev pub is_held : Moves → List ℕ → ℕ → Bool
-is_held plan s x = any_below (λ u. holds plan s u x) (length s)
+abbrev pub has_holder : Moves → List ℕ → ℕ → Bool
+has_holder plan s x = any_below (λ u. holds plan s u x) (length s)
 
 -- the next move of a train is legal: the train isn't out, and nobody holds a section that it claims
 abbrev pub is_legal : Moves → List ℕ → ℕ → Bool
-is_legal plan s t = nat_lt (place_of s t) (plan.moves t) && not (list_any (is_held plan s) (plan.claim t (place_of s t)))
+is_legal plan s t = nat_lt (place_of s t) (plan.moves t) && not (list_any (has_holder plan s) (plan.claim t (place_of s t)))
 
 -- the state after a move of the train
 abbrev pub after : List ℕ → ℕ → List ℕ

@@ -14,7 +14,7 @@ use Rattle.rail_routes.specs.declared.items.Role.{Role}
 use Rattle.rail_routes.specs.declared.items.Role.TheVariants.{Portal, Signal, Board}
 use Rattle.rail_routes.specs.Net.{Net}
 use Rattle.rail_routes.specs.PostRules.{is_formed, is_formed_as, has_times, stands_well, post_tests}
-use Rattle.rail_routes.specs.Sound.{IsSoundNetwork, same_role, is_timed, is_sound_post}
+use Rattle.rail_routes.specs.SoundNetworks.{IsSoundNetwork, same_role, is_timed, is_sound_post}
 use Rattle.rail_routes.proofs.CallerLemmas.{same_from_role, portal_after, signal_after, board_after}
 use Rattle.rail_scene.specs.declared.keys.KeyName.TheVariants as word
 use Rattle.rail_scene.specs.declared.keys.ListPart.TheVariants as part
@@ -26,7 +26,7 @@ use Rattle.rail_scene.specs.Keys.{key_of, keys_of}
 use Rattle.rail_scene.specs.SceneItems.{SceneItems, item_tests, with_items}
 use Rattle.rail_scene.specs.Values.{value_tests}
 use Rattle.rail_scene_text.specs.Tables.{portal_members, board_members, post_members, with_ahead, post_data}
-use Rattle.rail_scene_text.specs.Typed.{is_typed_post}
+use Rattle.rail_scene_text.specs.FieldTypes.{is_typed_post}
 use Rattle.rail_scene_text.proofs.Lists.{item_none}
 use Rattle.rail_scene_text.proofs.Reading.{found, name_is, number_is, from_zero}
 

@@ -7,10 +7,10 @@ use Rattle.rail_base.specs.FirstRefusals.{first_failing}
 use Rattle.rail_base.specs.Limits.{most, ReleaseTime, Depth, OverlapTime}
 use Rattle.rail_base.specs.declared.refusals.Part.TheVariants.{Root}
 use Rattle.rail_base.proofs.CallerLemmas.{none_failing}
-use Rattle.rail_track.specs.Sound.{is_fit}
+use Rattle.rail_track.specs.SoundTracks.{is_fit}
 use Rattle.rail_routes.specs.declared.items.Role.TheVariants as role
 use Rattle.rail_routes.specs.Net.{Net}
-use Rattle.rail_routes.specs.Sound.{IsSoundNetwork, is_sound_post, is_sound_turn, is_sound_route}
+use Rattle.rail_routes.specs.SoundNetworks.{IsSoundNetwork, is_sound_post, is_sound_turn, is_sound_route}
 use Rattle.rail_scene.specs.declared.keys.KeyName.TheVariants as word
 use Rattle.rail_scene.specs.declared.keys.ListPart.{ListPart}
 use Rattle.rail_scene.specs.declared.keys.ListPart.TheVariants as part
@@ -27,7 +27,7 @@ use Rattle.rail_scene.specs.SpelledScenes.{scene_of}
 use Rattle.rail_scene.specs.Values.{value_tests}
 use Rattle.rail_scene.proofs.CallerLemmas.{both_passed, located_none, values_none}
 use Rattle.rail_scene_text.specs.Tables.{section_data, post_data, turn_data, route_data, kind_data, train_data, scene_members}
-use Rattle.rail_scene_text.specs.Typed.{IsTyped, is_typed_section, is_typed_post, is_typed_turn, is_typed_route, is_typed_kind, is_typed_train}
+use Rattle.rail_scene_text.specs.FieldTypes.{IsTyped, is_typed_section, is_typed_post, is_typed_turn, is_typed_route, is_typed_kind, is_typed_train}
 use Rattle.rail_scene_text.proofs.Lists as lists
 use Rattle.rail_scene_text.proofs.Lists.{Each, each_both}
 use Rattle.rail_scene_text.proofs.Reading.{listed_items, found, name_is, number_is, from_zero, up_to}

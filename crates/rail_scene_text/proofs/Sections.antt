@@ -13,10 +13,10 @@ use Rattle.rail_track.specs.declared.section.Section.{Section}
 use Rattle.rail_track.specs.declared.section.SectionKind.{SectionKind}
 use Rattle.rail_track.specs.declared.section.SectionKind.TheVariants.{Plain, Points, Crossing, Slip}
 use Rattle.rail_track.specs.SectionRules.{joint_count, stands_twice, section_tests}
-use Rattle.rail_track.specs.Sound.{is_fit}
+use Rattle.rail_track.specs.SoundTracks.{is_fit}
 use Rattle.rail_routes.specs.Net.{Net}
 use Rattle.rail_routes.specs.SectionRules.{is_closed_by}
-use Rattle.rail_routes.specs.Sound.{IsSoundNetwork}
+use Rattle.rail_routes.specs.SoundNetworks.{IsSoundNetwork}
 use Rattle.rail_routes.proofs.CallerLemmas.{section_after}
 use Rattle.rail_scene.specs.declared.keys.KeyName.TheVariants as word
 use Rattle.rail_scene.specs.declared.keys.ListPart.TheVariants as part
@@ -28,7 +28,7 @@ use Rattle.rail_scene.specs.Keys.{key_of, keys_of}
 use Rattle.rail_scene.specs.SceneItems.{SceneItems, item_tests, with_items}
 use Rattle.rail_scene.specs.Values.{value_tests}
 use Rattle.rail_scene_text.specs.Tables.{section_data}
-use Rattle.rail_scene_text.specs.Typed.{is_typed_section}
+use Rattle.rail_scene_text.specs.FieldTypes.{is_typed_section}
 use Rattle.rail_scene_text.proofs.Lists.{item_none}
 use Rattle.rail_scene_text.proofs.Reading.{found, name_is, number_is, names_listed, names_are, names_count, strings}
 

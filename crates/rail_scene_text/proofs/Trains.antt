@@ -28,7 +28,7 @@ use Rattle.rail_scene.specs.Scenes.{is_fit_kind, is_fit_train, is_one_kind, is_o
 use Rattle.rail_scene.specs.Values.{value_tests}
 use Rattle.rail_scene.proofs.CallerLemmas.{reads_some}
 use Rattle.rail_scene_text.specs.Tables.{kind_data, train_data}
-use Rattle.rail_scene_text.specs.Typed.{is_typed_kind, is_typed_train}
+use Rattle.rail_scene_text.specs.FieldTypes.{is_typed_kind, is_typed_train}
 use Rattle.rail_scene_text.proofs.Lists.{item_none}
 use Rattle.rail_scene_text.proofs.Reading.{found, name_is, number_is, from_zero, names_listed, names_are, names_count, strings}
 

@@ -20,7 +20,7 @@ use Rattle.rail_routes.specs.declared.items.Route.{Route}
 use Rattle.rail_routes.specs.Net.{Net, posts, is_post, post_named, guards}
 use Rattle.rail_routes.specs.TurnRules.{turns_well, turn_tests}
 use Rattle.rail_routes.specs.RouteRules.{begins, leads_on, leads_from, goes_on, ends, is_beyond, route_tests}
-use Rattle.rail_routes.specs.Sound.{IsSoundNetwork, is_sound_turn, is_sound_route, lead_to, lead_on, is_sound_path, is_sound_overlap, lead_between}
+use Rattle.rail_routes.specs.SoundNetworks.{IsSoundNetwork, is_sound_turn, is_sound_route, lead_to, lead_on, is_sound_path, is_sound_overlap, lead_between}
 use Rattle.rail_routes.proofs.CallerLemmas.{turn_after, route_after, well_led}
 use Rattle.rail_scene.specs.declared.keys.KeyName.TheVariants as word
 use Rattle.rail_scene.specs.declared.keys.ListPart.TheVariants as part
@@ -32,7 +32,7 @@ use Rattle.rail_scene.specs.Keys.{key_of, keys_of}
 use Rattle.rail_scene.specs.SceneItems.{SceneItems, item_tests, with_items}
 use Rattle.rail_scene.specs.Values.{value_tests}
 use Rattle.rail_scene_text.specs.Tables.{turn_data, route_data, path_of, overlap_of}
-use Rattle.rail_scene_text.specs.Typed.{is_typed_turn, is_typed_route}
+use Rattle.rail_scene_text.specs.FieldTypes.{is_typed_turn, is_typed_route}
 use Rattle.rail_scene_text.proofs.Lists.{item_none}
 use Rattle.rail_scene_text.proofs.Reading.{found, name_is, number_is, from_zero, names_listed, names_are, names_count, strings}
 

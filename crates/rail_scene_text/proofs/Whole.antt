@@ -6,7 +6,7 @@ use Rattle.toml.specs.Parse.{parse_document}
 use Rattle.rail_base.specs.FirstRefusals.{first_failing}
 use Rattle.rail_base.specs.declared.refusals.Part.TheVariants.{Bytes}
 use Rattle.rail_base.specs.declared.refusals.Reason.TheVariants.{NotToml}
-use Rattle.rail_routes.specs.Sound.{IsSoundNetwork}
+use Rattle.rail_routes.specs.SoundNetworks.{IsSoundNetwork}
 use Rattle.rail_scene.specs.declared.scene.Scene.{Scene}
 use Rattle.rail_scene.specs.Fields.{version_of}
 use Rattle.rail_scene.specs.Order.{scene_refusal, scene_forms, scene_values, toml_test}
@@ -15,7 +15,7 @@ use Rattle.rail_scene.specs.SpelledScenes.{document, root_of, scene_of, spelled_
 use Rattle.rail_scene.specs.Versions.{newest}
 use Rattle.rail_scene.proofs.CallerLemmas.{document_some, root_is, none_refused}
 use Rattle.rail_scene_text.specs.Tables.{scene_members}
-use Rattle.rail_scene_text.specs.Typed.{IsTyped}
+use Rattle.rail_scene_text.specs.FieldTypes.{IsTyped}
 use Rattle.rail_scene_text.proofs.Roots as of_root
 use Rattle.rail_scene_text.proofs.Trains.{OneTime}
 

@@ -1,4 +1,4 @@
 -- What the contracts of this crate speak of.
 pub mod Tables
-pub mod Typed
+pub mod FieldTypes
 pub mod Rows

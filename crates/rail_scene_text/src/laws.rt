@@ -3,13 +3,13 @@
 ghost use Rattle.std.specs.Prelude.{◌≡◌, ℕ, List, Some, None};
 ghost use Rattle.std.specs.Str.{IsUtf8};
 ghost use Rattle.toml.specs.Parse.{parse_document};
-ghost use Rattle.rail_routes.specs.Sound.{IsSoundNetwork};
+ghost use Rattle.rail_routes.specs.SoundNetworks.{IsSoundNetwork};
 ghost use Rattle.rail_scene.specs.Order.{scene_refusal};
 ghost use Rattle.rail_scene.specs.Scenes.{IsScene};
 ghost use Rattle.rail_scene.specs.SpelledScenes.{spelled_scene};
 ghost use Rattle.rail_scene.specs.declared.scene.Scene.{Scene};
 ghost use Rattle.rail_scene_text.specs.Tables.{scene_members};
-ghost use Rattle.rail_scene_text.specs.Typed.{IsTyped};
+ghost use Rattle.rail_scene_text.specs.FieldTypes.{IsTyped};
 
 use rail_base::a_text_stands_for_one_time;
 

@@ -28,7 +28,7 @@ fn kind_word(kind: SectionKind) -> &'static str
 
 impl Written for Section {
     ghost use Rattle.rail_scene_text.specs.Tables.{section_data};
-    ghost use Rattle.rail_scene_text.specs.Typed.{is_typed_section};
+    ghost use Rattle.rail_scene_text.specs.FieldTypes.{is_typed_section};
 
     ghost data_of = { section_data };
 
@@ -115,7 +115,7 @@ fn with_ahead(alloc: Global, mut members: Table, ahead: Option<Name>) -> Result<
 
 impl Written for Post {
     ghost use Rattle.rail_scene_text.specs.Tables.{post_data};
-    ghost use Rattle.rail_scene_text.specs.Typed.{is_typed_post};
+    ghost use Rattle.rail_scene_text.specs.FieldTypes.{is_typed_post};
 
     ghost data_of = { post_data };
 
@@ -129,7 +129,7 @@ impl Written for Post {
 
 impl Written for Turn {
     ghost use Rattle.rail_scene_text.specs.Tables.{turn_data};
-    ghost use Rattle.rail_scene_text.specs.Typed.{is_typed_turn};
+    ghost use Rattle.rail_scene_text.specs.FieldTypes.{is_typed_turn};
 
     ghost data_of = { turn_data };
 
@@ -199,7 +199,7 @@ fn first_joint(alloc: Global, steps: &[Step]) -> Result<Vec<Name>, AllocError>
 
 impl Written for Route {
     ghost use Rattle.rail_scene_text.specs.Tables.{route_data};
-    ghost use Rattle.rail_scene_text.specs.Typed.{is_typed_route};
+    ghost use Rattle.rail_scene_text.specs.FieldTypes.{is_typed_route};
 
     ghost data_of = { route_data };
 
@@ -230,7 +230,7 @@ impl Written for Route {
 
 impl Written for TrainKind {
     ghost use Rattle.rail_scene_text.specs.Tables.{kind_data};
-    ghost use Rattle.rail_scene_text.specs.Typed.{is_typed_kind};
+    ghost use Rattle.rail_scene_text.specs.FieldTypes.{is_typed_kind};
 
     ghost data_of = { kind_data };
 
@@ -254,7 +254,7 @@ impl Written for TrainKind {
 
 impl Written for SceneTrain {
     ghost use Rattle.rail_scene_text.specs.Tables.{train_data};
-    ghost use Rattle.rail_scene_text.specs.Typed.{is_typed_train};
+    ghost use Rattle.rail_scene_text.specs.FieldTypes.{is_typed_train};
 
     ghost data_of = { train_data };
 

@@ -7,7 +7,7 @@ ghost use Rattle.rail_scene.specs.SpelledScenes.{root_of, spelled_scene};
 ghost use Rattle.rail_scene.specs.Fields.{version_of};
 ghost use Rattle.rail_scene.specs.Versions.{newest};
 ghost use Rattle.rail_scene_text.specs.Tables.{IsSceneText, network_members, scene_members};
-ghost use Rattle.rail_scene_text.specs.Typed.{IsTyped, IsTypedNetwork};
+ghost use Rattle.rail_scene_text.specs.FieldTypes.{IsTyped, IsTypedNetwork};
 
 use crate::values::{Written, array, put};
 use rail_base::{OutOfMemory, a_text_stands_for_one_time};

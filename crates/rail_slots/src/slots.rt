@@ -85,6 +85,13 @@ fn new_slot<T: Copy>(next: &mut Vec<Link>, items: &mut Vec<Option<T>>, item: T) 
     slot
 }
 
+/// So many steps and one more; it stays at 2^64 - 1 once there.
+fn counted(walked: u64) -> u64
+    ensures { result ≡ min (walked + 1) (2 ^ 64 - 1) }
+{
+    walked.saturating_add(1)
+}
+
 impl<T: Copy> Slots<T> {
     /// So many empty chains, and room for so many items in all.
     pub fn with_room(alloc: Global, chains: usize, room: usize) -> Result<Slots<T>, OutOfMemory>
@@ -151,7 +158,7 @@ impl<T: Copy> Slots<T> {
         ensures walked { self.new.walked ≡ min (self.old.walked + 1) (2 ^ 64 - 1) }
         ensures nearer { IfSome result (λ after. left_from self.new.chains after + 1 ≡ left_from self.old.chains slot) }
     {
-        self.walked = self.walked.saturating_add(1);
+        self.walked = counted(self.walked);
         self.next[slot].cell()
     }
 
@@ -202,16 +209,17 @@ impl<T: Copy> Slots<T> {
         self.items[slot]
     }
 
-    /// Takes out the item of the slot after a slot in use, if that isn't the last of its chain. It counts no step.
+    /// Takes out the item of the slot after a slot in use, if that isn't the last of its chain. The step is counted.
     pub fn take_after(&mut self, slot: usize) -> Option<T>
         requires { Stands self.old.chains slot }
         ensures item { (chain : ℕ) (before rest : List (ℕ × T)) (item : T) → StandsAt self.old.chains slot chain before item rest → result ≡ first_item rest }
         ensures chains { (chain : ℕ) (before rest : List (ℕ × T)) (item : T) → StandsAt self.old.chains slot chain before item rest
             → self.new.chains ≡ set self.old.chains chain (before ++ (slot, item) ∷ behind_first rest) }
         ensures spare { MatchOption result (self.new.spare ≡ self.old.spare) (λ _. self.new.spare ≡ self.old.spare + 1) }
-        ensures walked { self.new.walked ≡ self.old.walked }
+        ensures walked { self.new.walked ≡ min (self.old.walked + 1) (2 ^ 64 - 1) }
         ensures fewer { IfSome result (λ _. left_from self.new.chains slot + 1 ≡ left_from self.old.chains slot) }
     {
+        self.walked = counted(self.walked);
         let Some(old) = self.next[slot].cell() else {
             return None;
         };

@@ -4,7 +4,7 @@ use Rattle.rail_rules.specs.Numbers.{gather}
 use Rattle.rail_rules.specs.Plant.{Plant, claims}
 use Rattle.rail_stairs.specs.declared.stairs.Stairs.{Stairs}
 use Rattle.rail_stairs.specs.Journeys.{before_move, before_step, before_train}
-use Rattle.rail_stairs.specs.Noted.{noted_of}
+use Rattle.rail_stairs.specs.NotedHistories.{noted_of}
 use Rattle.rail_stairs.specs.Stairways.{move_intervals, step_intervals}
 
 -- before the next step stands the interval of the step, where it has one

@@ -14,9 +14,9 @@ use Rattle.rail_rules.specs.Intervals.{has_interval}
 use Rattle.rail_rules.specs.Lawful.{is_complete, is_lawful}
 use Rattle.rail_rules.specs.Numbers.{gather}
 use Rattle.rail_rules.specs.Orders.{Input}
-use Rattle.rail_rules.specs.Overlaps.{IsStep}
+use Rattle.rail_rules.specs.Apart.{IsStep}
 use Rattle.rail_rules.specs.Plant.{claims, trains}
-use Rattle.rail_stairs.specs.Ended.{interval_in}
+use Rattle.rail_stairs.specs.EndedIntervals.{interval_in}
 use Rattle.rail_stairs.specs.Stairways.{ended_at, ended_by, stairway, step_intervals}
 use Rattle.rail_stairs.proofs.Ending.{disjoint_at_end, positive_at_end}
 use Rattle.rail_stairs.proofs.There.{there_all, there_map}

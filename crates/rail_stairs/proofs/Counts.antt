@@ -10,7 +10,7 @@ use Rattle.rail_rules.specs.Plant.{Plant, claimed, claims, move_row, moves, step
 use Rattle.rail_rules.proofs.CallerLemmas.{IsMoveInRange, accepted_parts, claims_are, list_all_get, move_in_range, row_in_range}
 use Rattle.rail_stairs.specs.declared.stairs.Stairs.{Stairs}
 use Rattle.rail_stairs.specs.Journeys.{AreAllAdmissible, before_move, before_step, before_train}
-use Rattle.rail_stairs.specs.Noted.{noted_of}
+use Rattle.rail_stairs.specs.NotedHistories.{noted_of}
 use Rattle.rail_stairs.specs.Stairways.{move_intervals, step_intervals, train_intervals}
 use Rattle.rail_stairs.proofs.Gathered.{gather_short}
 use Rattle.rail_stairs.proofs.There.{there_short}

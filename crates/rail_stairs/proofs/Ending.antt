@@ -13,8 +13,8 @@ use Rattle.rail_rules.specs.Fronts.{Front, Line, admissions, at_time, has_ended,
 use Rattle.rail_rules.specs.Intervals.{end_time, has_interval, is_open, is_taken_over}
 use Rattle.rail_rules.specs.Lawful.{is_complete, is_lawful}
 use Rattle.rail_rules.specs.Orders.{Input, is_cancelled, told}
-use Rattle.rail_rules.specs.Overlaps.{IsStep, AreApart}
-use Rattle.rail_rules.specs.Overlaps.AreApart.{one, first, second}
+use Rattle.rail_rules.specs.Apart.{IsStep, AreApart}
+use Rattle.rail_rules.specs.Apart.AreApart.{one, first, second}
 use Rattle.rail_rules.specs.Plant.{Plant, moves, step_section, trains}
 use Rattle.rail_rules.specs.Times.{admitted}
 use Rattle.rail_rules.proofs.CallerLemmas.{admissions_kept, end_taken, freed_from, taken_parts}
@@ -26,7 +26,7 @@ use Rattle.rail_laws_front.specs.Views.Follows.{by_event, by_admission, by_hold,
 use Rattle.rail_laws_front.proofs.CallerLemmas.{go_after_admission, lawful_before, lawful_last, never_overlap, stands_or_due, timely, well_formed_from_accepted}
 use Rattle.rail_laws_events.proofs.CallerLemmas.{few_admissions, input_parts, times_below}
 use Rattle.rail_laws_run.proofs.CallerLemmas.{interval_lasts}
-use Rattle.rail_stairs.specs.Ended.{AreDisjoint, IsPositive, end_in, interval_in}
+use Rattle.rail_stairs.specs.EndedIntervals.{AreDisjoint, IsPositive, end_in, interval_in}
 use Rattle.rail_stairs.specs.Stairways.{ended_at}
 
 nothing_in : {X : Type 0} (p : X → Bool) (xs : List X) → length xs ≡ 0 → list_any p xs ≡ true → ⊥

@@ -8,7 +8,7 @@ use Rattle.rail_rules.specs.Times.{admitted, is_admitted}
 use Rattle.rail_rules.proofs.CallerLemmas.{end_timed, sum_below_same, taken_from, taken_parts}
 use Rattle.rail_laws_front.specs.Premises.{IsWellFormed}
 use Rattle.rail_laws_front.proofs.CallerLemmas.{end_after_begin}
-use Rattle.rail_stairs.specs.Noted.{counted, counts_of, is_at_once, is_passed_on}
+use Rattle.rail_stairs.specs.NotedHistories.{counted, counts_of, is_at_once, is_passed_on}
 use Rattle.rail_stairs.specs.Stairways.{move_intervals, step_intervals}
 use Rattle.rail_stairs.proofs.Gathered.{length_gathered}
 use Rattle.rail_stairs.proofs.There.{there_length}

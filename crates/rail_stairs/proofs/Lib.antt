@@ -18,5 +18,4 @@ mod Counts
 mod Before
 mod Tallied
 mod Totals
-mod Lines
 mod Written

@@ -19,7 +19,7 @@ use Rattle.rail_laws_run.specs.TimeLimits.{StaysBelow}
 use Rattle.rail_laws_run.proofs.CallerLemmas.{ready_is_past, stays_below}
 use Rattle.rail_stairs.specs.declared.stairs.Stairs.{Stairs}
 use Rattle.rail_stairs.specs.Journeys.{AreAdmissible, AreAllAdmissible, before_train}
-use Rattle.rail_stairs.specs.Noted.{AreNoted, IsNoted, noted_of}
+use Rattle.rail_stairs.specs.NotedHistories.{AreNoted, IsNoted, noted_of}
 use Rattle.rail_stairs.specs.Stairways.{stairway, train_intervals}
 
 -- no move is admitted before its ready time

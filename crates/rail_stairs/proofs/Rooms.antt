@@ -16,7 +16,7 @@ use Rattle.rail_laws_front.proofs.CallerLemmas.{event_admits_nothing, lawful_las
 use Rattle.rail_laws_events.proofs.CallerLemmas.{input_parts}
 use Rattle.rail_rules.specs.Fronts.{is_admission}
 use Rattle.rail_stairs.specs.declared.stairs.Stairs.{Stairs}
-use Rattle.rail_stairs.specs.Noted.{AreNoted, has_room, noted_of}
+use Rattle.rail_stairs.specs.NotedHistories.{AreNoted, has_room, noted_of}
 use Rattle.rail_stairs.proofs.Counts.{few_moves}
 use Rattle.rail_stairs.proofs.Ready.{noted_is, noted_rows}
 

@@ -3,15 +3,15 @@ use Rattle.std.proofs.Common.{◌≡◌, ℕ, ◌<◌, true, ◌&&◌, nat_lt, l
 use Rattle.std.specs.Prelude.{◌^◌, unwrap_or}
 use Rattle.std.proofs.lemmas.Bool.{and_from, lt-ltb}
 use Rattle.rail_base.specs.declared.intervals.Interval.{Interval}
-use Rattle.rail_insert.specs.Timely.{are_timely, is_timely}
+use Rattle.rail_insert.specs.TimeBounds.{are_timely, is_timely}
 use Rattle.rail_rules.specs.Accepted.{is_accepted_input}
 use Rattle.rail_rules.specs.Fronts.{Front, admissions}
 use Rattle.rail_rules.specs.Intervals.{has_interval}
 use Rattle.rail_rules.specs.Lawful.{is_complete}
 use Rattle.rail_rules.specs.Orders.{Input}
-use Rattle.rail_rules.specs.Overlaps.{IsStep}
+use Rattle.rail_rules.specs.Apart.{IsStep}
 use Rattle.rail_rules.specs.Plant.{claims, trains}
-use Rattle.rail_stairs.specs.Ended.{interval_in}
+use Rattle.rail_stairs.specs.EndedIntervals.{interval_in}
 use Rattle.rail_stairs.specs.Stairways.{move_intervals, stairway, step_intervals, train_intervals}
 use Rattle.rail_stairs.proofs.Conflicts.{all_gathered}
 use Rattle.rail_stairs.proofs.Ending.{positive_at_end}

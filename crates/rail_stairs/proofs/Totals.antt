@@ -12,7 +12,7 @@ use Rattle.rail_laws_front.proofs.CallerLemmas.{get_or-listed, length-listed, we
 use Rattle.rail_laws_events.proofs.CallerLemmas.{input_parts}
 use Rattle.rail_stairs.specs.declared.move_counts.MoveCounts.{MoveCounts}
 use Rattle.rail_stairs.specs.declared.stairs.Stairs.{Stairs}
-use Rattle.rail_stairs.specs.Noted.{AreNoted, IsNoted, counted, counts_of, is_at_once, is_passed_on, no_counts, noted_count, noted_counts, noted_of, train_counts}
+use Rattle.rail_stairs.specs.NotedHistories.{AreNoted, IsNoted, counted, counts_of, is_at_once, is_passed_on, no_counts, noted_count, noted_counts, noted_of, train_counts}
 use Rattle.rail_stairs.specs.Stairways.{move_intervals, stairway, train_intervals}
 use Rattle.rail_stairs.proofs.Counts.{few_claims, few_trains, move_most}
 use Rattle.rail_stairs.proofs.Gathered.{length_gathered}

@@ -7,7 +7,7 @@ use Rattle.rail_rules.specs.Numbers.{gather}
 use Rattle.rail_rules.specs.Plant.{Plant, moves, trains}
 use Rattle.rail_rules.specs.Times.{admitted, ready}
 use Rattle.rail_stairs.specs.declared.stairs.Stairs.{Stairs}
-use Rattle.rail_stairs.specs.Noted.{noted_of}
+use Rattle.rail_stairs.specs.NotedHistories.{noted_of}
 use Rattle.rail_stairs.specs.Stairways.{move_intervals, step_intervals, train_intervals}
 
 -- a train may have these admissions: no more than it has moves, none before its ready time, and all times are below 2^51

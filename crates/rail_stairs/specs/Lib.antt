@@ -1,12 +1,12 @@
 -- What the contracts of stairways name: from the admissions and the end line alone.
 pub mod Stairways
 pub mod StairsTexts
-pub mod Ended
+pub mod EndedIntervals
 -- What is noted of a history.
-pub mod Noted
+pub mod NotedHistories
 -- What the program keeps on the way: the times of a train, and the table of the sections.
 pub mod Journeys
-pub mod OfTrains
+pub mod JourneyTrains
 pub mod Tallies
 -- Worked stairways.
 pub mod Rows

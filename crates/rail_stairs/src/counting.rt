@@ -4,7 +4,7 @@ ghost use Rattle.std.specs.Prelude.{◌≡◌, ◌+◌, ◌<◌, ◌≤◌, ℕ,
 ghost use Rattle.rail_base.specs.declared.limits.TheConstants.{ITINERARY_ROUTES, OVERLAP_SECTIONS, ROUTE_SECTIONS};
 ghost use Rattle.rail_rules.specs.Fronts.{Front};
 ghost use Rattle.rail_rules.specs.Plant.{Plant};
-ghost use Rattle.rail_stairs.specs.Noted.{AreNoted, IsNoted, count_in, counted, is_at_once, no_counts, noted_count};
+ghost use Rattle.rail_stairs.specs.NotedHistories.{AreNoted, IsNoted, count_in, counted, is_at_once, no_counts, noted_count};
 ghost use Rattle.rail_stairs.specs.Stairways.{stairway};
 ghost use Rattle.rail_stairs.specs.declared.counting.TheConstants.{TRAIN_INTERVALS};
 

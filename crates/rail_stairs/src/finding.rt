@@ -3,8 +3,8 @@
 ghost use Rattle.std.specs.Prelude.{◌≡◌, ◌+◌, ◌<◌, length, slice_get, Some, IfOk, IfErr};
 ghost use Rattle.rail_rules.specs.Fronts.{Front};
 ghost use Rattle.rail_rules.specs.Plant.{Plant};
-ghost use Rattle.rail_stairs.specs.Noted.{AreNoted, IsNoted};
-ghost use Rattle.rail_stairs.specs.OfTrains.{admissions_in, of_train};
+ghost use Rattle.rail_stairs.specs.NotedHistories.{AreNoted, IsNoted};
+ghost use Rattle.rail_stairs.specs.JourneyTrains.{admissions_in, of_train};
 ghost use Rattle.rail_stairs.specs.Stairways.{move_intervals, stairway, train_intervals};
 
 use crate::journey::Journey;

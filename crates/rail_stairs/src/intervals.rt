@@ -4,9 +4,9 @@ ghost use Rattle.std.specs.Prelude.{◌≡◌, ◌+◌, ◌<◌, ◌++◌, lengt
 ghost use Rattle.rail_base.specs.declared.limits.TheConstants.{OVERLAP_SECTIONS, ROUTE_SECTIONS};
 ghost use Rattle.rail_rules.specs.Fronts.{Front};
 ghost use Rattle.rail_rules.specs.Plant.{Plant, claims, trains};
-ghost use Rattle.rail_stairs.specs.Noted.{AreNoted, IsNoted};
+ghost use Rattle.rail_stairs.specs.NotedHistories.{AreNoted, IsNoted};
 ghost use Rattle.rail_stairs.specs.Journeys.{AreAllAdmissible, before_train};
-ghost use Rattle.rail_stairs.specs.OfTrains.{admissions_in, of_train};
+ghost use Rattle.rail_stairs.specs.JourneyTrains.{admissions_in, of_train};
 ghost use Rattle.rail_stairs.specs.Stairways.{ended_by, move_intervals, stairway, step_intervals, train_intervals};
 
 use crate::journey::Journey;

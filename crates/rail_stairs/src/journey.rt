@@ -5,7 +5,7 @@ ghost use Rattle.rail_base.specs.declared.limits.TheConstants.{ITINERARY_ROUTES}
 ghost use Rattle.rail_rules.specs.Accepted.{is_accepted};
 ghost use Rattle.rail_rules.specs.Plant.{trains};
 ghost use Rattle.rail_stairs.specs.Journeys.{AreAdmissible, AreAllAdmissible, AreTimesTo};
-ghost use Rattle.rail_stairs.specs.Noted.{noted_of};
+ghost use Rattle.rail_stairs.specs.NotedHistories.{noted_of};
 
 use crate::stairs::Stairs;
 use rail_base::limits::ITINERARY_ROUTES;

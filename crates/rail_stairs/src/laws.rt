@@ -2,16 +2,16 @@
 
 ghost use Rattle.std.specs.Prelude.{◌≡◌, ◌⊎◌, ◌∷◌, ℕ, IsTrue, List, map, unwrap_or};
 ghost use Rattle.rail_capacity.specs.BlockingTimes.{are_conflict_free, block_of};
-ghost use Rattle.rail_insert.specs.Timely.{are_timely};
+ghost use Rattle.rail_insert.specs.TimeBounds.{are_timely};
 ghost use Rattle.rail_rules.specs.Accepted.{is_accepted_input};
 ghost use Rattle.rail_rules.specs.Fronts.{Front, Line, admissions};
 ghost use Rattle.rail_rules.specs.Intervals.{has_interval, interval_of, is_over};
 ghost use Rattle.rail_rules.specs.Lawful.{is_complete, is_lawful};
 ghost use Rattle.rail_rules.specs.Orders.{Input};
-ghost use Rattle.rail_rules.specs.Overlaps.{IsStep};
+ghost use Rattle.rail_rules.specs.Apart.{IsStep};
 ghost use Rattle.rail_rules.specs.Plant.{Plant, step_section};
-ghost use Rattle.rail_stairs.specs.Ended.{AreDisjoint, IsPositive, interval_in};
-ghost use Rattle.rail_stairs.specs.Noted.{AreNoted, has_room};
+ghost use Rattle.rail_stairs.specs.EndedIntervals.{AreDisjoint, IsPositive, interval_in};
+ghost use Rattle.rail_stairs.specs.NotedHistories.{AreNoted, has_room};
 ghost use Rattle.rail_stairs.specs.Stairways.{ended_at, ended_by, stairway};
 ghost use Rattle.rail_stairs.specs.StairsTexts.{is_of_overlap};
 ghost use Rattle.rail_stairs.specs.declared.stairs.Stairs.{Stairs};

@@ -4,7 +4,7 @@ ghost use Rattle.std.specs.Prelude.{◌≡◌, ◌+◌, ◌-◌, ◌<◌, ◌≤
 ghost use Rattle.rail_base.specs.declared.limits.TheConstants.{OVERLAP_SECTIONS, ROUTE_SECTIONS};
 ghost use Rattle.rail_block.specs.KnownMoves.{of_move};
 ghost use Rattle.rail_rules.specs.Plant.{claims, trains};
-ghost use Rattle.rail_stairs.specs.Noted.{counted, counts_of, is_passed_on, plant_counts, train_counts};
+ghost use Rattle.rail_stairs.specs.NotedHistories.{counted, counts_of, is_passed_on, plant_counts, train_counts};
 
 use rail_base::TrainNo;
 use rail_block::{KnownMove, KnownOver};

@@ -5,7 +5,7 @@ ghost use Rattle.rail_base.specs.declared.limits.TheConstants.{ITINERARY_ROUTES}
 ghost use Rattle.rail_rules.specs.Fronts.{Front, Line};
 ghost use Rattle.rail_rules.specs.Numbers.{listed};
 ghost use Rattle.rail_rules.specs.Plant.{Plant};
-ghost use Rattle.rail_stairs.specs.Noted.{AreNoted, has_room, noted_counts, noted_of};
+ghost use Rattle.rail_stairs.specs.NotedHistories.{AreNoted, has_room, noted_counts, noted_of};
 
 use crate::admissions::Admissions;
 use crate::move_counts::{MoveCounts, plant_counts};

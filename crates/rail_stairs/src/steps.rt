@@ -8,7 +8,7 @@ ghost use Rattle.rail_block.specs.KnownMoves.{AreTimesOf, of_move};
 ghost use Rattle.rail_rules.specs.Intervals.{has_interval, interval_of};
 ghost use Rattle.rail_rules.specs.Plant.{Plant, claims, trains};
 ghost use Rattle.rail_stairs.specs.Journeys.{AreTimesTo};
-ghost use Rattle.rail_stairs.specs.OfTrains.{admissions_in, of_train};
+ghost use Rattle.rail_stairs.specs.JourneyTrains.{admissions_in, of_train};
 
 use crate::journey::{Journey, PLACES};
 use crate::move_counts::claims_of;

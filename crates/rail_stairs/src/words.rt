@@ -1,17 +1,17 @@
 //! The words of a line, put at its end one after another.
 
 ghost use Rattle.std.specs.Prelude.{◌≡◌, ◌+◌, ◌<◌, ◌≤◌, [], ◌++◌, length};
-ghost use Rattle.rail_text.specs.declared.line.TheConstants.{ROOM};
+ghost use Rattle.rail_text.specs.declared.line_buffer.TheConstants.{ROOM};
 ghost use Rattle.rail_rules.specs.Plant.{trains};
 ghost use Rattle.rail_rules.specs.Texts.{behind, spaced};
 ghost use Rattle.rail_stairs.specs.StairsTexts.{interval_words, over_words, part_words, stair_line, stair_words};
 
 use rail_base::{Interval, Parts};
 use rail_plan::Plant;
-use rail_text::Line;
+use rail_text::LineBuffer;
 
 /// Puts the line of an interval: one of an overlap has no parts, and so not the first of them.
-pub(crate) fn put_line(line: &mut Line, plant: &Plant, interval: &Interval)
+pub(crate) fn put_line(line: &mut LineBuffer, plant: &Plant, interval: &Interval)
     requires empty { line.old ≡ [] }
     requires train { interval.now.train < trains plant.now }
     requires section { interval.now.section < length plant.now.tables.sections }
@@ -25,7 +25,7 @@ pub(crate) fn put_line(line: &mut Line, plant: &Plant, interval: &Interval)
 }
 
 /// Puts the line of an interval of an overlap.
-fn put_over(line: &mut Line, plant: &Plant, interval: &Interval)
+fn put_over(line: &mut LineBuffer, plant: &Plant, interval: &Interval)
     requires empty { line.old ≡ [] }
     requires train { interval.now.train < trains plant.now }
     requires section { interval.now.section < length plant.now.tables.sections }
@@ -37,7 +37,7 @@ fn put_over(line: &mut Line, plant: &Plant, interval: &Interval)
 }
 
 /// Puts the line of an interval of a needed section.
-fn put_stair(line: &mut Line, plant: &Plant, interval: &Interval)
+fn put_stair(line: &mut LineBuffer, plant: &Plant, interval: &Interval)
     requires empty { line.old ≡ [] }
     requires train { interval.now.train < trains plant.now }
     requires section { interval.now.section < length plant.now.tables.sections }
@@ -50,7 +50,7 @@ fn put_stair(line: &mut Line, plant: &Plant, interval: &Interval)
 }
 
 /// Puts the words that each interval has.
-fn put_interval(line: &mut Line, plant: &Plant, interval: &Interval)
+fn put_interval(line: &mut LineBuffer, plant: &Plant, interval: &Interval)
     requires room { length line.old + 121 ≤ ROOM }
     requires train { interval.now.train < trains plant.now }
     requires section { interval.now.section < length plant.now.tables.sections }
@@ -65,7 +65,7 @@ fn put_interval(line: &mut Line, plant: &Plant, interval: &Interval)
 }
 
 /// Puts the nine parts of an interval.
-fn put_parts(line: &mut Line, parts: &Parts)
+fn put_parts(line: &mut LineBuffer, parts: &Parts)
     requires { length line.old + 189 ≤ ROOM }
     ensures text { line.new ≡ line.old ++ behind (part_words parts.now) }
     ensures short { length line.new ≤ length line.old + 189 }

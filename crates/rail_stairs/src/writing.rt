@@ -6,9 +6,9 @@ ghost use Rattle.rail_base.specs.declared.limits.TheConstants.{OVERLAP_SECTIONS,
 ghost use Rattle.rail_rules.specs.Fronts.{Front};
 ghost use Rattle.rail_rules.specs.Numbers.{gather};
 ghost use Rattle.rail_rules.specs.Plant.{claims, trains};
-ghost use Rattle.rail_stairs.specs.Noted.{AreNoted, IsNoted, noted_of};
+ghost use Rattle.rail_stairs.specs.NotedHistories.{AreNoted, IsNoted, noted_of};
 ghost use Rattle.rail_stairs.specs.Journeys.{AreAllAdmissible, before_move, before_step, before_train};
-ghost use Rattle.rail_stairs.specs.OfTrains.{admissions_in, at_train, of_train};
+ghost use Rattle.rail_stairs.specs.JourneyTrains.{admissions_in, at_train, of_train};
 ghost use Rattle.rail_stairs.specs.Stairways.{move_intervals, step_intervals, train_intervals};
 ghost use Rattle.rail_stairs.specs.StairsTexts.{section_line, section_lines, stair_line, stairs_text};
 ghost use Rattle.rail_stairs.specs.Tallies.{IsTallied};
@@ -21,7 +21,7 @@ use crate::words::put_line;
 use rail_base::{Interval, SectionNo, Time, TrainNo};
 use rail_io::{Failed, Sink, write_whole};
 use rail_plan::Plant;
-use rail_text::Line;
+use rail_text::LineBuffer;
 
 /// Writes the stairway of the history that was noted to its end: a line for each blocking interval, by train,
 /// move and step, and a line for each section. The intervals of the overlap of a move stand behind those of the
@@ -129,7 +129,7 @@ fn write_interval<O: Sink>(plant: &Plant, interval: &Interval, out: &mut O) -> R
     requires section { interval.now.section < length plant.now.tables.sections }
     ensures { WritesText O.Sink out.old out.new (stair_line plant.now interval.now) result }
 {
-    let mut line = Line::new();
+    let mut line = LineBuffer::new();
     put_line(&mut line, plant, interval);
     write_whole(out, line.as_slice())
 }
@@ -157,7 +157,7 @@ fn write_section<O: Sink>(
     ensures { (ended : ℕ) (seen : List Interval) → IsTallied ended seen tallies.now
         → WritesText O.Sink out.old out.new (section_line plant.now ended seen section) result }
 {
-    let mut line = Line::new();
+    let mut line = LineBuffer::new();
     line.put(b"section");
     line.put_name(&plant.section(section).name);
     line.put_number(tallies.visits(section));

@@ -38,7 +38,7 @@ use Rattle.rail_state.specs.TrainStates.{admitted as admitted_state}
 use Rattle.rail_state.specs.SeenCauses.{seen_bar, seen_cause}
 use Rattle.rail_state.proofs.Outlasting.{StillHold, each_free, outlasting_known, seen_outlasting, taking_holds}
 use Rattle.rail_state.proofs.OverlapLines.{arrival_before, frees_before, frees_parts, taken_back_parts}
-use Rattle.rail_state.proofs.Firm.{firm_kept}
+use Rattle.rail_state.proofs.FirstSections.{at_first_kept}
 use Rattle.rail_state.proofs.Seen.{tells_none}
 use Rattle.rail_rules.specs.Analysis.{finds}
 use Rattle.rail_state.specs.Representation.{IsAdmissible, IsAdmitLine, IsBound, IsDeferred, MayKeep, Represents, admit_line, deferred_events, forgotten, passing_event, passing_frees, taken_over}
@@ -158,10 +158,10 @@ module _ (dispatch : Dispatch) (plant : Plant) (front : Front) (state : RunState
       where
         held_now : (o : Option ℕ) → (state_of state.trains t).deferred ≡ o → is_forced plant t (suc m) ≡ false → state.instant ≡ ready plant t (admissions front t) (suc m)
             → (state_of state.trains t).deferred ≡ Some (arrive plant t (admissions front t) m)
-        held_now (Some at) is loose now_ready = is ∙ ap Some ((rep.pending.deferred t at next.known_train is).stops ∙ sym stop_old ∙ sym arrive_old)
-        held_now None is loose now_ready =
+        held_now (Some at) is unforced now_ready = is ∙ ap Some ((rep.pending.deferred t at next.known_train is).stops ∙ sym stop_old ∙ sym arrive_old)
+        held_now None is unforced now_ready =
             ⊎_elim
-            (λ forced. absurd (false≢true (sym loose ∙ ap (is_forced plant t) (sym place_is) ∙ forced)))
+            (λ forced. absurd (false≢true (sym unforced ∙ ap (is_forced plant t) (sym place_is) ∙ forced)))
             (λ held. told_before (state_of state.trains t).last_hold refl held)
             (rep.pending.bound t next.known_train is (omega (arith, place_is)) (omega (arith, place_is, left, here)))
           where
@@ -188,7 +188,7 @@ module _ (dispatch : Dispatch) (plant : Plant) (front : Front) (state : RunState
             ⊎_elim
             (λ unready. false≢true (sym unready ∙ waits_it dispatch plant front state rep going deciding t next note list noted))
             (λ now_ready. false≢true (sym pass ∙ means ∙ and_from (not (is_forced plant t (suc m))) (eqb state.instant (ready plant t (admissions front t) (suc m)))
-            (not_from_false (is_forced plant t (suc m)) (ap (is_forced plant t) (sym place_is) ∙ back.loose))
+            (not_from_false (is_forced plant t (suc m)) (ap (is_forced plant t) (sym place_is) ∙ back.unforced))
             (eq-eqb state.instant (ready plant t (admissions front t) (suc m)) (rep.time ∙ sym now_ready.0 ∙ ready_is))))
             back.still
 
@@ -299,7 +299,7 @@ module _ (dispatch : Dispatch) (plant : Plant) (front : Front) (state : RunState
           count-parts q (is_free_of gone) es,
           free_of_each q timer t es gone (filter_distinct is_taken own distinct_own)
               (λ x there. let both = passed_there is_taken own x there in
-              one_pending dispatch plant front state rep deciding t next.known_train m (sym here) none x both.0 (and_parts (is_in x (claimed plant t (suc m))) (is_train t (get_or state.holders x None)) both.1).1 q),
+              one_pending dispatch plant front state rep deciding t next.known_train m (sym here) x both.0 (and_parts (is_in x (claimed plant t (suc m))) (is_train t (get_or state.holders x None)) both.1).1 none q),
           ap (λ o. count_by q (deferred_frees plant t (state_of state.trains t).place o)) none,
         )
 
@@ -440,17 +440,17 @@ module _ (dispatch : Dispatch) (plant : Plant) (front : Front) (state : RunState
 
   -- the held arrival at the end of the move comes after the train is ready for the next one
   early : (at : ℕ) → is_forced plant t (suc (place front t)) ≡ false → suc (place front t) < moves plant t → at ≡ stop_time plant t times.free_run → times.next_ready < at
-  early at loose more_left stops =
+  early at unforced more_left stops =
       let now : List ℕ = admissions front t ++ state.instant ∷ [] in
       let m : ℕ = place front t in
       let run_is : times.free_run ≡ free_run plant t now (suc m) = ap (λ ts. ts.free_run) has.are_times in
       let ready_is : times.next_ready ≡ ready plant t now (suc m) = ap (λ ts. ts.next_ready) has.are_times ∙ carried_ready plant t now (suc m) more_left in
       let soon : state.instant < free_run plant t now (suc m) = omega (arith, go_after_admission plant t fine now m left, run_after_go plant t fine now m left, admitted_added (admissions front t) state.instant) in
-      let loose_ready : ready plant t now (suc m) ≡ max (previous now (suc m)) (free_run plant t now (suc m) - (signal_time plant t (suc m) + (move_row plant t (suc m)).approach)) =
+      let unforced_ready : ready plant t now (suc m) ≡ max (previous now (suc m)) (free_run plant t now (suc m) - (signal_time plant t (suc m) + (move_row plant t (suc m)).approach)) =
       cond-false (is_forced plant t (suc m)) _ (max (previous now (suc m))
-      (free_run plant t now (suc m) - (signal_time plant t (suc m) + (move_row plant t (suc m)).approach))) loose in
+      (free_run plant t now (suc m) - (signal_time plant t (suc m) + (move_row plant t (suc m)).approach))) unforced in
       let setting : 0 < (move_row plant t (suc m)).setting = fine.some_setting t (suc m) more_left in
-      omega (arith, stops, run_is, ready_is, soon, loose_ready, setting, admitted_added (admissions front t) state.instant)
+      omega (arith, stops, run_is, ready_is, soon, unforced_ready, setting, admitted_added (admissions front t) state.instant)
 
   -- an arrival that is deferred, of this train or of another one
   held_after : (u at : ℕ) → u < trains plant → (state_of after_it.trains u).deferred ≡ Some at → IsDeferred plant u state.instant (state_of after_it.trains u) at
@@ -463,7 +463,7 @@ module _ (dispatch : Dispatch) (plant : Plant) (front : Front) (state : RunState
       subst (λ (r : TrainState). IsDeferred plant u state.instant r at) (sym same) (record {
         begun = back.begun;
         left = back.left;
-        loose = back.loose;
+        unforced = back.unforced;
         stops = back.stops;
         early = back.early;
         still = subst (λ now. ((state_of state.trains u).waits ≡ false) ⊎ (((state_of state.trains u).times.next_ready ≡ now) × ((state_of state.trains u).last_hold ≡ None))) (sym rep.time) back.still;
@@ -478,7 +478,7 @@ module _ (dispatch : Dispatch) (plant : Plant) (front : Front) (state : RunState
           subst (λ (r : TrainState). IsDeferred plant t state.instant r at) (sym this_state) (record {
             begun = omega arith;
             left = omega (arith, facts.1, place_is);
-            loose = ap (λ k. is_forced plant t (suc k)) place_is ∙ facts.0;
+            unforced = ap (λ k. is_forced plant t (suc k)) place_is ∙ facts.0;
             stops = facts.2;
             early = early at facts.0 facts.1 facts.2;
             still = inl refl;
@@ -617,9 +617,9 @@ module _ (dispatch : Dispatch) (plant : Plant) (front : Front) (state : RunState
               let train_state : TrainState = state_of state.trains u in
               ap (λ (r : TrainState). r.waits) (other_state u lt was.0)
               ∙ (and_parts train_state.waits (outlasts_taking after_it.holders u (own_overlap plant u train_state.place) (claimed plant u train_state.place) train_state.known) was.1).0;
-          firm = λ u why lt is.
+          at_first_section = λ u why lt is.
               let was = known_before u why lt is in
-              firm_kept plant state.trains after_it.trains u why lt rep.known.firm was.2 (ap (λ (r : TrainState). r.place) (other_state u lt was.0)) (ap (λ (r : TrainState). r.at_first) (other_state u lt was.0));
+              at_first_kept plant state.trains after_it.trains u why lt rep.known.at_first_section was.2 (ap (λ (r : TrainState). r.place) (other_state u lt was.0)) (ap (λ (r : TrainState). r.at_first) (other_state u lt was.0));
           no_more = λ held_last u lt waits. absurd (false≢true held_last);
         };
         settled = λ settled. absurd (false≢true (sym has.settled ∙ settled));

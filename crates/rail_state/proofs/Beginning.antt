@@ -90,7 +90,7 @@ begins dispatch plant state accepted has = record {
   known = record {
     cause = λ t why lt k. absurd (none-some why (sym (ap (λ (r : TrainState). r.known) (train_is t lt)) ∙ k));
     waits = λ t why lt k. absurd (none-some why (sym (ap (λ (r : TrainState). r.known) (train_is t lt)) ∙ k));
-    firm = λ t why lt k first blocked. absurd (none-some why (sym (ap (λ (r : TrainState). r.known) (train_is t lt)) ∙ k));
+    at_first_section = λ t why lt k first blocked. absurd (none-some why (sym (ap (λ (r : TrainState). r.known) (train_is t lt)) ∙ k));
     no_more = λ held t lt waits. absurd (Rattle.std.proofs.lemmas.Bool.false≢true held);
   };
   settled = λ settled t lt waits. absurd (Rattle.std.proofs.lemmas.Bool.false≢true (sym (ap (λ (r : TrainState). r.waits) (train_is t lt)) ∙ waits));

@@ -55,6 +55,10 @@ pub use Rattle.rail_state.proofs.Admitting.{left_of_ready}
 pub use Rattle.rail_state.proofs.Admitting.{may_keep}
 -- The admission of a train that is next and that the policy in force chooses, by a list that a run takes, continues a run.
 pub use Rattle.rail_state.proofs.Admitting.{runs}
+-- OwnOverlap: the pending events that give a train's own overlap free.
+
+-- Each section that the train would take over is given free by one pending event at most.
+pub use Rattle.rail_state.proofs.OwnOverlap.{taken_once}
 -- Admitted: an admission: what it changes.
 
 -- A train that waits and is not barred may be admitted where no hold line was given in the round and the kept list completes after its move, by turn or not: the state then represents the front with that line.

@@ -10,7 +10,7 @@ use Rattle.rail_queue.specs.declared.event.Event.{Event}
 use Rattle.rail_queue.specs.declared.event.Class.TheVariants.{Ready}
 use Rattle.rail_queue.specs.Order.{is_of}
 use Rattle.rail_state.specs.Events.{command_event, command_events}
-use Rattle.rail_state.specs.SeenCauses.{cancelled_by, stays}
+use Rattle.rail_state.specs.SeenCauses.{cancelled_by, is_uncancelled}
 use Rattle.rail_state.proofs.Counts.{count-append}
 
 zero_more : (n : ℕ) → n + 1 ≡ suc n
@@ -52,7 +52,7 @@ all_stay [] = refl
 all_stay (event ∷ events) = ap (λ (rest : List Event). event ∷ rest) (all_stay events)
 
 -- an order that cancels nobody leaves what is pending
-pub none_forgotten : (order : Order) (events : List Event) → cancelled_by order ≡ None → events ≡ filter (stays (order ∷ [])) events
+pub none_forgotten : (order : Order) (events : List Event) → cancelled_by order ≡ None → events ≡ filter (is_uncancelled (order ∷ [])) events
 none_forgotten (Policy name) events none = sym (all_stay events)
 none_forgotten (Retire name) events none = sym (all_stay events)
 none_forgotten (Close x) events none = sym (all_stay events)
@@ -63,7 +63,7 @@ none_forgotten (Priority t n) events none = sym (all_stay events)
 none_forgotten (Cancel t) events none = absurd (none-some t (sym none))
 
 -- an order that cancels a train leaves what doesn't make it ready
-pub one_forgotten : (order : Order) (t : ℕ) (events : List Event) → cancelled_by order ≡ Some t → filter (λ event. not (is_of Ready t event)) events ≡ filter (stays (order ∷ [])) events
+pub one_forgotten : (order : Order) (t : ℕ) (events : List Event) → cancelled_by order ≡ Some t → filter (λ event. not (is_of Ready t event)) events ≡ filter (is_uncancelled (order ∷ [])) events
 one_forgotten (Cancel u) t events some =
     ap (λ v. filter (λ event. not (is_of Ready v event)) events) (sym (same_Some u t some))
     ∙ ap (λ (p : Event → Bool). filter p events) (λ i event. passes (not (is_of Ready u event)) i)

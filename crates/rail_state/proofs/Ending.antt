@@ -21,7 +21,7 @@ use Rattle.rail_laws_front.specs.Views.{Ends}
 use Rattle.rail_laws_front.specs.EventLines.IsEvent.{readying}
 use Rattle.rail_laws_events.specs.Accounts.{tally}
 use Rattle.rail_laws_run.proofs.CallerLemmas.{other_left}
-use Rattle.rail_state.proofs.Firm.{firm_kept}
+use Rattle.rail_state.proofs.FirstSections.{at_first_kept}
 use Rattle.rail_state.proofs.Seen.{seen_kept}
 use Rattle.rail_laws_events.proofs.CallerLemmas.{tally_all, tally-le, tally-some}
 use Rattle.rail_rules.specs.Orders.{is_cancelled, told, Dispatch, input_of}
@@ -151,7 +151,7 @@ module _ (dispatch : Dispatch) (plant : Plant) (front : Front) (state : RunState
           ∙ seen_kept dispatch plant line front state.holders u refl refl
           ∙ rep.known.cause u c lt (sym (ap (λ states. (state_of states u).known) has.trains) ∙ k);
       waits = λ u c lt k. ap (λ states. (state_of states u).waits) has.trains ∙ rep.known.waits u c lt (sym (ap (λ states. (state_of states u).known) has.trains) ∙ k);
-      firm = λ u c lt k. firm_kept plant state.trains after.trains u c lt rep.known.firm (sym (ap (λ states. (state_of states u).known) has.trains) ∙ k)
+      at_first_section = λ u c lt k. at_first_kept plant state.trains after.trains u c lt rep.known.at_first_section (sym (ap (λ states. (state_of states u).known) has.trains) ∙ k)
           (ap (λ states. (state_of states u).place) has.trains) (ap (λ states. (state_of states u).at_first) has.trains);
       no_more = λ held_now u lt waits. absurd (false≢true held_now);
     };

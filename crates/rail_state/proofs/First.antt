@@ -12,7 +12,7 @@ use Rattle.rail_state.specs.declared.train_set.TrainSet.{TrainSet}
 use Rattle.rail_state.specs.TrainSets.{has_train}
 use Rattle.rail_laws_run.specs.HolderTables.{own_overlap}
 use Rattle.rail_state.specs.TrainStates.{IsReadyFirst, is_at_first, is_untried, looked_at, state_of, turn}
-use Rattle.rail_state.specs.Kept.{earlier}
+use Rattle.rail_state.specs.TrainSearches.{earlier}
 use Rattle.rail_state.proofs.Sets.{passing_known}
 use Rattle.rail_state.proofs.Turned.{IsTaken, out_before, out_still, taken_out}
 

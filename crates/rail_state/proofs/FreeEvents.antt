@@ -23,8 +23,8 @@ use Rattle.rail_laws_run.specs.HolderTables.{gives_free, own_overlap}
 use Rattle.rail_queue.specs.declared.event.Event.{Event}
 use Rattle.rail_queue.specs.declared.event.Class.TheVariants as class
 use Rattle.rail_queue.specs.Order.{class_number, goes_before, is_of}
-use Rattle.rail_state.specs.Events.{deferred_of, event_of, free_events, is_free_of, section_event, train_event}
-use Rattle.rail_state.proofs.Counts.{count-cons, count-either, count-nothing, count-same}
+use Rattle.rail_state.specs.Events.{AreFreedOnce, deferred_of, event_of, free_events, is_free_of, section_event, train_event}
+use Rattle.rail_state.proofs.Counts.{count-cons, count-either, count-le, count-nothing, count-same}
 
 -- a line gives the section free exactly where its event does
 pub gives_free_is : (x : ℕ) (d : Entry) → is_of class.Free x (event_of d) ≡ gives_free x d.what
@@ -262,6 +262,31 @@ forget_step P x xs es later forgets q =
     one false is e =
         ap (λ b. not (b && is_of class.Free x e) && (not (is_free_of (filter P xs) e) && q e)) is
         ∙ sym (ap (λ b. not (is_free_of (cond b (x ∷ filter P xs) (filter P xs)) e) && q e) is)
+
+-- the first of the sections is one of those that pass, where it passes
+pub once_first : (P : ℕ → Bool) (x : ℕ) (xs : List ℕ) (es : List Event) → AreFreedOnce (filter P (x ∷ xs)) es → P x ≡ true → count_by (is_of class.Free x) es ≤ 1
+once_first P x xs es once is =
+    let here : is_in x (x ∷ filter P xs) ≡ true = or_left (eqb x x) (is_in x (filter P xs)) (eq-eqb x x refl) in
+    let T : Bool → Type 0 = λ b. is_in x (cond b (x ∷ filter P xs) (filter P xs)) ≡ true in
+    once x (subst T (sym is) here)
+
+-- and what gives the others free goes on to be as rare
+pub once_rest : (P : ℕ → Bool) (x : ℕ) (xs : List ℕ) (es later : List Event) → AreFreedOnce (filter P (x ∷ xs)) es
+    → ((q : Event → Bool) → count_by q later ≡ count_by (λ e. not (P x && is_of class.Free x e) && q e) es) → AreFreedOnce (filter P xs) later
+once_rest P x xs es later once forgets y there =
+    let T : Bool → Type 0 = λ b. is_in y (cond b (x ∷ filter P xs) (filter P xs)) ≡ true in
+    let among : is_in y (filter P (x ∷ xs)) ≡ true =
+    ⊎_elim
+    (λ is. subst T (sym is) (or_right (eqb x y) (is_in y (filter P xs)) there))
+    (λ isnt. subst T (sym isnt) there)
+    (cases_Bool (P x)) in
+    omega (
+      arith,
+      forgets (is_of class.Free y),
+      count-le (λ e. not (P x && is_of class.Free x e) && is_of class.Free y e) (is_of class.Free y) es
+          (λ e passes. (and_parts (not (P x && is_of class.Free x e)) (is_of class.Free y e) passes).1),
+      once y among,
+    )
 
 -- and it is pushed unless it passes the test
 pub push_step : (q : Event → Bool) (at t : ℕ) (c : ℕ → Bool) (x : ℕ) (xs : List ℕ) → count_by q (free_events at t (filter (λ y. not (c y)) (x ∷ xs)))

@@ -26,7 +26,7 @@ use Rattle.rail_state.specs.Representation.{forgotten, passing_event, passing_fr
 use Rattle.rail_state.specs.Admissions.{CanBeTaken, IsGivable}
 use Rattle.rail_state.proofs.Barring.{unbarred}
 
--- the holder that bars stays while another section is taken, and so does the cause of held sections
+-- the holder that bars stays while another section is taken, and so does the cause of taken sections
 bar_kept : (h : List (Option ℕ)) (x t : ℕ) (own : List ℕ) (y : ℕ) → eqb y x ≡ false → bar_holder (set h x (Some t)) t own y ≡ bar_holder h t own y
 bar_kept h x t own y other = ap (λ o. cond (is_train t o && is_in y own) None o) (get_or-set_other h x y (Some t) None (λ e. false≢true (sym other ∙ eq-eqb y x e)))
 

@@ -32,7 +32,7 @@ use Rattle.rail_rules.specs.Causes.{closed_cause, stop_cause}
 use Rattle.rail_state.proofs.Next.{carried_ready}
 use Rattle.rail_state.proofs.Times.{place_kept}
 use Rattle.rail_state.proofs.Freed.{kept_cause}
-use Rattle.rail_state.proofs.Firm.{firm_kept}
+use Rattle.rail_state.proofs.FirstSections.{at_first_kept}
 use Rattle.rail_state.proofs.Lines.{EntersOne, FreesOne, enter_view, free_view, is_free_line, is_ready_line, out_view, ready_view}
 use Rattle.rail_state.proofs.Changed.{head_next, head_same, known_kept, out_now_state, out_same, waits_kept, waits_now}
 use Rattle.rail_state.specs.declared.run_state.RunState.{RunState}
@@ -177,7 +177,7 @@ module _ (dispatch : Dispatch) (plant : Plant) (front : Front) (state : RunState
       record {
         begun = omega (arith, back.begun, same_place t lt);
         left = omega (arith, back.left, same_place t lt);
-        loose = ap (is_forced plant t) (same_place t lt) ∙ back.loose;
+        unforced = ap (is_forced plant t) (same_place t lt) ∙ back.unforced;
         stops = back.stops ∙ sym (ap (λ ts. stop_time plant t ts.free_run) times);
         early = subst (λ n. n < arrival) (sym (ap (λ ts. ts.next_ready) times)) back.early;
         still =
@@ -273,7 +273,7 @@ module _ (dispatch : Dispatch) (plant : Plant) (front : Front) (state : RunState
         (λ one. rep.known.waits t why lt (known_before t why lt one is).0)
         (λ other. rep.known.waits t why lt (sym (known_same t lt other) ∙ is))
         (free_view w));
-    firm = λ t why lt is. firm_kept plant state.trains after t why lt rep.known.firm
+    at_first_section = λ t why lt is. at_first_kept plant state.trains after t why lt rep.known.at_first_section
         (⊎_elim
         (λ one. (known_before t why lt one is).0)
         (λ other. sym (known_same t lt other) ∙ is)

@@ -24,7 +24,7 @@ use Rattle.rail_state.specs.Representation.{AreAllKnown, IsBound, IsHoldLine, Re
 use Rattle.rail_state.proofs.Below.{well_formed_plant, follows_hold, head_kept, hold_here, hold_of_other, holders_kept, holds_when_known, out_kept, ready_kept}
 use Rattle.rail_state.proofs.LineCodes.{one_cause}
 use Rattle.rail_state.proofs.Counts.{count-exchanged}
-use Rattle.rail_state.proofs.Firm.{firm_kept}
+use Rattle.rail_state.proofs.FirstSections.{at_first_kept}
 use Rattle.rail_state.proofs.Lines.{is_free_line, is_ready_line}
 use Rattle.rail_state.proofs.Settling.{cause_seen}
 use Rattle.rail_state.proofs.Times.{times_kept}
@@ -119,7 +119,7 @@ module _ (dispatch : Dispatch) (plant : Plant) (front : Front) (state : RunState
               record {
                 begun = subst (λ (r : TrainState). 0 < r.place) (sym same) back.begun;
                 left = subst (λ (r : TrainState). r.place < moves plant u) (sym same) back.left;
-                loose = subst (λ (r : TrainState). is_forced plant u r.place ≡ false) (sym same) back.loose;
+                unforced = subst (λ (r : TrainState). is_forced plant u r.place ≡ false) (sym same) back.unforced;
                 stops = subst (λ (r : TrainState). at ≡ stop_time plant u r.times.free_run) (sym same) back.stops;
                 early = subst (λ (r : TrainState). r.times.next_ready < at) (sym same) back.early;
                 still = subst (λ (r : TrainState). (r.waits ≡ false) ⊎ ((r.times.next_ready ≡ state.instant) × (r.last_hold ≡ None))) (sym same)
@@ -160,7 +160,7 @@ module _ (dispatch : Dispatch) (plant : Plant) (front : Front) (state : RunState
               ∙ seen_kept dispatch plant line front state.holders u refl refl
               ∙ rep.known.cause u c lt (sym (same_part (λ r. r.known) (λ r. refl) u lt) ∙ k);
           waits = λ u c lt k. same_part (λ r. r.waits) (λ r. refl) u lt ∙ rep.known.waits u c lt (sym (same_part (λ r. r.known) (λ r. refl) u lt) ∙ k);
-          firm = λ u c lt k. firm_kept plant state.trains after.trains u c lt rep.known.firm (sym (same_part (λ r. r.known) (λ r. refl) u lt) ∙ k) (same_part (λ r. r.place) (λ r. refl) u lt) (same_part (λ r. r.at_first) (λ r. refl) u lt);
+          at_first_section = λ u c lt k. at_first_kept plant state.trains after.trains u c lt rep.known.at_first_section (sym (same_part (λ r. r.known) (λ r. refl) u lt) ∙ k) (same_part (λ r. r.place) (λ r. refl) u lt) (same_part (λ r. r.at_first) (λ r. refl) u lt);
           no_more = λ held_now u lt waits. ap is_some (same_part (λ r. r.known) (λ r. refl) u lt) ∙ all_known u lt (sym (same_part (λ r. r.waits) (λ r. refl) u lt) ∙ waits);
         };
         settled = λ settled. absurd (false≢true (sym has.settled ∙ settled));

@@ -94,9 +94,9 @@ module _ (dispatch : Dispatch) (plant : Plant) (front : Front) (state : RunState
           let second = ready_is t in
           λ i. first i && second i
 
-  pub judged : (line : Line) (t m : ℕ) (note : Note) → line.entry.what ≡ Admit t m note → (held : Bool) → held ≡ has_held front
-      → may_follow (input_of dispatch plant) front line ≡ may_admit_by plant (told dispatch.commands front) state held (places plant front) (kept_after plant (kept plant front) line (Admit t m note)) line t m note
-  judged line t m note what held held_is =
+  pub judged : (line : Line) (t m : ℕ) (note : Note) → line.entry.what ≡ Admit t m note → (after_hold : Bool) → after_hold ≡ has_held front
+      → may_follow (input_of dispatch plant) front line ≡ may_admit_by plant (told dispatch.commands front) state after_hold (places plant front) (kept_after plant (kept plant front) line (Admit t m note)) line t m note
+  judged line t m note what after_hold after_hold_is =
       let input = input_of dispatch plant in
       let now : Bool = eqb line.entry.at (instant front) in
       let w : Bool = waits input front t in
@@ -107,13 +107,13 @@ module _ (dispatch : Dispatch) (plant : Plant) (front : Front) (state : RunState
       ∙ and_same (now && w && not (is_some (bar input front t)) && eqb m (suc (place front t)) && not (has_held front) && note_fits line (place front t) note) _
       (completes (moves_of plant) (places_after input front t) (kept plant (line ∷ front))) (completes (moves_of plant) (after (places plant front) t) list)
       (and_same (now && w && not (is_some (bar input front t)) && eqb m (suc (place front t)) && not (has_held front)) _ (note_fits line (place front t) note) (note_fits line train_state.place note)
-      (and_same (now && w && not (is_some (bar input front t)) && eqb m (suc (place front t))) _ (not (has_held front)) (not held)
+      (and_same (now && w && not (is_some (bar input front t)) && eqb m (suc (place front t))) _ (not (has_held front)) (not after_hold)
       (and_same (now && w && not (is_some (bar input front t))) _ (eqb m (suc (place front t))) (eqb m (suc train_state.place))
       (and_same (now && w) _ (not (is_some (bar input front t))) (not (is_some (seen_bar (told dispatch.commands front) state.holders t (own_overlap plant t train_state.place) (claimed plant t train_state.place))))
       (and_same now (eqb line.entry.at state.instant) w (not (is_due_now state) && train_state.waits) (ap (eqb line.entry.at) (sym rep.time)) (λ _. waits_is t))
       (λ both. ap (λ c. not (is_some c)) (bar_seen dispatch plant front state rep (decides both) t ∙ ap (λ p. seen_bar (told dispatch.commands front) state.holders t (own_overlap plant t p) (claimed plant t p)) (sym (place_is both)))))
       (λ three. ap (λ p. eqb m (suc p)) (sym (place_is (and_parts _ _ three).0))))
-      (λ _. ap not (sym held_is)))
+      (λ _. ap not (sym after_hold_is)))
       (λ five. ap (λ p. note_fits line p note) (sym (place_is (and_parts _ _ (and_parts _ _ (and_parts _ _ five).0).0).0))))
       (λ _. ap (λ w'. completes (moves_of plant) (after (places plant front) t) (kept_after plant (kept plant front) line w')) what)
     where

@@ -11,7 +11,7 @@ mod TrainSetLemmas
 mod Sets
 mod Turned
 mod First
-mod Loosening
+mod ChangeableCauses
 -- Lemmas on what a run stands for, which the laws cite.
 mod Below
 mod Fields
@@ -28,7 +28,7 @@ mod Barring
 mod FreeEvents
 mod OwnOverlap
 mod OverlapLines
-mod Firm
+mod FirstSections
 mod Outlasting
 mod Happening
 mod Happened

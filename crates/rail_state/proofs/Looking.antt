@@ -24,13 +24,13 @@ use Rattle.rail_state.proofs.LineCodes.{one_cause}
 use Rattle.rail_state.proofs.Pending.{held_same}
 use Rattle.rail_state.specs.declared.run_state.RunState.{RunState}
 
--- states of which nothing but the known causes is new, and which trains are held for the first section
+-- states of which nothing but the known causes is new, and which trains are blocked at the first section
 module _ (dispatch : Dispatch) (plant : Plant) (front : Front) (state : RunState) (rep : Represents dispatch plant front state) (states : List TrainState)
     (many : length states ≡ length state.trains) (known_of : ℕ → Option Cause) (first_of : ℕ → Bool)
     (changed : (t : ℕ) → t < trains plant → state_of states t ≡ record (state_of state.trains t) { known = known_of t; at_first = first_of t })
     (holds : (t : ℕ) (why : Cause) → t < trains plant → known_of t ≡ Some why → seen_cause (input_of dispatch plant) front state.holders t ≡ Some why)
     (of_waiting : (t : ℕ) (why : Cause) → t < trains plant → known_of t ≡ Some why → (state_of state.trains t).waits ≡ true)
-    (firm_so : (t : ℕ) (why : Cause) → t < trains plant → known_of t ≡ Some why → first_of t ≡ true → is_blocked why ≡ true → is_at_first (Some why) (claimed plant t (state_of state.trains t).place) ≡ true)
+    (at_first_so : (t : ℕ) (why : Cause) → t < trains plant → known_of t ≡ Some why → first_of t ≡ true → is_blocked why ≡ true → is_at_first (Some why) (claimed plant t (state_of state.trains t).place) ≡ true)
     (keeps : (t : ℕ) → t < trains plant → is_some (state_of state.trains t).known ≡ true → known_of t ≡ (state_of state.trains t).known) where
   same : {B : Type 0} (part : TrainState → B) → ((r : TrainState) (known : Option Cause) (first : Bool) → part (record r { known = known; at_first = first }) ≡ part r) → (t : ℕ) → t < trains plant → part (state_of states t) ≡ part (state_of state.trains t)
   same part kept_part t lt = ap part (changed t lt) ∙ kept_part (state_of state.trains t) (known_of t) (first_of t)
@@ -54,7 +54,7 @@ module _ (dispatch : Dispatch) (plant : Plant) (front : Front) (state : RunState
       counted = λ q. ap (λ list. count_by q state.queue.events + count_by q list) (held_same plant state.trains states (λ t lt. same (λ r. r.place) (λ r k f. refl) t lt) (λ t lt. same (λ r. r.deferred) (λ r k f. refl) t lt)) ∙ rep.pending.counted q;
       deferred = λ t at lt held.
           let back = rep.pending.deferred t at lt (sym (same (λ r. r.deferred) (λ r k f. refl) t lt) ∙ held) in
-          subst (λ (r : TrainState). IsDeferred plant t (instant front) r at) (sym (changed t lt)) (record { begun = back.begun; left = back.left; loose = back.loose; stops = back.stops; early = back.early; still = back.still });
+          subst (λ (r : TrainState). IsDeferred plant t (instant front) r at) (sym (changed t lt)) (record { begun = back.begun; left = back.left; unforced = back.unforced; stops = back.stops; early = back.early; still = back.still });
       bound = λ t lt none some left.
           subst (λ (r : TrainState). IsBound plant t r) (sym (changed t lt))
           (rep.pending.bound t lt (sym (same (λ r. r.deferred) (λ r k f. refl) t lt) ∙ none) (subst (λ (r : TrainState). 0 < r.place) (changed t lt) some) (subst (λ (r : TrainState). r.place < moves plant t) (changed t lt) left));
@@ -73,9 +73,9 @@ module _ (dispatch : Dispatch) (plant : Plant) (front : Front) (state : RunState
     known = record {
       cause = λ t why lt is. holds t why lt (sym (known_is t lt) ∙ is);
       waits = λ t why lt is. same (λ r. r.waits) (λ r k f. refl) t lt ∙ of_waiting t why lt (sym (known_is t lt) ∙ is);
-      firm = λ t why lt is first blocked.
+      at_first_section = λ t why lt is first blocked.
           ap (λ p. is_at_first (Some why) (claimed plant t p)) (same (λ r. r.place) (λ r k f. refl) t lt)
-          ∙ firm_so t why lt (sym (known_is t lt) ∙ is) (sym (ap (λ (r : TrainState). r.at_first) (changed t lt)) ∙ first) blocked;
+          ∙ at_first_so t why lt (sym (known_is t lt) ∙ is) (sym (ap (λ (r : TrainState). r.at_first) (changed t lt)) ∙ first) blocked;
       no_more = λ held t lt waits.
           let was = rep.known.no_more held t lt (sym (same (λ r. r.waits) (λ r k f. refl) t lt) ∙ waits) in
           ap is_some (known_is t lt ∙ keeps t lt was) ∙ was;
@@ -120,7 +120,7 @@ looked_stands dispatch plant front state rep states many looked =
     ⊎_elim
     (λ untried. ap (λ c. is_at_first c sections) (sym is ∙ cond-true (is_untried train_state) bar train_state.known untried)
     ∙ sym (cond-true (is_untried train_state) (is_at_first bar sections) train_state.at_first untried) ∙ first)
-    (λ tried. rep.known.firm t why lt (sym (cond-false (is_untried train_state) bar train_state.known tried) ∙ is)
+    (λ tried. rep.known.at_first_section t why lt (sym (cond-false (is_untried train_state) bar train_state.known tried) ∙ is)
     (sym (cond-false (is_untried train_state) (is_at_first bar sections) train_state.at_first tried) ∙ first) blocked)
     (cases_Bool (is_untried train_state)))
     (λ t lt some. cond-false (is_untried (state_of state.trains t)) (seen_bar (told dispatch.commands front) state.holders t (own_overlap plant t (state_of state.trains t).place) (claimed plant t (state_of state.trains t).place))
@@ -155,7 +155,7 @@ no_list_stands dispatch plant front state rep t next unknown states is =
     (λ here.
     let no_list : Some NoList ≡ Some why = sym (cond-true (eqb u t) (Some NoList) (state_of state.trains u).known here) ∙ k in
     absurd (false≢true (ap is_blocked (same_Some NoList why no_list) ∙ blocked)))
-    (λ other. rep.known.firm u why lt (sym (cond-false (eqb u t) (Some NoList) (state_of state.trains u).known other) ∙ k) first blocked)
+    (λ other. rep.known.at_first_section u why lt (sym (cond-false (eqb u t) (Some NoList) (state_of state.trains u).known other) ∙ k) first blocked)
     (cases_Bool (eqb u t)))
     (λ u lt some.
     ⊎_elim

@@ -8,7 +8,7 @@ use Rattle.rail_base.specs.declared.history.Cause.{Cause}
 use Rattle.rail_base.specs.declared.history.Cause.TheVariants.{Blocked, NoList}
 use Rattle.rail_rules.specs.Numbers.{is_in, or_else}
 use Rattle.rail_laws_run.specs.HolderTables.{bar_holder, held_cause, is_train, taken_by}
-use Rattle.rail_state.specs.TrainStates.{is_held_before, outlasts_taking}
+use Rattle.rail_state.specs.TrainStates.{is_blocked_before, outlasts_taking}
 use Rattle.rail_laws_run.proofs.CallerLemmas.{taken_out}
 use Rattle.rail_state.proofs.Barring.{barred_is, unbarred}
 
@@ -61,35 +61,35 @@ bar_still h later still t own y v is =
     ap (λ o. cond (is_train t o && is_in y own) None o) (still y v held ∙ sym held) ∙ is
 
 -- the first section whose holder bars the train, and who holds it
-record IsFirstHeld (h : List (Option ℕ)) (t : ℕ) (own : List ℕ) (why : Cause) : Type 0 where
+record IsFirstBlocked (h : List (Option ℕ)) (t : ℕ) (own : List ℕ) (why : Cause) : Type 0 where
   section : ℕ
   holder : ℕ
   why_is : why ≡ Blocked section holder
   held : bar_holder h t own section ≡ Some holder
 
-first_held : (h : List (Option ℕ)) (t : ℕ) (own xs : List ℕ) (why : Cause) → held_cause h t own xs ≡ Some why → IsFirstHeld h t own why
-first_held h t own [] why is = absurd (none-some why is)
-first_held h t own (y ∷ ys) why is = at (first_held h t own ys why) (bar_holder h t own y) refl is
+first_blocked : (h : List (Option ℕ)) (t : ℕ) (own xs : List ℕ) (why : Cause) → held_cause h t own xs ≡ Some why → IsFirstBlocked h t own why
+first_blocked h t own [] why is = absurd (none-some why is)
+first_blocked h t own (y ∷ ys) why is = at (first_blocked h t own ys why) (bar_holder h t own y) refl is
   where
-    at : (held_cause h t own ys ≡ Some why → IsFirstHeld h t own why) → (o : Option ℕ) → bar_holder h t own y ≡ o → or_else (option_map (Blocked y) o) (held_cause h t own ys) ≡ Some why → IsFirstHeld h t own why
+    at : (held_cause h t own ys ≡ Some why → IsFirstBlocked h t own why) → (o : Option ℕ) → bar_holder h t own y ≡ o → or_else (option_map (Blocked y) o) (held_cause h t own ys) ≡ Some why → IsFirstBlocked h t own why
     at deeper (Some u) held is' = record { section = y; holder = u; why_is = sym (same_Some (Blocked y u) why is'); held = held }
     at deeper None free is' = deeper is'
 
 -- the first such section is the first one later too, where none before it is so then
-still_first : (h later : List (Option ℕ)) → StillHold h later → (t : ℕ) (own : List ℕ) (x u : ℕ) → bar_holder h t own x ≡ Some u → (xs : List ℕ) → held_cause h t own xs ≡ Some (Blocked x u) → is_held_before later t own x xs ≡ false
+still_first : (h later : List (Option ℕ)) → StillHold h later → (t : ℕ) (own : List ℕ) (x u : ℕ) → bar_holder h t own x ≡ Some u → (xs : List ℕ) → held_cause h t own xs ≡ Some (Blocked x u) → is_blocked_before later t own x xs ≡ false
     → held_cause later t own xs ≡ Some (Blocked x u)
 still_first h later still t own x u held [] is before = absurd (none-some (Blocked x u) is)
 still_first h later still t own x u held (y ∷ ys) is before = at (still_first h later still t own x u held ys) (bar_holder h t own y) refl is
   where
-    at : (held_cause h t own ys ≡ Some (Blocked x u) → is_held_before later t own x ys ≡ false → held_cause later t own ys ≡ Some (Blocked x u)) → (o : Option ℕ) → bar_holder h t own y ≡ o → or_else (option_map (Blocked y) o) (held_cause h t own ys) ≡ Some (Blocked x u)
+    at : (held_cause h t own ys ≡ Some (Blocked x u) → is_blocked_before later t own x ys ≡ false → held_cause later t own ys ≡ Some (Blocked x u)) → (o : Option ℕ) → bar_holder h t own y ≡ o → or_else (option_map (Blocked y) o) (held_cause h t own ys) ≡ Some (Blocked x u)
         → or_else (option_map (Blocked y) (bar_holder later t own y)) (held_cause later t own ys) ≡ Some (Blocked x u)
     at deeper (Some v) held' is' = ap (λ o. or_else (option_map (Blocked y) o) (held_cause later t own ys)) (bar_still h later still t own y v held') ∙ is'
     at deeper None free is' =
         ⊎_elim
         (λ here. absurd (none-some u (sym free ∙ subst (λ z. bar_holder h t own z ≡ Some u) (sym (eqb-true y x here)) held)))
         (λ other.
-        let parts = or_parts (is_some (bar_holder later t own y)) (is_held_before later t own x ys)
-        (ap (λ b. not b && (is_some (bar_holder later t own y) || is_held_before later t own x ys)) (sym other) ∙ before) in
+        let parts = or_parts (is_some (bar_holder later t own y)) (is_blocked_before later t own x ys)
+        (ap (λ b. not b && (is_some (bar_holder later t own y) || is_blocked_before later t own x ys)) (sym other) ∙ before) in
         ap (λ o. or_else (option_map (Blocked y) o) (held_cause later t own ys)) (none_there (bar_holder later t own y) parts.0)
         ∙ deeper is' parts.1)
         (cases_Bool (eqb y x))
@@ -115,8 +115,8 @@ seen_outlasting h later still t own xs None None listed listed_later why is outl
         no_list false is'' = false≢true (ap (outlasts_taking later t own xs) is'' ∙ outlasts)
     at (Some d) held is' =
         let why_is : held_cause h t own xs ≡ Some why = held ∙ is' in
-        let first : IsFirstHeld h t own why = first_held h t own xs why why_is in
-        let before : is_held_before later t own first.section xs ≡ false = not-true (is_held_before later t own first.section xs) (ap (λ (w : Cause). outlasts_taking later t own xs (Some w)) (sym first.why_is) ∙ outlasts) in
+        let first : IsFirstBlocked h t own why = first_blocked h t own xs why why_is in
+        let before : is_blocked_before later t own first.section xs ≡ false = not-true (is_blocked_before later t own first.section xs) (ap (λ (w : Cause). outlasts_taking later t own xs (Some w)) (sym first.why_is) ∙ outlasts) in
         ap (λ (o : Option Cause). or_else o (cond listed_later None (Some NoList)))
         (still_first h later still t own first.section first.holder first.held xs (why_is ∙ ap Some first.why_is) before)
         ∙ ap Some (sym first.why_is)

@@ -1,4 +1,4 @@
--- The sets of the trains that pass a test, where trains are written; and the table of those that are held for a section.
+-- The sets of the trains that pass a test, where trains are written; and the table of those that are blocked at a section.
 use Rattle.std.proofs.Common.{◌≡◌, ◌≢◌, ℕ, ◌<◌, ◌≤◌, ◌==◌, Bool, true, false, ◌&&◌, cond, is_some, List, ◌++◌, length, get_or, set, take, drop, Option, Some, None, MatchOption, refl, sym, ◌∙◌, ap, subst, ◌⊎◌, inl, inr, ⊎_elim, arith}
 use Rattle.std.proofs.Math.Seq.{take-append_seam}
 use Rattle.std.proofs.lemmas.List.{get_or-set_same, get_or-set_other, get_or_default, get_or_past}
@@ -14,7 +14,7 @@ use Rattle.rail_state.specs.declared.train_sets.TrainSets.{TrainSets}
 use Rattle.rail_state.specs.TrainSets.{has_train, set_at}
 use Rattle.rail_laws_run.specs.HolderTables.{own_overlap}
 use Rattle.rail_state.specs.TrainStates.{IsAnyWaiting, IsNextOf, after_taking, is_blocked_at, is_touched, is_untried, lacks_hold_line, no_state, outlasts_taking, state_of, state_told, without_known}
-use Rattle.rail_state.specs.Kept.{AreHeldFor, AreSetsOf, HaveNobody, IsSetOf, is_loose, is_waiting}
+use Rattle.rail_state.specs.TrainSearches.{AreBlockedAt, AreSetsOf, HaveNobody, IsSetOf, is_changeable, is_waiting}
 
 -- what holds of the train that is written, and of the others as they were, holds of each train
 pub written : (P : ℕ → TrainState → Type 0) (states : List TrainState) (t : ℕ) (train_state : TrainState) → t < length states → P t train_state → ((u : ℕ) → u ≢ t → P u (state_of states u)) → (u : ℕ) → P u (state_of (set states t train_state) u)
@@ -68,24 +68,24 @@ same_set test states those t train_state lt same are =
 
 -- one train is written that passes all tests as before
 pub same_sets : (states : List TrainState) (sets : TrainSets) (t : ℕ) (train_state : TrainState) → t < length states → is_waiting train_state ≡ is_waiting (state_of states t)
-    → is_untried train_state ≡ is_untried (state_of states t) → lacks_hold_line train_state ≡ lacks_hold_line (state_of states t) → is_loose train_state ≡ is_loose (state_of states t)
+    → is_untried train_state ≡ is_untried (state_of states t) → lacks_hold_line train_state ≡ lacks_hold_line (state_of states t) → is_changeable train_state ≡ is_changeable (state_of states t)
     → AreSetsOf states sets → AreSetsOf (set states t train_state) sets
-same_sets states sets t train_state lt waits untried lacks loose are = record {
+same_sets states sets t train_state lt waits untried lacks changeable are = record {
   waiting = same_set is_waiting states sets.waiting t train_state lt waits are.waiting;
   untried = same_set is_untried states sets.untried t train_state lt untried are.untried;
   lacking = same_set lacks_hold_line states sets.lacking t train_state lt lacks are.lacking;
-  loose = same_set is_loose states sets.loose t train_state lt loose are.loose;
+  changeable = same_set is_changeable states sets.changeable t train_state lt changeable are.changeable;
 }
 
 -- nobody passes a test
 pub no_sets : (states : List TrainState) (sets : TrainSets) → HaveNobody sets
     → ((t : ℕ) → is_waiting (state_of states t) ≡ false) → ((t : ℕ) → is_untried (state_of states t) ≡ false) → ((t : ℕ) → lacks_hold_line (state_of states t) ≡ false)
-    → ((t : ℕ) → is_loose (state_of states t) ≡ false) → AreSetsOf states sets
-no_sets states sets none waits untried lacks loose = record {
+    → ((t : ℕ) → is_changeable (state_of states t) ≡ false) → AreSetsOf states sets
+no_sets states sets none waits untried lacks changeable = record {
   waiting = λ t. none.waiting t ∙ sym (waits t);
   untried = λ t. none.untried t ∙ sym (untried t);
   lacking = λ t. none.lacking t ∙ sym (lacks t);
-  loose = λ t. none.loose t ∙ sym (loose t);
+  changeable = λ t. none.changeable t ∙ sym (changeable t);
 }
 
 -- what is found from a number on in a set
@@ -104,35 +104,35 @@ found_next test states those number (Some train) none are found = (
   λ t le lt. sym (are t) ∙ found.3 t le lt,
 )
 
--- ---- the table of those that are held for a section
+-- ---- the table of those that are blocked at a section
 
 -- what is known of the train is as before, or nothing
 abbrev pub KnowsNoMore : TrainState → TrainState → Type 0
 KnowsNoMore old new = (new.known ≡ old.known) ⊎ (new.known ≡ None)
 
--- a train of which no more is known is held for a section for which it was held
-held_before : (x : ℕ) (old new : TrainState) → KnowsNoMore old new → is_blocked_at x new.known ≡ true → is_blocked_at x old.known ≡ true
-held_before x old new knows is =
+-- a train of which no more is known is blocked at a section at which it was blocked
+blocked_before : (x : ℕ) (old new : TrainState) → KnowsNoMore old new → is_blocked_at x new.known ≡ true → is_blocked_at x old.known ≡ true
+blocked_before x old new knows is =
     ⊎_elim
     (λ same. ap (is_blocked_at x) (sym same) ∙ is)
     (λ none. absurd (false≢true (sym (ap (is_blocked_at x) none) ∙ is)))
     knows
 
--- where no more is known of any train, the table has those that are held for each section
-pub held_still : (old new : List TrainState) (held : List TrainSet) → ((t : ℕ) → KnowsNoMore (state_of old t) (state_of new t)) → AreHeldFor old held → AreHeldFor new held
-held_still old new held knows are t x is = are t x (held_before x (state_of old t) (state_of new t) (knows t) is)
+-- where no more is known of any train, the table has those that are blocked at each section
+pub blocked_still : (old new : List TrainState) (blocked : List TrainSet) → ((t : ℕ) → KnowsNoMore (state_of old t) (state_of new t)) → AreBlockedAt old blocked → AreBlockedAt new blocked
+blocked_still old new blocked knows are t x is = are t x (blocked_before x (state_of old t) (state_of new t) (knows t) is)
 
 -- one train is written, of which no more is known
-pub held_at : (states : List TrainState) (held : List TrainSet) (t : ℕ) (train_state : TrainState) → t < length states → KnowsNoMore (state_of states t) train_state
-    → AreHeldFor states held → AreHeldFor (set states t train_state) held
-held_at states held t train_state lt here =
-    held_still states (set states t train_state) held (written (λ u now. KnowsNoMore (state_of states u) now) states t train_state lt here (λ u _. inl refl))
+pub blocked_at : (states : List TrainState) (blocked : List TrainSet) (t : ℕ) (train_state : TrainState) → t < length states → KnowsNoMore (state_of states t) train_state
+    → AreBlockedAt states blocked → AreBlockedAt (set states t train_state) blocked
+blocked_at states blocked t train_state lt here =
+    blocked_still states (set states t train_state) blocked (written (λ u now. KnowsNoMore (state_of states u) now) states t train_state lt here (λ u _. inl refl))
 
--- one train is written, which is held for no section
-pub held_unless : (states : List TrainState) (held : List TrainSet) (t : ℕ) (train_state : TrainState) → t < length states → ((x : ℕ) → is_blocked_at x train_state.known ≡ false)
-    → AreHeldFor states held → AreHeldFor (set states t train_state) held
-held_unless states held t train_state lt here are u x =
-    written (λ u now. is_blocked_at x now.known ≡ true → has_train (set_at held x) u ≡ true) states t train_state lt (λ is. absurd (false≢true (sym (here x) ∙ is))) (λ u _. are u x) u
+-- one train is written, which is blocked at no section
+pub blocked_unless : (states : List TrainState) (blocked : List TrainSet) (t : ℕ) (train_state : TrainState) → t < length states → ((x : ℕ) → is_blocked_at x train_state.known ≡ false)
+    → AreBlockedAt states blocked → AreBlockedAt (set states t train_state) blocked
+blocked_unless states blocked t train_state lt here are u x =
+    written (λ u now. is_blocked_at x now.known ≡ true → has_train (set_at blocked x) u ≡ true) states t train_state lt (λ is. absurd (false≢true (sym (here x) ∙ is))) (λ u _. are u x) u
 
 known_unless : (b : Bool) (known : Option Cause) → (cond b None known ≡ known) ⊎ (cond b None known ≡ None)
 known_unless true known = inr refl
@@ -146,7 +146,7 @@ knows_taken plant holders t train_state = by (train_state.waits && outlasts_taki
     by true = inl refl
     by false = inr refl
 
--- no more is known of a train that heeds orders
+-- no more is known of a train to which orders are told
 pub knows_told : (plant : Plant) (orders : List Order) (t : ℕ) (train_state : TrainState) → KnowsNoMore train_state (state_told plant orders t train_state)
 knows_told plant orders t train_state = known_unless (is_touched plant orders t train_state) train_state.known
 
@@ -155,15 +155,15 @@ pub knows_each : (change : ℕ → TrainState → TrainState) (old new : List Tr
     → ((t : ℕ) → state_of new t ≡ change t (state_of old t)) → (t : ℕ) → KnowsNoMore (state_of old t) (state_of new t)
 knows_each change old new knows each t = subst (KnowsNoMore (state_of old t)) (sym (each t)) (knows t (state_of old t))
 
--- nobody is held then for the section, whose trains may leave the table
-pub held_again : (x : ℕ) (old new : List TrainState) (held left : List TrainSet) → ((t : ℕ) → state_of new t ≡ without_known x (state_of old t)) → ((y : ℕ) → y ≢ x → set_at left y ≡ set_at held y)
-    → AreHeldFor old held → AreHeldFor new left
-held_again x old new held left each others are t y is =
+-- nobody is blocked then at the section, whose trains may leave the table
+pub blocked_again : (x : ℕ) (old new : List TrainState) (blocked left : List TrainSet) → ((t : ℕ) → state_of new t ≡ without_known x (state_of old t)) → ((y : ℕ) → y ≢ x → set_at left y ≡ set_at blocked y)
+    → AreBlockedAt old blocked → AreBlockedAt new left
+blocked_again x old new blocked left each others are t y is =
     ⊎_elim
     (λ same. absurd (false≢true (sym (none (state_of old t).known) ∙ ap (λ (r : TrainState). is_blocked_at x r.known) (sym (each t)) ∙ ap (λ z. is_blocked_at z (state_of new t).known) (sym (eqb-true y x same)) ∙ is)))
     (λ apart.
     ap (λ those. has_train those t) (others y (λ same. false≢true (sym apart ∙ eq-eqb y x same)))
-    ∙ are t y (held_before y (state_of old t) (state_of new t) (knows_each (λ _. without_known x) old new (λ _ r. known_unless (is_blocked_at x r.known) r.known) each t) is))
+    ∙ are t y (blocked_before y (state_of old t) (state_of new t) (knows_each (λ _. without_known x) old new (λ _ r. known_unless (is_blocked_at x r.known) r.known) each t) is))
     (cases_Bool (y == x))
   where
     none : (known : Option Cause) → is_blocked_at x (cond (is_blocked_at x known) None known) ≡ false

@@ -32,17 +32,17 @@ use Rattle.rail_queue.specs.declared.event.Event.{Event}
 use Rattle.rail_queue.specs.declared.event.Class.TheVariants as class
 use Rattle.rail_queue.specs.Order.{class_number, goes_before}
 use Rattle.rail_state.specs.Events.{deferred_of, event_of, section_event, train_event}
-use Rattle.rail_state.specs.SeenCauses.{AreDue, stays, seen_cause}
+use Rattle.rail_state.specs.SeenCauses.{AreDue, is_uncancelled, seen_cause}
 use Rattle.rail_state.proofs.Least.{first_is_least}
 use Rattle.rail_state.proofs.FreeEvents.{deferred_behind, deferred_none}
-use Rattle.rail_state.proofs.Taking.{command_taken, stays_other}
+use Rattle.rail_state.proofs.Taking.{command_taken, uncancelled_other}
 use Rattle.rail_state.proofs.Ceasing.{ceases}
 use Rattle.rail_state.proofs.Touching.{causes_left}
 use Rattle.rail_state.specs.declared.train.TrainState.{TrainState}
 use Rattle.rail_state.specs.TrainStates.{state_of}
 use Rattle.rail_state.specs.TrainStates.{is_touched}
 use Rattle.rail_state.specs.Representation.{HasTold, IsBound, Represents, bare_at, deferred_events}
-use Rattle.rail_state.proofs.Firm.{firm_kept}
+use Rattle.rail_state.proofs.FirstSections.{at_first_kept}
 use Rattle.rail_state.proofs.Pending.{held_same}
 use Rattle.rail_state.proofs.Times.{times_kept}
 use Rattle.rail_state.specs.declared.run_state.RunState.{RunState}
@@ -90,17 +90,17 @@ module _ (dispatch : Dispatch) (plant : Plant) (front : Front) (state : RunState
           (deferred_behind plant event n (state_of state.trains n).place (state_of state.trains n).deferred (λ at is. held_later n at (within n (omega arith)) is))
 
   -- no order takes an arrival out of what is deferred
-  held_stays : (tells : List Order) → list_any (λ other. not (stays tells other)) (deferred_events plant state.trains) ≡ false
-  held_stays tells = of (trains plant)
+  deferred_uncancelled : (tells : List Order) → list_any (λ other. not (is_uncancelled tells other)) (deferred_events plant state.trains) ≡ false
+  deferred_uncancelled tells = of (trains plant)
     where
-      one : (t m : ℕ) (arrival : Option ℕ) → list_any (λ other. not (stays tells other)) (deferred_of plant t m arrival) ≡ false
-      one t m arrival = deferred_none (λ other. not (stays tells other)) plant t m arrival
-          (λ at is. (ap not (stays_other tells (train_event at class.Arrive t m) (λ u. refl)), λ x. ap not (stays_other tells (section_event (at + plant.tables.overlap_time) x t) (λ u. refl))))
+      one : (t m : ℕ) (arrival : Option ℕ) → list_any (λ other. not (is_uncancelled tells other)) (deferred_of plant t m arrival) ≡ false
+      one t m arrival = deferred_none (λ other. not (is_uncancelled tells other)) plant t m arrival
+          (λ at is. (ap not (uncancelled_other tells (train_event at class.Arrive t m) (λ u. refl)), λ x. ap not (uncancelled_other tells (section_event (at + plant.tables.overlap_time) x t) (λ u. refl))))
 
-      of : (n : ℕ) → list_any (λ other. not (stays tells other)) (gather (λ t. deferred_of plant t (state_of state.trains t).place (state_of state.trains t).deferred) n) ≡ false
+      of : (n : ℕ) → list_any (λ other. not (is_uncancelled tells other)) (gather (λ t. deferred_of plant t (state_of state.trains t).place (state_of state.trains t).deferred) n) ≡ false
       of zero = refl
       of (suc n) =
-          append_none (λ other. not (stays tells other)) (gather (λ t. deferred_of plant t (state_of state.trains t).place (state_of state.trains t).deferred) n) (deferred_of plant n (state_of state.trains n).place (state_of state.trains n).deferred)
+          append_none (λ other. not (is_uncancelled tells other)) (gather (λ t. deferred_of plant t (state_of state.trains t).place (state_of state.trains t).deferred) n) (deferred_of plant n (state_of state.trains n).place (state_of state.trains n).deferred)
           (of n) (one n (state_of state.trains n).place (state_of state.trains n).deferred)
 
   module _ (rest : List Event) (first : state.queue.events ≡ event ∷ rest) where
@@ -216,9 +216,9 @@ module _ (dispatch : Dispatch) (plant : Plant) (front : Front) (state : RunState
       pending = record {
         counted = λ q.
             ap (λ es. count_by q es + count_by q (deferred_events plant after.trains)) has.events
-            ∙ ap (λ es. count_by q (filter (stays orders) has.rest) + count_by q es) (held_same plant state.trains after.trains (same_part (λ r. r.place) (λ r c w. refl)) (same_part (λ r. r.deferred) (λ r c w. refl)))
+            ∙ ap (λ es. count_by q (filter (is_uncancelled orders) has.rest) + count_by q es) (held_same plant state.trains after.trains (same_part (λ r. r.place) (λ r c w. refl)) (same_part (λ r. r.deferred) (λ r c w. refl)))
             ∙ command_taken (input_of dispatch plant) fine line front lawful_line kind state.queue.events has.rest (deferred_events plant state.trains) rep.pending.counted
-            (has.first ∙ ap (λ e. e ∷ has.rest) (sym (ap event_of (sym (is_its_line has.rest has.first)) ∙ (found has.rest has.first).1))) (held_stays orders) q;
+            (has.first ∙ ap (λ e. e ∷ has.rest) (sym (ap event_of (sym (is_its_line has.rest has.first)) ∙ (found has.rest has.first).1))) (deferred_uncancelled orders) q;
         deferred = λ t at lt arrives.
             let back = rep.pending.deferred t at lt (sym (same_part (λ r. r.deferred) (λ r c w. refl) t lt) ∙ arrives) in
             let place_same = same_part (λ r. r.place) (λ r c w. refl) t lt in
@@ -226,7 +226,7 @@ module _ (dispatch : Dispatch) (plant : Plant) (front : Front) (state : RunState
             record {
               begun = omega (arith, back.begun, place_same);
               left = omega (arith, back.left, place_same);
-              loose = ap (is_forced plant t) place_same ∙ back.loose;
+              unforced = ap (is_forced plant t) place_same ∙ back.unforced;
               stops = back.stops ∙ sym (ap (λ ts. stop_time plant t ts.free_run) times_same);
               early = subst (λ n. n < at) (sym (ap (λ ts. ts.next_ready) times_same)) back.early;
               still = ⊎_elim
@@ -270,7 +270,7 @@ module _ (dispatch : Dispatch) (plant : Plant) (front : Front) (state : RunState
             let before = still_known t why lt known in
             let apart = or_parts (is_cancelled t orders) (list_any (λ order. Rattle.rail_state.specs.SeenCauses.touches order t (claimed plant t (state_of state.trains t).place)) orders) before.1 in
             waits_is t lt ∙ and_from (not (is_cancelled t orders)) (state_of state.trains t).waits (not_from_false (is_cancelled t orders) apart.0) (rep.known.waits t why lt before.0);
-        firm = λ t why lt known. firm_kept plant state.trains after.trains t why lt rep.known.firm (still_known t why lt known).0 (same_part (λ r. r.place) (λ r c w. refl) t lt) (same_part (λ r. r.at_first) (λ r c w. refl) t lt);
+        at_first_section = λ t why lt known. at_first_kept plant state.trains after.trains t why lt rep.known.at_first_section (still_known t why lt known).0 (same_part (λ r. r.place) (λ r c w. refl) t lt) (same_part (λ r. r.at_first) (λ r c w. refl) t lt);
         no_more = λ held. absurd (false≢true (sym no_hold ∙ held));
       };
       settled = λ settled t lt waits.

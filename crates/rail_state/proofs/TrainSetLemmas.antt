@@ -130,9 +130,9 @@ first_above w b fits some small =
     )
 
 -- no section has a train
-pub none_held : (sets : List TrainSet) (n : ℕ) (none : TrainSet) → ((t : ℕ) → has_train none t ≡ false) → sets ≡ replicate n none
+pub none_blocked : (sets : List TrainSet) (n : ℕ) (none : TrainSet) → ((t : ℕ) → has_train none t ≡ false) → sets ≡ replicate n none
     → (x t : ℕ) → has_train (set_at sets x) t ≡ false
-none_held sets n none is all x t =
+none_blocked sets n none is all x t =
     ap (λ (list : List TrainSet). has_train (set_at list x) t) all
     ∙ ⊎_elim
     (λ (low : x < n). ap (λ (set : TrainSet). has_train set t) (get_or-replicate n x none no_trains low) ∙ is t)

@@ -7,7 +7,7 @@ use Rattle.rail_state.specs.declared.train.TrainState.{TrainState}
 use Rattle.rail_state.specs.declared.train_set.TrainSet.{TrainSet}
 use Rattle.rail_state.specs.TrainSets.{has_train}
 use Rattle.rail_state.specs.TrainStates.{no_state, state_of}
-use Rattle.rail_state.specs.Kept.{IsSetOf}
+use Rattle.rail_state.specs.TrainSearches.{IsSetOf}
 use Rattle.rail_state.proofs.Sets.{passing_known, written}
 
 -- each train is changed that is no more in the set, and the others are as they were

@@ -1,11 +1,11 @@
 -- The events that the lines of a history are.
-use Rattle.std.specs.Prelude.{ℕ, suc, ◌+◌, Bool, List, [], ◌∷◌, ◌++◌, Option, Some, None}
+use Rattle.std.specs.Prelude.{◌≡◌, ℕ, suc, ◌+◌, ◌≤◌, Bool, true, List, [], ◌∷◌, ◌++◌, count_by, Option, Some, None}
 use Rattle.std.specs.List.{list_any}
 use Rattle.rail_base.specs.declared.history.Entry.{Entry}
 use Rattle.rail_base.specs.declared.history.What.{What}
 use Rattle.rail_base.specs.declared.history.What.TheVariants as what
 use Rattle.rail_base.specs.declared.orders.Command.{Command}
-use Rattle.rail_rules.specs.Numbers.{gather}
+use Rattle.rail_rules.specs.Numbers.{gather, is_in}
 use Rattle.rail_rules.specs.Plant.{Plant, steps, step_section}
 use Rattle.rail_rules.specs.Intervals.{end_of}
 use Rattle.rail_rules.specs.Events.{arrive_line, enter_line, free_lines, out_lines}
@@ -70,6 +70,10 @@ deferred_of plant t m arrival = deferred_event t m arrival ++ deferred_frees pla
 -- the event gives one of these sections free
 abbrev pub is_free_of : List ℕ → Event → Bool
 is_free_of xs event = list_any (λ x. is_of class.Free x event) xs
+
+-- each of these sections is given free by one of the events at most
+abbrev pub AreFreedOnce : List ℕ → List Event → Type 0
+AreFreedOnce xs events = (x : ℕ) → is_in x xs ≡ true → count_by (is_of class.Free x) events ≤ 1
 
 -- the lines of a move at its steps: its head enters, and the section is given free where the interval has an end
 abbrev pub step_lines : Plant → ℕ → List ℕ → ℕ → List Entry

@@ -4,7 +4,7 @@ pub mod Events
 pub mod TrainStates
 -- By which sets it finds them.
 pub mod TrainSets
-pub mod Kept
+pub mod TrainSearches
 -- What a run keeps, and the front that it stands for.
 pub mod Representation
 -- What a command's line changes.

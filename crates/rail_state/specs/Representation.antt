@@ -21,7 +21,7 @@ use Rattle.rail_base.specs.declared.orders.Order.{Order}
 use Rattle.rail_rules.specs.Moves.{Moves}
 use Rattle.rail_rules.specs.Places.{after, completes, place_of}
 use Rattle.rail_list.specs.Repairs.{repaired_for}
-use Rattle.rail_state.specs.SeenCauses.{AreDue, seen_bar, seen_cause, stays}
+use Rattle.rail_state.specs.SeenCauses.{AreDue, seen_bar, seen_cause, is_uncancelled}
 use Rattle.rail_laws_events.specs.Accounts.{tally}
 use Rattle.rail_laws_run.specs.HolderTables.{AreHolders, is_train, own_overlap, taken_by}
 use Rattle.rail_laws_run.specs.Heads.{IsHead}
@@ -34,7 +34,7 @@ use Rattle.rail_queue.specs.declared.event.Class.{Class}
 use Rattle.rail_queue.specs.declared.event.Class.TheVariants as class
 use Rattle.rail_state.specs.Events.{deferred_of, end_lines, event_of, free_events, is_free_of, step_lines, train_event}
 use Rattle.rail_state.specs.declared.train.TrainState.{TrainState}
-use Rattle.rail_state.specs.TrainStates.{AreFirm, is_blocked_at, is_touched, is_untried, outside, state_admitted, state_after, state_of, state_told, after_hold_line}
+use Rattle.rail_state.specs.TrainStates.{AreAtFirst, is_blocked_at, is_touched, is_untried, outside, state_admitted, state_after, state_of, state_told, after_hold_line}
 use Rattle.rail_state.specs.declared.run_state.RunState.{RunState}
 
 -- how many moves of each train are admitted, and the times carried for it
@@ -51,7 +51,7 @@ deferred_events plant states = gather (λ t. deferred_of plant t (state_of state
 pub record IsDeferred (plant : Plant) (t now : ℕ) (train_state : TrainState) (at : ℕ) : Type 0 where
   pub begun : 0 < train_state.place
   pub left : train_state.place < moves plant t
-  pub loose : is_forced plant t train_state.place ≡ false
+  pub unforced : is_forced plant t train_state.place ≡ false
   pub stops : at ≡ stop_time plant t train_state.times.free_run
   pub early : train_state.times.next_ready < at
   pub still : (train_state.waits ≡ false) ⊎ ((train_state.times.next_ready ≡ now) × (train_state.last_hold ≡ None))
@@ -86,7 +86,7 @@ pub record AreKnown (dispatch : Dispatch) (plant : Plant) (front : Front) (holde
   pub cause : (t : ℕ) (why : Cause) → t < trains plant → (state_of states t).known ≡ Some why
       → seen_cause (input_of dispatch plant) front holders t ≡ Some why
   pub waits : (t : ℕ) (why : Cause) → t < trains plant → (state_of states t).known ≡ Some why → (state_of states t).waits ≡ true
-  pub firm : AreFirm plant states
+  pub at_first_section : AreAtFirst plant states
   pub no_more : has_held front ≡ true → (t : ℕ) → t < trains plant → (state_of states t).waits ≡ true
       → is_some (state_of states t).known ≡ true
 
@@ -139,7 +139,7 @@ holders_after (what.Free x t) holders = set holders x None
 holders_after _ holders = holders
 
 -- after an event line all that waits was told why only if it was so before, nobody is ready just now, and no train
--- was held for a section that is free now
+-- was blocked at a section that is free now
 abbrev pub StaysSettled : Plant → List TrainState → What → Type 0
 StaysSettled plant states (what.Ready t m) = ⊥
 StaysSettled plant states (what.Free x u) = (t : ℕ) → t < trains plant → is_blocked_at x (state_of states t).known ≡ false
@@ -289,7 +289,7 @@ pub record IsReadyFor (plant : Plant) (state : RunState) (event : Event) : Type 
 pub record HasTold (plant : Plant) (orders : List Order) (event : Event) (before after : RunState) : Type 0 where
   pub rest : List Event
   pub first : before.queue.events ≡ event ∷ rest
-  pub events : after.queue.events ≡ filter (stays orders) rest
+  pub events : after.queue.events ≡ filter (is_uncancelled orders) rest
   pub holders : after.holders ≡ before.holders
   pub many : length after.trains ≡ length before.trains
   pub settled : after.is_settled ≡ true → (before.is_settled ≡ true)
@@ -313,8 +313,8 @@ is_due_now state = option_map_or (λ (at : ℕ). at == state.instant) (first_tim
 -- whether the train's next move may be admitted by what is kept, under these orders, where a hold line was the last
 -- line or not, and this list is kept after it
 abbrev pub may_admit_by : Plant → List Order → RunState → Bool → List ℕ → List ℕ → Line → ℕ → ℕ → Note → Bool
-may_admit_by plant orders state held positions list line t m note = (line.entry.at == state.instant)
+may_admit_by plant orders state after_hold positions list line t m note = (line.entry.at == state.instant)
     && (not (is_due_now state) && (state_of state.trains t).waits)
     && not (is_some (seen_bar orders state.holders t (own_overlap plant t (state_of state.trains t).place) (claimed plant t (state_of state.trains t).place)))
-    && (m == suc (state_of state.trains t).place) && not held && note_fits line (state_of state.trains t).place note
+    && (m == suc (state_of state.trains t).place) && not after_hold && note_fits line (state_of state.trains t).place note
     && completes (moves_of plant) (after positions t) list

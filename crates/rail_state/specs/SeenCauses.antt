@@ -22,10 +22,10 @@ AreDue input front events deferred = (q : Event → Bool)
     → count_by q events + count_by q deferred ≡ tally (λ e. q (event_of e)) (due_lines input front)
 
 -- no event makes a train ready that one of the orders cancels
-abbrev pub stays : List Order → Event → Bool
-stays [] event = true
-stays (Cancel t ∷ orders) event = not (is_ready_of t event) && stays orders event
-stays (_ ∷ orders) event = stays orders event
+abbrev pub is_uncancelled : List Order → Event → Bool
+is_uncancelled [] event = true
+is_uncancelled (Cancel t ∷ orders) event = not (is_ready_of t event) && is_uncancelled orders event
+is_uncancelled (_ ∷ orders) event = is_uncancelled orders event
 
 -- the train that an order cancels
 abbrev pub cancelled_by : Order → Option ℕ

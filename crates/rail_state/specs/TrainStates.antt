@@ -10,7 +10,7 @@ use Rattle.rail_rules.specs.Orders.{is_cancelled}
 use Rattle.rail_rules.specs.Plant.{Plant, claimed, steps, trains}
 use Rattle.rail_rules.specs.Fronts.{same_cause}
 use Rattle.rail_rules.specs.Numbers.{comes_before, or_else}
-use Rattle.rail_orders.specs.Told.{Told, closed_in, stop_in}
+use Rattle.rail_orders.specs.OrderTables.{Told, closed_in, stop_in}
 use Rattle.rail_laws_run.specs.HolderTables.{bar_holder, held_cause, own_overlap}
 use Rattle.rail_block.specs.declared.times.MoveTimes.{MoveTimes}
 use Rattle.rail_block.specs.CarriedTimes.{times_at}
@@ -149,13 +149,13 @@ admitted times arrival train_state =
     }
 
 -- the holder of a section that stands before this one on the way bars the train
-abbrev pub is_held_before : List (Option ℕ) → ℕ → List ℕ → ℕ → List ℕ → Bool
-is_held_before holders t own x [] = false
-is_held_before holders t own x (y ∷ sections) = not (y == x) && (is_some (bar_holder holders t own y) || is_held_before holders t own x sections)
+abbrev pub is_blocked_before : List (Option ℕ) → ℕ → List ℕ → ℕ → List ℕ → Bool
+is_blocked_before holders t own x [] = false
+is_blocked_before holders t own x (y ∷ sections) = not (y == x) && (is_some (bar_holder holders t own y) || is_blocked_before holders t own x sections)
 
--- the cause of a move over these sections is the same behind an admission, which leaves these holders: no section before the blocked one is held; that no list is known may have changed
+-- the cause of a move over these sections is the same behind an admission, which leaves these holders: no section before the blocked one is taken; that no list is known may have changed
 abbrev pub outlasts_taking : List (Option ℕ) → ℕ → List ℕ → List ℕ → Option Cause → Bool
-outlasts_taking holders t own sections (Some (Blocked x u)) = not (is_held_before holders t own x sections)
+outlasts_taking holders t own sections (Some (Blocked x u)) = not (is_blocked_before holders t own x sections)
 outlasts_taking holders t own sections (Some NoList) = false
 outlasts_taking holders t own sections _ = true
 
@@ -183,7 +183,7 @@ state_told plant orders t train_state =
       waits = not (is_cancelled t orders) && train_state.waits;
     }
 
--- a train that is known to be held for the first section of its next move is so
-abbrev pub AreFirm : Plant → List TrainState → Type 0
-AreFirm plant states = (t : ℕ) (why : Cause) → t < trains plant → (state_of states t).known ≡ Some why → (state_of states t).at_first ≡ true
+-- a train that is known to be blocked at the first section of its next move is so
+abbrev pub AreAtFirst : Plant → List TrainState → Type 0
+AreAtFirst plant states = (t : ℕ) (why : Cause) → t < trains plant → (state_of states t).known ≡ Some why → (state_of states t).at_first ≡ true
     → is_blocked why ≡ true → is_at_first (Some why) (claimed plant t (state_of states t).place) ≡ true

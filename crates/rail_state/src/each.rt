@@ -4,13 +4,13 @@ ghost use Rattle.std.specs.Prelude.{◌≡◌, ℕ, ◌<◌, ◌≤◌, [], ◌�
 ghost use Rattle.std.specs.Option.{ForSome};
 ghost use Rattle.rail_rules.specs.Numbers.{comes_before};
 ghost use Rattle.rail_rules.specs.Plant.{moves, trains};
-ghost use Rattle.rail_state.specs.TrainStates.{AreFirm, IsReadyFirst, after_taking, bar_by, is_blocked_at, is_untried, looked_at, state_of, state_told, turn, without_known};
+ghost use Rattle.rail_state.specs.TrainStates.{AreAtFirst, IsReadyFirst, after_taking, bar_by, is_blocked_at, is_untried, looked_at, state_of, state_told, turn, without_known};
 ghost use Rattle.rail_base.specs.declared.limits.TheConstants.{SECTIONS, TRAINS};
 ghost use Rattle.rail_state.specs.TrainSets.{has_train};
-ghost use Rattle.rail_state.specs.Kept.{AreHeldFor, AreSetsOf, earlier};
+ghost use Rattle.rail_state.specs.TrainSearches.{AreBlockedAt, AreSetsOf, earlier};
 
 use crate::train::TrainState;
-use crate::train_set::{HeldFor, TrainSet};
+use crate::train_set::{BlockedAt, TrainSet};
 use crate::train_sets::TrainSets;
 use rail_base::{Order, SectionNo, Time, TrainNo};
 use rail_orders::ToldOrders;
@@ -25,7 +25,7 @@ pub(crate) fn look_at_each(
     orders: &ToldOrders,
     holders: &Holders,
     sets: &mut TrainSets,
-    held: &mut HeldFor,
+    blocked: &mut BlockedAt,
 ) -> Option<TrainNo>
     requires few { length rows.old ≤ TRAINS }
     requires sets { AreSetsOf rows.old sets.old }
@@ -38,12 +38,12 @@ pub(crate) fn look_at_each(
     ensures first { MatchOption result ((t : ℕ) → is_untried (state_of rows.new t) ≡ false)
         (λ train. (train < length rows.new) × IsReadyFirst rows.new train) }
     ensures sets { AreSetsOf rows.new sets.new }
-    ensures held { AreHeldFor rows.old held.old → AreHeldFor rows.new held.new }
+    ensures blocked { AreBlockedAt rows.old blocked.old → AreBlockedAt rows.new blocked.new }
 {
     let mut first = None;
     let mut left = sets.untried;
     while let Some(train) = left.take_first() {
-        if look_at(rows, train, plant, orders, holders, sets, held) {
+        if look_at(rows, train, plant, orders, holders, sets, blocked) {
             first = Some(earlier(rows, first, train));
         }
     }
@@ -58,7 +58,7 @@ fn look_at(
     orders: &ToldOrders,
     holders: &Holders,
     sets: &mut TrainSets,
-    held: &mut HeldFor,
+    blocked: &mut BlockedAt,
 ) -> bool
     requires few { length rows.old ≤ TRAINS }
     requires train { train < length rows.old }
@@ -69,13 +69,13 @@ fn look_at(
     ensures rows { rows.new ≡ set rows.old train (looked_at plant.now (bar_by orders.now holders.now) train (state_of rows.old train)) }
     ensures answer { result ≡ is_untried (state_of rows.new train) }
     ensures sets { AreSetsOf rows.old sets.old → AreSetsOf rows.new sets.new }
-    ensures held { AreHeldFor rows.old held.old → AreHeldFor rows.new held.new }
+    ensures blocked { AreBlockedAt rows.old blocked.old → AreBlockedAt rows.new blocked.new }
 {
     let train_state = &mut rows[usize::from(train.0)];
     train_state.look(plant, orders, holders, train);
     sets.note(train, train_state);
     has_few_sections(plant);
-    train_state.note_in(held, train);
+    train_state.note_in(blocked, train);
     train_state.is_untried()
 }
 
@@ -117,15 +117,15 @@ fn ready_of(rows: &[TrainState], train: TrainNo) -> Time
     rows[usize::from(train.0)].times.next_ready
 }
 
-/// The causes of those of these trains that were held for this section are no longer known. Whether there were any.
-/// All that were held for it are among these.
+/// The causes of those of these trains that were blocked at this section are no longer known. Whether there were any.
+/// All that were blocked at it are among these.
 pub(crate) fn look_again_at_each(
     rows: &mut [TrainState],
-    held: TrainSet,
+    blocked: TrainSet,
     section: SectionNo,
     sets: &mut TrainSets,
 ) -> bool
-    requires held { (t : ℕ) → is_blocked_at section (state_of rows.old t).known ≡ true → has_train held t ≡ true }
+    requires blocked { (t : ℕ) → is_blocked_at section (state_of rows.old t).known ≡ true → has_train blocked t ≡ true }
     requires sets { AreSetsOf rows.old sets.old }
     ensures length { length rows.new ≡ length rows.old }
     ensures rows { (t : ℕ) → state_of rows.new t ≡ without_known section (state_of rows.old t) }
@@ -134,12 +134,12 @@ pub(crate) fn look_again_at_each(
     ensures sets { AreSetsOf rows.new sets.new }
 {
     let mut any = false;
-    let mut left = held;
+    let mut left = blocked;
     while let Some(train) = left.take_first() {
-        let place = usize::from(train.0);
-        if place < rows.len() {
-            if rows[place].forget(section) {
-                sets.note(train, &rows[place]);
+        let index = usize::from(train.0);
+        if index < rows.len() {
+            if rows[index].forget(section) {
+                sets.note(train, &rows[index]);
                 any = true;
             }
         }
@@ -147,8 +147,8 @@ pub(crate) fn look_again_at_each(
     any
 }
 
-/// The order was told: each train that waits heeds it.
-pub(crate) fn heed_each(rows: &mut [TrainState], plant: &Plant, order: &Order, sets: &mut TrainSets)
+/// Tells each train that waits the order.
+pub(crate) fn tell_each(rows: &mut [TrainState], plant: &Plant, order: &Order, sets: &mut TrainSets)
     requires few { length rows.old ≤ TRAINS }
     requires sets { AreSetsOf rows.old sets.old }
     requires known { length rows.old ≡ trains plant.now }
@@ -156,13 +156,13 @@ pub(crate) fn heed_each(rows: &mut [TrainState], plant: &Plant, order: &Order, s
         → (state_of rows.old t).place < moves plant.now t }
     requires waits { (t : ℕ) → (state_of rows.old t).waits ≡ false → (state_of rows.old t).known ≡ None }
     ensures length { length rows.new ≡ length rows.old }
-    ensures heeded { (t : ℕ) → state_of rows.new t ≡ state_told plant.now (order.now ∷ []) t (state_of rows.old t) }
+    ensures told { (t : ℕ) → state_of rows.new t ≡ state_told plant.now (order.now ∷ []) t (state_of rows.old t) }
     ensures sets { AreSetsOf rows.new sets.new }
 {
     let mut left = sets.waiting;
     while let Some(train) = left.take_first() {
         let train_state = &mut rows[usize::from(train.0)];
-        train_state.heed(plant, order, train);
+        train_state.tell(plant, order, train);
         sets.note(train, train_state);
     }
 }
@@ -181,12 +181,12 @@ pub(crate) fn note_taking_each(
     requires moves { (t : ℕ) → t < trains plant.now → (state_of rows.old t).waits ≡ true
         → (state_of rows.old t).place < moves plant.now t }
     requires waits { (t : ℕ) → (state_of rows.old t).waits ≡ false → (state_of rows.old t).known ≡ None }
-    requires firm { AreFirm plant.now rows.old }
+    requires at_first_section { AreAtFirst plant.now rows.old }
     ensures length { length rows.new ≡ length rows.old }
     ensures noted { (t : ℕ) → state_of rows.new t ≡ after_taking plant.now holders.now t (state_of rows.old t) }
     ensures sets { AreSetsOf rows.new sets.new }
 {
-    let mut left = sets.loose;
+    let mut left = sets.changeable;
     while let Some(train) = left.take_first() {
         let train_state = &mut rows[usize::from(train.0)];
         train_state.note_taking(plant, holders, train);

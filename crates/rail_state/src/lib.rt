@@ -9,7 +9,7 @@
 //! keeps it so are the lemmas in `proofs/CallerLemmas.antt`, each with its sentence; all else in `proofs/` and
 //! all bodies may be changed freely. What may not change is that only `TrainStates::new` takes memory, that nobody is
 //! sought among all trains (`TrainSets` has exactly those that wait, that are untried, that lack a hold line, and whose
-//! causes an admission may change), that a section that is free again costs the trains that were held for it, and
+//! causes an admission may change), that a section that is free again costs the trains that were blocked at it, and
 //! that an admission that obeys the policy in force is apart from the representation.
 #![tactic(auto)]
 

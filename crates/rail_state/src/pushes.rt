@@ -206,6 +206,14 @@ fn push_if_unclaimed(
     }
 }
 
+/// When the overlap of the move, whose times these are, is given free if the train stops behind it.
+pub fn stop_timer(known: &KnownMove, times: &MoveTimes) -> Time
+    requires { AreBelow (2 ^ 51) times.now }
+    ensures { result ≡ stop_time known.now.plant.now known.now.train times.now.free_run + known.now.plant.now.tables.overlap_time }
+{
+    after(known.stop_at(times), u64::from(known.plant.overlap_time()))
+}
+
 /// Pushes the events that give the overlap of the move to this place free: so long after the arrival there.
 pub fn push_overlap(
     plant: &Plant,

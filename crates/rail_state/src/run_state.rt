@@ -12,10 +12,10 @@ ghost use Rattle.rail_rules.specs.Fronts.{Front};
 ghost use Rattle.rail_rules.specs.Numbers.{gather, listed};
 ghost use Rattle.rail_rules.specs.Plant.{claimed, moves, trains};
 ghost use Rattle.rail_state.specs.Admissions.{IsGivable};
-ghost use Rattle.rail_state.specs.Events.{command_events, deferred_of, train_event};
-ghost use Rattle.rail_state.specs.Representation.{IsAdmitLine, IsHoldLine, IsReadyFor, StaysSettled, holders_after, what_of};
-ghost use Rattle.rail_state.specs.SeenCauses.{cancelled_by, stays};
-ghost use Rattle.rail_state.specs.TrainStates.{AreFirm, outside, lacks_hold_line, state_after, state_of, state_told};
+ghost use Rattle.rail_state.specs.Events.{AreFreedOnce, command_events, deferred_of, train_event};
+ghost use Rattle.rail_state.specs.Representation.{IsAdmitLine, IsHoldLine, IsReadyFor, StaysSettled, holders_after, taken_over, what_of};
+ghost use Rattle.rail_state.specs.SeenCauses.{cancelled_by, is_uncancelled};
+ghost use Rattle.rail_state.specs.TrainStates.{AreAtFirst, outside, lacks_hold_line, state_after, state_of, state_told};
 ghost use Rattle.std.specs.List.{filter};
 ghost use Rattle.rail_base.specs.declared.limits.TheConstants.{COMMANDS, OVERLAP_SECTIONS};
 ghost use Rattle.rail_state.specs.declared.pushes.TheConstants.{MOVE_EVENTS};
@@ -124,7 +124,7 @@ impl RunState {
             → result ≡ Hold train ((state_of self.now.trains train).place + 1) why }
     {
         let train_state = self.trains.get(train);
-        held(train, train_state.place + 1, train_state.known)
+        hold_with(train, train_state.place + 1, train_state.known)
     }
 
     /// The event happens: the instant is its time, the section that it frees has no holder, and what is kept
@@ -186,7 +186,7 @@ impl RunState {
         requires moves { (t : ℕ) → t < trains plant.now → (state_of self.old.trains t).waits ≡ true
             → (state_of self.old.trains t).place < moves plant.now t }
         requires waits { (t : ℕ) → (state_of self.old.trains t).waits ≡ false → (state_of self.old.trains t).known ≡ None }
-        ensures events { self.new.queue.events ≡ filter (stays (order.now ∷ [])) self.old.queue.events }
+        ensures events { self.new.queue.events ≡ filter (is_uncancelled (order.now ∷ [])) self.old.queue.events }
         ensures room { length self.new.queue.events + self.new.queue.spare ≡ length self.old.queue.events + self.old.queue.spare }
         ensures instant { self.new.instant ≡ at }
         ensures going { self.new.has_ended ≡ self.old.has_ended }
@@ -198,22 +198,23 @@ impl RunState {
     {
         self.instant = at;
         self.is_settled = false;
-        self.trains.heed(plant, order);
+        self.trains.tell(plant, order);
         forget_cancelled(&mut self.queue, order);
     }
 
-    /// The train's next move is admitted at the instant: its events are pending, its needed sections are held by
+    /// The train's next move is admitted at the instant: its events are pending, its needed sections are taken by
     /// the train, and its times are carried.
     pub fn admit(&mut self, plant: &Plant, train: TrainNo)
         requires givable { (front : Front) × IsGivable plant.now front self.old.trains self.old.instant train }
         requires room { MOVE_EVENTS ≤ self.old.queue.spare }
         requires sections { length self.old.holders ≡ length plant.now.tables.sections }
+        requires single { AreFreedOnce (taken_over plant.now self.old.holders train (state_of self.old.trains train).place) self.old.queue.events }
         requires free { held_cause self.old.holders train (own_overlap plant.now train (state_of self.old.trains train).place)
             (claimed plant.now train (state_of self.old.trains train).place) ≡ None }
         requires moves { (t : ℕ) → t < trains plant.now → (state_of self.old.trains t).waits ≡ true
             → (state_of self.old.trains t).place < moves plant.now t }
         requires waits { (t : ℕ) → (state_of self.old.trains t).waits ≡ false → (state_of self.old.trains t).known ≡ None }
-        requires firm { AreFirm plant.now self.old.trains }
+        requires at_first_section { AreAtFirst plant.now self.old.trains }
         ensures given { (front : Front) → IsGivable plant.now front self.old.trains self.old.instant train
             → (times : MoveTimes) × (arrival : Option ℕ) × IsAdmitLine plant.now front train times arrival self.old self.new }
         ensures room { length self.new.queue.events + self.new.queue.spare ≡ length self.old.queue.events + self.old.queue.spare }
@@ -222,7 +223,13 @@ impl RunState {
         let place = before.place + 1;
         let times = times_of(plant, train, place, self.instant, &before.times);
         let known = KnownMove::new(plant, train, place);
-        let arrival = push_move(&known, &mut self.queue, &times, &self.holders);
+        let arrival = push_move(
+            &known,
+            &mut self.queue,
+            &times,
+            &before.times,
+            &self.holders,
+        );
         take_sections(&known, &mut self.holders);
         self.trains
             .admit(plant, &self.holders, train, times, arrival);
@@ -246,14 +253,14 @@ impl RunState {
         ensures room { length self.new.queue.events + self.new.queue.spare ≡ length self.old.queue.events + self.old.queue.spare }
     {
         let train_state = *self.trains.get(train);
-        let arrival = self.trains.tell(train);
+        let arrival = self.trains.hold(train);
         push_deferred(plant, &mut self.queue, train, train_state.place, arrival);
-        held(train, train_state.place + 1, train_state.known)
+        hold_with(train, train_state.place + 1, train_state.known)
     }
 }
 
 /// What a hold line of this move says, where its cause is known.
-fn held(train: TrainNo, place: u16, known: Option<Cause>) -> What
+fn hold_with(train: TrainNo, place: u16, known: Option<Cause>) -> What
     requires { IsSome known }
     ensures { (why : Cause) → known ≡ Some why → result ≡ Hold train place why }
 {
@@ -269,7 +276,7 @@ fn held(train: TrainNo, place: u16, known: Option<Cause>) -> What
 
 /// Takes out what would make a train ready that the order cancels.
 fn forget_cancelled(queue: &mut EventQueue, order: &Order)
-    ensures events { queue.new.events ≡ filter (stays (order.now ∷ [])) queue.old.events }
+    ensures events { queue.new.events ≡ filter (is_uncancelled (order.now ∷ [])) queue.old.events }
     ensures room { length queue.new.events + queue.new.spare ≡ length queue.old.events + queue.old.spare }
 {
     if let Some(train) = cancelled_by(order) {

@@ -7,10 +7,10 @@ ghost use Rattle.rail_state.specs.TrainSets.{has_train, set_at};
 ghost use Rattle.rail_rules.specs.Plant.{claimed, moves, step_section, steps, trains};
 ghost use Rattle.rail_laws_run.specs.HolderTables.{bar_holder, held_cause, own_overlap};
 ghost use Rattle.rail_state.specs.TrainStates.{is_touched, state_told};
-ghost use Rattle.rail_state.specs.TrainStates.{admitted, after_taking, bar_by, head_behind, is_at_first, is_blocked_at, is_held_before, lacks_hold_line, is_untried, looked_at, outside, outlasts_taking, after_hold_line, without_known};
-ghost use Rattle.rail_state.specs.Kept.{is_loose};
+ghost use Rattle.rail_state.specs.TrainStates.{admitted, after_taking, bar_by, head_behind, is_at_first, is_blocked_at, is_blocked_before, lacks_hold_line, is_untried, looked_at, outside, outlasts_taking, after_hold_line, without_known};
+ghost use Rattle.rail_state.specs.TrainSearches.{is_changeable};
 
-use crate::train_set::HeldFor;
+use crate::train_set::BlockedAt;
 use rail_base::{Cause, Order, SectionNo, Time, TrainNo};
 use rail_block::{MoveTimes, entry_times};
 use rail_orders::ToldOrders;
@@ -40,7 +40,7 @@ pub struct TrainState {
     pub last_hold: Option<Cause>,
     /// Why its next move isn't admitted, where this is known.
     pub known: Option<Cause>,
-    /// Where the known cause is that a section is held, whether it is the first one of its next move: then no admission
+    /// Where the known cause is that a section is blocked, whether it is the first one of its next move: then no admission
     /// changes the cause.
     pub at_first: bool,
     /// Its out line was given.
@@ -70,8 +70,8 @@ impl TrainState {
     }
 
     /// Whether an admission of another train may change the known cause.
-    pub(crate) fn is_loose(&self) -> bool
-        ensures { result ≡ is_loose self.now }
+    pub(crate) fn is_changeable(&self) -> bool
+        ensures { result ≡ is_changeable self.now }
     {
         match self.known {
             Some(Cause::Blocked { .. }) => !self.at_first,
@@ -102,7 +102,7 @@ impl TrainState {
         was_blocked
     }
 
-    /// The cause of the train, where it is untried and a command or a held section bars its next move.
+    /// The cause of the train, where it is untried and a command or a taken section bars its next move.
     pub(crate) fn look(
         &mut self,
         plant: &Plant,
@@ -120,12 +120,12 @@ impl TrainState {
             let sections = claimed_sections(plant, train, self.place + 1);
             let own = overlap_behind(plant, train, self.place);
             self.known = bar_of(orders, holders, train, own, sections);
-            self.at_first = self.is_held_at_first(sections);
+            self.at_first = self.is_blocked_at_first(sections);
         }
     }
 
     /// Whether the known cause is that the first of these sections is blocked.
-    fn is_held_at_first(&self, sections: &[SectionNo]) -> bool
+    fn is_blocked_at_first(&self, sections: &[SectionNo]) -> bool
         ensures { result ≡ is_at_first self.now.known sections.now }
     {
         match self.known {
@@ -134,15 +134,15 @@ impl TrainState {
         }
     }
 
-    /// Where the known cause is that a section is blocked, the train is noted as held for it.
-    pub(crate) fn note_in(&self, held: &mut HeldFor, train: TrainNo)
+    /// Where the known cause is that a section is blocked, the train is noted as blocked at it.
+    pub(crate) fn note_in(&self, blocked: &mut BlockedAt, train: TrainNo)
         requires section { (x : ℕ) → is_blocked_at x self.now.known ≡ true → x < SECTIONS }
         requires train { train < TRAINS }
-        ensures here { (x : ℕ) → is_blocked_at x self.now.known ≡ true → has_train (set_at held.new x) train ≡ true }
-        ensures others { (x t : ℕ) → has_train (set_at held.old x) t ≡ true → has_train (set_at held.new x) t ≡ true }
+        ensures here { (x : ℕ) → is_blocked_at x self.now.known ≡ true → has_train (set_at blocked.new x) train ≡ true }
+        ensures others { (x t : ℕ) → has_train (set_at blocked.old x) t ≡ true → has_train (set_at blocked.new x) t ≡ true }
     {
         match self.known {
-            Some(Cause::Blocked { section, .. }) => held.insert(section, train),
+            Some(Cause::Blocked { section, .. }) => blocked.insert(section, train),
             _ => {}
         }
     }
@@ -172,7 +172,7 @@ impl TrainState {
                 has_few_moves(plant, train);
                 let sections = claimed_sections(plant, train, self.place + 1);
                 let own = overlap_behind(plant, train, self.place);
-                !is_held_before(holders, train, own, section, sections)
+                !is_blocked_before(holders, train, own, section, sections)
             }
             Some(Cause::NoList) => false,
             _ => true,
@@ -180,7 +180,7 @@ impl TrainState {
     }
 
     /// The order was told: a cause that it may change is no longer known, and a train that it cancels does not wait.
-    pub(crate) fn heed(&mut self, plant: &Plant, order: &Order, train: TrainNo)
+    pub(crate) fn tell(&mut self, plant: &Plant, order: &Order, train: TrainNo)
         requires known { train < trains plant.now }
         requires moves { self.old.waits ≡ true → self.old.place < moves plant.now train }
         requires waits { self.old.waits ≡ false → self.old.known ≡ None }
@@ -211,7 +211,7 @@ impl TrainState {
     }
 
     /// The hold line of the next move was given, with the known cause. The arrival that was deferred.
-    pub(crate) fn tell(&mut self) -> Option<Time>
+    pub(crate) fn hold(&mut self) -> Option<Time>
         ensures train_state { self.new ≡ after_hold_line self.old }
         ensures arrival { result ≡ self.old.deferred }
     {
@@ -387,7 +387,7 @@ pub fn held_cause(
 }
 
 /// Whether the holder of a section that stands before this one among these bars the train.
-fn is_held_before(
+fn is_blocked_before(
     holders: &Holders,
     train: TrainNo,
     own: &[SectionNo],
@@ -395,7 +395,7 @@ fn is_held_before(
     sections: &[SectionNo],
 ) -> bool
     requires { All (λ x. x < length holders.now) sections.now }
-    ensures { result ≡ is_held_before holders.now train own.now section sections.now }
+    ensures { result ≡ is_blocked_before holders.now train own.now section sections.now }
 {
     for other in sections {
         if *other == section {

@@ -1,4 +1,4 @@
-//! Sets of trains, and for each section the trains that are held for it.
+//! Sets of trains, and for each section the trains that are blocked at it.
 
 ghost use Rattle.std.specs.Prelude.{◌≡◌, ◌≢◌, ◌<◌, ◌≤◌, ◌==◌, ◌&&◌, ◌||◌, ℕ, not, true, false, cond, IfOk, IfSome, IsNone, MatchOption};
 ghost use Rattle.std.specs.Int.{bit_at};
@@ -99,35 +99,35 @@ fn first_bit(word: u64, bit: u16) -> Option<u16>
     Some(bit + high.trailing_zeros() as u16)
 }
 
-/// For each section the trains that may be held for it.
+/// For each section the trains that may be blocked at it.
 #[derive(Debug, Drop)]
-pub(crate) struct HeldFor {
+pub(crate) struct BlockedAt {
     sets: Vec<TrainSet>,
 }
 
-impl Model for HeldFor {
+impl Model for BlockedAt {
     ghost use Rattle.std.specs.Prelude.{◌≡◌, List, length};
     ghost use Rattle.rail_base.specs.declared.limits.TheConstants.{SECTIONS};
     ghost use Rattle.rail_state.specs.declared.train_set.TrainSet.{TrainSet};
 
     ghost Value = { List TrainSet };
 
-    ghost view = { λ held. held.sets.items };
+    ghost view = { λ blocked. blocked.sets.items };
 
-    ghost invariant = { λ held. length held.sets.items ≡ SECTIONS };
+    ghost invariant = { λ blocked. length blocked.sets.items ≡ SECTIONS };
 }
 
-impl HeldFor {
-    /// No train is held for any section.
-    pub(crate) fn new(alloc: Global) -> Result<HeldFor, AllocError>
-        ensures { IfOk result (λ held. (x t : ℕ) → has_train (set_at held x) t ≡ false) }
+impl BlockedAt {
+    /// No train is blocked at any section.
+    pub(crate) fn new(alloc: Global) -> Result<BlockedAt, AllocError>
+        ensures { IfOk result (λ blocked. (x t : ℕ) → has_train (set_at blocked x) t ≡ false) }
     {
-        Ok(HeldFor {
+        Ok(BlockedAt {
             sets: vec![in alloc; TrainSet::none(); SECTIONS]?,
         })
     }
 
-    /// The train is held for the section.
+    /// The train is blocked at the section.
     pub(crate) fn insert(&mut self, section: SectionNo, train: TrainNo)
         requires section { section < SECTIONS }
         requires train { train < TRAINS }
@@ -137,7 +137,7 @@ impl HeldFor {
         self.sets[usize::from(section.0)].insert(train);
     }
 
-    /// The trains that may be held for the section. None is from then on.
+    /// The trains that may be blocked at the section. None is from then on.
     pub(crate) fn take(&mut self, section: SectionNo) -> TrainSet
         ensures set { (t : ℕ) → has_train result t ≡ has_train (set_at self.old section) t }
         ensures others { (x : ℕ) → x ≢ section → set_at self.new x ≡ set_at self.old x }

@@ -3,7 +3,7 @@
 ghost use Rattle.std.specs.Prelude.{◌≡◌, ◌<◌, ℕ, List, length, set};
 ghost use Rattle.rail_base.specs.declared.limits.TheConstants.{TRAINS};
 ghost use Rattle.rail_state.specs.declared.train.TrainState.{TrainState};
-ghost use Rattle.rail_state.specs.Kept.{AreSetsOf, HaveNobody};
+ghost use Rattle.rail_state.specs.TrainSearches.{AreSetsOf, HaveNobody};
 
 use crate::train::TrainState;
 use crate::train_set::TrainSet;
@@ -19,7 +19,7 @@ pub(crate) struct TrainSets {
     /// Those that lack a hold line.
     pub(crate) lacking: TrainSet,
     /// Those whose known causes an admission may change.
-    pub(crate) loose: TrainSet,
+    pub(crate) changeable: TrainSet,
 }
 
 impl TrainSets {
@@ -31,7 +31,7 @@ impl TrainSets {
             waiting: TrainSet::none(),
             untried: TrainSet::none(),
             lacking: TrainSet::none(),
-            loose: TrainSet::none(),
+            changeable: TrainSet::none(),
         }
     }
 
@@ -44,6 +44,6 @@ impl TrainSets {
         self.waiting.put(train, train_state.waits);
         self.untried.put(train, train_state.is_untried());
         self.lacking.put(train, train_state.lacks_hold_line());
-        self.loose.put(train, train_state.is_loose());
+        self.changeable.put(train, train_state.is_changeable());
     }
 }

@@ -7,12 +7,12 @@ ghost use Rattle.rail_base.specs.declared.history.What.TheVariants.{Free, Enter,
 ghost use Rattle.rail_rules.specs.Plant.{Plant, moves, step_section, steps, trains};
 ghost use Rattle.rail_rules.specs.Numbers.{listed};
 ghost use Rattle.rail_state.specs.TrainStates.{state_told};
-ghost use Rattle.rail_state.specs.TrainStates.{AreFirm, IsAnyWaiting, IsNextOf, IsReadyFirst, bar_by, is_blocked_at, lacks_hold_line, is_untried, looked_at, outside, state_admitted, state_after, state_of, after_hold_line};
-ghost use Rattle.rail_state.specs.Kept.{is_waiting};
+ghost use Rattle.rail_state.specs.TrainStates.{AreAtFirst, IsAnyWaiting, IsNextOf, IsReadyFirst, bar_by, is_blocked_at, lacks_hold_line, is_untried, looked_at, outside, state_admitted, state_after, state_of, after_hold_line};
+ghost use Rattle.rail_state.specs.TrainSearches.{is_waiting};
 
-use crate::each::{heed_each, look_again_at_each, look_at_each, note_taking_each};
+use crate::each::{look_again_at_each, look_at_each, note_taking_each, tell_each};
 use crate::train::{TrainState, head_behind, push_outside, section_at};
-use crate::train_set::HeldFor;
+use crate::train_set::BlockedAt;
 use crate::train_sets::TrainSets;
 use rail_base::{Cause, Order, OutOfMemory, SectionNo, Time, TrainNo};
 use rail_block::MoveTimes;
@@ -28,8 +28,8 @@ pub struct TrainStates {
     rows: Vec<TrainState>,
     /// The trains by what is kept of them: nobody is sought among all.
     sets: TrainSets,
-    /// For each section the trains that are held for it.
-    held: HeldFor,
+    /// For each section the trains that are blocked at it.
+    blocked: BlockedAt,
 }
 
 impl Drop for TrainStates {
@@ -37,7 +37,7 @@ impl Drop for TrainStates {
         let TrainStates {
             rows: _rows,
             sets: _,
-            held: _held,
+            blocked: _blocked,
         } = self;
     }
 }
@@ -45,13 +45,13 @@ impl Drop for TrainStates {
 impl Model for TrainStates {
     ghost use Rattle.std.specs.Prelude.{List};
     ghost use Rattle.rail_state.specs.declared.train.TrainState.{TrainState};
-    ghost use Rattle.rail_state.specs.Kept.{AreKept};
+    ghost use Rattle.rail_state.specs.TrainSearches.{AreKept};
 
     ghost Value = { List TrainState };
 
     ghost view = { λ states. states.rows.items };
 
-    ghost invariant = { λ states. AreKept states.rows.items states.sets states.held };
+    ghost invariant = { λ states. AreKept states.rows.items states.sets states.blocked };
 }
 
 impl TrainStates {
@@ -67,7 +67,7 @@ impl TrainStates {
         Ok(TrainStates {
             rows,
             sets: TrainSets::none(),
-            held: HeldFor::new(alloc)?,
+            blocked: BlockedAt::new(alloc)?,
         })
     }
 
@@ -165,7 +165,7 @@ impl TrainStates {
         self.sets.note(train, train_state);
     }
 
-    /// A section is free: the causes of the trains that were held for it are no longer known. Whether there were any.
+    /// A section is free: the causes of the trains that were blocked at it are no longer known. Whether there were any.
     pub fn look_again_at(&mut self, section: SectionNo) -> bool
         ensures length { length self.new ≡ length self.old }
         ensures trains { (plant : Plant) (u t : ℕ) → state_of self.new t
@@ -173,8 +173,8 @@ impl TrainStates {
         ensures any { result ≡ false → (t : ℕ) → is_blocked_at section (state_of self.old t).known ≡ false }
         ensures some { result ≡ true → (t : ℕ) × (is_blocked_at section (state_of self.old t).known ≡ true) }
     {
-        let held = self.held.take(section);
-        look_again_at_each(&mut self.rows, held, section, &mut self.sets)
+        let blocked = self.blocked.take(section);
+        look_again_at_each(&mut self.rows, blocked, section, &mut self.sets)
     }
 
     /// Looks at the trains that wait without a known cause: what bars the next move is the cause. Of the
@@ -196,13 +196,13 @@ impl TrainStates {
             orders,
             holders,
             &mut self.sets,
-            &mut self.held,
+            &mut self.blocked,
         )
     }
 
     /// The order was told: the causes that it may change are no longer known, and a train that it cancels does
     /// not wait.
-    pub fn heed(&mut self, plant: &Plant, order: &Order)
+    pub fn tell(&mut self, plant: &Plant, order: &Order)
         requires known { length self.old ≡ trains plant.now }
         requires moves { (t : ℕ) → t < trains plant.now → (state_of self.old t).waits ≡ true
             → (state_of self.old t).place < moves plant.now t }
@@ -211,7 +211,7 @@ impl TrainStates {
         ensures trains { (t : ℕ) → t < length self.old → state_of self.new t
             ≡ state_told plant.now (order.now ∷ []) t (state_of self.old t) }
     {
-        heed_each(&mut self.rows, plant, order, &mut self.sets);
+        tell_each(&mut self.rows, plant, order, &mut self.sets);
     }
 
     /// No list is known for the train.
@@ -234,13 +234,13 @@ impl TrainStates {
     }
 
     /// The hold line of the train's next move was given, with its known cause. No arrival is deferred then: the one that was is the answer.
-    pub fn tell(&mut self, train: TrainNo) -> Option<Time>
+    pub fn hold(&mut self, train: TrainNo) -> Option<Time>
         requires { train < length self.old }
         ensures trains { self.new ≡ set self.old train (after_hold_line (state_of self.old train)) }
         ensures arrival { result ≡ (state_of self.old train).deferred }
     {
         let train_state = &mut self.rows[usize::from(train.0)];
-        let arrival = train_state.tell();
+        let arrival = train_state.hold();
         self.sets.note(train, train_state);
         arrival
     }
@@ -261,7 +261,7 @@ impl TrainStates {
         requires moves { (t : ℕ) → t < trains plant.now → (state_of self.old t).waits ≡ true
             → (state_of self.old t).place < moves plant.now t }
         requires waits { (t : ℕ) → (state_of self.old t).waits ≡ false → (state_of self.old t).known ≡ None }
-        requires firm { AreFirm plant.now self.old }
+        requires at_first_section { AreAtFirst plant.now self.old }
         requires place { (state_of self.old train).place < 65535 }
         ensures length { length self.new ≡ length self.old }
         ensures trains { (t : ℕ) → t < length self.old → state_of self.new t

@@ -11,9 +11,9 @@ ghost use Rattle.rail_rules.specs.Orders.{is_cancelled, told};
 ghost use Rattle.rail_rules.specs.Places.{completes};
 ghost use Rattle.rail_rules.specs.Plant.{bound, moves_of, trains};
 ghost use Rattle.rail_rules.specs.Texts.{text};
-ghost use Rattle.rail_rules.specs.Writable.{IsNamed, is_writable};
+ghost use Rattle.rail_rules.specs.WritableLines.{IsNamed, is_writable};
 ghost use Rattle.rail_laws_front.specs.Premises.{IsWellFormed};
-ghost use Rattle.rail_rules.specs.Overlaps.{NeverOverlap};
+ghost use Rattle.rail_rules.specs.Apart.{NeverOverlap};
 
 /// Two trains pass at a loop: the premises of the laws hold there, and so do the laws.
 pub fn the_loop_is_an_instance()

@@ -4,12 +4,12 @@ ghost use Rattle.std.specs.Prelude.{◌≡◌, ◌+◌, ◌≤◌, ◌++◌, ◌
 ghost use Rattle.rail_rules.specs.Plant.{Plant};
 ghost use Rattle.rail_rules.specs.Texts.{section_word, train_word};
 ghost use Rattle.rail_text.specs.Names.{HasNames, names_in, section_name, train_name};
-ghost use Rattle.rail_text.specs.declared.line.TheConstants.{ROOM};
+ghost use Rattle.rail_text.specs.declared.line_buffer.TheConstants.{ROOM};
 
-use crate::line::Line;
+use crate::line_buffer::LineBuffer;
 use rail_base::{Names, SectionNo, TrainNo};
 
-impl Line {
+impl LineBuffer {
     /// Puts a space and the name of the train at the end; nothing but the space where no train has the number.
     pub fn put_train(&mut self, names: &Names, train: TrainNo)
         requires { length self.old + 17 ≤ ROOM }

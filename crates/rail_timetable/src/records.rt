@@ -59,11 +59,11 @@ pub(crate) fn five_fields(row: &ByteRecord) -> Option<Fields<'_>>
     })
 }
 
-/// The field at this place, counted from 0; empty where the row is shorter.
-fn field(row: &ByteRecord, place: usize) -> &[u8]
-    ensures { result.now ≡ get_or (fields_of row.now) place [] }
+/// The field at this index, counted from 0; empty where the row is shorter.
+fn field(row: &ByteRecord, index: usize) -> &[u8]
+    ensures { result.now ≡ get_or (fields_of row.now) index [] }
 {
-    match row.get(place) {
+    match row.get(index) {
         Some(field) => field,
         None => &[],
     }

@@ -15,7 +15,7 @@ use Rattle.rail_track.specs.declared.section.Section.{Section}
 use Rattle.rail_track.specs.Joints.{is_named, has_joint, is_full}
 use Rattle.rail_track.specs.NetFaults.{refused_where}
 use Rattle.rail_track.specs.SectionRules.{joint_count, stands_twice, section_tests, section_refusal}
-use Rattle.rail_track.specs.Sound.{is_fit, have_one_name, IsSoundTrack}
+use Rattle.rail_track.specs.SoundTracks.{is_fit, have_one_name, IsSoundTrack}
 use Rattle.rail_track.proofs.Tallies.{same_name-comm, same_name-self}
 use Rattle.rail_track.proofs.Withouts.{count_by-cons, list_any-count_by}
 

@@ -14,7 +14,7 @@ use Rattle.rail_track.specs.SectionRules.{stands_twice, joint_count, section_tes
 use Rattle.rail_base.specs.FirstRefusals.{first_failing}
 use Rattle.rail_base.specs.declared.limits.TheConstants.{SECTIONS, SECTION_LENGTH, SPEED}
 use Rattle.rail_base.specs.declared.refusals.Reason.TheVariants.{JointCrowded}
-use Rattle.rail_track.specs.Sound.{is_fit, have_one_name, IsSoundTrack}
+use Rattle.rail_track.specs.SoundTracks.{is_fit, have_one_name, IsSoundTrack}
 use Rattle.rail_track.proofs.Tallies.{same_from_name, same_name-comm}
 use Rattle.rail_base.proofs.CallerLemmas.{all_passed}
 use Rattle.rail_track.proofs.Refusals.{none_fails}

@@ -5,5 +5,5 @@ pub mod NetFaults
 pub mod Passages
 pub mod Joints
 pub mod SectionRules
-pub mod Sound
+pub mod SoundTracks
 pub mod TrackFields

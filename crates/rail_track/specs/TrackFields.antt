@@ -4,7 +4,7 @@ use Rattle.rail_track.specs.declared.track.Track.TheInside.{Inside}
 use Rattle.rail_base.specs.NameForms.{same_name}
 use Rattle.rail_track.specs.KeyCounts.{times}
 use Rattle.rail_track.specs.Joints.{sections_at}
-use Rattle.rail_track.specs.Sound.{IsSoundTrack}
+use Rattle.rail_track.specs.SoundTracks.{IsSoundTrack}
 
 -- the track is sound, and each joint is counted once for each section that it is in
 pub record IsTrackInside (a : Inside) : Type 0 where

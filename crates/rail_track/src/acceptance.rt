@@ -3,7 +3,7 @@
 ghost use Rattle.std.specs.Prelude.{◌≡◌, ◌++◌, ◌∷◌, List, None};
 ghost use Rattle.rail_track.specs.declared.section.Section.{Section};
 ghost use Rattle.rail_track.specs.SectionRules.{section_refusal};
-ghost use Rattle.rail_track.specs.Sound.{IsSoundTrack};
+ghost use Rattle.rail_track.specs.SoundTracks.{IsSoundTrack};
 
 /// The sections of a sound track are accepted one after the other in their order. So a track that was changed may be
 /// written out section by section, and built again from what was written.

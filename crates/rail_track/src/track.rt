@@ -63,7 +63,7 @@ impl Track {
     ghost use Rattle.rail_track.specs.Passages.{has_passage};
     ghost use Rattle.rail_base.specs.FirstRefusals.{first_failing};
     ghost use Rattle.rail_track.specs.NetFaults.{Answers};
-    ghost use Rattle.rail_track.specs.Sound.{IsSoundTrack};
+    ghost use Rattle.rail_track.specs.SoundTracks.{IsSoundTrack};
     ghost use Rattle.rail_base.specs.declared.refusals.Reason.TheVariants.{Unknown};
     ghost use Rattle.rail_track.specs.declared.section.NetFault.TheVariants.{Refused};
 

@@ -1,6 +1,6 @@
 //! What the player of lists answers, and at which depth a list is found.
-ghost use Rattle.rail_consequence.specs.Kept.{IsAnalystFor};
-ghost use Rattle.rail_place.specs.Made.{IsMadeFor};
+ghost use Rattle.rail_consequence.specs.AnalystStates.{IsAnalystFor};
+ghost use Rattle.rail_place.specs.PlaceStates.{IsMadeFor};
 ghost use Rattle.rail_place.specs.Tables.{moves_in};
 
 use crate::plants::{are_there, moves_of, places_at};

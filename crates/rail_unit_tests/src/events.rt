@@ -1,10 +1,17 @@
 //! In which order events come, which are forgotten, and in which chains they lie.
 
+ghost use Rattle.std.specs.Prelude.{◌≡◌, ℕ, ◌≤◌, IfOk, count_by};
+ghost use Rattle.rail_queue.specs.Order.{is_of};
+ghost use Rattle.rail_queue.specs.declared.event.Class.TheVariants.{Free};
+
 use rail_base::{OutOfMemory, Time, TrainNo};
 use rail_queue::{Class, Event, EventQueue};
 use std::alloc::Global;
 
-fn event(at: u64, class: Class, number: u16, place: u16) -> Event {
+fn event(at: u64, class: Class, number: u16, place: u16) -> Event
+    ensures class { result.class ≡ class }
+    ensures number { result.number ≡ number }
+{
     Event {
         at: Time(at),
         class,
@@ -107,6 +114,49 @@ fn left_of_two(alloc: Global) -> Result<Told, OutOfMemory> {
     queue.forget(Class::Enter, 3);
     queue.forget(Class::Command, 4);
     Ok(told(&mut queue))
+}
+
+#[test]
+fn an_event_is_forgotten_at_its_time_or_elsewhere(rt: HostRuntime) {
+    let near = (1, Some(Time(140)), [Some(2), Some(3), None, None, None], 3);
+    let far = (1, Some(Time(130)), [Some(1), Some(2), None, None, None], 3);
+    let elsewhere = (1, Some(Time(130)), [Some(1), Some(3), None, None, None], 3);
+    let none = (
+        0,
+        Some(Time(130)),
+        [Some(1), Some(2), Some(3), None, None],
+        3,
+    );
+    assert!(rt; left_of_three(rt.alloc()) == Ok([near, far, elsewhere, none]));
+}
+
+/// Of three events, without the near one and without the far one, each at its time, without one that happens at
+/// another time, and without one that isn't there.
+fn left_of_three(alloc: Global) -> Result<[Told; 4], OutOfMemory> {
+    Ok([
+        left_without(alloc, 130, 1)?,
+        left_without(alloc, FAR, 3)?,
+        left_without(alloc, 0, 2)?,
+        left_without(alloc, 130, 4)?,
+    ])
+}
+
+/// What is left where the event that gives the section free is looked for at this time.
+fn left_without(alloc: Global, at: u64, section: u16) -> Result<Told, OutOfMemory> {
+    let mut queue = freeing_three(alloc)?;
+    queue.forget_at(Time(at), Class::Free, section);
+    Ok(told(&mut queue))
+}
+
+/// A queue of three events, which give the sections 1 to 3 free; the last one is far.
+fn freeing_three(alloc: Global) -> Result<EventQueue, OutOfMemory>
+    ensures { IfOk result (λ queue. (section : ℕ) → count_by (is_of Free section) queue.events ≤ 1) }
+{
+    let mut queue = EventQueue::with_room(alloc, 3)?;
+    queue.push(event(130, Class::Free, 1, 1));
+    queue.push(event(140, Class::Free, 2, 2));
+    queue.push(event(FAR, Class::Free, 3, 3));
+    Ok(queue)
 }
 
 const FAR: u64 = 64 * 1024;

@@ -1,6 +1,6 @@
 //! Four trains on a small plant: to what each list is repaired, and which lists are not.
 ghost use Rattle.rail_list.specs.KeptLists.{HasRoomFor};
-ghost use Rattle.rail_place.specs.Made.{IsMadeFor};
+ghost use Rattle.rail_place.specs.PlaceStates.{IsMadeFor};
 
 use crate::plants::{are_there, moves_of, places_at, trains_of};
 use rail_base::TrainNo;

@@ -3,7 +3,7 @@
 ghost use Rattle.std.specs.Prelude.{◌≡◌, ℕ, ◌<◌, ◌↔◌, ◌^◌, List, length, IsTrue, All};
 ghost use Rattle.std.specs.List.{list_all};
 ghost use Rattle.rail_rules.specs.Plant.{Plant, trains};
-ghost use Rattle.rail_rules.specs.Writable.{is_known_train, is_writable};
+ghost use Rattle.rail_rules.specs.WritableLines.{is_known_train, is_writable};
 ghost use Rattle.rail_history.specs.Lines.{line_of};
 
 use crate::plants::trains_of;
@@ -13,7 +13,7 @@ use rail_base::limits::LIST_TRAINS;
 use rail_base::{Entry, Name, Names, Note, OutOfMemory, Time, TrainNo, What};
 use rail_history::write_entry;
 use rail_io::{Failed, MemorySink, Sink, SureSink};
-use rail_text::Line;
+use rail_text::LineBuffer;
 use std::alloc::{AllocError, Global};
 
 // The trains of the list by their numbers, what the entry says, the number of the write that fails,
@@ -87,7 +87,7 @@ fn write<O: Sink>(names: &Names, word: &str, kept: &[TrainNo], out: &mut O) -> R
         at: Time(2200),
         what: what_of(word),
     };
-    write_entry(names, entry, kept, &mut Line::new(), out)
+    write_entry(names, entry, kept, &mut LineBuffer::new(), out)
 }
 
 /// Whether the case is written as it says.

@@ -3,7 +3,7 @@ ghost use Rattle.std.specs.Prelude.{◌≡◌, ℕ, ◌+◌, ◌<◌, ◌≤◌,
 ghost use Rattle.std.specs.List.{list_all, list_any};
 ghost use Rattle.rail_rules.specs.Moves.{is_valid, is_valid_move};
 ghost use Rattle.rail_rules.specs.Numbers.{is_in};
-ghost use Rattle.rail_place.specs.Made.{IsMadeFor};
+ghost use Rattle.rail_place.specs.PlaceStates.{IsMadeFor};
 ghost use Rattle.rail_place.specs.Tables.{moves_in, row_lists};
 
 use rail_base::limits::{ITINERARY_ROUTES, ROUTE_SECTIONS, SECTIONS, TRAINS};

@@ -88,38 +88,38 @@ module _ (names : List (List ℕ)) (trains : ℕ) (before : List Line) (line : L
   read_on = step names (read_of names trains before) line.number line.words ∙ sym joined
 
 -- how far a list file was read: the lines before a place in it, and the lines that are left
-pub record IsReadTo (names : List (List ℕ)) (plan : Moves) (trains : ℕ) (bytes : List ℕ) (read : ReadList) (left : List Line) : Type 0 where
+pub record IsReadTo (names : List (List ℕ)) (plan : Moves) (may_move : Bool) (trains : ℕ) (bytes : List ℕ) (read : ReadList) (left : List Line) : Type 0 where
   pub before : List Line
   pub whole : lines_of bytes ≡ before ++ left
   pub kept : read ≡ read_of names trains before
-  pub refusals : list_line_refusal names plan bytes ≡ first_failing (lines_tests names plan before left)
+  pub refusals : list_line_refusal names plan may_move bytes ≡ first_failing (lines_tests names plan may_move before left)
 
-module _ (names : List (List ℕ)) (plan : Moves) (trains : ℕ) (bytes : List ℕ) (read : ReadList) where
-  module _ (left : List Line) (h : IsReadTo names plan trains bytes read left) where
+module _ (names : List (List ℕ)) (plan : Moves) (may_move : Bool) (trains : ℕ) (bytes : List ℕ) (read : ReadList) where
+  module _ (left : List Line) (h : IsReadTo names plan may_move trains bytes read left) where
     module _ (line : Line) (rest : List Line) (is : left ≡ line ∷ rest) where
-      its_tests : first_failing (line_tests names plan h.before line) ≡ words_refusal names plan read line.number line.words
-      its_tests = ap (λ (r : ReadList). words_refusal names plan r line.number line.words) (sym h.kept)
+      its_tests : first_failing (line_tests names plan may_move h.before line) ≡ words_refusal names plan may_move read line.number line.words
+      its_tests = ap (λ (r : ReadList). words_refusal names plan may_move r line.number line.words) (sym h.kept)
 
-      refused_first : list_line_refusal names plan bytes
-          ≡ option_or (words_refusal names plan read line.number line.words) (first_failing (lines_tests names plan (h.before ++ line ∷ []) rest))
+      refused_first : list_line_refusal names plan may_move bytes
+          ≡ option_or (words_refusal names plan may_move read line.number line.words) (first_failing (lines_tests names plan may_move (h.before ++ line ∷ []) rest))
       refused_first =
           h.refusals
-          ∙ ap (λ (ls : List Line). first_failing (lines_tests names plan h.before ls)) is
-          ∙ first_failing-append (line_tests names plan h.before line) (lines_tests names plan (h.before ++ line ∷ []) rest)
-          ∙ ap (λ o. option_or o (first_failing (lines_tests names plan (h.before ++ line ∷ []) rest))) its_tests
+          ∙ ap (λ (ls : List Line). first_failing (lines_tests names plan may_move h.before ls)) is
+          ∙ first_failing-append (line_tests names plan may_move h.before line) (lines_tests names plan may_move (h.before ++ line ∷ []) rest)
+          ∙ ap (λ o. option_or o (first_failing (lines_tests names plan may_move (h.before ++ line ∷ []) rest))) its_tests
 
       -- a line that is not refused
-      pub one_more : (after : ReadList) → words_refusal names plan read line.number line.words ≡ None → after ≡ after_line names read line.number line.words → IsReadTo names plan trains bytes after rest
+      pub one_more : (after : ReadList) → words_refusal names plan may_move read line.number line.words ≡ None → after ≡ after_line names read line.number line.words → IsReadTo names plan may_move trains bytes after rest
       one_more after ok made = record {
         before = h.before ++ line ∷ [];
         whole = h.whole ∙ ap (λ (ls : List Line). h.before ++ ls) is ∙ sym (append_assoc h.before (line ∷ []) rest);
         kept = made ∙ ap (λ (r : ReadList). after_line names r line.number line.words) h.kept ∙ read_on names trains h.before line;
-        refusals = refused_first ∙ ap (λ o. option_or o (first_failing (lines_tests names plan (h.before ++ line ∷ []) rest))) ok;
+        refusals = refused_first ∙ ap (λ o. option_or o (first_failing (lines_tests names plan may_move (h.before ++ line ∷ []) rest))) ok;
       }
 
       -- what answers a line answers the file
-      pub answers_file : (fault : Fault) → AnswersFirst (words_refusal names plan read line.number line.words) fault → AnswersFirst (list_line_refusal names plan bytes) fault
-      answers_file (Refused r) answer = refused_first ∙ ap (λ o. option_or o (first_failing (lines_tests names plan (h.before ++ line ∷ []) rest))) answer
+      pub answers_file : (fault : Fault) → AnswersFirst (words_refusal names plan may_move read line.number line.words) fault → AnswersFirst (list_line_refusal names plan may_move bytes) fault
+      answers_file (Refused r) answer = refused_first ∙ ap (λ o. option_or o (first_failing (lines_tests names plan may_move (h.before ++ line ∷ []) rest))) answer
       answers_file OutOfMemory answer = tt
 
     -- behind the last line
@@ -127,8 +127,8 @@ module _ (names : List (List ℕ)) (plan : Moves) (trains : ℕ) (bytes : List �
       all_before : lines_of bytes ≡ h.before
       all_before = h.whole ∙ ap (λ (ls : List Line). h.before ++ ls) none ∙ append-nil h.before
 
-      pub all_accepted : list_line_refusal names plan bytes ≡ None
-      all_accepted = h.refusals ∙ ap (λ (ls : List Line). first_failing (lines_tests names plan h.before ls)) none
+      pub all_accepted : list_line_refusal names plan may_move bytes ≡ None
+      all_accepted = h.refusals ∙ ap (λ (ls : List Line). first_failing (lines_tests names plan may_move h.before ls)) none
 
       pub all_read : read ≡ read_of names trains (lines_of bytes)
       all_read = h.kept ∙ ap (read_of names trains) (sym all_before)

@@ -5,7 +5,7 @@ use Rattle.std.specs.Str.{bytes_eq}
 use Rattle.rail_base.specs.Clock.{IsLenientTime}
 use Rattle.rail_words.specs.declared.files.Role.TheVariants as role
 use Rattle.rail_words.specs.declared.forms.Form.{Form}
-use Rattle.rail_words.specs.declared.forms.Form.TheVariants.{Run, Infra, Play, Check, Stairs, Report, Capacity, Insert, Edit, Migrate, Scene, Gen}
+use Rattle.rail_words.specs.declared.forms.Form.TheVariants.{Run, Infra, Play, Check, Stairs, Report, Capacity, Insert, Edit, Migrate, Reroute, Scene, Gen}
 use Rattle.rail_words.specs.declared.forms.PathRequest.{PathRequest}
 use Rattle.rail_words.specs.declared.forms.TheConstants.{PATHS}
 use Rattle.rail_words.specs.declared.forms.Request.{Request}
@@ -25,12 +25,13 @@ verb_of Capacity = codes "capacity"
 verb_of Insert = codes "insert"
 verb_of Edit = codes "edit"
 verb_of Migrate = codes "migrate"
+verb_of Reroute = codes "reroute"
 verb_of Scene = codes "scene"
 verb_of Gen = codes "gen"
 
 -- all forms
 abbrev pub all_forms : List Form
-all_forms = Run ∷ Infra ∷ Play ∷ Check ∷ Stairs ∷ Report ∷ Capacity ∷ Insert ∷ Edit ∷ Migrate ∷ Scene ∷ Gen ∷ []
+all_forms = Run ∷ Infra ∷ Play ∷ Check ∷ Stairs ∷ Report ∷ Capacity ∷ Insert ∷ Edit ∷ Migrate ∷ Reroute ∷ Scene ∷ Gen ∷ []
 
 -- the form with this verb
 abbrev pub form_named : List ℕ → Option Form
@@ -46,6 +47,12 @@ pub record Scenario : Type 0 where
 pub record SceneAnd : Type 0 where
   pub scene : List ℕ
   pub other : List ℕ
+
+-- a scene, a list and proposals
+pub record SceneAndTwo : Type 0 where
+  pub scene : List ℕ
+  pub list : List ℕ
+  pub proposals : List ℕ
 
 -- a scenario and a history
 pub record Checked : Type 0 where
@@ -79,6 +86,7 @@ Values Capacity = Study
 Values Insert = Paths
 Values Edit = SceneAnd
 Values Migrate = List ℕ
+Values Reroute = SceneAndTwo
 Values Scene = ℕ
 Values Gen = ℕ
 
@@ -138,6 +146,7 @@ Spells Capacity study words = IsStudy study words
 Spells Insert paths words = ArePaths paths words
 Spells Edit files words = words ≡ files.scene ∷ files.other ∷ []
 Spells Migrate scene words = words ≡ scene ∷ []
+Spells Reroute files words = words ≡ files.scene ∷ files.list ∷ files.proposals ∷ []
 Spells Scene number words = IsOneNumber number words
 Spells Gen number words = IsOneNumber number words
 
@@ -168,6 +177,8 @@ files_of Capacity study = scenario_files study.scenario
 files_of Insert paths = scenario_files paths.scenario
 files_of Edit files = file_as role.Scene (Some files.scene) ∷ file_as role.Edits (Some files.other) ∷ []
 files_of Migrate scene = file_as role.Scene (Some scene) ∷ []
+files_of Reroute files = file_as role.Scene (Some files.scene) ∷ file_as role.List (Some files.list)
+    ∷ file_as role.Proposals (Some files.proposals) ∷ []
 files_of Scene number = []
 files_of Gen number = []
 
@@ -201,6 +212,7 @@ form_in (request.Capacity line from to scenario) = Capacity
 form_in (request.Insert paths) = Insert
 form_in (request.Edit scene edits) = Edit
 form_in (request.Migrate scene) = Migrate
+form_in (request.Reroute scene list proposals) = Reroute
 form_in (request.Scene number) = Scene
 form_in (request.Gen number) = Gen
 
@@ -216,6 +228,7 @@ values_in (request.Capacity line from to scenario) = record { line = line.now; f
 values_in (request.Insert paths) = paths_in paths
 values_in (request.Edit scene edits) = record { scene = scene.now; other = edits.now }
 values_in (request.Migrate scene) = scene.now
+values_in (request.Reroute scene list proposals) = record { scene = scene.now; list = list.now; proposals = proposals.now }
 values_in (request.Scene number) = number
 values_in (request.Gen number) = number
 
@@ -231,5 +244,7 @@ files_in (request.Capacity line from to scenario) = scenario_files (scenario_in 
 files_in (request.Insert paths) = scenario_files (scenario_in paths.scenario)
 files_in (request.Edit scene edits) = file_as role.Scene (Some scene.now) ∷ file_as role.Edits (Some edits.now) ∷ []
 files_in (request.Migrate scene) = file_as role.Scene (Some scene.now) ∷ []
+files_in (request.Reroute scene list proposals) = file_as role.Scene (Some scene.now) ∷ file_as role.List (Some list.now)
+    ∷ file_as role.Proposals (Some proposals.now) ∷ []
 files_in (request.Scene number) = []
 files_in (request.Gen number) = []

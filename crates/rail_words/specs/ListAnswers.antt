@@ -51,12 +51,12 @@ after_line names read n [] = read
 after_line names read n (verb ∷ args) = after_asked names read n verb args
 
 -- why a line of this verb is refused, if it is
-abbrev pub asked_refusal : List (List ℕ) → Moves → ReadList → ℕ → List ℕ → List (List ℕ) → Option Refusal
-asked_refusal names plan read n verb args = first_failing (asked_tests names plan read.has_moved n verb args)
+abbrev pub asked_refusal : List (List ℕ) → Moves → Bool → ReadList → ℕ → List ℕ → List (List ℕ) → Option Refusal
+asked_refusal names plan may_move read n verb args = first_failing (asked_tests names plan may_move read.has_moved n verb args)
 
 -- why a line with these words is refused, if it is
-abbrev pub words_refusal : List (List ℕ) → Moves → ReadList → ℕ → List (List ℕ) → Option Refusal
-words_refusal names plan read n words = first_failing (words_tests names plan read.has_moved n words)
+abbrev pub words_refusal : List (List ℕ) → Moves → Bool → ReadList → ℕ → List (List ℕ) → Option Refusal
+words_refusal names plan may_move read n words = first_failing (words_tests names plan may_move read.has_moved n words)
 
 -- why a position is refused: no train has the name, or the one that has it makes fewer moves
 abbrev pub IsRefusedPosition : List (List ℕ) → Moves → List ℕ → ℕ → ℕ → Fault → Type 0

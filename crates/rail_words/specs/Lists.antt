@@ -77,11 +77,11 @@ abbrev pub is_position : List (List ℕ) → Bool
 is_position (train ∷ number ∷ []) = is_name train && is_decimal number
 is_position _ = false
 
--- a line is `at TRAIN POSITION`, unless a line before it moves trains, or `move TRAIN [TRAIN ..]`
-abbrev pub has_form : Bool → List ℕ → List (List ℕ) → Bool
-has_form has_moved verb args =
+-- a line is `at TRAIN POSITION`, unless a line before it moves trains, or `move TRAIN [TRAIN ..]`, where lines may move trains
+abbrev pub has_form : Bool → Bool → List ℕ → List (List ℕ) → Bool
+has_form may_move has_moved verb args =
     (sets verb && not has_moved && is_position args)
-    || (moves_trains verb && not (length args == 0) && list_all is_name args)
+    || (may_move && moves_trains verb && not (length args == 0) && list_all is_name args)
 
 -- the trains that a line names
 abbrev pub trains_named : List ℕ → List (List ℕ) → List (List ℕ)
@@ -93,30 +93,30 @@ is_past names plan verb (train ∷ number ∷ []) = sets verb && nat_lt (plan.mo
 is_past names plan verb _ = false
 
 -- the tests of a line of this number, verb and words, in their order
-abbrev pub asked_tests : List (List ℕ) → Moves → Bool → ℕ → List ℕ → List (List ℕ) → List (Test Refusal)
-asked_tests names plan has_moved n verb args =
-    refused_line ListForm n (not (has_form has_moved verb args))
+abbrev pub asked_tests : List (List ℕ) → Moves → Bool → Bool → ℕ → List ℕ → List (List ℕ) → List (Test Refusal)
+asked_tests names plan may_move has_moved n verb args =
+    refused_line ListForm n (not (has_form may_move has_moved verb args))
     ∷ refused_line ListName n (not (list_all (knows names) (trains_named verb args)))
     ∷ refused_line ListForm n (is_past names plan verb args)
     ∷ []
 
 -- the tests of a line of this number and words
-abbrev pub words_tests : List (List ℕ) → Moves → Bool → ℕ → List (List ℕ) → List (Test Refusal)
-words_tests names plan has_moved n [] = []
-words_tests names plan has_moved n (verb ∷ args) = asked_tests names plan has_moved n verb args
+abbrev pub words_tests : List (List ℕ) → Moves → Bool → Bool → ℕ → List (List ℕ) → List (Test Refusal)
+words_tests names plan may_move has_moved n [] = []
+words_tests names plan may_move has_moved n (verb ∷ args) = asked_tests names plan may_move has_moved n verb args
 
 -- the tests of a line behind other lines
-abbrev pub line_tests : List (List ℕ) → Moves → List Line → Line → List (Test Refusal)
-line_tests names plan before line = words_tests names plan (some_moves before) line.number line.words
+abbrev pub line_tests : List (List ℕ) → Moves → Bool → List Line → Line → List (Test Refusal)
+line_tests names plan may_move before line = words_tests names plan may_move (some_moves before) line.number line.words
 
 -- the tests of lines behind other lines
-abbrev pub lines_tests : List (List ℕ) → Moves → List Line → List Line → List (Test Refusal)
-lines_tests names plan before [] = []
-lines_tests names plan before (line ∷ lines) = line_tests names plan before line ++ lines_tests names plan (before ++ line ∷ []) lines
+abbrev pub lines_tests : List (List ℕ) → Moves → Bool → List Line → List Line → List (Test Refusal)
+lines_tests names plan may_move before [] = []
+lines_tests names plan may_move before (line ∷ lines) = line_tests names plan may_move before line ++ lines_tests names plan may_move (before ++ line ∷ []) lines
 
 -- why the lines of a list file are refused
-abbrev pub list_line_refusal : List (List ℕ) → Moves → List ℕ → Option Refusal
-list_line_refusal names plan bytes = first_failing (lines_tests names plan [] (lines_of bytes))
+abbrev pub list_line_refusal : List (List ℕ) → Moves → Bool → List ℕ → Option Refusal
+list_line_refusal names plan may_move bytes = first_failing (lines_tests names plan may_move [] (lines_of bytes))
 
 -- two trains hold one section, which is refused at the last line that sets a position
 abbrev pub places_test : List (List ℕ) → Moves → ℕ → List ℕ → Test Refusal

@@ -17,6 +17,7 @@ pub enum Role {
     History,
     List,
     Edits,
+    Proposals,
 }
 
 impl Role {
@@ -27,7 +28,12 @@ impl Role {
     {
         match self {
             Role::History => HISTORY_BYTES,
-            Role::Scene | Role::Timetable | Role::Commands | Role::List | Role::Edits => FILE_BYTES,
+            Role::Scene
+            | Role::Timetable
+            | Role::Commands
+            | Role::List
+            | Role::Edits
+            | Role::Proposals => FILE_BYTES,
         }
     }
 
@@ -38,7 +44,7 @@ impl Role {
         match self {
             Role::Scene => 1,
             Role::Timetable | Role::List | Role::Edits => 2,
-            Role::Commands => 3,
+            Role::Commands | Role::Proposals => 3,
             Role::History => 4,
         }
     }

@@ -6,7 +6,7 @@ ghost use Rattle.std.specs.Option.{option_copied, option_map};
 ghost use Rattle.rail_words.specs.declared.forms.Form.{Form as AnyForm};
 ghost use Rattle.rail_words.specs.declared.forms.Form.TheVariants.{Capacity, Insert};
 ghost use Rattle.rail_words.specs.Files.{file_with};
-ghost use Rattle.rail_words.specs.Forms.{ArePaths, IsAsked, IsOneNumber, IsPathCount, IsStudy, Lacks, Paths, SceneAnd, Spells, Study, Values, checked_named, files_in, form_in, form_named, scenario_files, scenario_in, scenario_named, values_in, verb_of};
+ghost use Rattle.rail_words.specs.Forms.{ArePaths, IsAsked, IsOneNumber, IsPathCount, IsStudy, Lacks, Paths, SceneAnd, SceneAndTwo, Spells, Study, Values, checked_named, files_in, form_in, form_named, scenario_files, scenario_in, scenario_named, values_in, verb_of};
 
 use crate::files::{Role, named_file};
 use crate::numbers::read_number;
@@ -28,12 +28,13 @@ pub enum Form {
     Insert,
     Edit,
     Migrate,
+    Reroute,
     Scene,
     Gen,
 }
 
 /// The forms, in the order in which they are told.
-pub const FORMS: [Form; 12] = [
+pub const FORMS: [Form; 13] = [
     Form::Run,
     Form::Infra,
     Form::Play,
@@ -44,6 +45,7 @@ pub const FORMS: [Form; 12] = [
     Form::Insert,
     Form::Edit,
     Form::Migrate,
+    Form::Reroute,
     Form::Scene,
     Form::Gen,
 ];
@@ -65,6 +67,7 @@ impl Form {
             Form::Insert => "insert",
             Form::Edit => "edit",
             Form::Migrate => "migrate",
+            Form::Reroute => "reroute",
             Form::Scene => "scene",
             Form::Gen => "gen",
         }
@@ -82,6 +85,7 @@ impl Form {
             Form::Capacity => "LINE FROM TO SCENE [TIMETABLE [COMMANDS]]",
             Form::Insert => "TRAIN FROM TO COUNT SCENE [TIMETABLE [COMMANDS]]",
             Form::Edit => "SCENE EDITS",
+            Form::Reroute => "SCENE LIST PROPOSALS",
             Form::Scene | Form::Gen => "NUMBER",
         }
     }
@@ -115,6 +119,7 @@ impl Form {
             Form::Insert => "where further trains like one fit, and what is in the way of each",
             Form::Edit => "the scene after the edits, as a scene file",
             Form::Migrate => "the scene, as a scene file of the newest version",
+            Form::Reroute => "whether trains could take other routes from where they stand",
             Form::Scene => "the made-up scene of the number, as a scene file",
             Form::Gen => "a run of that scene, told in one line",
         }
@@ -180,6 +185,11 @@ pub enum Request<'w> {
     Migrate {
         scene: &'w str,
     },
+    Reroute {
+        scene: &'w str,
+        list: &'w str,
+        proposals: &'w str,
+    },
     Scene {
         number: u64,
     },
@@ -204,6 +214,7 @@ impl<'w> Request<'w> {
             Request::Insert(_) => Form::Insert,
             Request::Edit { .. } => Form::Edit,
             Request::Migrate { .. } => Form::Migrate,
+            Request::Reroute { .. } => Form::Reroute,
             Request::Scene { .. } => Form::Scene,
             Request::Gen { .. } => Form::Gen,
         }
@@ -217,18 +228,27 @@ impl<'w> Request<'w> {
             Request::Run(scenario) => scenario.file(role),
             Request::Infra { scene } | Request::Migrate { scene } => match role {
                 Role::Scene => Some(*scene),
-                Role::Timetable | Role::Commands | Role::History | Role::List | Role::Edits => None,
+                Role::Timetable
+                | Role::Commands
+                | Role::History
+                | Role::List
+                | Role::Edits
+                | Role::Proposals => None,
             },
             Request::Play { scene, list } => match role {
                 Role::Scene => Some(*scene),
                 Role::List => Some(*list),
-                Role::Timetable | Role::Commands | Role::History | Role::Edits => None,
+                Role::Timetable | Role::Commands | Role::History | Role::Edits | Role::Proposals =>
+                    None,
             },
             Request::Check { scenario, history } => match role {
                 Role::History => Some(*history),
-                Role::Scene | Role::Timetable | Role::Commands | Role::List | Role::Edits => {
-                    scenario.file(role)
-                }
+                Role::Scene
+                | Role::Timetable
+                | Role::Commands
+                | Role::List
+                | Role::Edits
+                | Role::Proposals => scenario.file(role),
             },
             Request::Stairs(scenario) => scenario.file(role),
             Request::Report(scenario) => scenario.file(role),
@@ -237,7 +257,18 @@ impl<'w> Request<'w> {
             Request::Edit { scene, edits } => match role {
                 Role::Scene => Some(*scene),
                 Role::Edits => Some(*edits),
-                Role::Timetable | Role::Commands | Role::History | Role::List => None,
+                Role::Timetable | Role::Commands | Role::History | Role::List | Role::Proposals =>
+                    None,
+            },
+            Request::Reroute {
+                scene,
+                list,
+                proposals,
+            } => match role {
+                Role::Scene => Some(*scene),
+                Role::List => Some(*list),
+                Role::Proposals => Some(*proposals),
+                Role::Timetable | Role::Commands | Role::History | Role::Edits => None,
             },
             Request::Scene { .. } | Request::Gen { .. } => None,
         }
@@ -253,7 +284,7 @@ impl<'w> Scenario<'w> {
             Role::Scene => Some(self.scene),
             Role::Timetable => self.timetable,
             Role::Commands => self.commands,
-            Role::History | Role::List | Role::Edits => None,
+            Role::History | Role::List | Role::Edits | Role::Proposals => None,
         }
     }
 }
@@ -309,6 +340,14 @@ fn request_with<'w>(form: Form, words: &'w [Word]) -> Option<Request<'w>>
         Form::Migrate => Some(Request::Migrate {
             scene: one_file(words)?,
         }),
+        Form::Reroute => {
+            let (scene, list, proposals) = three_files(words)?;
+            Some(Request::Reroute {
+                scene,
+                list,
+                proposals,
+            })
+        }
         Form::Scene => Some(Request::Scene {
             number: number_in(words)?,
         }),
@@ -353,6 +392,18 @@ fn two_files<'w>(words: &'w [Word]) -> Option<(&'w str, &'w str)>
 {
     match words {
         [scene, other] => Some((scene.as_str(), other.as_str())),
+        _ => None,
+    }
+}
+
+/// The three files that words name.
+fn three_files<'w>(words: &'w [Word]) -> Option<(&'w str, &'w str, &'w str)>
+    ensures { MatchOption result
+        ((files : SceneAndTwo) → words.now ≡ files.scene ∷ files.list ∷ files.proposals ∷ [] → ⊥)
+        (λ files. words.now ≡ files.0.now ∷ files.1.now ∷ files.2.now ∷ []) }
+{
+    match words {
+        [scene, list, proposals] => Some((scene.as_str(), list.as_str(), proposals.as_str())),
         _ => None,
     }
 }

@@ -1,4 +1,4 @@
-ghost use Rattle.std.specs.Prelude.{◌≡◌, ℕ, ◌+◌, ◌-◌, ◌<◌, ◌≤◌, ◌^◌, ◌++◌, [], List, length, map, set, true, false, Some, None, OnOk, IfOk, IfErr};
+ghost use Rattle.std.specs.Prelude.{◌≡◌, ℕ, Bool, ◌+◌, ◌-◌, ◌<◌, ◌≤◌, ◌^◌, ◌++◌, [], List, length, map, set, true, false, Some, None, OnOk, IfOk, IfErr};
 ghost use Rattle.std.specs.List.{list_all};
 ghost use Rattle.rail_base.specs.NameForms.{is_name};
 ghost use Rattle.rail_place.specs.Tables.{moves_in};
@@ -82,29 +82,30 @@ impl ListFile {
         self.last_at
     }
 
-    /// Reads a line, which has this number.
+    /// Reads a line, which has this number. It moves trains only where lines may.
     fn read_line(
         &mut self,
         names: &Names,
         moves: &Moves,
+        may_move: bool,
         number: u32,
         line: &[u8],
     ) -> Result<(), Fault>
         requires names { length names.now.trains.keys ≡ length moves.now }
         requires few { length moves.now ≤ 2 ^ 16 }
         requires list { IsListFor moves.now self.old }
-        ensures accepted { OnOk result (words_refusal names.now.trains.keys (moves_in moves.now) self.old number (words line.now) ≡ None) }
+        ensures accepted { OnOk result (words_refusal names.now.trains.keys (moves_in moves.now) may_move self.old number (words line.now) ≡ None) }
         ensures listed { OnOk result (self.new ≡ after_line names.now.trains.keys self.old number (words line.now)) }
         ensures list { OnOk result (IsListFor moves.now self.new) }
-        ensures refused { IfErr result (AnswersFirst (words_refusal names.now.trains.keys (moves_in moves.now) self.old number (words line.now))) }
+        ensures refused { IfErr result (AnswersFirst (words_refusal names.now.trains.keys (moves_in moves.now) may_move self.old number (words line.now))) }
     {
         let Some((verb, args)) = next_word(line) else {
             return Ok(());
         };
         match verb_of(verb) {
             Verb::At => self.read_at(names, moves, number, args),
-            Verb::Move => self.read_moves(names, number, args),
-            Verb::Other => Err(refused_at(Reason::ListForm, number)),
+            Verb::Move if may_move => self.read_moves(names, number, args),
+            Verb::Move | Verb::Other => Err(refused_at(Reason::ListForm, number)),
         }
     }
 
@@ -119,12 +120,12 @@ impl ListFile {
         requires names { length names.now.trains.keys ≡ length moves.now }
         requires few { length moves.now ≤ 2 ^ 16 }
         requires list { IsListFor moves.now self.old }
-        ensures accepted { (verb : List ℕ) → sets verb ≡ true →
-            OnOk result (asked_refusal names.now.trains.keys (moves_in moves.now) self.old number verb (words args.now) ≡ None) }
+        ensures accepted { (may_move : Bool) (verb : List ℕ) → sets verb ≡ true →
+            OnOk result (asked_refusal names.now.trains.keys (moves_in moves.now) may_move self.old number verb (words args.now) ≡ None) }
         ensures listed { OnOk result (self.new ≡ after_position names.now.trains.keys self.old number (words args.now)) }
         ensures list { OnOk result (IsListFor moves.now self.new) }
-        ensures refused { (verb : List ℕ) → sets verb ≡ true →
-            IfErr result (AnswersFirst (asked_refusal names.now.trains.keys (moves_in moves.now) self.old number verb (words args.now))) }
+        ensures refused { (may_move : Bool) (verb : List ℕ) → sets verb ≡ true →
+            IfErr result (AnswersFirst (asked_refusal names.now.trains.keys (moves_in moves.now) may_move self.old number verb (words args.now))) }
     {
         if self.has_moved {
             return Err(refused_at(Reason::ListForm, number));
@@ -139,11 +140,11 @@ impl ListFile {
     fn read_moves(&mut self, names: &Names, number: u32, args: &[u8]) -> Result<(), Fault>
         requires few { length names.now.trains.keys ≤ 2 ^ 16 }
         ensures accepted { (plan : plan_of_moves) (verb : List ℕ) → sets verb ≡ false → moves_trains verb ≡ true →
-            OnOk result (asked_refusal names.now.trains.keys plan self.old number verb (words args.now) ≡ None) }
+            OnOk result (asked_refusal names.now.trains.keys plan true self.old number verb (words args.now) ≡ None) }
         ensures listed { OnOk result (self.new ≡ after_moves names.now.trains.keys self.old (words args.now)) }
         ensures known { OnOk result (list_all (knows names.now.trains.keys) (words args.now) ≡ true) }
         ensures refused { (plan : plan_of_moves) (verb : List ℕ) → sets verb ≡ false → moves_trains verb ≡ true →
-            IfErr result (AnswersFirst (asked_refusal names.now.trains.keys plan self.old number verb (words args.now))) }
+            IfErr result (AnswersFirst (asked_refusal names.now.trains.keys plan true self.old number verb (words args.now))) }
     {
         if !are_names(args) {
             return Err(refused_at(Reason::ListForm, number));
@@ -219,25 +220,26 @@ fn push_trains(list: &mut Vec<TrainNo>, names: &Names, args: &[u8]) -> Result<()
 /// Reads a list file. `names` has the names of the trains whose moves these are.
 ///
 /// It is refused, line by line, by the first of these that holds: as no list file, where a line is not
-/// `at TRAIN POSITION`, before any train is moved, or `move TRAIN [TRAIN ..]`; as of an unknown name,
+/// `at TRAIN POSITION`, before any train is moved, or `move TRAIN [TRAIN ..]`, where lines may move trains; as of an unknown name,
 /// where a train has none of the names; as no list file, where a position is above the train's number of
 /// moves. Lines count from 1; a line without a word, or whose first word begins with `#`, is skipped.
 pub fn read_list(
     alloc: Global,
     names: &Names,
     moves: &Moves,
+    may_move: bool,
     bytes: &[u8],
 ) -> Result<ListFile, Fault>
     requires names { length names.now.trains.keys ≡ length moves.now }
     requires short { length bytes.now < 2 ^ 32 - 1 }
-    ensures accepted { OnOk result (list_line_refusal names.now.trains.keys (moves_in moves.now) bytes.now ≡ None) }
+    ensures accepted { OnOk result (list_line_refusal names.now.trains.keys (moves_in moves.now) may_move bytes.now ≡ None) }
     ensures listed { IfOk result (λ file. file ≡ read_of names.now.trains.keys (length moves.now) (lines_of bytes.now)) }
     ensures list { IfOk result (IsListFor moves.now) }
-    ensures refused { IfErr result (AnswersFirst (list_line_refusal names.now.trains.keys (moves_in moves.now) bytes.now)) }
+    ensures refused { IfErr result (AnswersFirst (list_line_refusal names.now.trains.keys (moves_in moves.now) may_move bytes.now)) }
 {
     let mut file = ListFile::new(alloc, moves.trains())?;
     for NumberedLine { number, line } in numbered_lines(bytes) {
-        file.read_line(names, moves, number, line)?;
+        file.read_line(names, moves, may_move, number, line)?;
     }
     Ok(file)
 }

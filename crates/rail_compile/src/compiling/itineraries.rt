@@ -4,8 +4,8 @@ ghost use Rattle.std.specs.Prelude.{◌≡◌, ◌<◌, ◌≤◌, get_or, lengt
 ghost use Rattle.std.specs.List.{list_all};
 ghost use Rattle.rail_base.specs.declared.limits.TheConstants.{ITINERARY_ROUTES, ROUTE_SECTIONS};
 ghost use Rattle.rail_base.specs.FirstRefusals.{first_failing};
-ghost use Rattle.rail_routes.specs.Net.{guards};
-ghost use Rattle.rail_compile.specs.Itineraries.{goes_on_to, may_leave, no_route, runs_on, turn_between, turn_step};
+ghost use Rattle.rail_routes.specs.Net.{guards, no_route};
+ghost use Rattle.rail_compile.specs.Itineraries.{goes_on_to, may_leave, runs_on, turn_between, turn_step};
 ghost use Rattle.rail_compile.specs.Refusals.{of_train, place_tests, route_tests};
 ghost use Rattle.rail_compile.specs.Ways.{AreWays, are_numbers, is_among, place_among, routes_at, way_over};
 

@@ -1,7 +1,8 @@
 //! The moves over the routes of an itinerary.
 
 ghost use Rattle.std.specs.Prelude.{◌≡◌, ◌+◌, ◌<◌, drop, get_or, length, IsTrue, IfOk};
-ghost use Rattle.rail_compile.specs.Itineraries.{moves_over, no_route, turn_before};
+ghost use Rattle.rail_compile.specs.Itineraries.{moves_over, turn_before};
+ghost use Rattle.rail_routes.specs.Net.{no_route};
 ghost use Rattle.rail_compile.specs.Ways.{AreWays, are_numbers, routes_at};
 
 use crate::compiling::itineraries::{route_in, turn_between, way_in};

@@ -10,7 +10,7 @@ ghost use Rattle.rail_plan.specs.PlanFaults.{IsPlannable};
 ghost use Rattle.rail_scene.specs.Scenes.{IsScene};
 ghost use Rattle.rail_compile.specs.Itineraries.{section_row, tables_of, with_trains};
 ghost use Rattle.rail_compile.specs.Refusals.{trains_tests};
-ghost use Rattle.rail_compile.specs.Typed.{is_named_row};
+ghost use Rattle.rail_compile.specs.RowTypes.{is_named_row};
 ghost use Rattle.rail_compile.specs.Ways.{AreWays};
 
 use crate::compiling::trains::train_rows;

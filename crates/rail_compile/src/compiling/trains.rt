@@ -10,7 +10,7 @@ ghost use Rattle.rail_scene.specs.declared.scene.SceneTrain.{SceneTrain};
 ghost use Rattle.rail_scene.specs.Scenes.{IsScene, is_fit_train};
 ghost use Rattle.rail_compile.specs.Itineraries.{routes_of, train_row, with_trains};
 ghost use Rattle.rail_compile.specs.Refusals.{train_tests, trains_tests};
-ghost use Rattle.rail_compile.specs.Typed.{is_typed_row};
+ghost use Rattle.rail_compile.specs.RowTypes.{is_typed_row};
 ghost use Rattle.rail_compile.specs.Ways.{AreWays, are_numbers, routes_at};
 
 use crate::compiling::itineraries::{of_train, route_numbers, route_refusal};

@@ -4,7 +4,7 @@ ghost use Rattle.std.specs.Prelude.{◌≡◌, map, Some, None, IsTrue, IfOk};
 ghost use Rattle.rail_routes.specs.declared.items.Route.{Route};
 ghost use Rattle.rail_routes.specs.declared.items.Step.{Step};
 ghost use Rattle.rail_routes.specs.Net.{post_named};
-ghost use Rattle.rail_routes.specs.Sound.{is_sound_route};
+ghost use Rattle.rail_routes.specs.SoundNetworks.{is_sound_route};
 ghost use Rattle.rail_compile.specs.Itineraries.{move_over, number_of};
 ghost use Rattle.std.specs.List.{list_all};
 ghost use Rattle.rail_compile.specs.Ways.{AreWays, is_known_step, way_over};

@@ -7,7 +7,7 @@ ghost use Rattle.rail_rules.specs.Places.{is_inside, place_of};
 ghost use Rattle.rail_place.specs.Tables.{moves_in};
 ghost use Rattle.rail_consequence.specs.Needs.{AreWords};
 ghost use Rattle.rail_consequence.specs.Searches.{FindsSame, HasNoSafeLeg, HasNoSafeLegOf, leg_to};
-ghost use Rattle.rail_consequence.specs.Stops.{AreSettledFrom, IsHeldByOther, IsNotedTo, IsSettled, IsStopped, IsUntouched, Shows, section_of, stop_of};
+ghost use Rattle.rail_consequence.specs.Stops.{AreSettledFrom, IsTakenByOther, IsNotedTo, IsSettled, IsStopped, IsUntouched, Shows, section_of, stop_of};
 ghost use Rattle.rail_consequence.specs.Workspace.{GoesOn, IsBack, IsListing, IsReady};
 
 use super::Worksheet;
@@ -204,9 +204,9 @@ impl Worksheet {
     {
         match notes.stop(train) {
             Stop::Unknown | Stop::Free => false,
-            Stop::Next(section) => self.is_held_by_other(train, section),
+            Stop::Next(section) => self.is_taken_by_other(train, section),
             Stop::Later(section) => {
-                self.is_held_by_other(train, section) && !self.is_touched::<W>(moves, notes, train)
+                self.is_taken_by_other(train, section) && !self.is_touched::<W>(moves, notes, train)
             }
         }
     }
@@ -245,7 +245,7 @@ impl Worksheet {
             return Look::Stopped(Stop::Next(section));
         }
         let own = self.rows.stand::<W>(moves, train, place);
-        if !meet_beyond(self.rows.rest::<W>(moves, train, place), &self.held, own) {
+        if !meet_beyond(self.rows.rest::<W>(moves, train, place), &self.taken, own) {
             // A leg that ends out is safe.
             return Look::Leads(last);
         }
@@ -270,7 +270,7 @@ impl Worksheet {
         requires within { most ≤ (moves_in moves.now).moves train }
         requires free { (i : ℕ) → place_of self.now.places.positions train ≤ i → i < most
             → (x : ℕ) → IsTrue (is_in x ((moves_in moves.now).claim train i))
-            → IsHeldByOther (moves_in moves.now) self.now.places.positions train x → ⊥ }
+            → IsTakenByOther (moves_in moves.now) self.now.places.positions train x → ⊥ }
         ensures { MatchOption result
             ((p : ℕ) → place_of self.now.places.positions train < p → p ≤ most
             → is_safe (moves_in moves.now) self.now.places.positions (leg_to train p) ≡ false)
@@ -301,19 +301,19 @@ impl Worksheet {
         requires within { made < (moves_in moves.now).moves train }
         ensures { MatchOption result
             ((x : ℕ) → IsTrue (is_in x ((moves_in moves.now).claim train made))
-            → IsHeldByOther (moves_in moves.now) self.now.places.positions train x → ⊥)
+            → IsTakenByOther (moves_in moves.now) self.now.places.positions train x → ⊥)
             (λ x. IsTrue (is_in x ((moves_in moves.now).claim train made))
-            × IsHeldByOther (moves_in moves.now) self.now.places.positions train x) }
+            × IsTakenByOther (moves_in moves.now) self.now.places.positions train x) }
     {
         let own = self
             .rows
             .stand::<W>(moves, train, self.places.position(train));
-        first_common(self.rows.need::<W>(moves, train, made), &self.held, own)
+        first_common(self.rows.need::<W>(moves, train, made), &self.taken, own)
     }
 
     /// Another train holds the section.
-    fn is_held_by_other(&self, train: TrainNo, section: SectionNo) -> bool
-        ensures held { IsTrue result
+    fn is_taken_by_other(&self, train: TrainNo, section: SectionNo) -> bool
+        ensures taken { IsTrue result
             → (holder : ℕ) × (holder ≢ train) × (get_or self.now.places.owners section None ≡ Some holder) }
         ensures free { result ≡ false → (holder : ℕ)
             → get_or self.now.places.owners section None ≡ Some holder → holder ≡ train }

@@ -181,7 +181,7 @@ impl Worksheet {
             && self.falls_are_in_vain::<W>(moves, inside, notes, ahead, train, place)
     }
 
-    /// Looks which sections fall to another train, which are held and which more than one train needs, where the train,
+    /// Looks which sections fall to another train, which are taken and which more than one train needs, where the train,
     /// which is inside, goes on to the place.
     fn look_ahead<W: Width>(&self, moves: &Moves, train: TrainNo, place: u16, ahead: &mut Ahead)
         requires words { AreWords (moves_in moves.now) W.WORDS }
@@ -202,8 +202,8 @@ impl Worksheet {
             self.rows.rest::<W>(moves, train, place),
         );
         fill_replaced(
-            &mut ahead.held,
-            &self.held,
+            &mut ahead.taken,
+            &self.taken,
             self.rows.stand::<W>(moves, train, from),
             self.rows.stand::<W>(moves, train, place),
         );
@@ -351,7 +351,7 @@ impl Worksheet {
     }
 
     /// Whether a look at the way of the one train shows that it has no safe leg once the other one has gone on to the
-    /// place: a section that one of its moves needs is held then, and at each end of a leg up to there it would stand on
+    /// place: a section that one of its moves needs is taken then, and at each end of a leg up to there it would stand on
     /// a section that another train needs.
     #[inline(never)]
     fn is_kept_from_legs<W: Width>(
@@ -376,12 +376,12 @@ impl Worksheet {
         let own = self.rows.stand::<W>(moves, stopped, at);
         let last = moves.places(stopped);
         if last - at > FAR
-            && !meet_beyond(self.rows.rest::<W>(moves, stopped, at), &ahead.held, own)
+            && !meet_beyond(self.rows.rest::<W>(moves, stopped, at), &ahead.taken, own)
         {
             return false;
         }
         for made in at..last {
-            if meet_beyond(self.rows.need::<W>(moves, stopped, made), &ahead.held, own) {
+            if meet_beyond(self.rows.need::<W>(moves, stopped, made), &ahead.taken, own) {
                 return true;
             }
             if !meet(

@@ -14,7 +14,7 @@ impl Network {
     ghost use Rattle.rail_track.specs.Lists.{without};
     ghost use Rattle.rail_routes.specs.Net.{is_turn, is_route, post_named};
     ghost use Rattle.rail_routes.specs.PostChanges.{posts_of, post_position, with_post_at, without_post};
-    ghost use Rattle.rail_routes.specs.Sound.{IsSoundNetwork};
+    ghost use Rattle.rail_routes.specs.SoundNetworks.{IsSoundNetwork};
 
     /// The posts of this role in order.
     pub fn posts(&self, role: Role) -> &[Post]

@@ -16,11 +16,11 @@ blocks_on-requires c =
 
 -- the order of the line is all one
 same_taken :
-    (intervals : List Interval) (line sorted : List ℕ) (window : Window) → IsPermutation line sorted
-    → taken_blocks intervals sorted window ≡ taken_blocks intervals line window
-same_taken intervals line sorted window moves =
-    ap (λ (xs : List Interval). map block_of xs) (filter_agree (is_taken sorted window) (is_taken line window)
-    (λ x. ap (λ (b : Bool). b && nat_le window.from x.begin && nat_lt x.begin window.to) (sym (list_any-IsPermutation (λ (section : ℕ). section == x.section) line sorted moves))) intervals)
+    (intervals : List Interval) (sections sorted : List ℕ) (window : Window) → IsPermutation sections sorted
+    → taken_blocks intervals sorted window ≡ taken_blocks intervals sections window
+same_taken intervals sections sorted window moves =
+    ap (λ (xs : List Interval). map block_of xs) (filter_agree (is_taken sorted window) (is_taken sections window)
+    (λ x. ap (λ (b : Bool). b && nat_le window.from x.begin && nat_lt x.begin window.to) (sym (list_any-IsPermutation (λ (section : ℕ). section == x.section) sections sorted moves))) intervals)
 
 as_result :
     (r : Result (Vec BlockingTime Global) OutOfMemory) (some others : List BlockingTime) → some ≡ others
@@ -32,7 +32,7 @@ pub returns : goal.returns
 returns c =
     let sorted : List ℕ = c.sort_unstable.new.self.items in
     let P : List ℕ → Type 0 = λ xs. IsPermutation xs sorted in
-    let moves : IsPermutation c.args.line.now sorted = subst P c.in_ok-sorted.ensures.items c.sort_unstable.ensures.permutation in
-    as_result c.blocks_on.result (taken_blocks c.args.intervals.now c.deref.result.now c.args.window) (taken_blocks c.args.intervals.now c.args.line.now c.args.window)
-    (ap (λ (xs : List ℕ). taken_blocks c.args.intervals.now xs c.args.window) c.deref.ensures.value ∙ same_taken c.args.intervals.now c.args.line.now sorted c.args.window moves)
+    let moves : IsPermutation c.args.sections.now sorted = subst P c.in_ok-sorted.ensures.items c.sort_unstable.ensures.permutation in
+    as_result c.blocks_on.result (taken_blocks c.args.intervals.now c.deref.result.now c.args.window) (taken_blocks c.args.intervals.now c.args.sections.now c.args.window)
+    (ap (λ (xs : List ℕ). taken_blocks c.args.intervals.now xs c.args.window) c.deref.ensures.value ∙ same_taken c.args.intervals.now c.args.sections.now sorted c.args.window moves)
     c.blocks_on.ensures

@@ -25,10 +25,10 @@ among_all p (x ∷ xs) y has =
     (cases_Bool (p x))
 
 apart_taken :
-    (intervals : List Interval) (line : List ℕ) (window : Window) → AreConflictFree (map block_of intervals)
-    → AreConflictFree (taken_blocks intervals line window)
-apart_taken intervals line window apart =
-    let all : (y : BlockingTime) → Contains (taken_blocks intervals line window) y → Contains (map block_of intervals) y = among_all (is_taken line window) intervals in
+    (intervals : List Interval) (sections : List ℕ) (window : Window) → AreConflictFree (map block_of intervals)
+    → AreConflictFree (taken_blocks intervals sections window)
+apart_taken intervals sections window apart =
+    let all : (y : BlockingTime) → Contains (taken_blocks intervals sections window) y → Contains (map block_of intervals) y = among_all (is_taken sections window) intervals in
     record {
       positive = λ x has. apart.positive x (all x has);
       below = λ x has. apart.below x (all x has);
@@ -36,20 +36,20 @@ apart_taken intervals line window apart =
     }
 
 begins_within :
-    (intervals : List Interval) (line : List ℕ) (window : Window)
-    → All (λ (block : BlockingTime). window.from ≤ block.begin) (taken_blocks intervals line window)
-begins_within intervals line window =
-    All-map (λ (block : BlockingTime). window.from ≤ block.begin) block_of (filter (is_taken line window) intervals)
-    (All-weaker (λ (x : Interval). is_taken line window x ≡ true) (λ (x : Interval). window.from ≤ x.begin)
-    (λ x is. leb-true window.from x.begin (and_parts (list_any (λ section. section == x.section) line) (nat_le window.from x.begin) (and_parts (list_any (λ section. section == x.section) line && nat_le window.from x.begin) (nat_lt x.begin window.to) is).0).1)
-    (filter (is_taken line window) intervals) (filter_passes (is_taken line window) intervals))
+    (intervals : List Interval) (sections : List ℕ) (window : Window)
+    → All (λ (block : BlockingTime). window.from ≤ block.begin) (taken_blocks intervals sections window)
+begins_within intervals sections window =
+    All-map (λ (block : BlockingTime). window.from ≤ block.begin) block_of (filter (is_taken sections window) intervals)
+    (All-weaker (λ (x : Interval). is_taken sections window x ≡ true) (λ (x : Interval). window.from ≤ x.begin)
+    (λ x is. leb-true window.from x.begin (and_parts (list_any (λ section. section == x.section) sections) (nat_le window.from x.begin) (and_parts (list_any (λ section. section == x.section) sections && nat_le window.from x.begin) (nat_lt x.begin window.to) is).0).1)
+    (filter (is_taken sections window) intervals) (filter_passes (is_taken sections window) intervals))
 
 pub compress_blocks-requires-clause-conflict_free : goal.compress_blocks-requires-clause-conflict_free
 compress_blocks-requires-clause-conflict_free c =
     let P : List BlockingTime → Type 0 = λ xs. AreConflictFree xs in
-    subst P (sym (c.deref.ensures.value ∙ c.in_ok-blocks.ensures)) (apart_taken c.args.intervals.now c.args.line.now c.args.window (any_two (map block_of c.args.intervals.now) c.requires))
+    subst P (sym (c.deref.ensures.value ∙ c.in_ok-blocks.ensures)) (apart_taken c.args.intervals.now c.args.sections.now c.args.window (any_two (map block_of c.args.intervals.now) c.requires))
 
 pub compress_blocks-requires-clause-within : goal.compress_blocks-requires-clause-within
 compress_blocks-requires-clause-within c =
     let P : List BlockingTime → Type 0 = λ xs. All (λ (block : BlockingTime). c.args.window.from ≤ block.begin) xs in
-    subst P (sym (c.deref.ensures.value ∙ c.in_ok-blocks.ensures)) (begins_within c.args.intervals.now c.args.line.now c.args.window)
+    subst P (sym (c.deref.ensures.value ∙ c.in_ok-blocks.ensures)) (begins_within c.args.intervals.now c.args.sections.now c.args.window)

@@ -7,6 +7,6 @@ use Rattle.rail_check.proofs.checking.check.Given as goal
 
 abbrev pub invariant-loop-entry : goal.invariant-loop-entry
 invariant-loop-entry l = record {
-  checked : IsChecked l.fn.input (verdict (input_in l.fn.input) (lines_of l.fn.history)) l.entry-index (drop l.entry-index l.fn.history.entries.items) l.lists l.held l.ledger;
+  checked : IsChecked l.fn.input (verdict (input_in l.fn.input) (lines_of l.fn.history)) l.entry-index (drop l.entry-index l.fn.history.entries.items) l.lists l.after_hold l.ledger;
   counted : l.line ≡ l.entry-index;
 }

@@ -4,7 +4,7 @@ use Rattle.rail_io.specs.Writes.{Adds, AddsPrefix}
 use Rattle.rail_rules.specs.Plant.{Plant}
 use Rattle.rail_forms.specs.declared.status.Status.TheVariants.{OutOfMemory}
 use Rattle.rail_forms.specs.Answers.{status_of}
-use Rattle.rail_forms.specs.Begun.{input_of}
+use Rattle.rail_forms.specs.BegunRuns.{input_of}
 use Rattle.rail_forms.specs.Capacity.{line_of, line_refusal, pieces, pieces_refusal, sections_on}
 use Rattle.rail_text.specs.Names.{names_in, names_of}
 use Rattle.rail_forms.proofs.Answers.{ended_with, late_part}
@@ -25,9 +25,9 @@ compressed_by-requires-clause-apart g c =
     (noted_intervals c.plant-3.result.now c.follow_to_end.new.notes c.in_ok-stairway.stairway.items c.deref.result.now c.ended.result c.in_ok-stairway.ensures c.ended.ensures (c.deref.ensures.value ∙ c.ended_by-intervals.ensures))
     (λ front complete. c.ended_intervals_are_without_conflict.ensures (input_of c.args.begun) c.in-Ok.ensures.noted.run.accepted front complete)
 
-pub returns-in_err-line-clause-writes : goal.returns-in_err-line-clause-writes
-returns-in_err-line-clause-writes g c =
-    unwritten_fault g.O.Sink _ c.in_err-line.field-0.0 _ (ended_with c.from_residual.result (status_of c.in_err-line.field-0.0) c.from_residual.ensures.1)
+pub returns-in_err-sections-clause-writes : goal.returns-in_err-sections-clause-writes
+returns-in_err-sections-clause-writes g c =
+    unwritten_fault g.O.Sink _ c.in_err-sections.field-0.0 _ (ended_with c.from_residual.result (status_of c.in_err-sections.field-0.0) c.from_residual.ensures.1)
 
 pub returns-in_err-stairs-clause-writes : goal.returns-in_err-stairs-clause-writes
 returns-in_err-stairs-clause-writes g c = none_written g.O.Sink _ _ (ended_with c.from_residual-in_err-stairs.result OutOfMemory c.from_residual-in_err-stairs.ensures.1)
@@ -50,8 +50,8 @@ pub returns-in_err-write_compressed-clause-answer : goal.returns-in_err-write_co
 returns-in_err-write_compressed-clause-answer g c =
     let word : List ℕ = c.args.study.now.line.now in
     let keys : c.names.result.now.sections.keys ≡ section_names (input_of c.args.begun).plant.tables = c.names.ensures.sections ∙ ap (λ (p : Plant). section_names p.tables) c.plant.ensures in
-    let line : c.deref-2.result.now ≡ line_of (input_of c.args.begun).plant word = c.deref-2.ensures.value ∙ c.in_ok-line.ensures.sections ∙ ap (λ (names : List (List ℕ)). sections_on names (pieces word)) keys in
-    let fine : line_refusal (input_of c.args.begun).plant word ≡ None = ap (λ (names : List (List ℕ)). pieces_refusal names [] 1 (pieces word)) (sym keys) ∙ c.in_ok-line.ensures.accepted in
+    let line : c.deref-2.result.now ≡ line_of (input_of c.args.begun).plant word = c.deref-2.ensures.value ∙ c.in_ok-sections.ensures.sections ∙ ap (λ (names : List (List ℕ)). sections_on names (pieces word)) keys in
+    let fine : line_refusal (input_of c.args.begun).plant word ≡ None = ap (λ (names : List (List ℕ)). pieces_refusal names [] 1 (pieces word)) (sym keys) ∙ c.in_ok-sections.ensures.accepted in
     let shown : names_in c.names-2.result.now ≡ names_of c.plant-4.result.now = λ i. record { sections = c.names-2.ensures.sections i; trains = c.names-2.ensures.trains i } in
     let names : names_in c.names-2.result.now ≡ names_of (input_of c.args.begun).plant = shown ∙ ap names_of (c.plant-4.ensures ∙ c.in-Ok.ensures.plant) in
     late_part _ _ _ _ fine (ended-failed c.from_residual-in_err-write_compressed.result c.from_residual-in_err-write_compressed.ensures.1)
@@ -64,8 +64,8 @@ pub returns-clause-answer : goal.returns-clause-answer
 returns-clause-answer g c =
     let word : List ℕ = c.args.study.now.line.now in
     let keys : c.names.result.now.sections.keys ≡ section_names (input_of c.args.begun).plant.tables = c.names.ensures.sections ∙ ap (λ (p : Plant). section_names p.tables) c.plant.ensures in
-    let line : c.deref-2.result.now ≡ line_of (input_of c.args.begun).plant word = c.deref-2.ensures.value ∙ c.in_ok-line.ensures.sections ∙ ap (λ (names : List (List ℕ)). sections_on names (pieces word)) keys in
-    let fine : line_refusal (input_of c.args.begun).plant word ≡ None = ap (λ (names : List (List ℕ)). pieces_refusal names [] 1 (pieces word)) (sym keys) ∙ c.in_ok-line.ensures.accepted in
+    let line : c.deref-2.result.now ≡ line_of (input_of c.args.begun).plant word = c.deref-2.ensures.value ∙ c.in_ok-sections.ensures.sections ∙ ap (λ (names : List (List ℕ)). sections_on names (pieces word)) keys in
+    let fine : line_refusal (input_of c.args.begun).plant word ≡ None = ap (λ (names : List (List ℕ)). pieces_refusal names [] 1 (pieces word)) (sym keys) ∙ c.in_ok-sections.ensures.accepted in
     let shown : names_in c.names-2.result.now ≡ names_of c.plant-4.result.now = λ i. record { sections = c.names-2.ensures.sections i; trains = c.names-2.ensures.trains i } in
     let names : names_in c.names-2.result.now ≡ names_of (input_of c.args.begun).plant = shown ∙ ap names_of (c.plant-4.ensures ∙ c.in-Ok.ensures.plant) in (
       fine,

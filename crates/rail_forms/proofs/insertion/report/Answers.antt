@@ -7,7 +7,7 @@ use Rattle.rail_rules.specs.Numbers.{or_else}
 use Rattle.rail_rules.specs.Plant.{Plant}
 use Rattle.rail_forms.specs.declared.status.Status.TheVariants.{Done, OutOfMemory, WriteFault}
 use Rattle.rail_forms.specs.Answers.{status_of}
-use Rattle.rail_forms.specs.Begun.{input_of}
+use Rattle.rail_forms.specs.BegunRuns.{input_of}
 use Rattle.rail_forms.specs.Insertions.{name_refusal, train_named, train_refusal}
 use Rattle.rail_text.specs.Names.{names_in, names_of}
 use Rattle.rail_forms.specs.Promises.{is_of_bytes}

@@ -1,4 +1,4 @@
-use Rattle.std.proofs.Common.{subst}
+use Rattle.std.proofs.Common.{subst, true}
 use Rattle.rail_rules.specs.Plant.{Plant}
 use Rattle.rail_rules.specs.Numbers.{or_else}
 use Rattle.rail_io.specs.Writes.{Adds, AddsPrefix}
@@ -13,5 +13,5 @@ pub returns-clause-answer : goal.returns-clause-answer
 returns-clause-answer g c =
     let before = g.O.Sink.written c.args.out.now in
     let now = g.O.Sink.written c.play_on_plant.new.out in
-    subst (λ (plant : Plant). IsAnswer (or_else (plant_refusal c.args.bytes.now) (list_refusal plant c.args.list.now)) (Adds before now (play_text plant c.args.list.now)) (AddsPrefix before now (play_text plant c.args.list.now)) (ended c.play_on_plant.result))
+    subst (λ (plant : Plant). IsAnswer (or_else (plant_refusal c.args.bytes.now) (list_refusal plant true c.args.list.now)) (Adds before now (play_text plant c.args.list.now)) (AddsPrefix before now (play_text plant c.args.list.now)) (ended c.play_on_plant.result))
     c.in_ok-planned.ensures.plant (answer_after _ _ _ _ _ c.in_ok-planned.ensures.accepted c.play_on_plant.ensures.answer)

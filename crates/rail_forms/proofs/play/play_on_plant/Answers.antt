@@ -1,23 +1,22 @@
-use Rattle.std.proofs.Common.{Some, ap, sym, subst, ◌∙◌, ℕ, List}
-use Rattle.rail_place.specs.Overlaps.{IsOverlap}
+use Rattle.std.proofs.Common.{◌≡◌, List, length, true, ap, ◌∙◌}
 use Rattle.rail_place.specs.Tables.{moves_in}
-use Rattle.rail_forms.specs.Answers.{status_of}
-use Rattle.rail_forms.specs.Plays.{shared_at}
+use Rattle.rail_text.specs.Names.{names_of}
+use Rattle.rail_forms.specs.Plays.{list_refusal, places_refusal}
 use Rattle.rail_forms.specs.Promises.{is_of_bytes}
 use Rattle.rail_forms.proofs.Answers.{ended_with}
-use Rattle.rail_forms.proofs.Lists.{shared_refused}
-use Rattle.rail_forms.proofs.Parts.{list_fault}
+use Rattle.rail_forms.proofs.Lists.{list_answers, list_unwritten}
 use Rattle.rail_forms.proofs.play.play_on_plant.Goals as goal
 
-pub returns-in-Err-Overlap-clause-answer : goal.returns-in-Err-Overlap-clause-answer
-returns-in-Err-Overlap-clause-answer g c =
-    let overlap : IsOverlap (moves_in c.moves-moves.result.now) c.positions.result.now c.in-Err-Overlap.field-0-0 c.in-Err-Overlap.field-0-1 c.in-Err-Overlap.field-0-2 = rw c.in-Err-Overlap.field-0-is at c.in-Err-Overlap.ensures.fault in
-    let refused = shared_refused c.args.plant.now c.args.list.now c.names.result.now.trains.keys c.moves-moves.result.now c.in_ok-file.file c.in-Err-Overlap.field-0-0 c.in-Err-Overlap.field-0-1 c.in-Err-Overlap.field-0-2
-    c.names.ensures.trains c.moves-moves.ensures.moves c.moves-moves.ensures.trains c.in_ok-file.ensures.accepted c.in_ok-file.ensures.listed
-    (subst (λ (s : List ℕ). IsOverlap (moves_in c.moves-moves.result.now) s c.in-Err-Overlap.field-0-0 c.in-Err-Overlap.field-0-1 c.in-Err-Overlap.field-0-2) c.positions.ensures overlap) in
-    refused ∙ ap (λ (n : ℕ). Some (shared_at n)) (sym c.last_at.ensures) ∙ ap Some (sym c.shared.ensures)
+pub returns-in_err-placed-clause-answer : goal.returns-in_err-placed-clause-answer
+returns-in_err-placed-clause-answer g c =
+    let same : places_refusal c.names-names.result.now.trains.keys (moves_in c.moves-moves.result.now) (length c.moves-moves.result.now) true c.args.list.now ≡ list_refusal c.args.plant.now true c.args.list.now =
+    λ i. places_refusal (c.names-names.ensures.trains i) (c.moves-moves.ensures.moves i) (c.moves-moves.ensures.trains i) true c.args.list.now in
+    list_answers _ _ _ _ _ c.in_err-placed.field-0.0 (ended_with c.from_residual.result c.in_err-placed.field-0.0 c.from_residual.ensures.1) same c.in_err-placed.ensures.refused
 
-pub returns-in_err-file-clause-of_bytes : goal.returns-in_err-file-clause-of_bytes
-returns-in_err-file-clause-of_bytes g c =
-    ap is_of_bytes (ended_with c.from_residual.result (status_of c.in_err-file.field-0.0) c.from_residual.ensures.1)
-    ∙ list_fault c.names.result.now.trains.keys (moves_in c.moves-moves.result.now) c.args.list.now c.in_err-file.field-0.0 c.in_err-file.ensures.refused
+pub returns-in_err-placed-clause-writes : goal.returns-in_err-placed-clause-writes
+returns-in_err-placed-clause-writes g c =
+    list_unwritten g.O.Sink _ _ _ c.in_err-placed.field-0.0 (ended_with c.from_residual.result c.in_err-placed.field-0.0 c.from_residual.ensures.1) c.in_err-placed.ensures.refused
+
+pub returns-in_err-placed-clause-of_bytes : goal.returns-in_err-placed-clause-of_bytes
+returns-in_err-placed-clause-of_bytes g c =
+    ap is_of_bytes (ended_with c.from_residual.result c.in_err-placed.field-0.0 c.from_residual.ensures.1) ∙ c.in_err-placed.ensures.of_bytes

@@ -4,7 +4,7 @@ use Rattle.rail_rules.specs.Plant.{Plant}
 use Rattle.rail_base.specs.declared.orders.Command.{Command}
 use Rattle.rail_delay.specs.Accounts.{AreNoted}
 use Rattle.rail_forms.specs.declared.status.Status.TheVariants.{OutOfMemory}
-use Rattle.rail_forms.specs.Begun.{input_of}
+use Rattle.rail_forms.specs.BegunRuns.{input_of}
 use Rattle.rail_forms.proofs.Answers.{ended_with, part_answer}
 use Rattle.rail_forms.proofs.NotedRuns.{accounts_made, delays_noted, report_told}
 use Rattle.rail_forms.proofs.Writes.{all_written, ended-failed, fault_written, none_written}

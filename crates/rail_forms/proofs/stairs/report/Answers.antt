@@ -1,9 +1,9 @@
 use Rattle.std.proofs.Common.{[], List, refl, ap, ◌∙◌, subst}
 use Rattle.rail_io.specs.Writes.{Adds, AddsPrefix}
 use Rattle.rail_rules.specs.Plant.{Plant}
-use Rattle.rail_stairs.specs.Noted.{AreNoted}
+use Rattle.rail_stairs.specs.NotedHistories.{AreNoted}
 use Rattle.rail_forms.specs.declared.status.Status.TheVariants.{OutOfMemory}
-use Rattle.rail_forms.specs.Begun.{input_of}
+use Rattle.rail_forms.specs.BegunRuns.{input_of}
 use Rattle.rail_forms.proofs.Answers.{ended_with, part_answer}
 use Rattle.rail_forms.proofs.NotedRuns.{noted_here, stairs_ended, stairs_noted, stairs_told}
 use Rattle.rail_forms.proofs.Writes.{all_written, ended-failed, fault_written, none_written}

@@ -1,7 +1,7 @@
 use Rattle.std.proofs.Common.{◌≡◌, ℕ, List, refl, ap, ◌∙◌, subst}
 use Rattle.rail_io.specs.Writes.{Adds, AddsPrefix}
 use Rattle.rail_rules.specs.Plant.{trains}
-use Rattle.rail_forms.specs.Begun.{input_of}
+use Rattle.rail_forms.specs.BegunRuns.{input_of}
 use Rattle.rail_forms.specs.Summaries.{summary_line}
 use Rattle.rail_forms.proofs.Answers.{part_answer}
 use Rattle.rail_forms.proofs.Summaries.{summary_told}

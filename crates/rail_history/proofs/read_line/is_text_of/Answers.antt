@@ -1,5 +1,5 @@
 use Rattle.std.proofs.Common.{◌≡◌, ℕ, List, true, sym, subst}
-use Rattle.rail_rules.specs.Writable.{is_writable}
+use Rattle.rail_rules.specs.WritableLines.{is_writable}
 use Rattle.rail_history.specs.LineReads.{line_read}
 use Rattle.rail_history.specs.Lines.{line_of}
 use Rattle.rail_history.proofs.LineRead.{can_write, some_plant}

@@ -5,7 +5,7 @@ use Rattle.rail_history.specs.HistoryLines.{expanded, is_small_item}
 use Rattle.rail_history.specs.ReadWords.{joined}
 use Rattle.rail_rules.specs.Plant.{Plant}
 use Rattle.rail_rules.specs.Texts.{Item, item_word}
-use Rattle.rail_rules.specs.Writable.{IsNamed}
+use Rattle.rail_rules.specs.WritableLines.{IsNamed}
 use Rattle.rail_history.proofs.TrainsRead.{AreBehind}
 use Rattle.rail_history.proofs.read_trains.likely_trains.Given as goal
 

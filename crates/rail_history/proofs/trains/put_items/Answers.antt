@@ -5,7 +5,7 @@ use Rattle.rail_rules.specs.Texts.{items_of}
 use Rattle.rail_rules.specs.Texts.{behind}
 use Rattle.rail_history.specs.Lines.{item_text}
 use Rattle.rail_history.proofs.Pieces.{none_handed_on, handed_on_then, one_more_said, failed_before}
-use Rattle.rail_history.proofs.Items.{first_word}
+use Rattle.rail_text.proofs.CallerLemmas.{first_word}
 use Rattle.rail_history.proofs.trains.put_items.Goals as goal
 
 pub loop-train-init : goal.loop-train-init

@@ -3,7 +3,7 @@ use Rattle.rail_rules.specs.Texts.{items_of}
 use Rattle.rail_rules.specs.Texts.{behind}
 use Rattle.rail_history.specs.Lines.{item_text}
 use Rattle.rail_history.specs.Pieces.{IsHandedOn}
-use Rattle.rail_text.specs.declared.line.TheConstants.{ROOM}
+use Rattle.rail_text.specs.declared.line_buffer.TheConstants.{ROOM}
 use Rattle.rail_history.proofs.trains.put_items.Given as goal
 
 abbrev pub invariant-loop-train : goal.invariant-loop-train

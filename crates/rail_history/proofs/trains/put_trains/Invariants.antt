@@ -2,7 +2,7 @@ use Rattle.std.proofs.Common.{◌≡◌, ◌<◌, ◌≤◌, ◌++◌, List, ℕ
 use Rattle.rail_rules.specs.Texts.{behind}
 use Rattle.rail_text.specs.Names.{names_in, train_name}
 use Rattle.rail_history.specs.Pieces.{IsHandedOn}
-use Rattle.rail_text.specs.declared.line.TheConstants.{ROOM}
+use Rattle.rail_text.specs.declared.line_buffer.TheConstants.{ROOM}
 use Rattle.rail_history.proofs.trains.put_trains.Given as goal
 
 abbrev pub invariant-loop-train : goal.invariant-loop-train

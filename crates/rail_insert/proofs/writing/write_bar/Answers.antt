@@ -3,7 +3,7 @@ use Rattle.std.proofs.lemmas.List.{append-nil}
 use Rattle.rail_base.specs.Clock.{time_text}
 use Rattle.rail_text.specs.Names.{names_in, section_name}
 use Rattle.rail_insert.specs.Texts.{bar_line, owner_word}
-use Rattle.rail_insert.proofs.Lines.{line_is, word_before, word_first}
+use Rattle.rail_text.proofs.CallerLemmas.{line_is, word_before, word_first}
 use Rattle.rail_insert.proofs.writing.write_bar.Goals as goal
 
 pub returns : goal.returns

@@ -2,7 +2,7 @@ use Rattle.std.proofs.Common.{◌≡◌, [], ◌∷◌, codes, sym, ◌∙◌}
 use Rattle.std.proofs.lemmas.List.{append-nil}
 use Rattle.rail_base.specs.Clock.{time_text}
 use Rattle.rail_insert.specs.Texts.{copy_word, path_line}
-use Rattle.rail_insert.proofs.Lines.{line_is, word_before, word_first}
+use Rattle.rail_text.proofs.CallerLemmas.{line_is, word_before, word_first}
 use Rattle.rail_text.specs.Names.{names_in}
 use Rattle.rail_insert.proofs.writing.write_path.Goals as goal
 

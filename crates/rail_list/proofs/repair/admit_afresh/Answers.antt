@@ -3,7 +3,7 @@ use Rattle.std.proofs.lemmas.Bool.{true≢false}
 use Rattle.rail_rules.specs.Analysis.{finds}
 use Rattle.rail_rules.specs.Moves.{Moves}
 use Rattle.rail_rules.specs.Numbers.{sum_below}
-use Rattle.rail_place.specs.Made.{State}
+use Rattle.rail_place.specs.PlaceStates.{State}
 use Rattle.rail_place.specs.Tables.{moves_in}
 use Rattle.rail_place.proofs.CallerLemmas.{made_long}
 use Rattle.rail_list.proofs.Appending.{completing_fits}

@@ -1,7 +1,7 @@
 use Rattle.std.proofs.Common.{refl, sym, ap, ◌∙◌, arith}
 use Rattle.rail_rules.specs.Moves.{Moves}
 use Rattle.rail_rules.specs.Places.{completes}
-use Rattle.rail_place.specs.Made.{State}
+use Rattle.rail_place.specs.PlaceStates.{State}
 use Rattle.rail_place.specs.Tables.{moves_in}
 use Rattle.rail_place.proofs.CallerLemmas.{made_long}
 use Rattle.rail_list.proofs.Remaining.{fresh_some, noted_completes}

@@ -1,6 +1,6 @@
 use Rattle.std.proofs.Common.{◌≡◌, ◌+◌, ◌-◌, ◌^◌, min, take, drop}
 use Rattle.rail_place.specs.Tables.{moves_in}
-use Rattle.rail_place.specs.Made.{IsMadeFor}
+use Rattle.rail_place.specs.PlaceStates.{IsMadeFor}
 use Rattle.rail_place.specs.Bars.{moves_made, outcome}
 use Rattle.rail_place.specs.Plays.{IsPlayed}
 use Rattle.rail_place.proofs.player.play_on.Given as goal

@@ -2,9 +2,8 @@ use Rattle.std.proofs.Common.{◌≡◌, ℕ, [], ◌+◌, ◌∷◌, ◌++◌, 
 use Rattle.std.proofs.lemmas.List.{take_rest}
 use Rattle.rail_rules.specs.Texts.{behind, items_of}
 use Rattle.rail_text.specs.Writes.{WritesText}
-use Rattle.rail_text.proofs.CallerLemmas.{both_written, none_written, part_written}
+use Rattle.rail_text.proofs.CallerLemmas.{both_written, none_written, part_written, first_word}
 use Rattle.rail_reroute.specs.Lines.{item_word, scene_names}
-use Rattle.rail_reroute.proofs.Items.{first_word}
 use Rattle.rail_reroute.proofs.lines.write_items.Goals as goal
 
 pub loop-train-init : goal.loop-train-init

@@ -2,10 +2,9 @@ use Rattle.std.proofs.Common.{◌≡◌, ℕ, [], ◌∷◌, ◌++◌, List, cod
 use Rattle.rail_rules.specs.Texts.{behind}
 use Rattle.rail_text.specs.Names.{NameLists}
 use Rattle.rail_text.specs.Writes.{WritesText}
-use Rattle.rail_text.proofs.CallerLemmas.{both_written, part_written}
+use Rattle.rail_text.proofs.CallerLemmas.{both_written, part_written, behind_append}
 use Rattle.rail_reroute.specs.Lines.{head_words, judged_line, list_words, scene_names}
 use Rattle.rail_reroute.specs.declared.judgements.Judged.{Judged}
-use Rattle.rail_reroute.proofs.Items.{behind_append}
 use Rattle.rail_reroute.proofs.lines.write_judged.Goals as goal
 
 abbrev head : NameLists → ℕ → Judged → List ℕ

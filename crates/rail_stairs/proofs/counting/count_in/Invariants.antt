@@ -1,7 +1,7 @@
 use Rattle.std.proofs.Common.{◌≡◌, ◌+◌, ◌*◌, ◌≤◌, get_or}
 use Rattle.rail_base.specs.declared.limits.TheConstants.{OVERLAP_SECTIONS, ROUTE_SECTIONS}
 use Rattle.rail_rules.specs.Numbers.{sum_below}
-use Rattle.rail_stairs.specs.Noted.{counted, is_at_once, no_counts}
+use Rattle.rail_stairs.specs.NotedHistories.{counted, is_at_once, no_counts}
 use Rattle.rail_stairs.proofs.counting.count_in.Given as goal
 
 abbrev pub invariant-loop-index : goal.invariant-loop-index

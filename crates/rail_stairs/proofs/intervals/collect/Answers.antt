@@ -1,8 +1,8 @@
 use Rattle.std.proofs.Common.{◌≡◌, ◌++◌, List, [], ap, ◌∙◌}
 use Rattle.rail_base.specs.declared.intervals.Interval.{Interval}
-use Rattle.rail_stairs.specs.Noted.{noted_of}
+use Rattle.rail_stairs.specs.NotedHistories.{noted_of}
 use Rattle.rail_stairs.specs.Stairways.{train_intervals}
-use Rattle.rail_stairs.specs.OfTrains.{of_train}
+use Rattle.rail_stairs.specs.JourneyTrains.{of_train}
 use Rattle.rail_stairs.proofs.Gathered.{gather_more}
 use Rattle.rail_stairs.proofs.intervals.collect.Goals as goal
 

@@ -1,4 +1,4 @@
-use Rattle.rail_stairs.specs.OfTrains.{of_train}
+use Rattle.rail_stairs.specs.JourneyTrains.{of_train}
 use Rattle.rail_stairs.specs.Stairways.{move_intervals}
 use Rattle.rail_stairs.proofs.Gathered.{gather_more}
 use Rattle.rail_stairs.proofs.intervals.push_journey.Goals as goal

@@ -1,6 +1,6 @@
 use Rattle.std.proofs.Common.{◌≡◌, ◌++◌}
 use Rattle.rail_rules.specs.Numbers.{gather}
-use Rattle.rail_stairs.specs.OfTrains.{of_train}
+use Rattle.rail_stairs.specs.JourneyTrains.{of_train}
 use Rattle.rail_stairs.specs.Stairways.{move_intervals}
 use Rattle.rail_stairs.proofs.intervals.push_journey.Given as goal
 

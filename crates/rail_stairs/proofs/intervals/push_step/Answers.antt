@@ -2,7 +2,7 @@ use Rattle.std.proofs.Common.{List, ◌++◌, sym, ap, ◌∙◌}
 use Rattle.std.proofs.lemmas.List.{append-nil}
 use Rattle.rail_base.specs.declared.intervals.Interval.{Interval}
 use Rattle.rail_rules.specs.Intervals.{has_interval, interval_of}
-use Rattle.rail_stairs.specs.OfTrains.{of_train}
+use Rattle.rail_stairs.specs.JourneyTrains.{of_train}
 use Rattle.rail_stairs.proofs.There.{there_none, there_some}
 use Rattle.rail_stairs.proofs.intervals.push_step.Goals as goal
 

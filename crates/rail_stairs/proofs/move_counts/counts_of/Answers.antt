@@ -2,7 +2,7 @@ use Rattle.std.proofs.Common.{◌≡◌, ℕ, ◌+◌, cond, add-one, sym, ap, �
 use Rattle.rail_block.specs.KnownMoves.{of_move}
 use Rattle.rail_rules.specs.Numbers.{sum_below}
 use Rattle.rail_rules.specs.Plant.{claims}
-use Rattle.rail_stairs.specs.Noted.{is_passed_on}
+use Rattle.rail_stairs.specs.NotedHistories.{is_passed_on}
 use Rattle.rail_stairs.proofs.move_counts.counts_of.Goals as goal
 
 pub loop-step-preserved : goal.loop-step-preserved

@@ -2,7 +2,7 @@ use Rattle.std.proofs.Common.{[], ◌∷◌, ◌++◌, map, ap, ◌∙◌}
 use Rattle.std.proofs.lemmas.List.{map-append}
 use Rattle.std.specs.Global.{Vec}
 use Rattle.rail_stairs.specs.declared.move_counts.MoveCounts.{MoveCounts}
-use Rattle.rail_stairs.specs.Noted.{train_counts}
+use Rattle.rail_stairs.specs.NotedHistories.{train_counts}
 use Rattle.rail_stairs.proofs.Gathered.{gather_more}
 use Rattle.rail_stairs.proofs.move_counts.plant_counts.Goals as goal
 

@@ -2,7 +2,7 @@ use Rattle.std.proofs.Common.{◌≡◌, ◌+◌, ◌-◌, [], ◌∷◌, ◌++�
 use Rattle.rail_rules.specs.Moves.{Moves}
 use Rattle.rail_rules.specs.Numbers.{listed}
 use Rattle.rail_rules.specs.Plant.{moves}
-use Rattle.rail_stairs.specs.Noted.{counts_of}
+use Rattle.rail_stairs.specs.NotedHistories.{counts_of}
 use Rattle.rail_stairs.proofs.Gathered.{gather_more}
 use Rattle.rail_stairs.proofs.move_counts.train_counts.Goals as goal
 

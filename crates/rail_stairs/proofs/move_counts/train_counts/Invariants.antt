@@ -1,6 +1,6 @@
 use Rattle.std.proofs.Common.{◌≡◌}
 use Rattle.rail_rules.specs.Numbers.{listed}
-use Rattle.rail_stairs.specs.Noted.{counts_of}
+use Rattle.rail_stairs.specs.NotedHistories.{counts_of}
 use Rattle.rail_stairs.proofs.move_counts.train_counts.Given as goal
 
 abbrev pub invariant-loop-index : goal.invariant-loop-index

@@ -2,7 +2,7 @@ use Rattle.std.proofs.Common.{ℕ, ◌∷◌, ◌++◌, decimal, sym, ap, ◌∙
 use Rattle.std.proofs.lemmas.List.{append-nil}
 use Rattle.rail_base.specs.declared.plant.SectionRow.{SectionRow}
 use Rattle.rail_base.specs.declared.plant.TrainRow.{TrainRow}
-use Rattle.rail_stairs.proofs.Lines.{word_before}
+use Rattle.rail_text.proofs.CallerLemmas.{word_before}
 use Rattle.rail_stairs.proofs.words.put_interval.Goals as goal
 
 pub returns-clause-text : goal.returns-clause-text

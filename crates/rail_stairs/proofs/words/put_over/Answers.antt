@@ -1,7 +1,7 @@
 use Rattle.std.proofs.Common.{◌++◌, codes, ap, ◌∙◌}
 use Rattle.rail_rules.specs.Texts.{behind}
 use Rattle.rail_stairs.specs.StairsTexts.{interval_words}
-use Rattle.rail_stairs.proofs.Lines.{line_is}
+use Rattle.rail_text.proofs.CallerLemmas.{line_is}
 use Rattle.rail_stairs.proofs.words.put_over.Goals as goal
 
 pub returns : goal.returns

@@ -1,6 +1,6 @@
 use Rattle.std.proofs.Common.{sym, ◌∙◌}
 use Rattle.std.proofs.lemmas.List.{append-nil}
-use Rattle.rail_stairs.proofs.Lines.{word_before}
+use Rattle.rail_text.proofs.CallerLemmas.{word_before}
 use Rattle.rail_stairs.proofs.words.put_parts.Goals as goal
 
 pub returns-clause-text : goal.returns-clause-text

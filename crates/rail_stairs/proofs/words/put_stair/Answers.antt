@@ -1,7 +1,7 @@
 use Rattle.std.proofs.Common.{◌++◌, codes, sym, ap, ◌∙◌, append_assoc}
 use Rattle.rail_rules.specs.Texts.{behind}
 use Rattle.rail_stairs.specs.StairsTexts.{interval_words, part_words}
-use Rattle.rail_stairs.proofs.Lines.{behind_append, line_is}
+use Rattle.rail_text.proofs.CallerLemmas.{behind_append, line_is}
 use Rattle.rail_stairs.proofs.words.put_stair.Goals as goal
 
 pub returns : goal.returns

@@ -4,8 +4,8 @@ use Rattle.std.proofs.lemmas.Grind.{flat_map-append}
 use Rattle.rail_base.specs.declared.intervals.Interval.{Interval}
 use Rattle.rail_rules.specs.Plant.{trains}
 use Rattle.rail_stairs.specs.Journeys.{before_move, before_train}
-use Rattle.rail_stairs.specs.Noted.{noted_of}
-use Rattle.rail_stairs.specs.OfTrains.{admissions_in, at_train, of_train}
+use Rattle.rail_stairs.specs.NotedHistories.{noted_of}
+use Rattle.rail_stairs.specs.JourneyTrains.{admissions_in, at_train, of_train}
 use Rattle.rail_stairs.specs.Stairways.{train_intervals}
 use Rattle.rail_stairs.specs.StairsTexts.{stair_line}
 use Rattle.rail_stairs.specs.Tallies.{IsTallied}

@@ -5,7 +5,7 @@ use Rattle.std.proofs.lemmas.List.{append-nil}
 use Rattle.rail_base.specs.declared.intervals.Interval.{Interval}
 use Rattle.rail_rules.specs.Numbers.{gather}
 use Rattle.rail_stairs.specs.Journeys.{before_move, before_train}
-use Rattle.rail_stairs.specs.OfTrains.{admissions_in, at_train, of_train}
+use Rattle.rail_stairs.specs.JourneyTrains.{admissions_in, at_train, of_train}
 use Rattle.rail_stairs.specs.Stairways.{move_intervals}
 use Rattle.rail_stairs.specs.StairsTexts.{stair_line}
 use Rattle.rail_stairs.specs.Tallies.{IsTallied}

@@ -2,7 +2,7 @@ use Rattle.std.proofs.Common.{Ok}
 use Rattle.std.specs.Prelude.{flat_map}
 use Rattle.rail_rules.specs.Numbers.{gather}
 use Rattle.rail_stairs.specs.Journeys.{before_move}
-use Rattle.rail_stairs.specs.OfTrains.{at_train, of_train}
+use Rattle.rail_stairs.specs.JourneyTrains.{at_train, of_train}
 use Rattle.rail_stairs.specs.StairsTexts.{stair_line}
 use Rattle.rail_stairs.specs.Stairways.{move_intervals}
 use Rattle.rail_stairs.specs.Tallies.{IsTallied}

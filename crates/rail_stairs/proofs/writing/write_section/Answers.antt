@@ -4,7 +4,7 @@ use Rattle.rail_base.specs.declared.plant.SectionRow.{SectionRow}
 use Rattle.rail_rules.specs.Texts.{section_word, spaced}
 use Rattle.rail_stairs.specs.Stairways.{occupation, visits}
 use Rattle.rail_stairs.specs.StairsTexts.{section_line}
-use Rattle.rail_stairs.proofs.Lines.{line_is, word_before, word_first}
+use Rattle.rail_text.proofs.CallerLemmas.{line_is, word_before, word_first}
 use Rattle.rail_stairs.proofs.writing.write_section.Goals as goal
 
 pub returns : goal.returns

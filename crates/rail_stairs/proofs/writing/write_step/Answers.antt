@@ -4,7 +4,7 @@ use Rattle.std.proofs.lemmas.List.{append-nil}
 use Rattle.rail_base.specs.declared.intervals.Interval.{Interval}
 use Rattle.rail_rules.specs.Intervals.{has_interval, interval_of}
 use Rattle.rail_stairs.specs.Journeys.{before_step}
-use Rattle.rail_stairs.specs.OfTrains.{at_train, of_train}
+use Rattle.rail_stairs.specs.JourneyTrains.{at_train, of_train}
 use Rattle.rail_stairs.specs.StairsTexts.{stair_line}
 use Rattle.rail_stairs.specs.Stairways.{step_intervals}
 use Rattle.rail_stairs.specs.Tallies.{IsTallied}

@@ -1,10 +1,18 @@
-use Rattle.std.proofs.Common.{◌≡◌, ℕ, ◌-◌, ◌&&◌, Bool, not, None, get_or, count_by, ap, ◌∙◌}
+use Rattle.std.proofs.Common.{◌≡◌, ℕ, ◌-◌, ◌&&◌, Bool, not, None, get_or, count_by, sym, ap, subst, ◌∙◌}
 use Rattle.std.specs.List.{filter}
 use Rattle.rail_rules.specs.Numbers.{is_in}
 use Rattle.rail_rules.specs.Plant.{claimed}
 use Rattle.rail_laws_run.specs.HolderTables.{is_train, own_overlap}
-use Rattle.rail_state.specs.Events.{is_free_of}
+use Rattle.rail_state.specs.Events.{AreFreedOnce, is_free_of}
 use Rattle.rail_state.proofs.admission.forget_taken.Goals as goal
+
+pub forget_each-requires-clause-single : goal.forget_each-requires-clause-single
+forget_each-requires-clause-single c =
+    let known = c.args.known.now in
+    let h = c.args.holders.now in
+    subst (λ xs. AreFreedOnce xs c.args.queue.now.events)
+    (sym (λ k. filter (λ x. is_in x (c.claimed_sections-claimed.ensures.sections k) && is_train known.train (get_or h x None)) (c.overlap_behind-own.ensures.sections k)))
+    c.requires.single
 
 pub returns-clause-counted : goal.returns-clause-counted
 returns-clause-counted c = λ q.

@@ -4,8 +4,8 @@ use Rattle.rail_state.specs.declared.train.TrainState.{TrainState}
 use Rattle.rail_state.specs.declared.train_set.TrainSet.{TrainSet}
 use Rattle.rail_state.specs.TrainSets.{has_train}
 use Rattle.rail_state.specs.TrainStates.{is_blocked_at, no_state, state_of, without_known}
-use Rattle.rail_state.specs.Kept.{AreSetsOf}
-use Rattle.rail_state.proofs.Loosening.{IsForgotten, forgot, forgotten_at, forgotten_other, forgotten_past, forgotten_same}
+use Rattle.rail_state.specs.TrainSearches.{AreSetsOf}
+use Rattle.rail_state.proofs.ChangeableCauses.{IsForgotten, forgot, forgotten_at, forgotten_other, forgotten_past, forgotten_same}
 use Rattle.rail_state.proofs.Turned.{IsTaken, turned_all}
 use Rattle.rail_state.proofs.each.look_again_at_each.Goals as goal
 
@@ -16,17 +16,17 @@ loop-train-preserved-then-forget c =
     let rows : List TrainState = c.loop-train.rows in
     let left : TrainSet = c.loop-train.left in
     let fewer : TrainSet = c.take_first.new.self in
-    let t : ℕ = c.from-place.result in
-    let item : TrainState = c.index-rows-place.result in
+    let t : ℕ = c.from-index.result in
+    let item : TrainState = c.index-rows-index.result in
     let now : TrainState = c.forget.new.self in
-    let at : c.in-Some.train ≡ t = sym (c.from-place.ensures ∙ c.train.view_is) in
+    let at : c.in-Some.train ≡ t = sym (c.from-index.ensures ∙ c.train.view_is) in
     let on : has_train left t ≡ true = subst (λ (k : ℕ). has_train left k ≡ true) at c.in-Some.ensures.was in
     let taken : IsTaken left fewer t = subst (IsTaken left fewer) at c.in-Some.ensures.left in
-    let within : t < length rows = c.if-place-rows.true in
+    let within : t < length rows = c.if-index-rows.true in
     let read : get_or rows t item ≡ state_of rows t = get_or_default rows t item no_state within in
     let now_is : now ≡ without_known x (state_of rows t) = c.forget.ensures.train_state ∙ ap (without_known x) read in
     let was : is_blocked_at x (state_of rows t).known ≡ true = ap (λ (r : TrainState). is_blocked_at x r.known) (sym read) ∙ sym c.forget.ensures.was ∙ c.if-forget.true in
-    let again : TrainState = c.index-rows-place-then-forget.result in
+    let again : TrainState = c.index-rows-index-then-forget.result in
     let noted : AreSetsOf (set rows t (get_or (set rows t now) t again)) c.note.new.self =
     subst (λ (k : ℕ). AreSetsOf (set rows k (get_or (set rows t now) t again)) c.note.new.self) at (c.note.ensures rows (omega (arith, at, within)) before.sets) in
     record {
@@ -42,13 +42,13 @@ loop-train-preserved-else-forget c =
     let rows : List TrainState = c.loop-train.rows in
     let left : TrainSet = c.loop-train.left in
     let fewer : TrainSet = c.take_first.new.self in
-    let t : ℕ = c.from-place.result in
-    let item : TrainState = c.index-rows-place.result in
+    let t : ℕ = c.from-index.result in
+    let item : TrainState = c.index-rows-index.result in
     let now : TrainState = c.forget.new.self in
-    let at : c.in-Some.train ≡ t = sym (c.from-place.ensures ∙ c.train.view_is) in
+    let at : c.in-Some.train ≡ t = sym (c.from-index.ensures ∙ c.train.view_is) in
     let on : has_train left t ≡ true = subst (λ (k : ℕ). has_train left k ≡ true) at c.in-Some.ensures.was in
     let taken : IsTaken left fewer t = subst (IsTaken left fewer) at c.in-Some.ensures.left in
-    let within : t < length rows = c.if-place-rows.true in
+    let within : t < length rows = c.if-index-rows.true in
     let read : get_or rows t item ≡ state_of rows t = get_or_default rows t item no_state within in
     let now_is : now ≡ without_known x (state_of rows t) = c.forget.ensures.train_state ∙ ap (without_known x) read in
     let off : is_blocked_at x (state_of rows t).known ≡ false = ap (λ (r : TrainState). is_blocked_at x r.known) (sym read) ∙ sym c.forget.ensures.was ∙ c.if-forget.false in
@@ -60,11 +60,11 @@ loop-train-preserved-else-forget c =
 
 pub loop-train-preserved : goal.loop-train-preserved
 loop-train-preserved c =
-    let at : c.in-Some.train ≡ c.from-place.result = sym (c.from-place.ensures ∙ c.train.view_is) in
+    let at : c.in-Some.train ≡ c.from-index.result = sym (c.from-index.ensures ∙ c.train.view_is) in
     record {
-      forgotten = forgotten_past c.args.section c.args.rows.now c.loop-train.rows c.loop-train.left c.take_first.new.self c.loop-train.any c.from-place.result
+      forgotten = forgotten_past c.args.section c.args.rows.now c.loop-train.rows c.loop-train.left c.take_first.new.self c.loop-train.any c.from-index.result
           (subst (λ (k : ℕ). has_train c.loop-train.left k ≡ true) at c.in-Some.ensures.was) (subst (IsTaken c.loop-train.left c.take_first.new.self) at c.in-Some.ensures.left)
-          (omega (arith, c.if-place-rows.false)) c.loop-train.invariant.forgotten;
+          (omega (arith, c.if-index-rows.false)) c.loop-train.invariant.forgotten;
       sets = c.loop-train.invariant.sets;
     }
 

@@ -1,6 +1,6 @@
 use Rattle.rail_state.specs.TrainSets.{size_of}
-use Rattle.rail_state.specs.Kept.{AreSetsOf}
-use Rattle.rail_state.proofs.Loosening.{IsForgotten}
+use Rattle.rail_state.specs.TrainSearches.{AreSetsOf}
+use Rattle.rail_state.proofs.ChangeableCauses.{IsForgotten}
 use Rattle.rail_state.proofs.each.look_again_at_each.Given as goal
 
 abbrev pub invariant-loop-train : goal.invariant-loop-train

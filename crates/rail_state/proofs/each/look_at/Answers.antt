@@ -6,8 +6,8 @@ use Rattle.rail_rules.specs.Plant.{claimed}
 use Rattle.rail_laws_run.specs.HolderTables.{own_overlap}
 use Rattle.rail_state.specs.declared.train.TrainState.{TrainState}
 use Rattle.rail_state.specs.TrainStates.{bar_by, is_blocked_at, is_untried, no_state, state_of}
-use Rattle.rail_state.specs.Kept.{AreSetsOf}
-use Rattle.rail_state.proofs.Firm.{bar_within}
+use Rattle.rail_state.specs.TrainSearches.{AreSetsOf}
+use Rattle.rail_state.proofs.FirstSections.{bar_within}
 use Rattle.rail_state.proofs.each.look_at.Goals as goal
 
 pub note_in-requires-clause-section : goal.note_in-requires-clause-section

@@ -4,7 +4,7 @@ use Rattle.std.proofs.lemmas.List.{get_or-set_other}
 use Rattle.rail_state.specs.declared.train.TrainState.{TrainState}
 use Rattle.rail_state.specs.declared.train_set.TrainSet.{TrainSet}
 use Rattle.rail_state.specs.TrainStates.{bar_by, is_untried, looked_at, no_state, state_of}
-use Rattle.rail_state.specs.Kept.{earlier}
+use Rattle.rail_state.specs.TrainSearches.{earlier}
 use Rattle.rail_state.proofs.First.{first_more, first_of_all, looked_not}
 use Rattle.rail_state.proofs.Turned.{IsTurned, left_known, passes_left, set_passes, turned_all, turned_at, turned_none, turned_not}
 use Rattle.rail_state.proofs.each.look_at_each.Goals as goal
@@ -16,7 +16,7 @@ loop-train-init c = record {
   untried = set_passes is_untried c.args.rows.now c.args.sets.now.untried c.requires.sets.untried;
   first = λ t off. sym (c.requires.sets.untried t) ∙ off;
   sets = c.requires.sets;
-  held = λ are. are;
+  blocked = λ are. are;
 }
 
 pub look_at-requires-clause-moves : goal.look_at-requires-clause-moves
@@ -62,7 +62,7 @@ loop-train-preserved-then-look_at c =
       untried = passes_left left fewer t c.in-Some.ensures.left is_untried old before.untried;
       first = first_more rows new left fewer t first (Some c.earlier.result) c.in-Some.ensures.left c.in-Some.ensures.was others before.first chosen_is;
       sets = c.look_at.ensures.sets before.sets;
-      held = λ are. c.look_at.ensures.held (before.held are);
+      blocked = λ are. c.look_at.ensures.blocked (before.blocked are);
     }
 
 pub loop-train-preserved : goal.loop-train-preserved
@@ -85,5 +85,5 @@ loop-train-preserved c =
       untried = passes_left left fewer t c.in-Some.ensures.left is_untried old before.untried;
       first = first_more rows new left fewer t first (c.loop-train.first) c.in-Some.ensures.left c.in-Some.ensures.was others before.first chosen_is;
       sets = c.look_at.ensures.sets before.sets;
-      held = λ are. c.look_at.ensures.held (before.held are);
+      blocked = λ are. c.look_at.ensures.blocked (before.blocked are);
     }

@@ -1,6 +1,6 @@
 use Rattle.rail_state.specs.TrainSets.{size_of}
 use Rattle.rail_state.specs.TrainStates.{bar_by, is_untried, looked_at}
-use Rattle.rail_state.specs.Kept.{AreHeldFor, AreSetsOf}
+use Rattle.rail_state.specs.TrainSearches.{AreBlockedAt, AreSetsOf}
 use Rattle.rail_state.proofs.First.{IsFirstOf}
 use Rattle.rail_state.proofs.Turned.{AllPass, IsTurned}
 use Rattle.rail_state.proofs.each.look_at_each.Given as goal
@@ -11,7 +11,7 @@ invariant-loop-train l = record {
   untried : AllPass is_untried l.initial.rows l.left;
   first : IsFirstOf l.rows l.left l.first;
   sets : AreSetsOf l.rows l.sets;
-  held : AreHeldFor l.initial.rows l.initial.held → AreHeldFor l.rows l.held;
+  blocked : AreBlockedAt l.initial.rows l.initial.blocked → AreBlockedAt l.rows l.blocked;
 }
 
 abbrev pub decreases-loop-train : goal.decreases-loop-train

@@ -1,6 +1,6 @@
-use Rattle.rail_place.specs.Made.{IsMadeFor}
+use Rattle.rail_place.specs.PlaceStates.{IsMadeFor}
 use Rattle.rail_place.specs.Tables.{moves_in}
-use Rattle.rail_consequence.specs.Kept.{IsAnalystFor}
+use Rattle.rail_consequence.specs.AnalystStates.{IsAnalystFor}
 use Rattle.rail_unit_tests.proofs.analysis.is_least.Given as goal
 
 abbrev pub invariant-loop-depth : goal.invariant-loop-depth

@@ -7,7 +7,7 @@ use Rattle.rail_base.specs.declared.names.Names.{Names}
 use Rattle.rail_base.specs.declared.plant.SectionRow.{SectionRow}
 use Rattle.rail_base.specs.declared.plant.TrainRow.{TrainRow}
 use Rattle.rail_rules.specs.Plant.{Plant, no_section, no_train, trains}
-use Rattle.rail_rules.specs.Writable.{is_known_train}
+use Rattle.rail_rules.specs.WritableLines.{is_known_train}
 use Rattle.rail_text.specs.Names.{HasNames}
 use Rattle.rail_unit_tests.proofs.lines.write.Goals as goal
 

@@ -6,6 +6,6 @@ use Rattle.rail_words.proofs.list.read_list.Given as goal
 
 abbrev pub invariant-loop-number : goal.invariant-loop-number
 invariant-loop-number l = record {
-  so_far : IsReadTo l.names.trains.keys (moves_in l.moves) (length l.moves) l.bytes l.file l.number-iterator;
+  so_far : IsReadTo l.names.trains.keys (moves_in l.moves) l.may_move (length l.moves) l.bytes l.file l.number-iterator;
   fit : IsListFor l.moves l.file;
 }

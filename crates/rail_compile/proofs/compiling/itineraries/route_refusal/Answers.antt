@@ -1,7 +1,8 @@
 use Rattle.std.proofs.Common.{◌≡◌, ◌≤◌, ◌-◌, true, false, get_or, length, Some, sym, ap, ◌∙◌, arith}
 use Rattle.std.proofs.lemmas.List.{length-map}
 use Rattle.rail_base.specs.declared.refusals.Reason.TheVariants as reason
-use Rattle.rail_compile.specs.Itineraries.{no_route, is_portal}
+use Rattle.rail_compile.specs.Itineraries.{is_portal}
+use Rattle.rail_routes.specs.Net.{no_route}
 use Rattle.rail_compile.specs.Refusals.{of_train}
 use Rattle.rail_compile.specs.declared.compiling.ways.Way.{Way}
 use Rattle.rail_compile.specs.Ways.{route_at, routes_at}

@@ -3,7 +3,7 @@ use Rattle.std.specs.List.{list_all}
 use Rattle.rail_base.specs.declared.plant.Tables.{Tables}
 use Rattle.rail_plan.specs.PlanFaults.{IsPlannable}
 use Rattle.rail_compile.specs.Itineraries.{section_row, train_row, tables_of, with_trains}
-use Rattle.rail_compile.specs.Typed.{is_named_row, is_typed_row}
+use Rattle.rail_compile.specs.RowTypes.{is_named_row, is_typed_row}
 use Rattle.rail_compile.proofs.Tables.{plannable}
 use Rattle.rail_compile.proofs.compiling.spelling.tables_of.Goals as goal
 

@@ -9,7 +9,7 @@ use Rattle.rail_base.specs.Refusals.{AnswersFirst}
 use Rattle.rail_base.proofs.CallerLemmas.{passed_up}
 use Rattle.rail_compile.specs.Itineraries.{train_row, with_trains}
 use Rattle.rail_compile.specs.Refusals.{trains_tests}
-use Rattle.rail_compile.specs.Typed.{is_typed_row}
+use Rattle.rail_compile.specs.RowTypes.{is_typed_row}
 use Rattle.rail_compile.proofs.Trains.{answers_at, last_passed, train_passed_at}
 use Rattle.rail_compile.proofs.compiling.trains.train_rows.Goals as goal
 

@@ -4,7 +4,7 @@ use Rattle.rail_base.specs.FirstRefusals.{first_failing}
 use Rattle.rail_scene.specs.declared.scene.SceneTrain.{SceneTrain}
 use Rattle.rail_compile.specs.Itineraries.{train_row, with_trains}
 use Rattle.rail_compile.specs.Refusals.{train_tests, trains_tests}
-use Rattle.rail_compile.specs.Typed.{is_typed_row}
+use Rattle.rail_compile.specs.RowTypes.{is_typed_row}
 use Rattle.rail_compile.proofs.compiling.trains.train_rows.Given as goal
 
 abbrev pub invariant-loop-index : goal.invariant-loop-index

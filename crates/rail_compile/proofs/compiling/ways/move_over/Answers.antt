@@ -1,8 +1,8 @@
 use Rattle.std.proofs.Common.{◌≡◌, ℕ, None, map, unwrap_or, sym, ap, ◌∙◌}
 use Rattle.std.specs.List.{list_all}
 use Rattle.rail_routes.specs.declared.items.Step.{Step}
-use Rattle.rail_routes.specs.Net.{Net, post_named}
-use Rattle.rail_compile.specs.Itineraries.{no_post, number_of}
+use Rattle.rail_routes.specs.Net.{Net, post_named, no_post}
+use Rattle.rail_compile.specs.Itineraries.{number_of}
 use Rattle.rail_compile.specs.Ways.{is_known_step}
 use Rattle.rail_compile.proofs.Routes.{led_from}
 use Rattle.rail_compile.proofs.compiling.ways.move_over.Goals as goal

@@ -1,5 +1,5 @@
 use Rattle.std.proofs.Common.{length, get_or, ap, ◌∙◌, arith}
-use Rattle.rail_routes.specs.Sound.{is_sound_route}
+use Rattle.rail_routes.specs.SoundNetworks.{is_sound_route}
 use Rattle.rail_compile.proofs.Finds.{all_read}
 use Rattle.rail_compile.proofs.compiling.ways.way_items.Goals as goal
 

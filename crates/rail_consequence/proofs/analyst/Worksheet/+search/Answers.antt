@@ -8,7 +8,7 @@ use Rattle.rail_rules.specs.Analysis.{Finds, Leg, after_leg, is_leg}
 use Rattle.rail_place.specs.Tables.{moves_in, MoveLists}
 use Rattle.rail_consequence.specs.Freeing.{is_marked}
 use Rattle.rail_consequence.specs.Searches.{FindsByNoLegOf, HasNoSafeLeg, IsCleared}
-use Rattle.rail_consequence.specs.Stops.{IsHeldByOther, IsSettled}
+use Rattle.rail_consequence.specs.Stops.{IsTakenByOther, IsSettled}
 use Rattle.rail_consequence.specs.declared.notes.Stop.{Stop}
 use Rattle.rail_consequence.specs.Workspace.{Work, GoesOn, IsBack, IsListing, IsReady}
 use Rattle.rail_consequence.proofs.Counts.{in_at, in_take_all}
@@ -337,7 +337,7 @@ try_legs_of-returns-then-is_some-clause-none g t c =
     let inv = c.loop-made.invariant in
     let at : c.position-from.result ≡ place_of s u = c.position-from.ensures ∙ ap (λ (w : Work). place_of w.places.positions u) c.self.view_is ∙ ap (λ q. place_of q u) c.is_hopeless.ensures.back.positions in
     let stop = shown _ _ c.stop_of.result (sym c.is_some.ensures ∙ c.if-is_some.true) c.stop_of.ensures in
-    let H : List ℕ → Type 0 = λ q. IsHeldByOther plan q u stop.0 in
+    let H : List ℕ → Type 0 = λ q. IsTakenByOther plan q u stop.0 in
     λ _. (
       inv.back,
       λ p is found.
@@ -356,7 +356,7 @@ try_legs_of-try_leg-requires g t c _ within =
     let inside = c.is_hopeless.ensures.inside c.if-is_hopeless.false in
     let parts = inside_parts plan a.places.positions u inside in
     let at : c.position-from.result ≡ place_of a.places.positions u = c.position-from.ensures ∙ ap (λ (w : Work). place_of w.places.positions u) c.self.view_is ∙ ap (λ q. place_of q u) c.is_hopeless.ensures.back.positions in
-    let F : List ℕ → Type 0 = λ q. (x : ℕ) → is_in x (plan.claim u c.loop-made.made) ≡ true → IsHeldByOther plan q u x → ⊥ in
+    let F : List ℕ → Type 0 = λ q. (x : ℕ) → is_in x (plan.claim u c.loop-made.made) ≡ true → IsTakenByOther plan q u x → ⊥ in
     let free : F a.places.positions = subst F inv.back.positions (unshown _ _ c.stop_of.result (sym c.is_some.ensures ∙ c.if-is_some.false) c.stop_of.ensures) in
     let L : List ℕ → Type 0 = λ q. is_leg plan q (record { train = u; place = c.loop-made.made + 1 }) ≡ true in
     let leg = open_leads plan a.places.positions u c.loop-made.made c.requires.ready.made.moves.valid c.requires.train (inside_listed plan a.places.positions u inside) parts.0 (omega (arith, at, c.loop-made.auto.made)) (omega (arith, c.loop-made-test.true, c.places-last.ensures)) (open_more plan a.places.positions u c.loop-made.made inv.free free) in (
@@ -392,7 +392,7 @@ try_legs_of-loop-made-preserved g t c =
     let u = c.args.train in
     let inv = c.loop-made.invariant in
     let none = c.try_leg.ensures.none c.if-try_leg.false in
-    let F : List ℕ → Type 0 = λ q. (x : ℕ) → is_in x (plan.claim u c.loop-made.made) ≡ true → IsHeldByOther plan q u x → ⊥ in
+    let F : List ℕ → Type 0 = λ q. (x : ℕ) → is_in x (plan.claim u c.loop-made.made) ≡ true → IsTakenByOther plan q u x → ⊥ in
     let free : F s = subst F inv.back.positions (unshown _ _ c.stop_of.result (sym c.is_some.ensures ∙ c.if-is_some.false) c.stop_of.ensures) in
     record {
       ready = c.try_leg.ensures.ready;

@@ -28,7 +28,7 @@ returns-then-is_next-clause-none g c = λ _ p.
     (λ is.
     let goes = goes_parts plan s (record { train = u; place = p }) is in
     let stop = c.requires.settled.stopped u x goes.inside (ap section_of noted) in
-    absurd (omega (arith, goes.ahead, leg_short plan s u x (place_of s u) p (omega arith) (c.requires.settled.next u x goes.inside noted) stop.held is)))
+    absurd (omega (arith, goes.ahead, leg_short plan s u x (place_of s u) p (omega arith) (c.requires.settled.next u x goes.inside noted) stop.taken is)))
     (λ out. out)
     (cases_Bool (is_leg plan s (record { train = u; place = p })))
 
@@ -40,11 +40,11 @@ returns g c =
     let at = c.position-place.ensures ∙ ap (λ (w : Work). place_of w.places.positions u) c.self.view_is in
     record {
       inside = λ _. inside_from plan s u (omega (arith, at, c.if-place-eq0.false)) (omega (arith, at, c.if-place-places.false, c.places.ensures));
-      none = λ held p.
+      none = λ taken p.
           ⊎_elim
           (λ is.
           let goes = goes_parts plan s (record { train = u; place = p }) is in
-          let stop = shown _ _ c.stop_of.result (c.is_none.ensures ∙ ap not held) c.stop_of.ensures in
+          let stop = shown _ _ c.stop_of.result (c.is_none.ensures ∙ ap not taken) c.stop_of.ensures in
           absurd (omega (arith, goes.ahead, at, leg_short plan s u stop.0 c.position-place.result p (omega (arith, at)) stop.1.0 stop.1.1 is)))
           (λ out. out)
           (cases_Bool (is_leg plan s (record { train = u; place = p })));

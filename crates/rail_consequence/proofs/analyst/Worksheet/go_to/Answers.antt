@@ -50,13 +50,13 @@ returns-clause-ready g c =
     let fewer = moves_left_at plan s t c.args.place k (inside_listed plan s t goes.inside) (omega (arith, at, goes.ahead)) goes.within in
     let w = c.put.new.self in
     let long : length (w.list ++ replicate k t) ≡ length c.args.self.now.list + k = length-append w.list (replicate k t) ∙ omega (arith, ap length c.put.ensures.list, length-replicate {A = ℕ} k t) in
-    let own : Work = record { rows = c.self-2.inside.rows; places = c.self-2.inside.places; held = c.self-2.inside.held; needs = c.self-2.inside.needs; list = c.self-2.inside.list.items } in
+    let own : Work = record { rows = c.self-2.inside.rows; places = c.self-2.inside.places; taken = c.self-2.inside.taken; needs = c.self-2.inside.needs; list = c.self-2.inside.list.items } in
     let items : c.push_times.new.list.items ≡ w.list ++ replicate k t = c.push_times.ensures.items ∙ ap (λ (v : Work). v.list ++ replicate k t) c.self-2.view_is in
     let own_ready = ready_as table own w c.self-2.view_is c.put.ensures.ready in
     record {
       rows = own_ready.rows;
       made = own_ready.made;
-      held = own_ready.held;
+      taken = own_ready.taken;
       wide = own_ready.wide;
       counted = own_ready.counted;
       few = omega (arith, c.requires.ready.few, fewer, long, ap length items, ap (λ (v : Work). moves_left plan v.places.positions) c.self-2.view_is, ap (moves_left plan) c.put.ensures.positions);

@@ -68,15 +68,15 @@ returns-then-meet_beyond g c =
     let found = c.meet_beyond-in-loop-made.ensures.some c.if-meet_beyond.true in
     let x = found.0 in
     let few : x < 64 * g.W.Width.WORDS = omega (arith, has_within c.need.result.now x found.1, c.need.ensures.long) in
-    let holder = c.requires.ahead.held x few found.2 in
+    let holder = c.requires.ahead.taken x few found.2 in
     let out : is_in x (stand plan u (place_of (set s t p) u)) ≡ false = ap (λ q. is_in x (stand plan u q)) (there ∙ sym at) ∙ sym (c.stand-own.ensures.set x) ∙ found.3 in
     let bar : IsBarred plan (set s t p) u m = record {
       section = x;
       needed = sym (c.need.ensures.set x) ∙ found.1;
-      held = record {
+      taken = record {
         holder = holder.0;
         other = λ same. false≢true (sym out ∙ ap (λ v. holds plan (set s t p) v x) (sym same) ∙ holder.1);
-        held = holder.1;
+        taken = holder.1;
       };
     } in
     λ _. barred_unsafe plan (set s t p) u m (omega (arith, there, at, c.loop-made.auto.made)) bar (λ q low high. c.loop-made.invariant q (omega (arith, low, there)) high)

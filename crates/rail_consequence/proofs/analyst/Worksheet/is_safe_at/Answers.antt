@@ -14,7 +14,7 @@ returns g c =
     let table = c.args.moves.now in
     let plan : Moves = moves_in table in
     let t = c.args.train in
-    let own : Work = record { rows = c.self.inside.rows; places = c.self.inside.places; held = c.self.inside.held; needs = c.self.inside.needs; list = c.self.inside.list.items } in
+    let own : Work = record { rows = c.self.inside.rows; places = c.self.inside.places; taken = c.self.inside.taken; needs = c.self.inside.needs; list = c.self.inside.list.items } in
     let ready = ready_as table own c.args.self.now c.self.view_is c.requires.ready in
     let s = own.places.positions in
     let at : place_of s t ≡ place_of c.args.self.now.places.positions t = ap (λ (w : Work). place_of w.places.positions t) c.self.view_is in

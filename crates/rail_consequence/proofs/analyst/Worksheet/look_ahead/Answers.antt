@@ -36,12 +36,12 @@ returns-clause-sets g c =
     let plan : Moves = moves_in table in
     let t = c.args.train in
     let p = c.args.place in
-    let own : Work = record { rows = c.self.inside.rows; places = c.self.inside.places; held = c.self.inside.held; needs = c.self.inside.needs; list = c.self.inside.list.items } in
+    let own : Work = record { rows = c.self.inside.rows; places = c.self.inside.places; taken = c.self.inside.taken; needs = c.self.inside.needs; list = c.self.inside.list.items } in
     let ready = ready_as table own c.args.self.now c.self.view_is c.requires.ready in
     let s = own.places.positions in
     let fell = c.fill_falls-ahead.new.fell in
     let G : ℕ → Type 0 = λ q. IsSet c.stand.result.now (λ x. is_in x (stand plan t q)) in
-    let P : Work → Type 0 = λ w. IsAhead plan w.places.positions w.needs g.W.Width.WORDS t p (record { held = c.fill_replaced.new.set; shared = c.fill_falls-ahead.new.shared; fell = fell; has_fallen = c.fill_falls-ahead.result }) in
+    let P : Work → Type 0 = λ w. IsAhead plan w.places.positions w.needs g.W.Width.WORDS t p (record { taken = c.fill_replaced.new.set; shared = c.fill_falls-ahead.new.shared; fell = fell; has_fallen = c.fill_falls-ahead.result }) in
     let I : Work → Type 0 = λ w. is_inside plan w.places.positions t ≡ true in
     let inside = subst I (sym c.self.view_is) c.requires.inside in
     let known : t < length s = omega (arith, c.requires.train, (state_parts plan s ready.made.valid).long) in
@@ -51,8 +51,8 @@ returns-clause-sets g c =
     c.fill_falls-ahead.ensures.fell x (omega (arith, low, c.rest.ensures.long))
     ∙ fallen _ _ (needs_from plan t (place_of s t) x) (needs_from plan t p x) (count_of own.needs x) (count_of own.needs x) (from x) (c.rest-2.ensures.set x) refl in
     subst P c.self.view_is (record {
-      held = λ x low is.
-          then_holder_at table own.places ready.made own.held ready.held t p known c.stand.result.now c.stand-2.result.now c.fill_replaced.new.set (subst G c.position-from.ensures c.stand.ensures.set) c.stand-2.ensures.set
+      taken = λ x low is.
+          then_holder_at table own.places ready.made own.taken ready.taken t p known c.stand.result.now c.stand-2.result.now c.fill_replaced.new.set (subst G c.position-from.ensures c.stand.ensures.set) c.stand-2.ensures.set
           x (c.fill_replaced.ensures.set x (omega (arith, low, c.stand-2.ensures.long))) is;
       shared = λ x u low is.
           let parts = and_parts (leb 2 (count_of own.needs x)) (not (has fell x)) (sym (c.fill_falls-ahead.ensures.shared x (omega (arith, low, c.rest.ensures.long))) ∙ is) in

@@ -8,7 +8,7 @@ use Rattle.rail_place.specs.Tables.{moves_in}
 use Rattle.rail_consequence.specs.Needs.{IsAmong, IsCounted, IsRecounted, IsSet}
 use Rattle.rail_consequence.specs.Workspace.{Work}
 use Rattle.rail_consequence.proofs.Counts.{among_counted, counted_on}
-use Rattle.rail_consequence.proofs.Holding.{held_then, place_within}
+use Rattle.rail_consequence.proofs.Holding.{taken_then, place_within}
 use Rattle.rail_consequence.proofs.Played.{ready_as}
 use Rattle.rail_consequence.proofs.analyst.Worksheet.put.Goals as goal
 
@@ -27,7 +27,7 @@ recount-requires-clause-among g c =
     let table = c.args.moves.now in
     let plan : Moves = moves_in table in
     let t = c.args.train in
-    let own : Work = record { rows = c.self.inside.rows; places = c.self.inside.places; held = c.self.inside.held; needs = c.self.inside.needs; list = c.self.inside.list.items } in
+    let own : Work = record { rows = c.self.inside.rows; places = c.self.inside.places; taken = c.self.inside.taken; needs = c.self.inside.needs; list = c.self.inside.list.items } in
     let ready = ready_as table own c.args.self.now c.self.view_is c.requires.ready in
     let long = (state_parts plan own.places.positions ready.made.valid).long in
     let P : ℕ → Type 0 = λ p. IsAmong plan t p own.needs in
@@ -40,7 +40,7 @@ returns-clause-ready g c =
     let plan : Moves = moves_in table in
     let t = c.args.train in
     let p = c.args.place in
-    let own : Work = record { rows = c.self.inside.rows; places = c.self.inside.places; held = c.self.inside.held; needs = c.self.inside.needs; list = c.self.inside.list.items } in
+    let own : Work = record { rows = c.self.inside.rows; places = c.self.inside.places; taken = c.self.inside.taken; needs = c.self.inside.needs; list = c.self.inside.list.items } in
     let ready = ready_as table own c.args.self.now c.self.view_is c.requires.ready in
     let later = c.put.new.self in
     let made = c.put.ensures.made in
@@ -51,7 +51,7 @@ returns-clause-ready g c =
     record {
       rows = ready.rows;
       made = made;
-      held = held_then table own.places ready.made own.held ready.held t p known c.stand-gone.result.now c.stand-come.result.now c.replace.new.set (subst G c.position-from.ensures c.stand-gone.ensures.set) c.stand-come.ensures.set c.replace.ensures.set later made c.put.ensures.positions;
+      taken = taken_then table own.places ready.made own.taken ready.taken t p known c.stand-gone.result.now c.stand-come.result.now c.replace.new.set (subst G c.position-from.ensures c.stand-gone.ensures.set) c.stand-come.ensures.set c.replace.ensures.set later made c.put.ensures.positions;
       wide = omega (arith, c.replace.ensures.long, ready.wide);
       counted = subst C (sym c.put.ensures.positions) (counted_on plan own.places.positions own.needs ready.counted t known p c.recount.new.needs (subst R c.position-from.ensures c.recount.ensures));
       few = omega (arith, c.requires.few, ap length (ap (λ (w : Work). w.list) c.self.view_is), ap (moves_left plan) c.put.ensures.positions, ap (λ (w : Work). moves_left plan (set w.places.positions t p)) c.self.view_is);

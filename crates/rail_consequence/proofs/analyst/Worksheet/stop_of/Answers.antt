@@ -6,7 +6,7 @@ use Rattle.rail_rules.specs.Places.{place_of}
 use Rattle.rail_place.specs.Tables.{moves_in}
 use Rattle.rail_sets.specs.Sets.{has}
 use Rattle.rail_consequence.specs.Needs.{IsSet}
-use Rattle.rail_consequence.specs.Stops.{IsHeldByOther}
+use Rattle.rail_consequence.specs.Stops.{IsTakenByOther}
 use Rattle.rail_consequence.specs.Workspace.{Work}
 use Rattle.rail_consequence.proofs.Holding.{no_bar, other_bar, place_within}
 use Rattle.rail_consequence.proofs.Played.{ready_as}
@@ -27,17 +27,17 @@ returns g c =
     let plan : Moves = moves_in table in
     let t = c.args.train in
     let m = c.args.made in
-    let own : Work = record { rows = c.self.inside.rows; places = c.self.inside.places; held = c.self.inside.held; needs = c.self.inside.needs; list = c.self.inside.list.items } in
+    let own : Work = record { rows = c.self.inside.rows; places = c.self.inside.places; taken = c.self.inside.taken; needs = c.self.inside.needs; list = c.self.inside.list.items } in
     let ready = ready_as table own c.args.self.now c.self.view_is c.requires.ready in
     let G : ℕ → Type 0 = λ q. IsSet c.stand-own.result.now (λ x. is_in x (stand plan t q)) in
     let stands = subst G c.position.ensures c.stand-own.ensures.set in
-    let H : Work → ℕ → Type 0 = λ w x. IsHeldByOther plan w.places.positions t x in
+    let H : Work → ℕ → Type 0 = λ w x. IsTakenByOther plan w.places.positions t x in
     matched
-    ((x : ℕ) → has c.need.result.now x ≡ true → has own.held x ≡ true → has c.stand-own.result.now x ≡ true)
-    ((x : ℕ) → is_in x (plan.claim t m) ≡ true → IsHeldByOther plan c.args.self.now.places.positions t x → ⊥)
-    (λ x. (has c.need.result.now x ≡ true) × (has own.held x ≡ true) × (has c.stand-own.result.now x ≡ false))
-    (λ x. (is_in x (plan.claim t m) ≡ true) × IsHeldByOther plan c.args.self.now.places.positions t x)
+    ((x : ℕ) → has c.need.result.now x ≡ true → has own.taken x ≡ true → has c.stand-own.result.now x ≡ true)
+    ((x : ℕ) → is_in x (plan.claim t m) ≡ true → IsTakenByOther plan c.args.self.now.places.positions t x → ⊥)
+    (λ x. (has c.need.result.now x ≡ true) × (has own.taken x ≡ true) × (has c.stand-own.result.now x ≡ false))
+    (λ x. (is_in x (plan.claim t m) ≡ true) × IsTakenByOther plan c.args.self.now.places.positions t x)
     c.first_common.result
-    (λ none x needed bar. no_bar table own.places ready.made own.held ready.held t x (λ is. sym (stands x) ∙ none x (c.need.ensures.set x ∙ needed) is) (subst (λ w. H w x) (sym c.self.view_is) bar))
-    (λ x some. (sym (c.need.ensures.set x) ∙ some.0, subst (λ w. H w x) c.self.view_is (other_bar table own.places ready.made own.held ready.held t x some.1 (sym (stands x) ∙ some.2))))
+    (λ none x needed bar. no_bar table own.places ready.made own.taken ready.taken t x (λ is. sym (stands x) ∙ none x (c.need.ensures.set x ∙ needed) is) (subst (λ w. H w x) (sym c.self.view_is) bar))
+    (λ x some. (sym (c.need.ensures.set x) ∙ some.0, subst (λ w. H w x) c.self.view_is (other_bar table own.places ready.made own.taken ready.taken t x some.1 (sym (stands x) ∙ some.2))))
     c.first_common.ensures

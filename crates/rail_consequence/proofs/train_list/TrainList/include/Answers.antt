@@ -5,52 +5,52 @@ use Rattle.std.specs.List.{All}
 use Rattle.std.specs.List.Sorted.{IsStrictlyIncreasing}
 use Rattle.rail_base.specs.declared.limits.TheConstants.{TRAINS}
 use Rattle.rail_rules.specs.Numbers.{is_in}
-use Rattle.rail_consequence.proofs.Rising.{IsPlaceFor, place_from, in_insert, rising_insert, below_insert, room_for_one}
+use Rattle.rail_consequence.proofs.Rising.{IsPositionFor, position_from, in_insert, rising_insert, below_insert, room_for_one}
 use Rattle.rail_consequence.proofs.train_list.TrainList.include.Goals as goal
-use Rattle.rail_consequence.proofs.train_list.TrainList.include.Goals.{After-insert, then-place-len-via-then-place-len, then-place-len-via-else-place-len+then-ne}
+use Rattle.rail_consequence.proofs.train_list.TrainList.include.Goals.{After-insert, then-position-len-via-then-position-len, then-position-len-via-else-position-len+then-ne}
 
 -- the number that stands there is another one
 other_read : (xs : List ℕ) (t p x : ℕ) → p < length xs → x ≡ get_or xs p x → true ≡ not (eqb x t) → get_or xs p 0 ≢ t
 other_read xs t p x lt read other here = eqb-false x t (not-true (eqb x t) (sym other)) (read ∙ get_or_default_zero xs p x lt ∙ here)
 
-place_here : (c : After-insert) → IsPlaceFor c.self.inside.trains.items c.args.train c.place_in-place.result
-place_here c =
+position_here : (c : After-insert) → IsPositionFor c.self.inside.trains.items c.args.train c.position_in-position.result
+position_here c =
     let xs : List ℕ = c.self.inside.trains.items in
-    let p = c.place_in-place.result in
+    let p = c.position_in-position.result in
     let t = c.args.train in
     let P : List ℕ → Type 0 = λ ys. (k d : ℕ) → k < p → get_or ys k d < t in
     let Q : List ℕ → Type 0 = λ ys. (d : ℕ) → p < length ys → t ≤ get_or ys p d in
     let same = c.deref.ensures.value in
-    let other : p < length xs → get_or xs p 0 ≢ t = λ lt. elim c.then-place-len.branch [
-      | then-place-len-via-then-place-len w ↦ absurd (omega (arith, w.if-place-len.true, c.len.ensures, lt))
-      | then-place-len-via-else-place-len+then-ne w ↦ other_read xs t p w.index.result.now lt w.index.ensures (sym w.if-ne.true ∙ w.ne.ensures)
+    let other : p < length xs → get_or xs p 0 ≢ t = λ lt. elim c.then-position-len.branch [
+      | then-position-len-via-then-position-len w ↦ absurd (omega (arith, w.if-position-len.true, c.len.ensures, lt))
+      | then-position-len-via-else-position-len+then-ne w ↦ other_read xs t p w.index.result.now lt w.index.ensures (sym w.if-ne.true ∙ w.ne.ensures)
     ] in
-    let here : Q xs = subst Q same c.place_in-place.ensures.here in
-    place_from xs t p c.self.invariant.0 (omega (arith, c.place_in-place.ensures.bound, ap length same)) (subst P same c.place_in-place.ensures.front)
+    let here : Q xs = subst Q same c.position_in-position.ensures.here in
+    position_from xs t p c.self.invariant.0 (omega (arith, c.position_in-position.ensures.bound, ap length same)) (subst P same c.position_in-position.ensures.front)
     (λ d lt. omega (arith, here d lt, other lt, get_or_default_zero xs p d lt))
 
 pub unwrap-requires : goal.unwrap-requires
 unwrap-requires c =
     let xs : List ℕ = c.self.inside.trains.items in
-    let room = room_for_one xs c.args.train c.place_in-place.result (place_here c) TRAINS c.requires c.self.invariant.0 c.self.invariant.1 in
+    let room = room_for_one xs c.args.train c.position_in-position.result (position_here c) TRAINS c.requires c.self.invariant.0 c.self.invariant.1 in
     c.insert.ensures.succeeds (omega (arith, room, c.self.invariant.2))
 
 pub invariant_of-self : goal.invariant_of-self
 invariant_of-self c =
     let xs : List ℕ = c.self.inside.trains.items in
     let t = c.args.train in
-    let p = c.place_in-place.result in
-    let place = place_here (goal.at.invariant_of-self c).After-insert in
+    let p = c.position_in-position.result in
+    let position = position_here (goal.at.invariant_of-self c).After-insert in
     let items = rw c.unwrap.ensures at c.insert.ensures.items in
     let P : List ℕ → Type 0 = λ ys. IsStrictlyIncreasing ys × All (λ u. u < TRAINS) ys × (TRAINS ≤ vec_capacity c.insert.new.self) in
     subst P (sym items)
-    (rising_insert xs t p place c.self.invariant.0, below_insert xs t p place TRAINS c.requires c.self.invariant.1, omega (arith, c.insert.ensures.capacity, c.self.invariant.2))
+    (rising_insert xs t p position c.self.invariant.0, below_insert xs t p position TRAINS c.requires c.self.invariant.1, omega (arith, c.insert.ensures.capacity, c.self.invariant.2))
 
-pub returns-then-place-len : goal.returns-then-place-len
-returns-then-place-len c = λ u.
+pub returns-then-position-len : goal.returns-then-position-len
+returns-then-position-len c = λ u.
     let xs : List ℕ = c.self.inside.trains.items in
     let t = c.args.train in
-    let p = c.place_in-place.result in
-    let place = place_here (goal.at.returns-then-place-len c).After-insert in
+    let p = c.position_in-position.result in
+    let position = position_here (goal.at.returns-then-position-len c).After-insert in
     let items = rw c.unwrap.ensures at c.insert.ensures.items in
-    ap (is_in u) items ∙ in_insert xs t p place u ∙ ap (λ ys. (u == t) || is_in u ys) c.self.view_is
+    ap (is_in u) items ∙ in_insert xs t p position u ∙ ap (λ ys. (u == t) || is_in u ys) c.self.view_is

@@ -1,7 +1,7 @@
 use Rattle.std.proofs.Common.{◌≡◌, true, subst}
 use Rattle.rail_base.specs.declared.history.Entry.{Entry}
 use Rattle.rail_stairs.proofs.CallerLemmas.{room_for}
-use Rattle.rail_stairs.specs.Noted.{has_room}
+use Rattle.rail_stairs.specs.NotedHistories.{has_room}
 use Rattle.rail_forms.proofs.notes.StairsNotes.note_line.Goals as goal
 
 pub note-requires : goal.note-requires

@@ -12,10 +12,11 @@ use Rattle.rail_laws_run.specs.HolderTables.{held_cause, own_overlap}
 use Rattle.rail_state.specs.declared.pushes.TheConstants.{MOVE_EVENTS}
 use Rattle.rail_state.specs.declared.run_state.RunState.{RunState}
 use Rattle.rail_state.specs.declared.train.TrainState.{TrainState}
-use Rattle.rail_state.specs.TrainStates.{AreFirm, state_of}
+use Rattle.rail_state.specs.TrainStates.{AreAtFirst, state_of}
 use Rattle.rail_state.specs.Admissions.{IsGivable}
-use Rattle.rail_state.specs.Representation.{IsAdmitLine}
-use Rattle.rail_state.proofs.CallerLemmas.{admissible, may_keep, runs}
+use Rattle.rail_state.specs.Events.{AreFreedOnce}
+use Rattle.rail_state.specs.Representation.{IsAdmitLine, taken_over}
+use Rattle.rail_state.proofs.CallerLemmas.{admissible, may_keep, runs, taken_once}
 use Rattle.rail_ledger.specs.declared.ledger.Ledger.{Ledger}
 use Rattle.rail_ledger.specs.declared.ledger.Listed.{Listed}
 use Rattle.rail_ledger.specs.Ledgers.{HasList, IsAt, line_in, list_with}
@@ -57,6 +58,15 @@ pub admit-requires-clause-room : goal.admit-requires-clause-room
 admit-requires-clause-room c =
     subst (λ (r : Ledger). MOVE_EVENTS ≤ r.state.queue.spare) (sym (alike_ledger c.args.self.now c.find_list.new.self c.in_ok-note.ensures.alike c.in_ok-note.ensures.found.0)) (room_left c.requires.running.front c.args.self.now c.requires.running.at)
 
+pub admit-requires-clause-single : goal.admit-requires-clause-single
+admit-requires-clause-single c =
+    let front = c.requires.running.front in
+    let at = c.requires.running.at in
+    let old : Ledger = c.args.self.now in
+    let t : ℕ = c.args.train in
+    subst (λ (r : Ledger). AreFreedOnce (taken_over r.input.plant r.state.holders t (state_of r.state.trains t).place) r.state.queue.events) (sym (alike_ledger old c.find_list.new.self c.in_ok-note.ensures.alike c.in_ok-note.ensures.found.0))
+    (taken_once (dispatch_in old.input) old.input.plant front old.state at.rep (c.requires.deciding front at) t (c.requires.next front at).known_train)
+
 pub admit-requires-clause-free : goal.admit-requires-clause-free
 admit-requires-clause-free c =
     let front = c.requires.running.front in
@@ -77,10 +87,10 @@ admit-requires-clause-waits c =
     subst (λ (r : Ledger). (t : ℕ) → (state_of r.state.trains t).waits ≡ false → (state_of r.state.trains t).known ≡ None)
     (sym (alike_ledger c.args.self.now c.find_list.new.self c.in_ok-note.ensures.alike c.in_ok-note.ensures.found.0)) (idle_unknown c.requires.running.front c.args.self.now c.requires.running.at)
 
-pub admit-requires-clause-firm : goal.admit-requires-clause-firm
-admit-requires-clause-firm c =
-    subst (λ (r : Ledger). AreFirm r.input.plant r.state.trains)
-    (sym (alike_ledger c.args.self.now c.find_list.new.self c.in_ok-note.ensures.alike c.in_ok-note.ensures.found.0)) c.requires.running.at.rep.known.firm
+pub admit-requires-clause-at_first_section : goal.admit-requires-clause-at_first_section
+admit-requires-clause-at_first_section c =
+    subst (λ (r : Ledger). AreAtFirst r.input.plant r.state.trains)
+    (sym (alike_ledger c.args.self.now c.find_list.new.self c.in_ok-note.ensures.alike c.in_ok-note.ensures.found.0)) c.requires.running.at.rep.known.at_first_section
 
 pub returns-clause-line : goal.returns-clause-line
 returns-clause-line c = λ front at.

@@ -1,6 +1,6 @@
 use Rattle.std.proofs.Common.{◌≡◌, ◌+◌, ◌-◌, ◌||◌, false, is_some, sym, ap, ◌∙◌, arith}
 use Rattle.rail_rules.specs.Plant.{claimed}
-use Rattle.rail_orders.specs.Told.{closed_in, stop_in}
+use Rattle.rail_orders.specs.OrderTables.{closed_in, stop_in}
 use Rattle.rail_state.specs.TrainStates.{state_of}
 use Rattle.rail_state.specs.declared.train.TrainState.{TrainState}
 use Rattle.rail_ledger.proofs.Admissions.{known_of, left_of}

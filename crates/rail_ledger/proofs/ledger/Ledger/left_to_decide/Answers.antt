@@ -63,7 +63,7 @@ loop-train-preserved c =
       sorted = ap (λ (q : Queue). is_sorted q.events) (second.queue ∙ first.queue) ∙ inv.sorted;
       unlisted = second.listed ∙ first.listed ∙ inv.unlisted;
       input = second.input ∙ first.input ∙ inv.input;
-      known = λ held. absurd (false≢true (sym (c.in-Some.ensures.some refl) ∙ held));
+      known = λ after_hold. absurd (false≢true (sym (c.in-Some.ensures.some refl) ∙ after_hold));
       at = λ front at. c.knows_list.ensures.at front (c.in-Some.ensures.at front (inv.at front at));
     }
 

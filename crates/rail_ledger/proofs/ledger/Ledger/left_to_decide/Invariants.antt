@@ -14,7 +14,7 @@ invariant-loop-train l = record {
   none_due : first_time_of l.self.state.queue.events ≢ Some l.self.state.instant;
   sorted : IsTrue (is_sorted l.self.state.queue.events);
   unlisted : l.self.listed ≡ listed.Nothing;
-  known : l.held ≡ true → AreAllKnown l.self.input.plant l.self.state.trains;
+  known : l.after_hold ≡ true → AreAllKnown l.self.input.plant l.self.state.trains;
   input : l.self.input ≡ l.fn.self.input;
   at : (front : Front) → IsAt front l.fn.self → IsAt front l.self;
 }

@@ -19,8 +19,8 @@ returns-in_default c =
     let same : line_taken c.args.entry c.args.trains.now ≡ line_with c.args.entry c.args.trains.now = other_taken c.args.entry c.args.trains.now idle in
     record {
       taken = λ none front at. subst (λ (line : Line). IsAt (line ∷ front) c.take_other.new.self) (sym same) (c.take_other.ensures.taken none front at.0);
-      refused = subst (λ (line : Line). IfSome c.take_other.result (IsRefusedWith c.args.held old line)) (sym same)
-          (mapped {Q = IsRefusedWith c.args.held old (line_with c.args.entry c.args.trains.now)} c.take_other.result c.take_other.ensures.refused (λ law refused front at. refused front at.0));
+      refused = subst (λ (line : Line). IfSome c.take_other.result (IsRefusedWith c.args.after_hold old line)) (sym same)
+          (mapped {Q = IsRefusedWith c.args.after_hold old (line_with c.args.entry c.args.trains.now)} c.take_other.result c.take_other.ensures.refused (λ law refused front at. refused front at.0));
       input = c.take_other.ensures.input;
       stays = c.take_other.ensures.stays;
     }

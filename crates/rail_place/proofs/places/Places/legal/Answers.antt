@@ -3,7 +3,7 @@ use Rattle.std.proofs.lemmas.Bool.{false≢true}
 use Rattle.std.proofs.lemmas.Option.{none-some}
 use Rattle.rail_rules.specs.Places.{place_of}
 use Rattle.rail_place.specs.Tables.{moves_in, MoveLists}
-use Rattle.rail_place.specs.Made.{State, IsMadeFor}
+use Rattle.rail_place.specs.PlaceStates.{State, IsMadeFor}
 use Rattle.rail_place.specs.Owners.{first_owned_in}
 use Rattle.rail_place.specs.Bars.{bar_of}
 use Rattle.rail_place.proofs.Making.{made_as, made_long, place_read, bar_ahead, legal_from_none, none_from_legal}

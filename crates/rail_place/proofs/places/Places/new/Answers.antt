@@ -3,7 +3,7 @@ use Rattle.std.proofs.lemmas.Result.{err_from_is_err_and}
 use Rattle.rail_place.specs.declared.holdings.Holding.{Holding}
 use Rattle.rail_place.specs.declared.holdings.Holding.TheVariants.{Free}
 use Rattle.rail_place.specs.Tables.{moves_in}
-use Rattle.rail_place.specs.Made.{State}
+use Rattle.rail_place.specs.PlaceStates.{State}
 use Rattle.rail_place.specs.Holdings.{IsFirstShared, IsShared, owner_in}
 use Rattle.rail_place.proofs.Taking.{made_new, fault_told}
 use Rattle.rail_place.proofs.Making.{made_as}

@@ -6,7 +6,7 @@ use Rattle.rail_rules.specs.Numbers.{are_apart}
 use Rattle.rail_rules.specs.Moves.{Moves, stand}
 use Rattle.rail_rules.specs.Places.{place_of}
 use Rattle.rail_place.specs.Tables.{moves_in}
-use Rattle.rail_place.specs.Made.{State, IsMadeFor}
+use Rattle.rail_place.specs.PlaceStates.{State, IsMadeFor}
 use Rattle.rail_place.proofs.Making.{made_as, made_long, made_within, made_stepped, place_read, room_freed}
 use Rattle.rail_place.proofs.places.Places.put.Goals as goal
 
@@ -20,8 +20,8 @@ stand-requires-clause-last c =
     let place : c.index-before.result.now ≡ place_of s.positions t = place_read s.positions t c.from.result c.index-before.result.now (c.from.ensures ∙ c.train.view_is) lt c.index-before.ensures in
     omega (arith, place, made_within table s t made)
 
-pub hold-requires : goal.hold-requires
-hold-requires c =
+pub occupy-requires : goal.occupy-requires
+occupy-requires c =
     let room = room_freed c.self.inside.owners.items c.release.new.owners.items c.stand.result.now c.release.ensures (ap (λ (s : State). length s.owners) c.self.view_is ∙ c.requires.made.room) in
     λ x is. omega (arith, room, c.stand-2.ensures.in_range x is)
 
@@ -38,21 +38,21 @@ returns-clause-made c =
     let place : c.index-before.result.now ≡ place_of s.positions t = place_read s.positions t c.from.result c.index-before.result.now (c.from.ensures ∙ c.train.view_is) lt c.index-before.ensures in
     let P : State → Type 0 = λ r. (u : ℕ) → u ≢ t → are_apart (stand plan t c.args.place) (stand plan u (place_of r.positions u)) ≡ true in
     made_stepped table s t c.args.place c.self.inside.played
-    (set s.positions c.from-2.result c.args.place) c.release.new.owners.items c.hold.new.owners.items c.stand.result.now c.stand-2.result.now
+    (set s.positions c.from-2.result c.args.place) c.release.new.owners.items c.occupy.new.owners.items c.stand.result.now c.stand-2.result.now
     made.counted made c.requires.train c.requires.within
     (subst P (sym same) c.requires.free)
     (ap (λ k. set s.positions k c.args.place) (c.from-2.ensures ∙ c.train-2.view_is))
     (c.stand.ensures.sections ∙ ap (stand plan t) place)
     c.release.ensures
     c.stand-2.ensures.sections
-    c.hold.ensures
+    c.occupy.ensures
 
 pub invariant_of-self : goal.invariant_of-self
 invariant_of-self c = record {
   room = c.self.invariant.room;
   few = omega (arith, length-set c.self.inside.positions.items c.from-2.result c.args.place, c.self.invariant.few);
   sections =
-      ap length c.hold.ensures ∙ length-given c.release.new.owners.items c.stand-2.result.now (Some c.args.train)
+      ap length c.occupy.ensures ∙ length-given c.release.new.owners.items c.stand-2.result.now (Some c.args.train)
       ∙ ap length c.release.ensures ∙ length-given c.self.inside.owners.items c.stand.result.now None
       ∙ c.self.invariant.sections;
   counted = c.self.invariant.counted;

@@ -1,7 +1,7 @@
 use Rattle.std.proofs.Common.{◌≡◌, ℕ, ◌<◌, List, length}
 use Rattle.std.specs.List.{All}
 use Rattle.rail_place.specs.Tables.{moves_in}
-use Rattle.rail_place.specs.Made.{IsMadeFor}
+use Rattle.rail_place.specs.PlaceStates.{IsMadeFor}
 use Rattle.rail_place.specs.Plays.{IsPlayed}
 use Rattle.rail_place.proofs.places.Places.take_back.Given as goal
 

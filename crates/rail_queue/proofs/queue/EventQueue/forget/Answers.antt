@@ -2,7 +2,7 @@ use Rattle.std.proofs.Common.{◌+◌, ◌&&◌, not, ap, ◌∙◌, count_by, l
 use Rattle.std.specs.List.{filter}
 use Rattle.rail_queue.specs.Order.{in_order, is_of}
 use Rattle.rail_queue.specs.Queue.{Queue}
-use Rattle.rail_queue.specs.Removal.{stays}
+use Rattle.rail_queue.specs.Removal.{is_other}
 use Rattle.rail_queue.specs.Ring.{all_events, ring}
 use Rattle.rail_queue.proofs.Filtered.{count_left}
 use Rattle.rail_queue.proofs.Ringed.{ring_is}
@@ -13,8 +13,8 @@ use Rattle.rail_queue.proofs.queue.EventQueue.forget.Goals as goal
 pub take_out-requires : goal.take_out-requires
 take_out-requires c = omega (arith, c.self.invariant.ringed.long, ring_is)
 
-left : (c : After-take_out) → Left (stays c.args.class c.args.number) c.self.inside.base c.self.inside.slots c.take_out.new.slots
-left c = left_of (stays c.args.class c.args.number) c.self.inside.base c.self.inside.slots c.take_out.new.slots c.self.invariant.ringed c.take_out.ensures
+left : (c : After-take_out) → Left (is_other c.args.class c.args.number) c.self.inside.base c.self.inside.slots c.take_out.new.slots
+left c = left_of (is_other c.args.class c.args.number) c.self.inside.base c.self.inside.slots c.take_out.new.slots c.self.invariant.ringed c.take_out.ensures
 
 pub note_all-requires : goal.note_all-requires
 note_all-requires c = omega (arith, c.take_out.ensures.long, c.self.invariant.ringed.long, ring_is)

@@ -4,7 +4,7 @@ use Rattle.rail_routes.specs.declared.items.Role.TheVariants.{Portal, Signal, Bo
 use Rattle.rail_routes.specs.Net.{Net}
 use Rattle.rail_routes.specs.NetworkFields.{lists_of}
 use Rattle.rail_routes.specs.PostChanges.{with_post_at_as}
-use Rattle.rail_routes.specs.Sound.{IsSoundNetwork}
+use Rattle.rail_routes.specs.SoundNetworks.{IsSoundNetwork}
 use Rattle.rail_routes.proofs.Restorings.{new_name, on_ok_more, post_found, post_taken}
 use Rattle.rail_routes.proofs.network.Network.put_back_post.Goals as goal
 

@@ -8,7 +8,7 @@ use Rattle.rail_track.specs.KeyCounts.{times}
 use Rattle.rail_track.proofs.CallerLemmas.{on_ok, all_inserted, find-insert, same_name-self, without-insert}
 use Rattle.rail_routes.specs.declared.items.Route.{Route}
 use Rattle.rail_routes.specs.Net.{Net, is_route}
-use Rattle.rail_routes.specs.Sound.{IsSoundNetwork}
+use Rattle.rail_routes.specs.SoundNetworks.{IsSoundNetwork}
 use Rattle.rail_routes.specs.Uses.{sections_of}
 use Rattle.rail_routes.specs.NetworkFields.{lists_of}
 use Rattle.rail_routes.proofs.Puts.{sum_by-insert, fresh_by_count}

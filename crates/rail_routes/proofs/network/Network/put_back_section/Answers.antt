@@ -2,11 +2,11 @@ use Rattle.std.proofs.Common.{◌≡◌, ℕ, false, insert, ap, ◌∙◌}
 use Rattle.std.specs.List.{list_any}
 use Rattle.rail_track.specs.Joints.{is_named, section_named}
 use Rattle.rail_track.specs.Lists.{without}
-use Rattle.rail_track.specs.Sound.{have_one_name}
+use Rattle.rail_track.specs.SoundTracks.{have_one_name}
 use Rattle.rail_track.specs.declared.section.Section.{Section}
 use Rattle.rail_track.proofs.CallerLemmas.{find-insert, fresh_from, same_name-comm, same_name-self, without-insert}
 use Rattle.rail_routes.specs.Net.{Net}
-use Rattle.rail_routes.specs.Sound.{IsSoundNetwork}
+use Rattle.rail_routes.specs.SoundNetworks.{IsSoundNetwork}
 use Rattle.rail_routes.proofs.Restorings.{on_ok_more}
 use Rattle.rail_routes.proofs.network.Network.put_back_section.Goals as goal
 

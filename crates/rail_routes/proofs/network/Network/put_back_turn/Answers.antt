@@ -7,7 +7,7 @@ use Rattle.rail_track.specs.KeyCounts.{times}
 use Rattle.rail_track.proofs.CallerLemmas.{find-insert, on_ok, without-insert}
 use Rattle.rail_routes.specs.declared.items.Turn.{Turn}
 use Rattle.rail_routes.specs.Net.{Net, is_turn}
-use Rattle.rail_routes.specs.Sound.{IsSoundNetwork}
+use Rattle.rail_routes.specs.SoundNetworks.{IsSoundNetwork}
 use Rattle.rail_routes.proofs.Puts.{fresh_by_count}
 use Rattle.rail_routes.proofs.Restorings.{own_turn}
 use Rattle.rail_routes.proofs.Tables.{turn_uses-le}

@@ -49,7 +49,8 @@ returns-in_default-clause-chains g c = λ k before rest item stands.
     let s = c.self.inside in
     let none = sym (read g (goal.at.returns-in_default-clause-chains g c).After-cell) ∙ c.in_default.is in
     let nothing = none_after s.next.items s.items.items s.chains s.spare c.args.slot k c.args.self.now.chains before item rest c.self.invariant.sound (ap (λ r. r.chains) c.self.view_is) stands none in
-    sym (ap (λ l. set c.args.self.now.chains k (before ++ (c.args.slot, item) ∷ l)) (ap behind_first nothing ∙ sym nothing) ∙ ap (set c.args.self.now.chains k) (sym stands.is) ∙ set-get_or c.args.self.now.chains k [])
+    ap (λ r. r.chains) c.self.view_is
+    ∙ sym (ap (λ l. set c.args.self.now.chains k (before ++ (c.args.slot, item) ∷ l)) (ap behind_first nothing ∙ sym nothing) ∙ ap (set c.args.self.now.chains k) (sym stands.is) ∙ set-get_or c.args.self.now.chains k [])
 
 pub free_behind-requires-clause-cell : goal.free_behind-requires-clause-cell
 free_behind-requires-clause-cell g c =
@@ -65,10 +66,13 @@ pub index-requires-2 : goal.index-requires-2
 index-requires-2 g c = omega (arith, within g (goal.at.index-requires-2 g c).In-Some, c.self.invariant.sound.items, c.self.inside.items.ok.0)
 
 pub invariant_of-self : goal.invariant_of-self
-invariant_of-self g c =
+invariant_of-self g c = c.self.invariant
+
+pub invariant_of-self-2 : goal.invariant_of-self-2
+invariant_of-self-2 g c =
     let s = c.self.inside in
     let at = c.requires in
-    let place = goal.at.invariant_of-self g c in
+    let place = goal.at.invariant_of-self-2 g c in
     let after = written s.next.len s.next.items c.free_behind.new.next (put (taken s.next.items c.args.slot c.in-Some.old) 0 c.in-Some.old) s.next.ok.0 (made g place.After-free_behind) (made_long s.next.items c.args.slot 0 c.in-Some.old) in
     let done = take_after_is s.next.items s.items.items s.chains s.spare c.args.slot at.chain c.in-Some.old c.args.self.now.chains at.before at.item at.rest _ c.self.invariant.sound (ap (λ r. r.chains) c.self.view_is) at.at (behind g place.In-Some) after in
     kept_room _ s.next.items s.items.items s.items.items s.chains (s.spare + 1) s.spare _ _ _ _ _ done.0 c.self.invariant refl refl

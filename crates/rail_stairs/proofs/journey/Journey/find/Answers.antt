@@ -1,6 +1,6 @@
 use Rattle.std.proofs.Common.{length, ap, ◌∙◌, arith}
 use Rattle.std.specs.Prelude.{slice_get}
-use Rattle.rail_stairs.specs.OfTrains.{admissions_in, of_train}
+use Rattle.rail_stairs.specs.JourneyTrains.{admissions_in, of_train}
 use Rattle.rail_stairs.specs.Stairways.{move_intervals, train_intervals}
 use Rattle.rail_stairs.proofs.Gathered.{item_of_gathered, length_more}
 use Rattle.rail_stairs.proofs.journey.Journey.find.Goals as goal

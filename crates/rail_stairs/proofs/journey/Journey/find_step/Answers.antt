@@ -2,7 +2,7 @@ use Rattle.std.proofs.Common.{◌≡◌, length, Some, sym, ap, ◌∙◌, arith
 use Rattle.std.specs.Prelude.{slice_get}
 use Rattle.rail_rules.specs.Intervals.{has_interval, interval_of}
 use Rattle.rail_rules.specs.Plant.{claims}
-use Rattle.rail_stairs.specs.OfTrains.{of_train}
+use Rattle.rail_stairs.specs.JourneyTrains.{of_train}
 use Rattle.rail_stairs.specs.Stairways.{move_intervals, step_intervals}
 use Rattle.rail_stairs.proofs.Gathered.{item_of_gathered, length_more}
 use Rattle.rail_stairs.proofs.There.{there_none, there_some}

@@ -2,7 +2,7 @@ use Rattle.std.proofs.Common.{◌≡◌, ◌+◌, ◌-◌, ◌^◌, sym, ◌∙�
 use Rattle.std.specs.Option.{option_copied}
 use Rattle.rail_block.specs.CarriedTimes.{AreBelow}
 use Rattle.rail_rules.specs.Intervals.{has_interval}
-use Rattle.rail_stairs.specs.OfTrains.{admissions_in}
+use Rattle.rail_stairs.specs.JourneyTrains.{admissions_in}
 use Rattle.rail_stairs.proofs.Carried.{next_small}
 use Rattle.rail_stairs.proofs.Has.{same_times}
 use Rattle.rail_stairs.proofs.journey.Journey.has_interval.Goals as goal

@@ -3,7 +3,7 @@ use Rattle.std.specs.Option.{option_copied}
 use Rattle.rail_base.specs.declared.intervals.Interval.{Interval}
 use Rattle.rail_block.specs.CarriedTimes.{AreBelow}
 use Rattle.rail_rules.specs.Intervals.{interval_of}
-use Rattle.rail_stairs.specs.OfTrains.{admissions_in}
+use Rattle.rail_stairs.specs.JourneyTrains.{admissions_in}
 use Rattle.rail_stairs.proofs.Carried.{next_small}
 use Rattle.rail_stairs.proofs.Counts.{section_known}
 use Rattle.rail_stairs.proofs.journey.Journey.interval_there.Goals as goal

@@ -1,6 +1,6 @@
 use Rattle.std.proofs.Common.{◌≡◌, length, sym, ap, ◌∙◌, arith}
 use Rattle.rail_rules.specs.Numbers.{sum_below}
-use Rattle.rail_stairs.specs.Noted.{noted_count}
+use Rattle.rail_stairs.specs.NotedHistories.{noted_count}
 use Rattle.rail_stairs.proofs.Totals.{counts_noted, few_rows, total}
 use Rattle.rail_stairs.proofs.stairs.Stairs.count.Goals as goal
 

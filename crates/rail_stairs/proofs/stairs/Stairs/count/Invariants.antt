@@ -1,7 +1,7 @@
 use Rattle.std.proofs.Common.{◌≡◌, ◌*◌, ◌≤◌}
 use Rattle.rail_rules.specs.Numbers.{sum_below}
 use Rattle.rail_stairs.specs.declared.counting.TheConstants.{TRAIN_INTERVALS}
-use Rattle.rail_stairs.specs.Noted.{noted_count}
+use Rattle.rail_stairs.specs.NotedHistories.{noted_count}
 use Rattle.rail_stairs.proofs.stairs.Stairs.count.Given as goal
 
 abbrev pub invariant-loop-number : goal.invariant-loop-number

@@ -2,8 +2,8 @@ use Rattle.std.proofs.Common.{◌≡◌, length, sym, ap, ◌∙◌, arith}
 use Rattle.std.specs.Prelude.{slice_get}
 use Rattle.rail_rules.specs.Plant.{trains}
 use Rattle.rail_stairs.specs.Journeys.{before_train}
-use Rattle.rail_stairs.specs.Noted.{noted_of}
-use Rattle.rail_stairs.specs.OfTrains.{of_train}
+use Rattle.rail_stairs.specs.NotedHistories.{noted_of}
+use Rattle.rail_stairs.specs.JourneyTrains.{of_train}
 use Rattle.rail_stairs.specs.Stairways.{train_intervals}
 use Rattle.rail_stairs.proofs.Gathered.{item_of_gathered, length_more}
 use Rattle.rail_stairs.proofs.Ready.{noted_admissible, noted_rows, noted_stairway}

@@ -5,7 +5,7 @@ use Rattle.rail_base.specs.declared.history.Entry.{Entry}
 use Rattle.rail_base.specs.declared.history.What.{What}
 use Rattle.rail_rules.specs.Fronts.{is_end}
 use Rattle.rail_rules.specs.Plant.{trains}
-use Rattle.rail_stairs.specs.Noted.{has_room, noted_of}
+use Rattle.rail_stairs.specs.NotedHistories.{has_room, noted_of}
 use Rattle.rail_stairs.specs.Stairways.{ended_at}
 use Rattle.rail_stairs.proofs.Noting.{row_added}
 use Rattle.rail_stairs.proofs.stairs.Stairs.note.Goals as goal

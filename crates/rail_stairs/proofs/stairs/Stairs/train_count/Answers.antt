@@ -1,6 +1,6 @@
 use Rattle.std.proofs.Common.{ℕ, List, length, ap, get_or, ◌∙◌, arith}
 use Rattle.rail_stairs.specs.declared.move_counts.MoveCounts.{MoveCounts}
-use Rattle.rail_stairs.specs.Noted.{count_in, no_counts}
+use Rattle.rail_stairs.specs.NotedHistories.{count_in, no_counts}
 use Rattle.rail_stairs.proofs.Totals.{counts_noted}
 use Rattle.rail_stairs.proofs.stairs.Stairs.train_count.Goals as goal
 

@@ -5,6 +5,8 @@ use Rattle.rail_block.specs.CarriedTimes.{AreBelow, times_at}
 use Rattle.rail_block.specs.KnownMoves.{own_times}
 use Rattle.rail_queue.specs.declared.event.Event.{Event}
 use Rattle.rail_laws_run.specs.HolderTables.{taken_by}
+use Rattle.rail_state.specs.Events.{AreFreedOnce}
+use Rattle.rail_state.specs.Representation.{taken_over}
 use Rattle.rail_state.specs.declared.train.TrainState.{TrainState}
 use Rattle.rail_rules.specs.Fronts.{Front, admissions}
 use Rattle.rail_rules.specs.Plant.{Plant, is_forced, moves, claimed}
@@ -19,6 +21,19 @@ push_move-arrival-requires-clause-times c =
     let givable = c.requires.givable.1 in
     let times = next_times c.args.plant.now front c.args.self.now.trains c.args.self.now.instant c.args.train c.get.result.now c.times_of-times.result givable c.get.ensures c.times_of-times.ensures.times in
     subst (AreBelow (2 ^ 51)) (sym times) givable.below_next
+
+pub push_move-arrival-requires-clause-single : goal.push_move-arrival-requires-clause-single
+push_move-arrival-requires-clause-single c =
+    let train_state : TrainState = c.get.result.now in
+    let of = c.new-known.ensures in
+    let h = c.args.self.now.holders in
+    let es = c.args.self.now.queue.events in
+    let behind : (train_state.place + 1) - 1 ≡ train_state.place = omega arith in
+    as_made (λ plant t p. AreFreedOnce (taken_over plant h t (p - 1)) es) (sym of.plant) (sym of.train) (sym of.place)
+    (subst (λ p. AreFreedOnce (taken_over c.args.plant.now h c.args.train p) es) (ap (λ (r : TrainState). r.place) (sym c.get.ensures) ∙ sym behind) c.requires.single)
+
+pub push_move-arrival-requires-clause-last : goal.push_move-arrival-requires-clause-last
+push_move-arrival-requires-clause-last c = subst (λ (r : TrainState). AreBelow (2 ^ 51) r.times) (sym c.get.ensures) c.requires.givable.1.below
 
 pub admit-requires-clause-sections : goal.admit-requires-clause-sections
 admit-requires-clause-sections c =

@@ -2,9 +2,9 @@ use Rattle.std.proofs.Common.{◌≡◌, ℕ, ◌<◌, length, get_or, set, None
 use Rattle.std.proofs.lemmas.List.{length-set}
 use Rattle.rail_state.specs.declared.train.TrainState.{TrainState}
 use Rattle.rail_state.specs.TrainStates.{admitted, after_taking, state_admitted, state_of}
-use Rattle.rail_state.specs.Kept.{AreSetsOf}
-use Rattle.rail_state.proofs.Loosening.{admitted_each}
-use Rattle.rail_state.proofs.Sets.{held_at, held_still, knows_each, knows_taken, train_read, written_back}
+use Rattle.rail_state.specs.TrainSearches.{AreSetsOf}
+use Rattle.rail_state.proofs.ChangeableCauses.{admitted_each}
+use Rattle.rail_state.proofs.Sets.{blocked_at, blocked_still, knows_each, knows_taken, train_read, written_back}
 use Rattle.rail_state.proofs.trains.TrainStates.admit.Goals as goal
 
 pub note_taking_each-requires-clause-few : goal.note_taking_each-requires-clause-few
@@ -61,8 +61,8 @@ invariant_of-self c =
     rw (new_rows c) (record {
       few = omega (arith, c.self.invariant.few, long c, length-set mid i train_state);
       sets = subst (λ (k : ℕ). AreSetsOf (set mid k train_state) c.note.new.self) here (c.note.ensures mid (omega (arith, within, here)) c.note_taking_each.ensures.sets);
-      held = held_at mid c.self.inside.held i train_state within (inr unknown)
-          (held_still old mid c.self.inside.held (knows_each (after_taking plant holders) old mid (knows_taken plant holders) (noted c)) c.self.invariant.held);
+      blocked = blocked_at mid c.self.inside.blocked i train_state within (inr unknown)
+          (blocked_still old mid c.self.inside.blocked (knows_each (after_taking plant holders) old mid (knows_taken plant holders) (noted c)) c.self.invariant.blocked);
     })
 
 pub returns-clause-trains : goal.returns-clause-trains

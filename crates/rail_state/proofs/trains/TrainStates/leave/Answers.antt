@@ -2,8 +2,8 @@ use Rattle.std.proofs.Common.{◌≡◌, ◌<◌, true, length, ap, inl, arith}
 use Rattle.std.proofs.lemmas.List.{length-set}
 use Rattle.rail_state.specs.declared.train.TrainState.{TrainState}
 use Rattle.rail_state.specs.TrainStates.{is_untried, lacks_hold_line, state_of}
-use Rattle.rail_state.specs.Kept.{is_loose, is_waiting}
-use Rattle.rail_state.proofs.Sets.{held_at, same_sets, train_read}
+use Rattle.rail_state.specs.TrainSearches.{is_changeable, is_waiting}
+use Rattle.rail_state.proofs.Sets.{blocked_at, same_sets, train_read}
 use Rattle.rail_state.proofs.trains.TrainStates.leave.Goals as goal
 
 pub invariant_of-self : goal.invariant_of-self
@@ -16,6 +16,6 @@ invariant_of-self c =
     let new : TrainState = record train_state { is_out = true } in
     record {
       few = omega (arith, c.self.invariant.few, length-set old t new);
-      sets = same_sets old c.self.inside.sets t new within (ap is_waiting read) (ap is_untried read) (ap lacks_hold_line read) (ap is_loose read) c.self.invariant.sets;
-      held = held_at old c.self.inside.held t new within (inl (ap (λ (r : TrainState). r.known) read)) c.self.invariant.held;
+      sets = same_sets old c.self.inside.sets t new within (ap is_waiting read) (ap is_untried read) (ap lacks_hold_line read) (ap is_changeable read) c.self.invariant.sets;
+      blocked = blocked_at old c.self.inside.blocked t new within (inl (ap (λ (r : TrainState). r.known) read)) c.self.invariant.blocked;
     }

@@ -1,7 +1,7 @@
 use Rattle.std.proofs.Common.{◌≡◌, length, List, ◌++◌, take, drop, ap, sym, subst, ◌∙◌, arith}
 use Rattle.rail_state.specs.declared.train.TrainState.{TrainState}
 use Rattle.rail_state.specs.TrainStates.{bar_by, looked_at, state_of}
-use Rattle.rail_state.specs.Kept.{AreHeldFor, AreSetsOf}
+use Rattle.rail_state.specs.TrainSearches.{AreBlockedAt, AreSetsOf}
 use Rattle.rail_state.proofs.Sets.{written_back}
 use Rattle.rail_state.proofs.trains.TrainStates.look.Goals as goal
 
@@ -20,7 +20,7 @@ invariant_of-self c =
     rw (new_rows c) (record {
       few = omega (arith, c.self.invariant.few, c.look_at_each.ensures.length, ap length c.deref_mut.ensures.value);
       sets = c.look_at_each.ensures.sets;
-      held = c.look_at_each.ensures.held (subst (λ (rows : List TrainState). AreHeldFor rows c.self.inside.held) (sym c.deref_mut.ensures.value) c.self.invariant.held);
+      blocked = c.look_at_each.ensures.blocked (subst (λ (rows : List TrainState). AreBlockedAt rows c.self.inside.blocked) (sym c.deref_mut.ensures.value) c.self.invariant.blocked);
     })
 
 pub returns-clause-trains : goal.returns-clause-trains

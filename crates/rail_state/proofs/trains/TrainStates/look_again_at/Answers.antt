@@ -1,14 +1,14 @@
 use Rattle.std.proofs.Common.{◌≡◌, ℕ, true, length, List, ◌++◌, take, drop, ap, sym, subst, ◌∙◌, arith}
 use Rattle.rail_state.specs.declared.train.TrainState.{TrainState}
 use Rattle.rail_state.specs.TrainStates.{is_blocked_at, state_of, without_known}
-use Rattle.rail_state.specs.Kept.{AreSetsOf}
-use Rattle.rail_state.proofs.Sets.{held_again, written_back}
+use Rattle.rail_state.specs.TrainSearches.{AreSetsOf}
+use Rattle.rail_state.proofs.Sets.{blocked_again, written_back}
 use Rattle.rail_state.proofs.trains.TrainStates.look_again_at.Goals as goal
 
-pub look_again_at_each-requires-clause-held : goal.look_again_at_each-requires-clause-held
-look_again_at_each-requires-clause-held c = λ t is.
+pub look_again_at_each-requires-clause-blocked : goal.look_again_at_each-requires-clause-blocked
+look_again_at_each-requires-clause-blocked c = λ t is.
     let x : ℕ = c.args.section in
-    c.take-held.ensures.set t ∙ c.self.invariant.held t x (ap (λ (rows : List TrainState). is_blocked_at x (state_of rows t).known) (sym c.deref_mut.ensures.value) ∙ is)
+    c.take-blocked.ensures.set t ∙ c.self.invariant.blocked t x (ap (λ (rows : List TrainState). is_blocked_at x (state_of rows t).known) (sym c.deref_mut.ensures.value) ∙ is)
 
 pub look_again_at_each-requires-clause-sets : goal.look_again_at_each-requires-clause-sets
 look_again_at_each-requires-clause-sets c = subst (λ (rows : List TrainState). AreSetsOf rows c.self.inside.sets) (sym c.deref_mut.ensures.value) c.self.invariant.sets
@@ -26,7 +26,7 @@ invariant_of-self c =
     rw (new_rows c) (record {
       few = omega (arith, c.self.invariant.few, c.look_again_at_each.ensures.length, ap length c.deref_mut.ensures.value);
       sets = c.look_again_at_each.ensures.sets;
-      held = held_again c.args.section c.self.inside.rows.items c.look_again_at_each.new.rows c.self.inside.held c.take-held.new.self (each c) c.take-held.ensures.others c.self.invariant.held;
+      blocked = blocked_again c.args.section c.self.inside.rows.items c.look_again_at_each.new.rows c.self.inside.blocked c.take-blocked.new.self (each c) c.take-blocked.ensures.others c.self.invariant.blocked;
     })
 
 pub returns-clause-trains : goal.returns-clause-trains

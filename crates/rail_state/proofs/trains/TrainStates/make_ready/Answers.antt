@@ -2,8 +2,8 @@ use Rattle.std.proofs.Common.{◌≡◌, ◌<◌, ℕ, true, length, set, ap, in
 use Rattle.std.proofs.lemmas.List.{length-set}
 use Rattle.rail_state.specs.declared.train.TrainState.{TrainState}
 use Rattle.rail_state.specs.TrainStates.{state_of}
-use Rattle.rail_state.specs.Kept.{AreSetsOf}
-use Rattle.rail_state.proofs.Sets.{held_at, train_read}
+use Rattle.rail_state.specs.TrainSearches.{AreSetsOf}
+use Rattle.rail_state.proofs.Sets.{blocked_at, train_read}
 use Rattle.rail_state.proofs.trains.TrainStates.make_ready.Goals as goal
 
 pub invariant_of-self : goal.invariant_of-self
@@ -17,5 +17,5 @@ invariant_of-self c =
     record {
       few = omega (arith, c.self.invariant.few, length-set old i train_state);
       sets = subst (λ (k : ℕ). AreSetsOf (set old k train_state) c.note.new.self) here (c.note.ensures old (omega (arith, within, here)) c.self.invariant.sets);
-      held = held_at old c.self.inside.held i train_state within (inl (ap (λ (r : TrainState). r.known) read)) c.self.invariant.held;
+      blocked = blocked_at old c.self.inside.blocked i train_state within (inl (ap (λ (r : TrainState). r.known) read)) c.self.invariant.blocked;
     }

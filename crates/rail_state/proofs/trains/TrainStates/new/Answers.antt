@@ -3,7 +3,7 @@ use Rattle.std.proofs.lemmas.Bool.{cases_lt, false≢true}
 use Rattle.std.proofs.lemmas.List.{get_or_past}
 use Rattle.rail_rules.specs.Numbers.{listed}
 use Rattle.rail_state.specs.TrainStates.{is_blocked_at, is_untried, lacks_hold_line, no_state, outside, state_of}
-use Rattle.rail_state.specs.Kept.{is_loose, is_waiting}
+use Rattle.rail_state.specs.TrainSearches.{is_changeable, is_waiting}
 use Rattle.rail_laws_front.proofs.CallerLemmas.{get_or-listed, length-listed}
 use Rattle.rail_state.specs.declared.train.TrainState.{TrainState}
 use Rattle.rail_state.proofs.Sets.{no_sets}
@@ -22,8 +22,8 @@ invariant_of-result c =
     rw c.loop-number.invariant.rows (record {
       few = omega (arith, length-listed (outside c.args.plant.now) n, c.trains-trains.ensures.table.few);
       sets = no_sets states c.none.result c.none.ensures (outside_all is_waiting refl (λ t. refl)) (outside_all is_untried refl (λ t. refl)) (outside_all lacks_hold_line refl (λ t. refl))
-          (outside_all is_loose refl (λ t. refl));
-      held = λ t x is. absurd (false≢true (sym (outside_all (λ train_state. is_blocked_at x train_state.known) refl (λ t. refl) t) ∙ is));
+          (outside_all is_changeable refl (λ t. refl));
+      blocked = λ t x is. absurd (false≢true (sym (outside_all (λ train_state. is_blocked_at x train_state.known) refl (λ t. refl) t) ∙ is));
     })
 
 pub loop-number-preserved : goal.loop-number-preserved

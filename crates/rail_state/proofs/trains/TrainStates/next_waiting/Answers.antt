@@ -1,7 +1,7 @@
 use Rattle.std.proofs.Common.{List, refl, subst}
 use Rattle.rail_state.specs.declared.train.TrainState.{TrainState}
 use Rattle.rail_state.specs.TrainStates.{IsNextOf}
-use Rattle.rail_state.specs.Kept.{is_waiting}
+use Rattle.rail_state.specs.TrainSearches.{is_waiting}
 use Rattle.rail_state.proofs.Sets.{found_next}
 use Rattle.rail_state.proofs.trains.TrainStates.next_waiting.Goals as goal
 

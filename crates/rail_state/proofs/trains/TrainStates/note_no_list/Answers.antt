@@ -2,8 +2,8 @@ use Rattle.std.proofs.Common.{◌≡◌, ◌<◌, ℕ, Some, length, set, ap, re
 use Rattle.std.proofs.lemmas.List.{length-set}
 use Rattle.rail_base.specs.declared.history.Cause.TheVariants.{NoList}
 use Rattle.rail_state.specs.declared.train.TrainState.{TrainState}
-use Rattle.rail_state.specs.Kept.{AreSetsOf}
-use Rattle.rail_state.proofs.Sets.{held_unless}
+use Rattle.rail_state.specs.TrainSearches.{AreSetsOf}
+use Rattle.rail_state.proofs.Sets.{blocked_unless}
 use Rattle.rail_state.proofs.trains.TrainStates.note_no_list.Goals as goal
 
 pub invariant_of-self : goal.invariant_of-self
@@ -16,5 +16,5 @@ invariant_of-self c =
     record {
       few = omega (arith, c.self.invariant.few, length-set old i train_state);
       sets = subst (λ (k : ℕ). AreSetsOf (set old k train_state) c.note.new.self) here (c.note.ensures old (omega (arith, within, here)) c.self.invariant.sets);
-      held = held_unless old c.self.inside.held i train_state within (λ x. refl) c.self.invariant.held;
+      blocked = blocked_unless old c.self.inside.blocked i train_state within (λ x. refl) c.self.invariant.blocked;
     }

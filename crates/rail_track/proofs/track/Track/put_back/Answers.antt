@@ -6,7 +6,7 @@ use Rattle.rail_base.specs.NameForms.{same_name}
 use Rattle.rail_track.specs.declared.section.Section.{Section}
 use Rattle.rail_track.specs.KeyCounts.{times}
 use Rattle.rail_track.specs.Joints.{has_joint, sections_at}
-use Rattle.rail_track.specs.Sound.{is_fit, have_one_name, IsSoundTrack}
+use Rattle.rail_track.specs.SoundTracks.{is_fit, have_one_name, IsSoundTrack}
 use Rattle.rail_track.proofs.Tallies.{same_name-comm}
 use Rattle.rail_track.proofs.Soundness.{counted_joints}
 use Rattle.rail_track.proofs.Inserts.{fresh_from, count_by-insert, all_inserted}

@@ -1,7 +1,10 @@
-use Rattle.std.proofs.Common.{ℕ, List, ap, ◌∙◌, sym}
+use Rattle.std.proofs.Common.{ℕ, Bool, IfErr, List, ap, ◌∙◌, subst, sym}
+use Rattle.rail_base.specs.Refusals.{AnswersFirst}
 use Rattle.rail_base.specs.FirstRefusals.{first_failing}
 use Rattle.rail_place.specs.Tables.{moves_in}
 use Rattle.rail_rules.specs.Moves.{Moves}
+use Rattle.rail_text.specs.Lines.{words}
+use Rattle.rail_words.specs.ListAnswers.{asked_refusal}
 use Rattle.rail_words.specs.Lists.{words_tests}
 use Rattle.rail_words.proofs.Judging.{moves_kept, moving_from, both_on_ok}
 use Rattle.rail_words.proofs.list.ListFile.read_line.Goals as goal
@@ -15,5 +18,6 @@ pub returns-in-Move-clause-refused : goal.returns-in-Move-clause-refused
 returns-in-Move-clause-refused c =
     let moving = moving_from c.in-Some.verb.now (sym c.verb_of.ensures ∙ c.in-Move.is) in
     let plan : Moves = moves_in c.args.moves.now in
-    let tests = ap (λ (ws : List (List ℕ)). first_failing (words_tests c.args.names.now.trains.keys plan c.args.self.now.has_moved c.args.number ws)) c.in-Some.ensures.words in
-    rw tests (c.read_moves.ensures.refused plan c.in-Some.verb.now moving.other moving.moving)
+    let tests = ap (λ (ws : List (List ℕ)). first_failing (words_tests c.args.names.now.trains.keys plan c.args.may_move c.args.self.now.has_moved c.args.number ws)) c.in-Some.ensures.words in
+    rw tests (subst (λ (may_move : Bool). IfErr c.read_moves.result (AnswersFirst (asked_refusal c.args.names.now.trains.keys plan may_move c.args.self.now c.args.number c.in-Some.verb.now (words c.in-Some.args.now))))
+    (sym c.if-may_move.true) (c.read_moves.ensures.refused plan c.in-Some.verb.now moving.other moving.moving))

@@ -1,7 +1,0 @@
-use Rattle.std.proofs.Common.{take}
-use Rattle.rail_place.specs.Tables.{moves_in}
-use Rattle.rail_consequence.proofs.Holding.{HasHeld}
-use Rattle.rail_consequence.proofs.analyst.held_by.Given as goal
-
-abbrev pub invariant-loop-train : goal.invariant-loop-train
-invariant-loop-train g l = HasHeld (moves_in l.moves) l.places.positions (take l.train-index l.inside) l.held

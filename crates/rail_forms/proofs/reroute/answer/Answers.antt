@@ -1,0 +1,33 @@
+use Rattle.std.proofs.Common.{refl, ap, ◌∙◌}
+use Rattle.rail_words.specs.declared.files.Role.TheVariants as role
+use Rattle.rail_forms.specs.Answers.{Told}
+use Rattle.rail_forms.specs.Files.{too_large}
+use Rattle.rail_forms.proofs.Answers.{ended_with}
+use Rattle.rail_forms.proofs.ThreeFiles.{all_read, list_unread, proposals_unread, scene_unread}
+use Rattle.rail_forms.proofs.reroute.answer.Goals as goal
+
+pub returns-in_err-scene-clause-answer : goal.returns-in_err-scene-clause-answer
+returns-in_err-scene-clause-answer g c =
+    scene_unread _ _ _ _ _ _ _ g.S.Shelf _ _ c.in_err-scene.field-0.0
+    (ended_with c.from_residual.result c.in_err-scene.field-0.0 c.from_residual.ensures.1) refl c.in_err-scene.ensures.refused
+
+pub returns-in_err-list-clause-answer : goal.returns-in_err-list-clause-answer
+returns-in_err-list-clause-answer g c =
+    list_unread _ _ _ _ _ _ _ c.in_ok-scene.scene.items c.in_ok-scene.ensures.bytes c.in_ok-scene.ensures.fits g.S.Shelf _ _ c.in_err-list.field-0.0
+    (ended_with c.from_residual-in_err-list.result c.in_err-list.field-0.0 c.from_residual-in_err-list.ensures.1) c.in_ok-scene.ensures.told_stays c.in_err-list.ensures.refused
+
+pub returns-in_err-proposals-clause-answer : goal.returns-in_err-proposals-clause-answer
+returns-in_err-proposals-clause-answer g c =
+    proposals_unread _ _ _ _ _ _ _ c.in_ok-scene.scene.items c.in_ok-scene.ensures.bytes c.in_ok-scene.ensures.fits
+    c.in_ok-list.list.items (λ places at. c.in_ok-list.ensures.bytes places (ap (λ (told : Told). told c.args.list.now) c.in_ok-scene.ensures.told_stays ∙ at)) c.in_ok-list.ensures.fits
+    g.S.Shelf _ _ c.in_err-proposals.field-0.0
+    (ended_with c.from_residual-in_err-proposals.result c.in_err-proposals.field-0.0 c.from_residual-in_err-proposals.ensures.1)
+    (c.in_ok-list.ensures.told_stays ∙ c.in_ok-scene.ensures.told_stays) c.in_err-proposals.ensures.refused
+
+pub returns-clause-answer : goal.returns-clause-answer
+returns-clause-answer g c =
+    all_read _ _ _ _ _ _ _ c.deref.result.now (λ bytes at. c.deref.ensures.value ∙ c.in_ok-scene.ensures.bytes bytes at) (ap (too_large role.Scene) c.deref.ensures.value ∙ c.in_ok-scene.ensures.fits)
+    c.deref-2.result.now (λ places at. c.deref-2.ensures.value ∙ c.in_ok-list.ensures.bytes places (ap (λ (told : Told). told c.args.list.now) c.in_ok-scene.ensures.told_stays ∙ at))
+    (ap (too_large role.List) c.deref-2.ensures.value ∙ c.in_ok-list.ensures.fits)
+    c.deref-3.result.now (λ lines at. c.deref-3.ensures.value ∙ c.in_ok-proposals.ensures.bytes lines (ap (λ (told : Told). told c.args.proposals.now) (c.in_ok-list.ensures.told_stays ∙ c.in_ok-scene.ensures.told_stays) ∙ at))
+    (ap (too_large role.Proposals) c.deref-3.ensures.value ∙ c.in_ok-proposals.ensures.fits) c.judge_files.ensures.answer

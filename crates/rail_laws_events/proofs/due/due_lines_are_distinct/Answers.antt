@@ -1,5 +1,0 @@
-use Rattle.rail_laws_events.proofs.Once.{due_once}
-use Rattle.rail_laws_events.proofs.due.due_lines_are_distinct.Goals as goal
-
-pub returns : goal.returns
-returns c = due_once

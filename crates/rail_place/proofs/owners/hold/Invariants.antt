@@ -1,9 +1,0 @@
-use Rattle.std.proofs.Common.{◌≡◌, length, drop, Some}
-use Rattle.rail_place.specs.Owners.{given}
-use Rattle.rail_place.proofs.owners.hold.Given as goal
-
-abbrev pub invariant-loop-section : goal.invariant-loop-section
-invariant-loop-section l = record {
-  same_length : length l.owners.items ≡ length l.initial.owners.items;
-  rest : given l.owners.items (drop l.section-index l.sections) (Some l.train) ≡ given l.initial.owners.items l.sections (Some l.train);
-}

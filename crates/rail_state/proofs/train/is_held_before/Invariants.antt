@@ -1,6 +1,0 @@
-use Rattle.std.proofs.Common.{◌≡◌, drop}
-use Rattle.rail_state.specs.TrainStates.{is_held_before}
-use Rattle.rail_state.proofs.train.is_held_before.Given as goal
-
-abbrev pub invariant-loop-other : goal.invariant-loop-other
-invariant-loop-other l = is_held_before l.holders l.train l.own l.section (drop l.other-index l.sections) ≡ is_held_before l.holders l.train l.own l.section l.sections

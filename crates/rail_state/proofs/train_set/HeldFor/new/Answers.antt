@@ -1,5 +1,0 @@
-use Rattle.rail_state.proofs.TrainSetLemmas.{none_held}
-use Rattle.rail_state.proofs.train_set.HeldFor.new.Goals as goal
-
-pub returns : goal.returns
-returns c = none_held c.in_ok-vec.field-0.items 512 c.none.result c.none.ensures (c.in_ok-vec.ensures.items_if_clones_equal (λ y same. same))
