@@ -4,9 +4,9 @@
 usage: check_guide.py PROGRAM EXAMPLES PAGE [PAGE ..]
 
 A page shows commands in fenced blocks of the kind `console`. A line `$ rail WORDS` is a command, also where it is
-written as the command that builds the program first, `(cd crates/rail && rt try -- WORDS)`. The lines below it are
-what it prints, standard output and then standard error; a line `...` stands for any lines. `> FILE` behind a command
-keeps what it prints. A fenced block `KIND FILE` gives a file, `KIND FILE +` more lines of it, and `diff FILE` a change:
+written as the command that builds the program first, `(cd crates/rail && rt try -- WORDS)`; and so is a line
+`$ examples/tools/NAME WORDS`, which runs this script. The lines below it are what it prints, standard output and then
+standard error; a line `...` stands for any lines. `> FILE` behind a command keeps what it prints. A fenced block `KIND FILE` gives a file, `KIND FILE +` more lines of it, and `diff FILE` a change:
 lines of the file that begin with `-` there give way to those that begin with `+`.
 
 The commands of a page run in order in a folder of their own, in which `examples` is the folder EXAMPLES. The status
@@ -14,6 +14,7 @@ is 1 where a page shows something else than is printed, or no command at all.
 """
 
 import argparse
+import os
 import pathlib
 import re
 import shlex
@@ -54,17 +55,19 @@ def commands(start, lines):
         yield at, command, shown
 
 
-def words_of(command):
-    """Returns the words behind the program's name and the file that keeps what is printed, or None for other commands."""
+def words_of(command, program, folder):
+    """Returns what is run, the program or a script, with its words, and the file that keeps what is printed, or None for
+    other commands."""
     built = BUILT.match(command)
     if built:
         command = "rail " + built.group(1).replace("$OLDPWD/", "") + (built.group(2) or "")
     words = shlex.split(command)
-    if not words or words[0] != "rail":
+    if not words or words[0] != "rail" and not words[0].startswith("examples/tools/"):
         return None
+    run = program if words[0] == "rail" else str(folder / words[0])
     if len(words) > 2 and words[-2] == ">":
-        return words[1:-2], words[-1]
-    return words[1:], None
+        return [run, *words[1:-2]], words[-1]
+    return [run, *words[1:]], None
 
 
 def fits(shown, printed):
@@ -117,12 +120,12 @@ def check(program, examples, page):
             if kind != ["console"]:
                 continue
             for number, command, shown in commands(start, lines):
-                asked = words_of(command)
+                asked = words_of(command, program, folder)
                 if asked is None:
                     other.append(f"{page}:{number}: not a command of the program: {command}")
                     continue
                 words, kept = asked
-                ran = subprocess.run([program, *words], cwd=folder, capture_output=True, check=False)
+                ran = subprocess.run(words, cwd=folder, env=os.environ | {"RAIL": program}, capture_output=True, check=False)
                 count += 1
                 out = ran.stdout.decode()
                 if kept:

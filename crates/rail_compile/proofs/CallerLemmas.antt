@@ -8,3 +8,5 @@ pub use Rattle.rail_compile.proofs.Moves.{length-moves_over}
 pub use Rattle.rail_compile.proofs.Names.{distinct_from_apart}
 -- Trains: the tests of a train, with what they look at; a train that is not refused has a known kind and known routes.
 pub use Rattle.rail_compile.proofs.Trains.{IsUnrefused, train_is, unrefused_at}
+-- the row of a train that is not refused is within the ranges
+pub use Rattle.rail_compile.proofs.Tables.{row_fine}

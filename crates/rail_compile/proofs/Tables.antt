@@ -91,7 +91,7 @@ kind_fine kinds name fit known =
 
 -- a train that is not refused is fine
 module _ (scene : Scene) (h : IsScene scene) (sound : IsSoundNetwork scene.network) where
-  row_fine : (t : ℕ) (given : SceneTrain) → train (bare (tables_of scene)) t ≡ train_row scene given → IsUnrefused scene given → is_fit_train given ≡ true → is_typed_row (train_row scene given) ≡ true → is_train_in_range (bare (tables_of scene)) t ≡ true
+  pub row_fine : (t : ℕ) (given : SceneTrain) → train (bare (tables_of scene)) t ≡ train_row scene given → IsUnrefused scene given → is_fit_train given ≡ true → is_typed_row (train_row scene given) ≡ true → is_train_in_range (bare (tables_of scene)) t ≡ true
   row_fine t given at unrefused fit typed =
       let net : Net = scene.network in
       let row : TrainRow = train_row scene given in

@@ -4,17 +4,21 @@ ghost use Rattle.std.specs.Prelude.{◌≡◌, suc, None, IsTrue, IfOk, IfErr, O
 ghost use Rattle.rail_rules.specs.Accepted.{is_accepted};
 ghost use Rattle.rail_base.specs.declared.refusals.Fault.TheVariants.{Refused};
 ghost use Rattle.rail_scene.specs.Scenes.{IsScene};
-ghost use Rattle.rail_compile.specs.Itineraries.{plant_of_scene, with_trains};
+ghost use Rattle.rail_base.specs.FirstRefusals.{first_failing};
+ghost use Rattle.rail_scene.specs.Scenes.{is_fit_train};
+ghost use Rattle.rail_compile.specs.Itineraries.{plant_of_scene, train_row, with_trains};
+ghost use Rattle.rail_compile.specs.RowTypes.{is_typed_row};
 ghost use Rattle.rail_base.specs.Refusals.{AnswersFirst};
-ghost use Rattle.rail_compile.specs.Refusals.{compile_refusal, fault_for, of_train};
+ghost use Rattle.rail_compile.specs.Refusals.{compile_refusal, fault_for, of_train, train_tests};
 ghost use Rattle.rail_compile.specs.Ways.{AreLookups};
 
 use crate::compiling::itineraries::of_train;
 use crate::compiling::kinds::kind_names;
 use crate::compiling::spelling::tables_of;
+use crate::compiling::trains::train_row;
 use crate::compiling::ways::{Ways, ways_of};
 use indexmap::IndexSet;
-use rail_base::{Fault, Name, OutOfMemory, Part, Reason, Refusal, TrainNo};
+use rail_base::{Fault, Name, OutOfMemory, Part, Reason, Refusal, TrainNo, TrainRow};
 use rail_plan::{PlanFault, Plant};
 use rail_scene::{Scene, SceneTrain};
 use std::alloc::Global;
@@ -86,6 +90,25 @@ pub fn compile_with(
         Ok(plant) => Ok(plant),
         Err(fault) => Err(fault_for(fault)),
     }
+}
+
+/// The row of one train, which counts from 1 among those of the scene, or the first refusal of it for its kind or its
+/// itinerary.
+pub fn compile_train(
+    alloc: Global,
+    scene: &Scene,
+    lookups: &Lookups,
+    item: u32,
+    train: &SceneTrain,
+) -> Result<TrainRow, Fault>
+    requires lookups { AreLookups scene.now lookups.now }
+    requires train { IsTrue (is_fit_train train.now) }
+    ensures accepted { OnOk result (first_failing (train_tests scene.now item train.now) ≡ None) }
+    ensures row { IfOk result (λ row. row ≡ train_row scene.now train.now) }
+    ensures typed { IfOk result (λ row. IsTrue (is_typed_row row)) }
+    ensures refused { IfErr result (AnswersFirst (first_failing (train_tests scene.now item train.now))) }
+{
+    train_row(alloc, scene, &lookups.kinds, &lookups.ways, item, train)
 }
 
 /// The refusal of a scene whose plant has this fault.

@@ -8,4 +8,4 @@
 
 mod compiling;
 
-pub use compiling::{Lookups, compile, compile_with};
+pub use compiling::{Lookups, compile, compile_train, compile_with};

@@ -12,3 +12,5 @@ pub use Rattle.rail_consequence.proofs.Counts.{times-cons}
 pub use Rattle.rail_consequence.proofs.Counts.{zeros_at}
 -- the number that is read at an index stands in the list
 pub use Rattle.rail_consequence.proofs.Counts.{in_at}
+-- Aside: the sets of one train alone, for the moves of all
+pub use Rattle.rail_consequence.proofs.Aside.{rows_for}

@@ -20,3 +20,4 @@ mod Falls
 mod Moved
 mod Noting
 mod Marks
+mod Aside

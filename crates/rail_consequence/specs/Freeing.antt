@@ -6,7 +6,7 @@ use Rattle.rail_rules.specs.Places.{holds, is_inside, place_of}
 use Rattle.rail_sets.specs.Counts.{Columns}
 use Rattle.rail_sets.specs.Sets.{has}
 use Rattle.rail_consequence.specs.Needs.{count_of, needs_from, needs_left, one_if}
-use Rattle.rail_consequence.specs.declared.ahead.Ahead.{Ahead}
+use Rattle.rail_consequence.specs.declared.lookahead.Lookahead.{Lookahead}
 use Rattle.rail_consequence.specs.declared.notes.Stop.{Stop}
 use Rattle.rail_consequence.specs.declared.notes.Stop.TheVariants.{Next, Later}
 use Rattle.rail_consequence.specs.Searches.{HasNoSafeLegOf}
@@ -35,7 +35,7 @@ HasFalls plan s counts width t p fell = (x : ℕ) → x < 64 * width
     → has fell x ≡ (needs_from plan t (place_of s t) x && not (needs_from plan t p x) && (count_of counts x == 2))
 
 -- as far as the words go, the sets are those of the places where the train has gone on to the place: each section of the first is taken by a train, and each of the second is needed by two or more
-pub record IsAhead (plan : Moves) (s : List ℕ) (counts : Columns) (width t p : ℕ) (ahead : Ahead) : Type 0 where
+pub record IsAhead (plan : Moves) (s : List ℕ) (counts : Columns) (width t p : ℕ) (ahead : Lookahead) : Type 0 where
   pub taken : (x : ℕ) → x < 64 * width → IsTrue (has ahead.taken x) → (v : ℕ) × IsTrue (holds plan (set s t p) v x)
   pub shared : (x u : ℕ) → x < 64 * width → IsTrue (has ahead.shared x) → IsSharedThen plan s counts t p u x
 

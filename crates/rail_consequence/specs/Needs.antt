@@ -1,5 +1,5 @@
 -- For how many trains each section is needed by moves that they have left, and what each train needs as sets.
-use Rattle.std.specs.Prelude.{◌≡◌, ℕ, ◌+◌, ◌*◌, ◌<◌, ◌≤◌, ◌==◌, Bool, ◌&&◌, nat_lt, nat_le, List, [], length, get_or, count_by, IsTrue}
+use Rattle.std.specs.Prelude.{◌≡◌, ◌≢◌, ℕ, ◌+◌, ◌*◌, ◌<◌, ◌≤◌, ◌==◌, Bool, ◌&&◌, nat_lt, nat_le, List, [], length, get_or, set, max, count_by, IsTrue}
 use Rattle.rail_base.specs.declared.limits.TheConstants.{SECTIONS, TRAINS}
 use Rattle.rail_rules.specs.Numbers.{any_below, is_in, sum_below}
 use Rattle.rail_rules.specs.Moves.{Moves, stand}
@@ -82,6 +82,24 @@ pub record AreRows (plan : Moves) (n : ℕ) (table : SetRows) : Type 0 where
 -- each train has such a row
 abbrev pub IsRowsOf : Moves → SetRows → Type 0
 IsRowsOf plan table = AreRows plan plan.trains table
+
+-- the sets with this row of a train; they take as many words as those or these others
+abbrev pub with_row : SetRows → ℕ → ℕ → List PlaceSets → SetRows
+with_row table width t row = record { width = max table.width width; rows = set table.rows t row }
+
+-- each train but this one has a row that tells all its places, of whose sets the words have all sections
+pub record AreRowsBut (plan : Moves) (t : ℕ) (table : SetRows) : Type 0 where
+  pub long : length table.rows ≡ plan.trains
+  pub told : (u : ℕ) → u < plan.trains → u ≢ t → IsSetRow plan u (plan.moves u + 1) (get_or table.rows u [])
+  pub wide : 64 * table.width ≤ SECTIONS
+  pub narrow : (u i x : ℕ) → u < plan.trains → u ≢ t → IsTrue (is_in x (plan.claim u i)) → x < 64 * table.width
+
+-- the first row tells all places of this train, of whose sets the words have all sections
+pub record AreRowsFor (plan : Moves) (t : ℕ) (table : SetRows) : Type 0 where
+  pub some : 0 < length table.rows
+  pub told : IsSetRow plan t (plan.moves t + 1) (get_or table.rows 0 [])
+  pub wide : 64 * table.width ≤ SECTIONS
+  pub narrow : (i x : ℕ) → IsTrue (is_in x (plan.claim t i)) → x < 64 * table.width
 
 -- so many words of a set, which it has, have all sections that the trains need
 pub record AreWords (plan : Moves) (words : ℕ) : Type 0 where

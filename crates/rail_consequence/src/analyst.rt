@@ -6,15 +6,15 @@ ghost use Rattle.rail_rules.specs.Analysis.{Finds, is_leg, moves_left};
 ghost use Rattle.rail_rules.specs.Places.{completes, is_inside, nobody_inside, place_of};
 ghost use Rattle.rail_place.specs.PlaceStates.{IsMadeFor};
 ghost use Rattle.rail_place.specs.Plays.{IsPlayed};
-ghost use Rattle.rail_place.specs.Tables.{moves_in};
-ghost use Rattle.rail_rules.specs.Moves.{stand};
+ghost use Rattle.rail_place.specs.Tables.{IsTable, moves_in};
+ghost use Rattle.rail_rules.specs.Moves.{Moves as Plan, stand};
 ghost use Rattle.rail_rules.specs.Numbers.{are_apart};
-ghost use Rattle.rail_consequence.specs.AnalystStates.{IsAnalystFor, IsAnswered};
-ghost use Rattle.rail_consequence.specs.Needs.{AreWords, IsCounted, IsRowsOf, IsSet};
+ghost use Rattle.rail_consequence.specs.AnalystStates.{AreAlikeBut, IsAnalystFor, IsAnswered, IsAsideFor};
+ghost use Rattle.rail_consequence.specs.Needs.{AreRowsFor, AreWords, IsCounted, IsRowsOf, IsSet, with_row};
 ghost use Rattle.rail_consequence.specs.Searches.{leg_to};
 ghost use Rattle.rail_consequence.specs.Workspace.{GoesOn, IsListing, IsPlayedFrom, IsReady};
 
-use crate::ahead::Ahead;
+use crate::lookahead::Lookahead;
 use crate::needs::recount;
 use crate::notes::Notes;
 use crate::rows::Rows;
@@ -131,6 +131,33 @@ impl Analyst {
         }
     }
 
+    /// Sets the train aside: it is counted as outside, and nothing is noted of any train. So the analyst is one for all moves
+    /// that differ in those of this train alone, but for the sets of the train.
+    pub fn set_aside(&mut self, moves: &Moves, train: TrainNo)
+        requires own { IsAnalystFor (moves_in moves.now) self.old }
+        requires table { IsTable moves.now }
+        requires train { train < length moves.now }
+        ensures aside { (other : Plan) → AreAlikeBut train (moves_in moves.now) other → IsAsideFor other train self.new }
+        ensures rows { self.new.rows ≡ self.old.rows }
+    {
+        self.tally
+            .follow_train::<All>(moves, self.sheet.rows(), train, 0, &mut self.notes);
+        self.inside.exclude(train);
+        self.notes = Notes::none();
+    }
+
+    /// Exchanges the sets of the train that was set aside with those of the first train of the other sets, which are the sets
+    /// of these moves of the train. It takes no memory.
+    pub fn exchange(&mut self, moves: &Moves, train: TrainNo, others: &mut Rows)
+        requires aside { IsAsideFor (moves_in moves.now) train self.old }
+        requires train { train < length moves.now }
+        requires others { AreRowsFor (moves_in moves.now) train others.old }
+        ensures own { IsAnalystFor (moves_in moves.now) self.new }
+        ensures back { (other : Plan) → IsRowsOf other self.old.rows → train < other.trains → AreRowsFor other train others.new }
+    {
+        self.sheet.exchange(train, others);
+    }
+
     /// Makes a list of moves that completes from the places, by legs of which at most `depth` are free. Whether there is
     /// one. Sets are looked at as far as the moves need.
     fn search(&mut self, moves: &Moves, places: &Places, depth: u8) -> bool
@@ -171,7 +198,7 @@ impl Analyst {
             .begin::<W>(moves, places, self.tally.needs(), inside);
         self.sheet.look_again::<W>(moves, inside, &mut self.notes);
         let mut notes = self.notes;
-        let mut ahead = Ahead::new();
+        let mut ahead = Lookahead::new();
         self.sheet
             .search::<W>(moves, inside, &mut notes, &mut ahead, depth)
     }
@@ -232,6 +259,16 @@ impl Worksheet {
             needs: Counts::new(alloc)?,
             list: Vec::with_capacity(alloc, LIST_TRAINS)?,
         })
+    }
+
+    /// Exchanges the sets of the train with those of the first train of the other sets.
+    fn exchange(&mut self, train: TrainNo, others: &mut Rows)
+        requires train { train < length self.old.rows.rows }
+        requires some { 0 < length others.old.rows }
+        ensures here { self.new.rows ≡ with_row self.old.rows others.old.width train (get_or others.old.rows 0 []) }
+        ensures there { others.new ≡ with_row others.old self.old.rows.width 0 (get_or self.old.rows.rows train []) }
+    {
+        self.rows.exchange(train, others);
     }
 
     /// The sets of the trains at each place.

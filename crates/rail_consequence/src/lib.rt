@@ -28,9 +28,9 @@
 //! answered exactly where none can be found may not.
 #![tactic(auto)]
 
-mod ahead;
 mod analyst;
 mod laws;
+mod lookahead;
 mod needs;
 mod notes;
 mod openers;
@@ -43,3 +43,4 @@ pub use analyst::Analyst;
 pub use laws::{
     a_safe_leg_keeps_what_can_be_found, what_can_be_found_can_be_found_without_a_train,
 };
+pub use rows::Rows;

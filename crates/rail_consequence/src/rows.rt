@@ -1,12 +1,12 @@
 //! What each train needs and where it stands, as sets: for each of its places.
 
-ghost use Rattle.std.specs.Prelude.{◌≡◌, ℕ, ◌+◌, ◌*◌, ◌<◌, ◌≤◌, length, IfOk, IsTrue};
+ghost use Rattle.std.specs.Prelude.{◌≡◌, ℕ, ◌+◌, ◌*◌, ◌<◌, ◌≤◌, [], get_or, length, IfOk, IsTrue};
 ghost use Rattle.rail_rules.specs.Moves.{stand};
 ghost use Rattle.rail_rules.specs.Numbers.{is_in};
 ghost use Rattle.rail_place.specs.Tables.{IsTable, moves_in};
 ghost use Rattle.rail_sets.specs.declared.sets.TheConstants.{WORDS};
 ghost use Rattle.rail_consequence.specs.Needs.{needs_from};
-ghost use Rattle.rail_consequence.specs.Needs.{AreWords, IsPlaceSets, IsRowsOf, IsSet, IsSetRow};
+ghost use Rattle.rail_consequence.specs.Needs.{AreWords, IsPlaceSets, IsRowsOf, IsSet, IsSetRow, with_row};
 
 use crate::width::Width;
 use rail_base::{OutOfMemory, TrainNo};
@@ -14,6 +14,7 @@ use rail_place::Moves;
 use rail_sets::{WORDS, add_all, join, width_of};
 use std::alloc::{AllocError, Global};
 use std::marker::Model;
+use std::mem;
 
 /// The sections of a train at one of its places, as sets.
 #[derive(Clone, Copy, Debug)]
@@ -78,6 +79,20 @@ impl Rows {
             rows.push_reserved(row);
         }
         Ok(Rows { width, rows })
+    }
+
+    /// Exchanges the sets of the train with those of the first train of the other sets. Both take as many words then as the
+    /// wider ones took.
+    pub fn exchange(&mut self, train: TrainNo, others: &mut Rows)
+        requires train { train < length self.old.rows }
+        requires some { 0 < length others.old.rows }
+        ensures here { self.new ≡ with_row self.old others.old.width train (get_or others.old.rows 0 []) }
+        ensures there { others.new ≡ with_row others.old self.old.width 0 (get_or self.old.rows train []) }
+    {
+        let width = self.width.max(others.width);
+        self.width = width;
+        others.width = width;
+        mem::swap(&mut self.rows[usize::from(train.0)], &mut others.rows[0]);
     }
 
     /// The words that a set takes.

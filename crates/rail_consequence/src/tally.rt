@@ -85,8 +85,8 @@ impl Tally {
         }
     }
 
-    /// Goes over to this place of the train, which stands at another.
-    fn follow_train<W: Width>(
+    /// Goes over to this place of the train.
+    pub fn follow_train<W: Width>(
         &mut self,
         moves: &Moves,
         rows: &Rows,

@@ -12,4 +12,6 @@ mod Noted
 mod Words
 mod Writes
 -- Lemmas on lawful fronts.
+mod Spans
 mod Stories
+mod MoveWaits

@@ -80,7 +80,7 @@ module _ (commands : List Command) (line : Line) (front : Front) (t : ℕ) where
       chosen false = refl
 
 -- orders that cancel a train
-cancelled_both : (t : ℕ) (xs ys : List Order) → is_cancelled t (xs ++ ys) ≡ is_cancelled t xs || is_cancelled t ys
+pub cancelled_both : (t : ℕ) (xs ys : List Order) → is_cancelled t (xs ++ ys) ≡ is_cancelled t xs || is_cancelled t ys
 cancelled_both t [] ys = refl
 cancelled_both t (Policy name ∷ xs) ys = cancelled_both t xs ys
 cancelled_both t (Retire name ∷ xs) ys = cancelled_both t xs ys
@@ -134,13 +134,13 @@ now_or_settled input line front (by_hold t m why holds) = inl holds.now
 now_or_settled input line front (by_end ends) = inl ends.now
 
 -- why a train does not wait: it is not ready and was not held, it is cancelled, or the history has ended
-data Rest (input : Input) (front : Front) (t : ℕ) : Type 0 where
+pub data Rest (input : Input) (front : Front) (t : ℕ) : Type 0 where
   unready : is_ready input front t ≡ false → last_hold front t (suc (place front t)) ≡ None → Rest input front t
   dropped : is_cancelled t (told input.commands front) ≡ true → Rest input front t
   over : has_ended front ≡ true → Rest input front t
 
 -- what a train does in a lawful front: it does not wait, it is ready since this instant and nothing is told yet, or it is held
-data Story (input : Input) (front : Front) (t : ℕ) : Type 0 where
+pub data Story (input : Input) (front : Front) (t : ℕ) : Type 0 where
   idle : waits_since input.commands front t ≡ None → holding input.commands front t ≡ None → held_by_kinds input.commands front t ≡ held input.commands front t → Rest input front t
       → Story input front t
   waiting : (since : ℕ) → waits_since input.commands front t ≡ Some since → since ≡ instant front → holding input.commands front t ≡ None
@@ -149,7 +149,7 @@ data Story (input : Input) (front : Front) (t : ℕ) : Type 0 where
       → held_by_kinds input.commands front t ≡ held input.commands front t + (hold.since - since) → is_ready input front t ≡ true → Story input front t
 
 -- a cancelled train is not ready
-cancelled_rests : (input : Input) (front : Front) (t : ℕ) → is_cancelled t (told input.commands front) ≡ true → is_ready input front t ≡ true → ⊥
+pub cancelled_rests : (input : Input) (front : Front) (t : ℕ) → is_cancelled t (told input.commands front) ≡ true → is_ready input front t ≡ true → ⊥
 cancelled_rests input front t is ready =
     let runs = (and_parts (ltb (place front t) (moves input.plant t)) (not (is_cancelled t (told input.commands front)))
     (and_parts (ltb (place front t) (moves input.plant t) && not (is_cancelled t (told input.commands front))) (stands front (ready_line input.plant t (admissions front t) (place front t))) ready).0).1 in
@@ -399,7 +399,7 @@ module _ (input : Input) (fine : IsWellFormed input.plant) (line : Line) (front 
       by End is = wait_over (ap (does_end_wait input.commands t) is) story (over (ap is_end is))
 
 -- the story of a train in a lawful front
-story_of : (input : Input) → IsWellFormed input.plant → (front : Front) → is_lawful input front ≡ true → (t : ℕ) → Story input front t
+pub story_of : (input : Input) → IsWellFormed input.plant → (front : Front) → is_lawful input front ≡ true → (t : ℕ) → Story input front t
 story_of input fine [] lawful t = idle refl refl refl (unready (nobody_ready input t) refl)
 story_of input fine (line ∷ front) lawful t = told_on input fine line front lawful t (story_of input fine front (lawful_before input line front lawful) t)
 

@@ -2,7 +2,7 @@
 use Rattle.std.proofs.Common.{◌≡◌, ℕ, zero, suc, ◌+◌, ◌<◌, List, [], ◌++◌, Result, Ok, Err, IsErr, sym, ap, ◌∙◌, subst, ⊎_elim, append_assoc, arith}
 use Rattle.std.proofs.lemmas.List.{append-nil}
 use Rattle.rail_rules.specs.Numbers.{gather}
-use Rattle.std.proofs.lemmas.Bool.{cases_lt, false≢true}
+use Rattle.std.proofs.lemmas.Bool.{cases_lt}
 use Rattle.rail_io.specs.declared.sink.Sink.{Ghosts}
 use Rattle.rail_io.specs.declared.sink.Failed.{Failed}
 use Rattle.rail_text.specs.Writes.{WritesText}

@@ -20,7 +20,10 @@ mod totals;
 mod visits;
 
 pub use delays::Delays;
-pub use laws::{a_lawful_front_is_in_order, held_is_the_sum_of_the_four_kinds};
+pub use laws::{
+    a_lawful_front_is_in_order, held_for_a_kind_is_the_sum_of_the_spans_of_its_hold_lines,
+    held_is_the_sum_of_the_four_kinds, held_is_the_sum_of_the_waits_for_moves,
+};
 pub use lines::put_count;
 pub use report::write_report;
 pub use rows::{

@@ -111,14 +111,14 @@ fn call_text(plant: &Plant, row: &[Visit], train: TrainNo, index: u16, call: Cal
     requires { train < trains plant.now }
     ensures { result ≡ spaced (call_words plant.now train index row.now call) }
 {
-    let place = usize::from(index);
+    let visit = usize::from(index);
     let arrival = Times {
         planned: call.arrival,
-        actual: visit_of(row, place).arrived,
+        actual: visit_of(row, visit).arrived,
     };
     let departure = Times {
         planned: call.departure,
-        actual: visit_of(row, place + 1).departed,
+        actual: visit_of(row, visit + 1).departed,
     };
     let mut line = LineBuffer::new();
     line.put(b"call");

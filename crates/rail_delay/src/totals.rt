@@ -62,14 +62,14 @@ fn call_late(row: &[Visit], index: u16, call: Option<Call>) -> u128
 {
     match call {
         Some(call) => {
-            let place = usize::from(index);
+            let visit = usize::from(index);
             let arrival = Times {
                 planned: call.arrival,
-                actual: visit_of(row, place).arrived,
+                actual: visit_of(row, visit).arrived,
             };
             let departure = Times {
                 planned: call.departure,
-                actual: visit_of(row, place + 1).departed,
+                actual: visit_of(row, visit + 1).departed,
             };
             late_number(&arrival) + late_number(&departure)
         }

@@ -4,21 +4,22 @@ use Rattle.std.specs.Cmp.Lexicographic.{bytes_decides}
 use Rattle.std.specs.List.{AllPairs, list_any}
 use Rattle.std.proofs.lemmas.Bool.{and_parts, cond-false, cond-true, false_from_ne_true, false≢true, ltb-true, not-true}
 use Rattle.std.proofs.lemmas.List.{get_or-map, length-map}
-use Rattle.std.proofs.lemmas.List.Folds.{Any-from_list_any, list_any_at}
+use Rattle.std.proofs.lemmas.List.Folds.{list_any_at}
 use Rattle.rail_base.specs.declared.orders.Command.{Command}
 use Rattle.rail_rules.specs.Accepted.{are_distinct_names, is_accepted_input}
 use Rattle.rail_rules.specs.Numbers.{same_numbers}
-use Rattle.rail_rules.specs.Orders.{Input, is_retired}
+use Rattle.rail_rules.specs.Orders.{Input}
 use Rattle.rail_rules.specs.Plant.{Plant}
 use Rattle.rail_rules.specs.RunHistories.{Seat, seat_of}
 use Rattle.rail_policy.specs.Desks.{Table, run_seats}
-use Rattle.rail_policy.specs.Seats.{DeskSeat, is_named, names_of, no_seat}
+use Rattle.rail_policy.specs.Seats.{DeskSeat, names_of, no_seat}
 use Rattle.rail_ledger.specs.declared.input.RunInput.{RunInput}
 use Rattle.rail_ledger.specs.declared.ledger.Ledger.{Ledger}
 use Rattle.rail_ledger.specs.declared.ledger.Listed.TheVariants as listed
 use Rattle.rail_ledger.specs.Inputs.{input_in}
 use Rattle.rail_ledger.specs.Ledgers.{IsAt, listed_in}
 use Rattle.rail_engine.specs.Desks.{IsDesk}
+use Rattle.rail_engine.proofs.DeckNames.{names_at_first}
 use Rattle.rail_engine.specs.Engines.{StandsFor}
 use Rattle.rail_engine.specs.Starts.{run_input}
 
@@ -71,13 +72,7 @@ first_desk plant commands table accepted =
         kind = sym (ap (λ (s : Seat). s.kind) (found_seat table.seats k d lt distinct));
         mark = λ _. sym (ap (λ (s : Seat). s.mark) (found_seat table.seats k d lt distinct));
       };
-      left = λ name in_deck.
-          let any = (and_parts (list_any (same_numbers name) (names_of table.seats)) (not (is_retired name [])) in_deck).0 in
-          let found = Any-from_list_any (same_numbers name) (names_of table.seats) any in
-          let lt : found.0 < length table.seats = omega (arith, found.2, length-map table.seats (λ (s : DeskSeat). s.name)) in
-          list_any_at (is_named name) table.seats found.0 no_seat lt
-          ((bytes_decides (get_or table.seats found.0 no_seat).name name).1
-          (sym (get_or-map (λ (s : DeskSeat). s.name) table.seats found.0 no_seat found.1 lt) ∙ found.3 ∙ sym ((bytes_decides name found.1).0 found.4)));
+      names = names_at_first (names_of table.seats);
     }
 
 -- before the first line the engine stands for no lines

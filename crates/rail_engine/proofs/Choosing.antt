@@ -72,7 +72,7 @@ module _ (front : Front) (ledger : Ledger) (at : IsAt front ledger) (seats : Lis
     box = desk.boxes table.force no_seat desk.in_range
 
     -- the policy in force has the kind of the front
-    kind_is : (seat_in_force table).kind ≡ (seat_of seats (force_of (input_in ledger.input) front)).kind
+    pub kind_is : (seat_in_force table).kind ≡ (seat_of seats (force_of (input_in ledger.input) front)).kind
     kind_is = box.kind ∙ ap (λ name. (seat_of seats name).kind) desk.in_force
 
     marked : (seat_in_force table).kind ≡ Rotating → (seat_in_force table).mark ≡ mark_of (input_in ledger.input) seats (force_of (input_in ledger.input) front) front

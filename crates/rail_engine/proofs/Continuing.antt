@@ -46,7 +46,7 @@ gone_on old new entry commands before after same line other commands_are after_i
     (run_on seats front new entry before (line front at) other.0 (subst (λ (input : RunInput). IsOfRun seats input front before) (sym same) run))
 
 -- a hold line tells nothing
-hold_tells : (commands : List Command) (what : What) → is_hold what ≡ true → orders_of commands what ≡ []
+pub hold_tells : (commands : List Command) (what : What) → is_hold what ≡ true → orders_of commands what ≡ []
 hold_tells commands (Hold t m why) is = refl
 hold_tells commands (Admit t m note) is = absurd (false≢true is)
 hold_tells commands (Free x t) is = absurd (false≢true is)

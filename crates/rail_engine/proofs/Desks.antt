@@ -1,12 +1,12 @@
 -- What a turn, an admission and a told order leave of a desk.
 use Rattle.std.proofs.Common.{◌≡◌, ◌≢◌, ℕ, ◌+◌, ◌-◌, ◌%◌, ◌<◌, Bool, true, false, not, cond, ◌==◌, List, [], ◌∷◌, ◌++◌, length, get_or, set, Option, refl, sym, ap, ◌∙◌, subst, ⊎_elim, arith}
-use Rattle.std.specs.List.{list_any, remove}
+use Rattle.std.specs.List.{filter, remove}
 use Rattle.std.specs.Option.{option_map_or}
 use Rattle.std.specs.Cmp.Lexicographic.{bytes_decides}
-use Rattle.std.proofs.lemmas.Bool.{and_from, and_parts, cases_eq, cases_lt, cond-false, cond-true, false_from_ne_true, false≢true, le-ltb, lt-ltb, ne_eqb, not-true, or_parts}
-use Rattle.std.proofs.lemmas.List.{get_or-set_other, get_or-set_same, get_or_default, length-set}
+use Rattle.std.proofs.lemmas.Bool.{and_parts, cases_eq, cases_lt, cond-false, cond-true, false_from_ne_true, false≢true, le-ltb, lt-ltb, ne_eqb, not-true}
+use Rattle.std.proofs.lemmas.List.{get_or-map, get_or-set_other, get_or-set_same, get_or_default, length-set, map-set, set-get_or}
 use Rattle.std.proofs.lemmas.List.Edits.{get_or-remove_above, get_or-remove_below, length-remove}
-use Rattle.std.proofs.lemmas.List.Folds.{Any-from_list_any, list_any_at}
+use Rattle.std.proofs.lemmas.List.Elements.{filter_agree}
 use Rattle.std.proofs.lemmas.List.Quantifiers.{all_pairs_remove}
 use Rattle.rail_base.specs.declared.history.What.{What}
 use Rattle.rail_base.specs.declared.history.Note.{Note}
@@ -18,15 +18,16 @@ use Rattle.rail_base.specs.declared.orders.PolicyKind.TheVariants.{Rotating}
 use Rattle.rail_rules.specs.Fronts.{Front, Line, is_admission}
 use Rattle.rail_rules.specs.Lawful.{is_lawful}
 use Rattle.rail_rules.specs.Numbers.{same_numbers}
-use Rattle.rail_rules.specs.Orders.{Input, first_force, in_force, is_in_deck, is_retired, orders_of, takes_effect, told}
+use Rattle.rail_rules.specs.Orders.{Input, first_force, in_force, is_in_deck, orders_of, takes_effect, told}
 use Rattle.rail_rules.specs.RunHistories.{Seat, force_of, mark_after, mark_of}
 use Rattle.rail_laws_events.proofs.CallerLemmas.{told_effect}
 use Rattle.rail_policy.specs.declared.desk.Asked.{Asked}
 use Rattle.rail_policy.specs.declared.offer.Offer.{Offer}
 use Rattle.rail_policy.specs.Desks.{Table, after_note, after_turn, asked_about, put_in_force, seat_in_force, within, without}
-use Rattle.rail_policy.specs.Seats.{DeskSeat, asked, is_named, mark_when_asked, mark_when_noted, no_seat, noted, seat_at}
+use Rattle.rail_policy.specs.Seats.{DeskSeat, asked, mark_when_asked, mark_when_noted, names_of, no_seat, noted, seat_at}
 use Rattle.rail_policy.proofs.CallerLemmas.{name-index_of, index_of-found, seat_in_force-without}
 use Rattle.rail_engine.specs.Desks.{IsBox, IsDesk, after_orders, exchanged, retired}
+use Rattle.rail_engine.proofs.DeckNames.{names_retired, names_without, seat_left}
 
 -- the same numbers are one name
 one_name : (a b : List ℕ) → same_numbers a b ≡ true → a ≡ b
@@ -74,10 +75,10 @@ module _ (input : Input) (seats : List Seat) (front after : Front) (table : Tabl
         subst P (sym same) (subst (IsBox input seats after) (sym (here d)) fits))
         (λ other. subst (IsBox input seats after) (sym (there k d lt other)) (others k lt other (desk.boxes k no_seat lt)))
         (cases_eq k table.force);
-    left = λ name in_deck.
-        let found = Any-from_list_any (is_named name) table.seats (desk.left name (ap (is_in_deck input.deck name) (sym told_same) ∙ in_deck)) in
-        list_any_at (is_named name) now found.0 found.1 (omega (arith, found.2, long))
-        (ap (λ (n : List ℕ). same_numbers n name) (name_at found.0 found.1 found.2 ∙ ap (λ (s : DeskSeat). s.name) (get_or_default table.seats found.0 no_seat found.1 found.2 ∙ found.3)) ∙ found.4);
+    names = map-set (λ (s : DeskSeat). s.name) table.seats table.force new
+        ∙ ap (set (names_of table.seats) table.force) (named ∙ sym (get_or-map (λ (s : DeskSeat). s.name) table.seats table.force no_seat [] desk.in_range))
+        ∙ set-get_or (names_of table.seats) table.force []
+        ∙ desk.names ∙ ap (λ (orders : List Order). filter (λ name. is_in_deck input.deck name orders) input.deck) (sym told_same);
   }
 
 -- a turn leaves the marks of rotating policies
@@ -167,20 +168,21 @@ module _ (input : Input) (seats : List Seat) (front : Front) (line : Line) (idle
     in_force = desk.in_force ∙ sym force_same;
     distinct = desk.distinct;
     boxes = λ k d lt. box_stays (get_or table.seats k d) (desk.boxes k d lt);
-    left = λ name in_deck. desk.left name (sym (deck_same name) ∙ in_deck);
+    names = desk.names ∙ filter_agree (λ name. is_in_deck input.deck name (told input.commands front))
+        (λ name. is_in_deck input.deck name (told input.commands (line ∷ front))) (λ name. sym (deck_same name)) input.deck;
   }
 
   -- another policy is put in force
   exchanged_desk : (table : Table) (name : List ℕ) → told input.commands (line ∷ front) ≡ Policy name ∷ told input.commands front
       → is_in_deck input.deck name (told input.commands front) ≡ true → IsDesk input seats front table → IsDesk input seats (line ∷ front) (exchanged table name)
   exchanged_desk table name told_is in_deck desk =
-      let found = index_of-found table.seats name (desk.left name in_deck) in
+      let found = index_of-found table.seats name (seat_left input.deck (told input.commands front) table.seats name desk.names in_deck) in
       subst (λ (o : Option ℕ). IsDesk input seats (line ∷ front) (option_map_or (put_in_force table) o table)) (sym found.1) (record {
         in_range = found.2;
         in_force = name-index_of table.seats name found.0 found.1 ∙ sym (ap (in_force (first_force input)) told_is);
         distinct = desk.distinct;
         boxes = λ k d lt. box_stays (get_or table.seats k d) (desk.boxes k d lt);
-        left = λ other in_deck. desk.left other (sym (ap (is_in_deck input.deck other) told_is) ∙ in_deck);
+        names = desk.names ∙ ap (λ (orders : List Order). filter (λ other. is_in_deck input.deck other orders) input.deck) (sym told_is);
       })
 
   -- a policy that isn't in force is dropped
@@ -188,7 +190,7 @@ module _ (input : Input) (seats : List Seat) (front : Front) (line : Line) (idle
       → is_in_deck input.deck name (told input.commands front) ≡ true → same_numbers name (force_of input front) ≡ false
       → IsDesk input seats front table → IsDesk input seats (line ∷ front) (retired table name)
   retired_desk table name told_is in_deck not_in_force desk =
-      let found = index_of-found table.seats name (desk.left name in_deck) in
+      let found = index_of-found table.seats name (seat_left input.deck (told input.commands front) table.seats name desk.names in_deck) in
       let index : ℕ = found.0 in
       let named : (seat_at table.seats index).name ≡ name = name-index_of table.seats name index found.1 in
       let apart : index ≢ table.force = λ same. false≢true (sym not_in_force ∙ same_name name (force_of input front) (sym named ∙ ap (λ k. (seat_at table.seats k).name) same ∙ desk.in_force)) in
@@ -211,27 +213,11 @@ module _ (input : Input) (seats : List Seat) (front : Front) (line : Line) (idle
             (λ below. subst (IsBox input seats (line ∷ front)) (sym (get_or-remove_below table.seats index d k below lt)) (box_stays (get_or table.seats k d) (desk.boxes k d (omega (arith, below, lt)))))
             (λ from. subst (IsBox input seats (line ∷ front)) (sym (get_or-remove_above table.seats index d k from lt)) (box_stays (get_or table.seats (k + 1) d) (desk.boxes (k + 1) d (omega (arith, inside, length-remove table.seats index lt)))))
             (cases_lt k index);
-        left = λ other in_deck.
-            let parts = and_parts (list_any (same_numbers other) input.deck) (not (is_retired other (Retire name ∷ told input.commands front)))
-            (sym (ap (is_in_deck input.deck other) told_is) ∙ in_deck) in
-            let stays = or_parts (same_numbers name other) (is_retired other (told input.commands front)) (not-true (is_retired other (Retire name ∷ told input.commands front)) parts.1) in
-            let found = Any-from_list_any (is_named other) table.seats (desk.left other (and_from (list_any (same_numbers other) input.deck) (not (is_retired other (told input.commands front))) parts.0 (ap not stays.1))) in
-            left_there table index lt other found.0 found.1 found.2 (ap (is_named other) found.3 ∙ found.4)
-            (λ same. false≢true (sym stays.0 ∙ same_name name other (sym named ∙ ap (λ k. (seat_at table.seats k).name) (sym same)
-            ∙ ap (λ (s : DeskSeat). s.name) (get_or_default table.seats found.0 no_seat found.1 found.2 ∙ found.3) ∙ one_name found.1.name other found.4)));
+        names = sym (names_without table.seats index name lt named desk.distinct)
+            ∙ ap (filter (λ other. not (same_numbers name other))) desk.names
+            ∙ sym (names_retired input.deck name (told input.commands front))
+            ∙ ap (λ (orders : List Order). filter (λ other. is_in_deck input.deck other orders) input.deck) (sym told_is);
       }
-        where
-          left_there : (table : Table) (index : ℕ) → index < length table.seats → (other : List ℕ) (k : ℕ) (d : DeskSeat) → k < length table.seats
-              → is_named other (get_or table.seats k d) ≡ true → k ≢ index → list_any (is_named other) (remove table.seats index) ≡ true
-          left_there table index lt other k d inside is ne = ⊎_elim
-              (λ below. list_any_at (is_named other) (remove table.seats index) k d (omega (arith, below, lt, length-remove table.seats index lt))
-              (ap (is_named other) (get_or-remove_below table.seats index d k below lt) ∙ is))
-              (λ from.
-              let above : index < k = omega arith in
-              let back : k - 1 + 1 ≡ k = omega (arith, above) in
-              list_any_at (is_named other) (remove table.seats index) (k - 1) d (omega (arith, above, inside, length-remove table.seats index lt))
-              (ap (is_named other) (get_or-remove_above table.seats index d (k - 1) (omega (arith, above)) lt ∙ ap (λ n. get_or table.seats n d) back) ∙ is))
-              (cases_lt k index)
 
   -- the line tells an order that takes effect
   ordered_desk : (table : Table) (order : Order) → told input.commands (line ∷ front) ≡ order ∷ told input.commands front

@@ -3,6 +3,8 @@ mod Asking
 mod Beginning
 mod Choosing
 mod Continuing
+mod DeckNames
 mod Desks
+mod FollowedLines
 mod Offering
 mod Trying

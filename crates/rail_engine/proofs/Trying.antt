@@ -24,7 +24,7 @@ use Rattle.rail_engine.specs.Rounds.{AreOffers, HasTriedTrain, IsOfferOf, IsPick
 -- a train whose cause is known needs no try
 pub tried_before : (ledger : Ledger) (t : ℕ) → is_untried (state_of ledger.state.trains t) ≡ false → HasTriedTrain ledger ledger t
 tried_before ledger t known = record {
-  alike = record { input = refl; orders = refl; queue = refl; holders = refl; instant = refl; is_settled = refl; has_ended = refl; remaining = refl; listed = refl };
+  alike = record { input = refl; orders = refl; reader = refl; queue = refl; holders = refl; instant = refl; is_settled = refl; has_ended = refl; remaining = refl; listed = refl };
   at = λ front at. at;
   many = refl;
   others = λ u. ((state_of ledger.state.trains u).known, refl);
@@ -63,7 +63,7 @@ tried_now old new t lt alike tried = record {
     there u other = ap (λ (states : List TrainState). state_of states u) tried.2 ∙ get_or-set_other old.state.trains t u train_state no_state other
 
 -- what is offered of a train doesn't depend on its cause
-offer_same : (old new : Ledger) → new.input ≡ old.input → new.orders ≡ old.orders → (u : ℕ) (known : Option Cause)
+pub offer_same : (old new : Ledger) → new.input ≡ old.input → new.orders ≡ old.orders → (u : ℕ) (known : Option Cause)
     → state_of new.state.trains u ≡ record (state_of old.state.trains u) { known = known } → offer_in new u ≡ offer_in old u
 offer_same old new input orders u known is =
     λ i. record {

@@ -1,6 +1,6 @@
 -- The desk of a run: what a told order does to it, and which desk belongs to a front.
-use Rattle.std.specs.Prelude.{◌≡◌, ◌≢◌, ℕ, ◌==◌, ◌<◌, true, cond, IsTrue, List, ◌∷◌, length}
-use Rattle.std.specs.List.{All, AllPairs, list_any}
+use Rattle.std.specs.Prelude.{◌≡◌, ◌≢◌, ℕ, ◌==◌, ◌<◌, cond, List, ◌∷◌, length}
+use Rattle.std.specs.List.{All, AllPairs, filter}
 use Rattle.std.specs.Option.{option_map_or}
 use Rattle.rail_base.specs.declared.orders.Order.{Order}
 use Rattle.rail_base.specs.declared.orders.Order.TheVariants.{Policy, Retire}
@@ -9,7 +9,7 @@ use Rattle.rail_rules.specs.Fronts.{Front}
 use Rattle.rail_rules.specs.Orders.{Input, is_in_deck, told}
 use Rattle.rail_rules.specs.RunHistories.{Seat, force_of, mark_of, seat_of}
 use Rattle.rail_policy.specs.Desks.{Table, put_in_force, seat_in_force, without}
-use Rattle.rail_policy.specs.Seats.{DeskSeat, is_named, index_of}
+use Rattle.rail_policy.specs.Seats.{DeskSeat, index_of, names_of}
 
 -- the policy of this name is put in force, where the desk has one
 abbrev pub exchanged : Table → List ℕ → Table
@@ -30,12 +30,11 @@ pub record IsBox (input : Input) (seats : List Seat) (front : Front) (seat : Des
   pub kind : seat.kind ≡ (seat_of seats seat.name).kind
   pub mark : seat.kind ≡ Rotating → seat.mark ≡ mark_of input seats seat.name front
 
--- the desk belongs to the front: its policies are those handed in, without the retired ones, and the policy in force is
--- the one of the front
+-- the desk belongs to the front: its policies are those of the deck, in its order, without the retired ones and no others,
+-- and the policy in force is the one of the front
 pub record IsDesk (input : Input) (seats : List Seat) (front : Front) (table : Table) : Type 0 where
   pub in_range : table.force < length table.seats
   pub in_force : (seat_in_force table).name ≡ force_of input front
   pub distinct : AllPairs (λ (first second : DeskSeat). first.name ≢ second.name) table.seats
   pub boxes : All (IsBox input seats front) table.seats
-  pub left : (name : List ℕ) → is_in_deck input.deck name (told input.commands front) ≡ true
-      → IsTrue (list_any (is_named name) table.seats)
+  pub names : names_of table.seats ≡ filter (λ name. is_in_deck input.deck name (told input.commands front)) input.deck

@@ -2,5 +2,6 @@
 pub mod PolicyTurns
 pub mod Desks
 pub mod Engines
+pub mod FollowedLines
 pub mod Rounds
 pub mod Starts

@@ -1,7 +1,8 @@
 -- The offers of a round.
-use Rattle.std.specs.Prelude.{◌≡◌, ◌≢◌, ℕ, suc, ◌<◌, Bool, true, cond, List, Option, length, get_or}
+use Rattle.std.specs.Prelude.{◌≡◌, ◌≢◌, ℕ, suc, ◌<◌, Bool, true, cond, List, [], ◌∷◌, Option, length, get_or}
 use Rattle.std.specs.List.{All, Contains, remove}
 use Rattle.rail_base.specs.declared.orders.PolicyKind.{PolicyKind}
+use Rattle.rail_rules.specs.Numbers.{gather}
 use Rattle.rail_rules.specs.Plant.{train}
 use Rattle.rail_rules.specs.RunHistories.{due}
 use Rattle.rail_policy.specs.Choices.{HasLeastKey}
@@ -27,6 +28,14 @@ offer_in ledger t =
 -- the train is offered: it waits, and unless all that wait are offered no cause of it is known
 abbrev pub is_offered : Bool → TrainState → Bool
 is_offered all train_state = cond all train_state.waits (is_untried train_state)
+
+-- the offers of the trains below the number that are offered, by number
+abbrev pub offered_below : Bool → Ledger → ℕ → List Offer
+offered_below all ledger number = gather (λ t. cond (is_offered all (state_of ledger.state.trains t)) (offer_in ledger t ∷ []) []) number
+
+-- the offers of all trains that wait, by number
+abbrev pub offers_in : Ledger → List Offer
+offers_in ledger = offered_below true ledger (length ledger.state.trains)
 
 -- the offer is that of the next move of a train that waits
 pub record IsOfferOf (ledger : Ledger) (offer : Offer) : Type 0 where

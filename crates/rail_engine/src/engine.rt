@@ -1,18 +1,23 @@
 //! The engine, as the layers above use it.
 
-ghost use Rattle.std.specs.Prelude.{◌≡◌, ℕ, [], ◌∷◌, List, true, false, IsNone, IfOk, IfSome};
+ghost use Rattle.std.specs.Prelude.{◌≡◌, ℕ, [], ◌∷◌, List, true, false, IsNone, IsTrue, IfOk, IfSome};
 ghost use Rattle.rail_base.specs.declared.history.Note.{Note};
 ghost use Rattle.rail_base.specs.declared.history.What.TheVariants.{Admit};
-ghost use Rattle.rail_engine.specs.PolicyTurns.{WasAsked};
+ghost use Rattle.rail_engine.specs.PolicyTurns.{TellsDesk, WasAsked};
+ghost use Rattle.rail_engine.specs.Desks.{after_orders};
 ghost use Rattle.rail_engine.specs.Engines.{StandsFor};
+ghost use Rattle.rail_engine.specs.FollowedLines.{IsAskedAlone, IsNotedAlone};
 ghost use Rattle.rail_engine.specs.Starts.{run_input};
-ghost use Rattle.rail_ledger.specs.Ledgers.{line_in, list_of};
+ghost use Rattle.rail_laws_end.specs.Forks.{are_marks};
+ghost use Rattle.rail_ledger.specs.Ledgers.{line_in, line_taken, list_of};
 ghost use Rattle.rail_ledger.specs.Inputs.{input_in};
 ghost use Rattle.rail_policy.specs.Desks.{run_seats};
 ghost use Rattle.rail_rules.specs.Accepted.{is_accepted_input};
-ghost use Rattle.rail_rules.specs.Fronts.{Front, has_ended, kept};
-ghost use Rattle.rail_rules.specs.RunHistories.{Seat};
+ghost use Rattle.rail_rules.specs.Fronts.{Front, has_ended, is_admission, kept};
+ghost use Rattle.rail_rules.specs.Orders.{orders_of};
+ghost use Rattle.rail_rules.specs.RunHistories.{Seat, is_run};
 
+use crate::followed_lines::follow_line;
 use crate::round::{Round, next_line};
 use rail_base::limits::TRAINS;
 use rail_base::{Command, Entry, OutOfMemory, TrainNo};
@@ -71,7 +76,7 @@ impl Core {
         ensures input { self.new.input ≡ self.old.input }
         ensures ended { IsNone result → (seats : List Seat) (front : Front)
             → StandsFor seats front self.old (⟦<Desk as Seen>⟧.table desk.old) → has_ended front ≡ true }
-        ensures stays { IsNone result → self.new ≡ self.old }
+        ensures unchanged { IsNone result → self.new ≡ self.old }
         ensures desk { let table = ⟦<Desk as Seen>⟧.table in IsNone result → table desk.new ≡ table desk.old }
         ensures going { IfSome result (λ entry. (seats : List Seat) (front : Front)
             → StandsFor seats front self.old (⟦<Desk as Seen>⟧.table desk.old) → has_ended front ≡ false) }
@@ -81,8 +86,31 @@ impl Core {
         ensures asked { let table = ⟦<Desk as Seen>⟧.table in IfSome result (λ entry. (seats : List Seat) (front : Front)
             → StandsFor seats front self.old (table desk.old) → (t m : ℕ) (note : Note) → entry.what ≡ Admit t m note
             → WasAsked (input_in self.old.input) front t (table desk.old) (table desk.new)) }
+        ensures told { let table = ⟦<Desk as Seen>⟧.table in IfSome result (λ entry. (seats : List Seat) (front : Front)
+            → StandsFor seats front self.old (table desk.old) → is_admission entry.what ≡ false
+            → TellsDesk (input_in self.old.input) front entry (table desk.old) (table desk.new)) }
     {
         next_line(&mut self.ledger, &mut self.round, desk)
+    }
+
+    /// Takes a line of a run that was made before: true exactly where the lines so far with it are those of a run.
+    fn follow(&mut self, desk: &mut Desk, entry: Entry, list: &[TrainNo]) -> bool
+        ensures input { self.new.input ≡ self.old.input }
+        ensures taken { let table = ⟦<Desk as Seen>⟧.table in IsTrue result → (seats : List Seat) (front : Front)
+            → StandsFor seats front self.old (table desk.old)
+            → StandsFor seats (line_taken entry list.now ∷ front) self.new (table desk.new) }
+        ensures refused { let table = ⟦<Desk as Seen>⟧.table in result ≡ false → (seats : List Seat) (front : Front)
+            → IsTrue (are_marks seats) → StandsFor seats front self.old (table desk.old)
+            → is_run (input_in self.old.input) seats (line_taken entry list.now ∷ front) ≡ false }
+        ensures unchanged { let table = ⟦<Desk as Seen>⟧.table in result ≡ false → (seats : List Seat) (front : Front)
+            → StandsFor seats front self.old (table desk.old) → StandsFor seats front self.new (table desk.new) }
+        ensures asked { let table = ⟦<Desk as Seen>⟧.table in result ≡ false → IsAskedAlone (table desk.old) (table desk.new) }
+        ensures noted { let table = ⟦<Desk as Seen>⟧.table in IsTrue result → (t m : ℕ) (note : Note) → entry.what ≡ Admit t m note
+            → IsNotedAlone (table desk.old) (table desk.new) t }
+        ensures orders { let table = ⟦<Desk as Seen>⟧.table in IsTrue result → is_admission entry.what ≡ false
+            → table desk.new ≡ after_orders (orders_of self.old.input.commands.items entry.what) (table desk.old) }
+    {
+        follow_line(&mut self.ledger, &mut self.round, desk, entry, list)
     }
 }
 
@@ -120,7 +148,7 @@ impl Engine {
         ensures input { self.new.core.input ≡ self.old.core.input }
         ensures ended { IsNone result → (seats : List Seat) (front : Front)
             → StandsFor seats front self.old.core (⟦<Desk as Seen>⟧.table self.old.desk) → has_ended front ≡ true }
-        ensures stays { IsNone result → self.new.core ≡ self.old.core }
+        ensures unchanged { IsNone result → self.new.core ≡ self.old.core }
         ensures desk { let table = ⟦<Desk as Seen>⟧.table in IsNone result → table self.new.desk ≡ table self.old.desk }
         ensures going { IfSome result (λ entry. (seats : List Seat) (front : Front)
             → StandsFor seats front self.old.core (⟦<Desk as Seen>⟧.table self.old.desk) → has_ended front ≡ false) }
@@ -130,8 +158,33 @@ impl Engine {
         ensures asked { let table = ⟦<Desk as Seen>⟧.table in IfSome result (λ entry. (seats : List Seat) (front : Front)
             → StandsFor seats front self.old.core (table self.old.desk) → (t m : ℕ) (note : Note) → entry.what ≡ Admit t m note
             → WasAsked (input_in self.old.core.input) front t (table self.old.desk) (table self.new.desk)) }
+        ensures told { let table = ⟦<Desk as Seen>⟧.table in IfSome result (λ entry. (seats : List Seat) (front : Front)
+            → StandsFor seats front self.old.core (table self.old.desk) → is_admission entry.what ≡ false
+            → TellsDesk (input_in self.old.core.input) front entry (table self.old.desk) (table self.new.desk)) }
     {
         self.core.step(&mut self.desk)
+    }
+
+    /// Takes a line of a run that was made before, with the list of a fresh admission or the trains that an end line
+    /// names: true exactly where the lines so far with it are those of a run. Where it is false the engine stands for the
+    /// lines so far. The policy in force is not asked where it is a custom one. It takes no memory.
+    pub fn follow(&mut self, entry: Entry, list: &[TrainNo]) -> bool
+        ensures input { self.new.core.input ≡ self.old.core.input }
+        ensures taken { let table = ⟦<Desk as Seen>⟧.table in IsTrue result → (seats : List Seat) (front : Front)
+            → StandsFor seats front self.old.core (table self.old.desk)
+            → StandsFor seats (line_taken entry list.now ∷ front) self.new.core (table self.new.desk) }
+        ensures refused { let table = ⟦<Desk as Seen>⟧.table in result ≡ false → (seats : List Seat) (front : Front)
+            → IsTrue (are_marks seats) → StandsFor seats front self.old.core (table self.old.desk)
+            → is_run (input_in self.old.core.input) seats (line_taken entry list.now ∷ front) ≡ false }
+        ensures unchanged { let table = ⟦<Desk as Seen>⟧.table in result ≡ false → (seats : List Seat) (front : Front)
+            → StandsFor seats front self.old.core (table self.old.desk) → StandsFor seats front self.new.core (table self.new.desk) }
+        ensures asked { let table = ⟦<Desk as Seen>⟧.table in result ≡ false → IsAskedAlone (table self.old.desk) (table self.new.desk) }
+        ensures noted { let table = ⟦<Desk as Seen>⟧.table in IsTrue result → (t m : ℕ) (note : Note) → entry.what ≡ Admit t m note
+            → IsNotedAlone (table self.old.desk) (table self.new.desk) t }
+        ensures orders { let table = ⟦<Desk as Seen>⟧.table in IsTrue result → is_admission entry.what ≡ false
+            → table self.new.desk ≡ after_orders (orders_of self.old.core.input.commands.items entry.what) (table self.old.desk) }
+    {
+        self.core.follow(&mut self.desk, entry, list)
     }
 
     /// The kept list after the last line.
@@ -139,7 +192,7 @@ impl Engine {
         ensures { let table = ⟦<Desk as Seen>⟧.table in (seats : List Seat) (front : Front)
             → StandsFor seats front self.now.core (table self.now.desk) → result.now ≡ kept self.now.core.input.plant front }
     {
-        self.core.ledger.kept.as_slice()
+        self.core.ledger.kept.as_slice(&self.core.ledger.reader)
     }
 
     /// The list that belongs to the last line: that of a fresh admission, or the trains that the end line

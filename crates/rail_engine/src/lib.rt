@@ -12,6 +12,7 @@
 
 mod attempt;
 mod engine;
+mod followed_lines;
 mod offers;
 mod round;
 

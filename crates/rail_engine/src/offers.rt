@@ -4,7 +4,7 @@ ghost use Rattle.std.specs.Prelude.{◌≡◌, ◌<◌, ◌≤◌, ℕ, true, le
 ghost use Rattle.rail_base.specs.declared.limits.TheConstants.{TRAINS};
 ghost use Rattle.rail_engine.specs.PolicyTurns.{IsTurn};
 ghost use Rattle.rail_engine.specs.Engines.{StaysDesk};
-ghost use Rattle.rail_engine.specs.Rounds.{AreOffers, IsPicked, is_offered, offer_in};
+ghost use Rattle.rail_engine.specs.Rounds.{AreOffers, IsPicked, is_offered, offer_in, offered_below, offers_in};
 ghost use Rattle.rail_ledger.specs.Ledgers.{AreAlike, AreUnbarred, IsSomewhere, StandsAsBefore};
 ghost use Rattle.rail_policy.specs.Desks.{seat_in_force};
 ghost use Rattle.rail_state.specs.TrainStates.{IsNextOf, state_of};
@@ -21,6 +21,7 @@ pub(crate) fn offer(offers: &mut Vec<Offer>, ledger: &mut Ledger, all: bool)
     ensures at { StandsAsBefore ledger.old ledger.new }
     ensures unbarred { AreUnbarred ledger.new }
     ensures offers { AreOffers ledger.new offers.new.items }
+    ensures all { all ≡ true → offers.new.items ≡ offers_in ledger.new }
     ensures few { length offers.new.items ≤ TRAINS }
     ensures room { vec_capacity offers.new ≡ vec_capacity offers.old }
 {
@@ -37,6 +38,7 @@ fn fill(offers: &mut Vec<Offer>, ledger: &Ledger, all: bool)
     requires running { IsSomewhere ledger.now }
     requires room { TRAINS ≤ vec_capacity offers.old }
     ensures offers { AreOffers ledger.now offers.new.items }
+    ensures all { offers.new.items ≡ offered_below all ledger.now (length ledger.now.state.trains) }
     ensures few { length offers.new.items ≤ TRAINS }
     ensures room { vec_capacity offers.new ≡ vec_capacity offers.old }
 {
@@ -87,7 +89,7 @@ pub(crate) fn pick(offers: &mut Vec<Offer>, desk: &mut Desk) -> TrainNo
     ensures fewer { length offers.new.items < length offers.old.items }
     ensures room { vec_capacity offers.new ≡ vec_capacity offers.old }
     ensures desk { let table = ⟦<Desk as Seen>⟧.table in (ledger : Ledger) → StaysDesk ledger (table desk.old) (table desk.new) }
-    ensures turn { let table = ⟦<Desk as Seen>⟧.table in IsTurn (table desk.old) (table desk.new) offers.old.items result }
+    ensures turn { let table = ⟦<Desk as Seen>⟧.table in IsTurn (table desk.old) (table desk.new) offers.old.items offers.new.items result }
 {
     let place = desk.turn(offers);
     offers.remove(place).train

@@ -3,13 +3,16 @@
 ghost use Rattle.std.specs.Prelude.{◌≡◌, ℕ, ◌≢◌, ◌≤◌, Some, true, false, IsTrue, IsNone, IfSome, vec_capacity};
 ghost use Rattle.rail_base.specs.declared.limits.TheConstants.{TRAINS};
 ghost use Rattle.rail_base.specs.declared.history.What.TheVariants.{Told};
-ghost use Rattle.rail_engine.specs.PolicyTurns.{AsksFirst};
+ghost use Rattle.rail_base.specs.declared.orders.PolicyKind.TheVariants.{Custom};
+ghost use Rattle.rail_engine.specs.PolicyTurns.{AdmitsNobody, AsksFirst, TellsDesks};
 ghost use Rattle.rail_engine.specs.Desks.{after_orders};
 ghost use Rattle.rail_engine.specs.Engines.{ContinuesRuns, StaysDesk};
-ghost use Rattle.rail_ledger.specs.Ledgers.{GivesEntry, IsSettled, IsSomewhere, MayGoOn, StandsAsBefore};
+ghost use Rattle.rail_ledger.specs.Inputs.{input_in};
+ghost use Rattle.rail_ledger.specs.Ledgers.{GivesEntry, IsAt, IsSettled, IsSomewhere, MayGoOn, StandsAsBefore};
 ghost use Rattle.rail_ledger.specs.declared.ledger.Listed.TheVariants as which;
+ghost use Rattle.rail_policy.specs.Desks.{seat_in_force};
 ghost use Rattle.rail_queue.specs.Order.{first_time_of, is_sorted};
-ghost use Rattle.rail_rules.specs.Fronts.{is_admission};
+ghost use Rattle.rail_rules.specs.Fronts.{Front, is_admission};
 ghost use Rattle.rail_rules.specs.Orders.{orders_of};
 ghost use Rattle.rail_state.specs.Representation.{AreAllKnown};
 
@@ -54,6 +57,8 @@ pub(crate) fn next_line(ledger: &mut Ledger, round: &mut Round, desk: &mut Desk)
         IfSome result (ContinuesRuns ledger.old ledger.new (table desk.old) (table desk.new)) }
     ensures asked { let table = ⟦<Desk as Seen>⟧.table in
         IfSome result (AsksFirst ledger.old (table desk.old) (table desk.new)) }
+    ensures told { let table = ⟦<Desk as Seen>⟧.table in
+        IfSome result (TellsDesks ledger.old (table desk.old) (table desk.new)) }
 {
     if ledger.state.has_ended {
         return None;
@@ -78,6 +83,7 @@ fn offers_all(ledger: &mut Ledger, round: &Round, desk: &Desk) -> bool
     ensures listed { ledger.new.listed ≡ ledger.old.listed }
     ensures at { StandsAsBefore ledger.old ledger.new }
     ensures over { round.now.is_over ≡ true → ledger.new ≡ ledger.old }
+    ensures all { (seat_in_force (⟦<Desk as Seen>⟧.table desk.now)).kind ≡ Custom → round.now.is_over ≡ false → result ≡ true }
 {
     if round.is_over {
         return false;
@@ -105,6 +111,8 @@ fn go_on(ledger: &mut Ledger, round: &mut Round, desk: &mut Desk) -> Entry
     ensures line { GivesEntry ledger.old ledger.new result }
     ensures run { let table = ⟦<Desk as Seen>⟧.table in ContinuesRuns ledger.old ledger.new (table desk.old) (table desk.new) result }
     ensures kind { is_admission result.what ≡ false }
+    ensures told { let table = ⟦<Desk as Seen>⟧.table in
+        table desk.new ≡ after_orders (orders_of ledger.old.input.commands.items result.what) (table desk.old) }
 {
     round.is_over = false;
     let entry = ledger.go_on();
@@ -113,7 +121,7 @@ fn go_on(ledger: &mut Ledger, round: &mut Round, desk: &mut Desk) -> Entry
 }
 
 /// The desk is told the order of the command that a line tells. Commands count from 1.
-fn tell_desk(desk: &mut Desk, commands: &[Command], what: &What)
+pub(crate) fn tell_desk(desk: &mut Desk, commands: &[Command], what: &What)
     requires { (k : ℕ) → what.now ≡ Told k → 1 ≤ k }
     ensures { let table = ⟦<Desk as Seen>⟧.table in
         table desk.new ≡ after_orders (orders_of commands.now what.now) (table desk.old) }
@@ -146,6 +154,7 @@ fn decide(ledger: &mut Ledger, round: &mut Round, desk: &mut Desk, all: bool) ->
     requires unlisted { ledger.old.listed ≡ which.Nothing }
     requires room { TRAINS ≤ vec_capacity round.old.offers }
     requires over { round.old.is_over ≡ true → AreAllKnown ledger.old.input.plant ledger.old.state.trains }
+    requires all { (seat_in_force (⟦<Desk as Seen>⟧.table desk.old)).kind ≡ Custom → round.old.is_over ≡ false → all ≡ true }
     ensures input { ledger.new.input ≡ ledger.old.input }
     ensures room { vec_capacity round.new.offers ≡ vec_capacity round.old.offers }
     ensures over { IfSome result (λ entry. round.new.is_over ≡ true → AreAllKnown ledger.new.input.plant ledger.new.state.trains) }
@@ -154,6 +163,10 @@ fn decide(ledger: &mut Ledger, round: &mut Round, desk: &mut Desk, all: bool) ->
         IfSome result (ContinuesRuns ledger.old ledger.new (table desk.old) (table desk.new)) }
     ensures asked { let table = ⟦<Desk as Seen>⟧.table in
         IfSome result (AsksFirst ledger.old (table desk.old) (table desk.new)) }
+    ensures told { let table = ⟦<Desk as Seen>⟧.table in
+        IfSome result (TellsDesks ledger.old (table desk.old) (table desk.new)) }
+    ensures nobody { let table = ⟦<Desk as Seen>⟧.table in
+        IsNone result → (front : Front) → IsAt front ledger.old → AdmitsNobody (input_in ledger.old.input) front (table desk.old) (table desk.new) }
     ensures none { IsNone result → IsSettled ledger.old ledger.new }
     ensures desk { let table = ⟦<Desk as Seen>⟧.table in IsNone result → StaysDesk ledger.old (table desk.old) (table desk.new) }
 {

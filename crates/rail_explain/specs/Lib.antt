@@ -1,2 +1,5 @@
 -- What the contracts of this crate speak of.
 pub mod Files
+pub mod Places
+pub mod Meanings
+pub mod Explanations

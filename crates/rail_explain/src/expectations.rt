@@ -1,6 +1,7 @@
 //! What a key of a scene file has to have.
 
-ghost use Rattle.std.specs.Prelude.{◌+◌, ◌≤◌, length};
+ghost use Rattle.std.specs.Prelude.{◌≡◌, ◌+◌, ◌≤◌, ◌++◌, length};
+ghost use Rattle.rail_explain.specs.Meanings.{bounds_text, kind_text, range_text, unknown_text};
 ghost use Rattle.rail_text.specs.declared.line_buffer.TheConstants.{ROOM};
 
 use rail_base::limits::{INPUT_TIME, ITINERARY_ROUTES, OVERLAP_SECTIONS, ROUTE_SECTIONS};
@@ -20,6 +21,7 @@ const _: () = prove!(ITINERARY_ROUTES == 128);
 /// Puts the range of a key.
 pub fn put_range(line: &mut LineBuffer, form: Form)
     requires { length line.old + 110 ≤ ROOM }
+    ensures text { line.new ≡ line.old ++ range_text form }
     ensures short { length line.new ≤ length line.old + 110 }
 {
     match form {
@@ -43,6 +45,7 @@ pub fn put_range(line: &mut LineBuffer, form: Form)
 /// Puts the least and the greatest number.
 fn put_bounds(line: &mut LineBuffer, bounds: Bounds)
     requires { length line.old + 110 ≤ ROOM }
+    ensures text { line.new ≡ line.old ++ bounds_text bounds }
     ensures short { length line.new ≤ length line.old + 110 }
 {
     line.put(b" must be");
@@ -55,6 +58,7 @@ fn put_bounds(line: &mut LineBuffer, bounds: Bounds)
 
 /// The kind of value that a key has to have.
 pub fn kind_text(form: Form) -> &'static [u8]
+    ensures text { result.now ≡ kind_text form }
     ensures short { length result.now ≤ 60 }
 {
     match form {
@@ -68,6 +72,7 @@ pub fn kind_text(form: Form) -> &'static [u8]
 
 /// What a name at a key refers to, where it refers to nothing.
 pub fn unknown_text(key: KeyName) -> &'static [u8]
+    ensures text { result.now ≡ unknown_text key }
     ensures short { length result.now ≤ 60 }
 {
     match key {

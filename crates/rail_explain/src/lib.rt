@@ -4,8 +4,9 @@
 //! This layer stands on `rail_words` for the table of the forms and the files of a request, on `rail_scene` for the keys of
 //! a scene file and the names of its items, and on `rail_text` for the room of a line. The program prints such lines on
 //! standard error before the status text, and the forms on standard output where it is asked for help; nothing of it is
-//! read again, and no answer depends on it. The words may be changed freely; what may not is that a line is no longer than
-//! its clause says, and that there is one for each reason.
+//! read again, and no answer depends on it. What is said of a refusal is the definition `explanation` in
+//! `specs/Explanations.antt`, over the tables of `specs/Places.antt` and `specs/Meanings.antt`: who changes a text changes it
+//! there too. The other words may be changed freely; what may not is that a line is no longer than its clause says.
 #![tactic(auto)]
 
 mod expectations;
@@ -18,5 +19,5 @@ mod verdicts;
 
 pub use files::file_of;
 pub use help::{HELP_BEFORE, HELP_BEHIND, OTHER_FORMS, VERSION, help_line, usage, usage_with_hint};
-pub use refusals::{MOST, explained};
+pub use refusals::{MOST, explained, write_refusal};
 pub use verdicts::law_text;

@@ -1,6 +1,7 @@
 //! What a reason means where no key is told with it.
 
-ghost use Rattle.std.specs.Prelude.{◌≤◌, length};
+ghost use Rattle.std.specs.Prelude.{◌≡◌, ◌≤◌, length};
+ghost use Rattle.rail_explain.specs.Meanings.{no_path, post_place, reason_text, repeated, too_many, unknown_item};
 
 use rail_base::limits::{
     COMMANDS, EDITS, FILE_BYTES, HISTORY_BYTES, KINDS, LIST_TRAINS, NAME_BYTES, POSTS, ROUTES,
@@ -21,7 +22,8 @@ const _: () = prove!(COMMANDS == 1_024 && EDITS == 4_096 && LIST_TRAINS == 32_76
 
 /// What the reason of a refusal means. The reasons that are told with a key, a joint, a step or a place have their words
 /// behind these.
-pub fn meaning(refusal: &Refusal) -> &'static [u8]
+pub fn reason_text(refusal: &Refusal) -> &'static [u8]
+    ensures text { result.now ≡ reason_text refusal.now.reason refusal.now }
     ensures short { length result.now ≤ 140 }
 {
     match refusal.reason {
@@ -31,7 +33,7 @@ pub fn meaning(refusal: &Refusal) -> &'static [u8]
         Reason::KeyUnknown => b" has a key that is none of its keys",
         Reason::BadName => b" must be a name: 1 to 16 of A-Z a-z 0-9 _ -",
         Reason::Repeated => repeated(refusal.part),
-        Reason::Unknown => unknown(refusal.part),
+        Reason::Unknown => unknown_item(refusal.part),
         Reason::Range => b" is out of its range",
         Reason::JointCrowded => {
             b" is in two sections already, stands twice in this one, or carries a portal"
@@ -76,10 +78,7 @@ pub fn meaning(refusal: &Refusal) -> &'static [u8]
         Reason::ListPlaces => b": two trains would stand on one section at these places",
         Reason::SnapshotForm => b" is no line of a snapshot",
         Reason::SnapshotOther => b" is of a run of another scene, timetable or command file",
-        Reason::NoPath if refusal.item == 2 => {
-            b", TRAIN, has no whole path in the run to be copied: it was not admitted, or stands somewhere at the end"
-        }
-        Reason::NoPath => b", FROM: no path is free that begins there or later, and before TO",
+        Reason::NoPath => no_path(refusal.item),
         Reason::RerouteForm => b" does not say how a train is rerouted",
         Reason::RerouteName => b" names a train or a route that is not in the scene",
         Reason::NotYet => b": the command has a form that is not built",
@@ -87,7 +86,8 @@ pub fn meaning(refusal: &Refusal) -> &'static [u8]
 }
 
 /// What is not there.
-fn unknown(part: Part) -> &'static [u8]
+fn unknown_item(part: Part) -> &'static [u8]
+    ensures text { result.now ≡ unknown_item part }
     ensures short { length result.now ≤ 140 }
 {
     match part {
@@ -98,6 +98,7 @@ fn unknown(part: Part) -> &'static [u8]
 
 /// What stands already.
 fn repeated(part: Part) -> &'static [u8]
+    ensures text { result.now ≡ repeated part }
     ensures short { length result.now ≤ 140 }
 {
     match part {
@@ -113,6 +114,7 @@ fn repeated(part: Part) -> &'static [u8]
 
 /// Where posts and turns have to be.
 fn post_place(part: Part) -> &'static [u8]
+    ensures text { result.now ≡ post_place part }
     ensures short { length result.now ≤ 140 }
 {
     match part {
@@ -130,6 +132,7 @@ fn post_place(part: Part) -> &'static [u8]
 
 /// How many there may be.
 fn too_many(part: Part) -> &'static [u8]
+    ensures text { result.now ≡ too_many part }
     ensures short { length result.now ≤ 140 }
 {
     match part {
@@ -145,5 +148,18 @@ fn too_many(part: Part) -> &'static [u8]
         Part::Line =>
             b" is one too many: there may be 1,024 commands, 4,096 edits kept, and 32,768 trains in a list",
         _ => b" is more than there may be",
+    }
+}
+
+/// Which word asks for paths that are not there.
+fn no_path(item: u32) -> &'static [u8]
+    ensures text { result.now ≡ no_path item }
+    ensures short { length result.now ≤ 140 }
+{
+    match item {
+        2 => {
+            b", TRAIN, has no whole path in the run to be copied: it was not admitted, or stands somewhere at the end"
+        }
+        _ => b", FROM: no path is free that begins there or later, and before TO",
     }
 }

@@ -1,13 +1,19 @@
 //! The line that explains a refusal.
 
-ghost use Rattle.std.specs.Prelude.{◌+◌, ◌≤◌, [], length};
+ghost use Rattle.std.specs.Prelude.{◌≡◌, ◌+◌, ◌≤◌, ◌++◌, length};
+ghost use Rattle.std.specs.Option.{option_copied};
+ghost use Rattle.rail_explain.specs.Explanations.{explanation, file_text, refusal_line};
+ghost use Rattle.rail_explain.specs.Meanings.{meaning_text};
+ghost use Rattle.rail_explain.specs.Places.{key_at};
 ghost use Rattle.rail_explain.specs.declared.refusals.TheConstants.{MOST};
+ghost use Rattle.rail_text.specs.Writes.{WritesText};
 ghost use Rattle.rail_text.specs.declared.line_buffer.TheConstants.{ROOM};
 
 use crate::expectations::{kind_text, put_range, unknown_text};
-use crate::places::{key_at, put_item, put_key, put_keys, put_step};
-use crate::reasons::meaning;
+use crate::places::{key_at, put_item, put_keys, put_place};
+use crate::reasons::reason_text;
 use rail_base::{Name, Reason, Refusal};
+use rail_io::{Failed, Sink, write_whole};
 use rail_text::LineBuffer;
 
 /// How many bytes the explanation of a refusal has at most.
@@ -16,51 +22,56 @@ pub const MOST: usize = 400;
 /// The explanation of a refusal, which has a name where its item has one: the item, then the key, joint, step or place,
 /// and what was expected there. It stands behind the name of the file and has no line feed.
 pub fn explained(refusal: &Refusal, name: Option<Name>) -> LineBuffer
+    ensures text { result ≡ explanation refusal.now name }
     ensures short { length result ≤ MOST }
 {
     let mut line = LineBuffer::new();
     put_item(&mut line, refusal, name);
-    match refusal.reason {
-        Reason::KeyMissing
-        | Reason::WrongKind
-        | Reason::BadName
-        | Reason::Unknown
-        | Reason::Range
-        | Reason::UnknownPolicy => put_at_key(&mut line, refusal),
-        Reason::KeyUnknown => {
-            line.put(meaning(refusal));
-            put_keys(&mut line, refusal.part);
-        }
-        Reason::JointCrowded => put_at_step(&mut line, b"joint", refusal),
-        Reason::RouteBroken | Reason::RouteRepeat => put_at_step(&mut line, b"step", refusal),
-        Reason::ItineraryBroken | Reason::TooLong | Reason::SelfBlocked => {
-            put_at_step(&mut line, b"place", refusal);
-        }
-        _ => line.put(meaning(refusal)),
-    }
+    put_place(&mut line, refusal);
+    put_meaning(&mut line, refusal);
     line
 }
 
-/// Puts a step and what the reason means there.
-fn put_at_step(line: &mut LineBuffer, word: &[u8], refusal: &Refusal)
-    requires word { length word.now ≤ 12 }
-    requires room { length line.old + 200 ≤ ROOM }
-    ensures short { length line.new ≤ length line.old + 200 }
+/// Writes the line of a refusal: the name of the file in which it lies, where it lies in one, and its explanation.
+pub fn write_refusal<O: Sink>(
+    file: Option<&str>,
+    refusal: &Refusal,
+    name: Option<Name>,
+    out: &mut O,
+) -> Result<(), Failed>
+    ensures { WritesText O.Sink out.old out.new (refusal_line (option_copied file.entry) refusal.now name) result }
 {
-    put_step(line, word, refusal.step);
-    line.put(meaning(refusal));
+    write_file(file, out)?;
+    let mut line = explained(refusal, name);
+    line.put(b"\n");
+    write_whole(out, line.as_slice())
 }
 
-/// Puts a key and what is expected there.
-fn put_at_key(line: &mut LineBuffer, refusal: &Refusal)
-    requires { length line.old + 220 ≤ ROOM }
-    ensures short { length line.new ≤ length line.old + 220 }
+/// Writes the name of the file in which a refusal lies, where it lies in one, with a colon and a space.
+fn write_file<O: Sink>(file: Option<&str>, out: &mut O) -> Result<(), Failed>
+    ensures { WritesText O.Sink out.old out.new (file_text (option_copied file.entry)) result }
 {
-    put_key(line, refusal);
+    let Some(file) = file else {
+        return Ok(());
+    };
+    write_whole(out, file.as_bytes())?;
+    write_whole(out, b": ")
+}
+
+/// Puts what the reason means, and what was expected at the key.
+fn put_meaning(line: &mut LineBuffer, refusal: &Refusal)
+    requires { length line.old + 250 ≤ ROOM }
+    ensures text { line.new ≡ line.old ++ meaning_text refusal.now.reason (key_at refusal.now) refusal.now }
+    ensures short { length line.new ≤ length line.old + 250 }
+{
     match (refusal.reason, key_at(refusal)) {
         (Reason::Range, Some(key)) => put_range(line, key.form),
         (Reason::WrongKind, Some(key)) => line.put(kind_text(key.form)),
         (Reason::Unknown, Some(key)) => line.put(unknown_text(key.name)),
-        _ => line.put(meaning(refusal)),
+        (Reason::KeyUnknown, _) => {
+            line.put(b" has a key that is none of its keys");
+            put_keys(line, refusal.part);
+        }
+        _ => line.put(reason_text(refusal)),
     }
 }

@@ -5,9 +5,9 @@ ghost use Rattle.std.specs.List.{list_all};
 ghost use Rattle.rail_base.specs.Refusals.{AnswersFirst};
 ghost use Rattle.rail_compile.specs.Refusals.{compile_refusal};
 ghost use Rattle.rail_compile.specs.Itineraries.{plant_of_scene};
-ghost use Rattle.rail_compile.specs.Ways.{AreLookups};
 ghost use Rattle.rail_io.specs.Writes.{Adds, AddsPrefix};
 ghost use Rattle.rail_reroute.specs.Proposals.{is_ready, proposals_in, proposals_refusal, route_names, train_names};
+ghost use Rattle.rail_reroute.specs.Judges.{IsJudgeFor};
 ghost use Rattle.rail_rules.specs.Places.{is_valid_state};
 ghost use Rattle.rail_rules.specs.Plant.{moves_of};
 ghost use Rattle.rail_scene.specs.Scenes.{IsScene};
@@ -22,10 +22,10 @@ use crate::files::read_file;
 use crate::play::places_of;
 use crate::status::Status;
 use rail_base::{Fault, OutOfMemory};
-use rail_compile::Lookups;
-use rail_input::read_plant;
+use rail_input::{Planned, read_plant};
 use rail_io::{Failed, Shelf, Sink};
-use rail_reroute::{Judged, Proposal, judge_with, read_proposals, write_judged};
+use rail_plan::Plant;
+use rail_reroute::{Judge, Judged, Proposal, read_proposals, write_judged};
 use rail_scene::Scene;
 use rail_words::Role;
 use std::alloc::{AllocError, Global};
@@ -91,8 +91,9 @@ fn judge_files<O: Sink>(
         list,
         false,
     )?;
-    let answers = answers_to(alloc, &planned.scene, placed.file.positions(), proposals)?;
-    write_answers(&planned.scene, &answers, out)?;
+    let Planned { scene, plant } = planned;
+    let answers = answers_to(alloc, &scene, plant, placed.file.positions(), proposals)?;
+    write_answers(&scene, &answers, out)?;
     Ok(())
 }
 
@@ -100,10 +101,12 @@ fn judge_files<O: Sink>(
 fn answers_to(
     alloc: Global,
     scene: &Scene,
+    plant: Plant,
     positions: &[u16],
     bytes: &[u8],
 ) -> Result<Vec<Answered>, Fault>
     requires kept { IsScene scene.now }
+    requires plant { plant ≡ plant_of_scene scene.now }
     requires compiled { compile_refusal scene.now ≡ None }
     requires valid { IsTrue (is_valid_state (moves_of (plant_of_scene scene.now)) positions.now) }
     requires short { length bytes.now < 2 ^ 32 - 1 }
@@ -112,9 +115,9 @@ fn answers_to(
         AreAnswered scene.now positions.now (proposals_in (train_names scene.now) bytes.now) answers.items) }
     ensures refused { IfErr result (AnswersFirst (proposals_refusal (train_names scene.now) (route_names scene.now) bytes.now)) }
 {
-    let lookups = Lookups::of_scene(alloc, scene)?;
-    let proposals = read_proposals(alloc, scene, &lookups, bytes)?;
-    let answers = answer_each(alloc, scene, &lookups, positions, proposals.as_slice())?;
+    let mut judge = Judge::new(alloc, scene, plant)?;
+    let proposals = read_proposals(alloc, scene, judge.lookups(), bytes)?;
+    let answers = answer_each(alloc, scene, &mut judge, positions, proposals.as_slice())?;
     Ok(answers)
 }
 
@@ -122,20 +125,21 @@ fn answers_to(
 fn answer_each(
     alloc: Global,
     scene: &Scene,
-    lookups: &Lookups,
+    judge: &mut Judge,
     positions: &[u16],
     proposals: &[Proposal],
 ) -> Result<Vec<Answered>, OutOfMemory>
-    requires lookups { AreLookups scene.now lookups.now }
+    requires own { IsJudgeFor scene.now judge.old }
     requires kept { IsScene scene.now }
     requires compiled { compile_refusal scene.now ≡ None }
     requires valid { IsTrue (is_valid_state (moves_of (plant_of_scene scene.now)) positions.now) }
     requires ready { IsTrue (list_all (is_ready scene.now) proposals.now) }
-    ensures { IfOk result (λ answers. AreAnswered scene.now positions.now proposals.now answers.items) }
+    ensures own { IsJudgeFor scene.now judge.new }
+    ensures answered { IfOk result (λ answers. AreAnswered scene.now positions.now proposals.now answers.items) }
 {
     let mut answers = Vec::new(alloc);
     for proposal in proposals {
-        let answer = answer_to(alloc, scene, lookups, positions, proposal)?;
+        let answer = answer_to(alloc, scene, judge, positions, proposal)?;
         push(&mut answers, answer)?;
     }
     Ok(answers)
@@ -145,21 +149,21 @@ fn answer_each(
 fn answer_to(
     alloc: Global,
     scene: &Scene,
-    lookups: &Lookups,
+    judge: &mut Judge,
     positions: &[u16],
     proposal: &Proposal,
 ) -> Result<Answered, OutOfMemory>
-    requires lookups { AreLookups scene.now lookups.now }
+    requires own { IsJudgeFor scene.now judge.old }
     requires kept { IsScene scene.now }
     requires compiled { compile_refusal scene.now ≡ None }
     requires valid { IsTrue (is_valid_state (moves_of (plant_of_scene scene.now)) positions.now) }
     requires ready { IsTrue (is_ready scene.now proposal.now) }
-    ensures { IfOk result (IsAnswered scene.now positions.now proposal.now) }
+    ensures own { IsJudgeFor scene.now judge.new }
+    ensures answered { IfOk result (IsAnswered scene.now positions.now proposal.now) }
 {
-    let judged = judge_with(
+    let judged = judge.judge(
         alloc,
         scene,
-        lookups,
         positions,
         proposal.train,
         proposal.routes.as_slice(),

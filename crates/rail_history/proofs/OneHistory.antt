@@ -1,5 +1,5 @@
 -- The text of a history stands for one history, and has one first line that is none.
-use Rattle.std.proofs.Common.{◌≡◌, ℕ, ◌⊎◌, inl, inr, ⊎_elim, true, false, ◌&&◌, cond, List, [], ◌∷◌, ◌++◌, drop, get_or, length, refl, sym, ap, ◌∙◌, subst, arith, append_assoc, length-append}
+use Rattle.std.proofs.Common.{◌≡◌, ℕ, zero, suc, ◌+◌, ◌<◌, ◌≤◌, ◌⊎◌, inl, inr, ⊎_elim, true, false, ◌&&◌, cond, List, [], ◌∷◌, ◌++◌, drop, get_or, length, refl, sym, ap, ◌∙◌, subst, arith, append_assoc, length-append}
 use Rattle.std.specs.List.{list_all, list_any}
 use Rattle.std.specs.Prelude.{reverse}
 use Rattle.std.proofs.lemmas.Bool.{and_parts, and_from, false≢true, or_parts}
@@ -141,3 +141,42 @@ one_wrong plant named bytes a b is_a is_b =
     let same = same_number h.more is_b.before is_a.before h.lines (ends_there plant bytes b is_b is_a.before is_a.rest is_a.are_lines h) in
     omega (arith, same, is_a.counted, is_b.counted))
     (compared plant named is_a.before is_b.before is_a.rest is_b.rest is_a.are_lines.each is_b.are_lines.each (sym is_a.whole ∙ is_b.whole))
+
+-- the text of lines ends with that of the last
+lines_more : (plant : Plant) (lines : List Line) (line : Line) → lines_text plant (lines ++ line ∷ []) ≡ lines_text plant lines ++ line_text plant line
+lines_more plant lines line = ap (text plant) (reverse-append lines (line ∷ []))
+
+-- what stands behind a line is shorter
+shorter : (plant : Plant) (line : Line) (rest more : List ℕ) → rest ≡ line_text plant line ++ more → length more < length rest
+shorter plant line rest more same =
+    omega (
+      arith,
+      ap (length {A = ℕ}) (same ∙ begins plant line more),
+      length-append (joined (line_words plant line)) (10 ∷ more),
+    )
+
+-- bytes that are no history have a first line that is none: behind lines of the file so many bytes are left at most
+no_third_behind : (plant : Plant) (bytes : List ℕ) → ((lines : List Line) → IsHistory plant bytes lines → ⊥) → ((number : ℕ) → IsFirstWrong plant bytes number → ⊥)
+    → (n : ℕ) (before : List Line) (rest : List ℕ) → AreHistoryLines plant before → bytes ≡ lines_text plant before ++ rest → length rest ≤ n → ⊥
+no_third_behind plant bytes no_lines no_wrong n before [] are whole short =
+    no_lines before (record { are_lines = are; whole = whole ∙ append-nil (lines_text plant before) })
+no_third_behind plant bytes no_lines no_wrong zero before (b ∷ rest) are whole short = omega (arith, short)
+no_third_behind plant bytes no_lines no_wrong (suc n) before (b ∷ rest) are whole short =
+    no_wrong (length before + 1) (record {
+      before = before;
+      rest = b ∷ rest;
+      are_lines = are;
+      whole = whole;
+      counted = refl;
+      some = λ none. omega (arith, ap (length {A = ℕ}) none);
+      wrong = λ line more goes same. no_third_behind plant bytes no_lines no_wrong n (before ++ line ∷ []) more goes
+          (whole ∙ ap (λ (t : List ℕ). lines_text plant before ++ t) same
+          ∙ sym (append_assoc (lines_text plant before) (line_text plant line) more)
+          ∙ ap (λ (t : List ℕ). t ++ more) (sym (lines_more plant before line)))
+          (omega (arith, short, shorter plant line (b ∷ rest) more same));
+    })
+
+-- the bytes are a history or have a first line that is none
+pub no_third : (plant : Plant) (bytes : List ℕ) → ((lines : List Line) → IsHistory plant bytes lines → ⊥) → ((number : ℕ) → IsFirstWrong plant bytes number → ⊥) → ⊥
+no_third plant bytes no_lines no_wrong =
+    no_third_behind plant bytes no_lines no_wrong (length bytes) [] bytes (record { each = refl; few_fresh = omega arith }) refl (omega arith)

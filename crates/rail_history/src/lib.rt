@@ -26,6 +26,7 @@ mod written_text;
 
 pub use files::{History, read_history};
 pub use laws::{
+    a_file_has_one_first_wrong_line, a_file_is_a_history_or_has_a_first_wrong_line,
     a_file_with_a_wrong_line_is_no_history, a_history_file_has_one_history,
     a_lawful_history_may_stand_in_a_file,
 };

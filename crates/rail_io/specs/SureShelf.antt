@@ -2,7 +2,7 @@
 use Rattle.std.specs.Prelude.{ℕ, List, Option, Some}
 use Rattle.rail_io.specs.declared.kept_file.File.{File}
 use Rattle.rail_io.specs.declared.reading.Reading.{Reading}
-use Rattle.rail_io.specs.declared.sure.SureShelf.{SureShelf}
+use Rattle.rail_io.specs.declared.sure_files.SureShelf.{SureShelf}
 use Rattle.rail_io.specs.File.{bytes_or_empty}
 
 -- the files on the shelf

@@ -1,6 +1,6 @@
 -- A sink in memory that never fails.
 use Rattle.std.specs.Prelude.{ℕ, List, Option}
-use Rattle.rail_io.specs.declared.sure.SureSink.{SureSink}
+use Rattle.rail_io.specs.declared.sure_files.SureSink.{SureSink}
 use Rattle.rail_io.specs.Paper.{told}
 
 -- the bytes written, until the first piece that the room did not hold

@@ -18,7 +18,7 @@ mod reading;
 mod room;
 mod shelf;
 mod sink;
-mod sure;
+mod sure_files;
 mod whole_files;
 
 pub use files::{FileShelf, OutSink};
@@ -27,5 +27,5 @@ pub use kept_file::File;
 pub use memory::{MemoryShelf, MemorySink};
 pub use shelf::{Shelf, StartFault};
 pub use sink::{Failed, Sink};
-pub use sure::{SureShelf, SureSink};
+pub use sure_files::{SureShelf, SureSink};
 pub use whole_files::{ReadWhole, read_whole, write_whole};

@@ -10,3 +10,5 @@ pub use Rattle.rail_laws_end.proofs.Steps.{event_alone, hold_unsettles, next_lin
 pub use Rattle.rail_laws_end.proofs.Steps.{not_now}
 -- Compared: two run histories of one input are one, or part at a fresh admission.
 pub use Rattle.rail_laws_end.proofs.Compared.{one_run}
+-- Chosen: two trains that a policy of a built-in kind would both choose are one.
+pub use Rattle.rail_laws_end.proofs.Chosen.{one_chosen}

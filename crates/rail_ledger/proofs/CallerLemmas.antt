@@ -6,6 +6,8 @@ pub use Rattle.rail_ledger.proofs.Deciding.{deciding_at}
 pub use Rattle.rail_ledger.proofs.Judged.{listed_as}
 -- A hold line is no admission.
 pub use Rattle.rail_ledger.proofs.Judged.{hold_none}
+-- The line of an entry that is taken: of an admission, and of another entry.
+pub use Rattle.rail_ledger.proofs.Judged.{admission_taken, other_taken}
 -- A train that waits without a known cause and that nothing bars is next.
 pub use Rattle.rail_ledger.proofs.Looking.{next_unbarred}
 -- A train that waits has a move left.

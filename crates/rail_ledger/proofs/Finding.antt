@@ -136,10 +136,10 @@ known_same table front ledger depth t same at is = λ i. is_known (same i) (is i
 
 -- with no list the ledger stays where it is
 pub no_list_at : (table : List MoveLists) (front : Front) (ledger : Ledger) (places_now : State) (kept_now : Kept) (analyst_now : Tallied) (t : ℕ) → moves_in table ≡ moves_of ledger.input.plant → IsAt front ledger → IsNext (dispatch_in ledger.input) ledger.input.plant front ledger.state.holders ledger.state.trains t
-    → IsMadeFor table places_now → IsAnalystFor (moves_in table) analyst_now → places_now.positions ≡ ledger.places.positions → kept_now ≡ ledger.kept → is_known (moves_in table) ledger.input.plant.tables.depth ledger.places.positions ledger.kept.trains t ≡ false
+    → IsMadeFor table places_now → IsAnalystFor (moves_in table) analyst_now → places_now.positions ≡ ledger.places.positions → kept_now.trains ≡ ledger.kept.trains → kept_now.room ≡ ledger.kept.room → is_known (moves_in table) ledger.input.plant.tables.depth ledger.places.positions ledger.kept.trains t ≡ false
     → (states : List TrainState) → states ≡ set ledger.state.trains t (record (state_of ledger.state.trains t) { known = Some NoList })
     → IsAt front (record ledger { places = places_now; kept = kept_now; analyst = analyst_now; state = record ledger.state { trains = states } })
-no_list_at table front ledger places_now kept_now analyst_now t same at next made own positions list unknown states is = record {
+no_list_at table front ledger places_now kept_now analyst_now t same at next made own positions list room unknown states is = record {
   accepted = at.accepted;
   ordered = at.ordered;
   rep = no_list_stands (dispatch_in ledger.input) ledger.input.plant front ledger.state at.rep t next
@@ -153,7 +153,7 @@ no_list_at table front ledger places_now kept_now analyst_now t same at next mad
     counted = made.counted;
     told = subst (λ (plan : Moves). (x u : ℕ) → (get_or places_now.owners x None ≡ Some u) ↔ (holds plan places_now.positions u x ≡ true)) same made.told;
   };
-  keeps = record { is_list = ap (λ (k : Kept). k.trains) list ∙ at.keeps.is_list; room = subst (λ (k : Kept). sum_below (moves ledger.input.plant) (trains ledger.input.plant) ≤ k.room) (sym list) at.keeps.room };
+  keeps = record { is_list = list ∙ at.keeps.is_list; room = subst (λ n. sum_below (moves ledger.input.plant) (trains ledger.input.plant) ≤ n) (sym room) at.keeps.room };
   queue_room = at.queue_room;
   list_room = at.list_room;
   list_empty = at.list_empty;

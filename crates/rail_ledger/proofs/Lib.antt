@@ -2,6 +2,7 @@
 pub mod CallerLemmas
 mod Starting
 mod Going
+mod Repairing
 mod Room
 mod Holding
 mod Finding

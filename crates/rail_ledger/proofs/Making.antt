@@ -145,6 +145,7 @@ alike_ledger old mid alike trains = λ i. record {
   state = record { queue = alike.queue i; trains = trains i; holders = alike.holders i; instant = alike.instant i; is_settled = alike.is_settled i; has_ended = alike.has_ended i };
   places = mid.places;
   kept = mid.kept;
+  reader = alike.reader i;
   analyst = mid.analyst;
   remaining = alike.remaining i;
   listed = alike.listed i;

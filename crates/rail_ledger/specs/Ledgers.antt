@@ -127,6 +127,7 @@ untried states = sum_below (λ t. cond (is_untried (state_of states t)) 1 0) (le
 pub record AreAlike (first second : Ledger) : Type 0 where
   pub input : second.input ≡ first.input
   pub orders : second.orders ≡ first.orders
+  pub reader : second.reader ≡ first.reader
   pub queue : second.state.queue ≡ first.state.queue
   pub holders : second.state.holders ≡ first.state.holders
   pub instant : second.state.instant ≡ first.state.instant

@@ -1,7 +1,7 @@
 //! A line is judged by what is kept.
 
 ghost use Rattle.std.specs.Prelude.{◌≡◌, ◌≢◌, ◌↔◌, ℕ, ◌<◌, ◌≤◌, ◌∷◌, [], cond, is_some, Some, true, false, IsTrue, IsNone, IsSome, IfSome};
-ghost use Rattle.rail_ledger.specs.Ledgers.{AreAlike, CouldGo, HasGiven, IsAdmissibleNow, IsAt, IsEnded, IsHoldDue, IsNextLine, IsNextTrain, IsRefused, IsRefusedWith, IsSettled, IsSomewhere, IsSomewhereWith, IsUnended, MayGoOn, StandsAsBefore, TakesLine, TakesLineWith, admission, is_forbidden_by, is_in_place, is_next_move, line_taken, line_with, list_with, untried};
+ghost use Rattle.rail_ledger.specs.Ledgers.{AreAlike, CouldGo, HasGiven, IsAdmissibleNow, IsAt, IsEnded, IsHoldDue, IsNextLine, IsNextTrain, IsRefused, IsRefusedWith, IsSettled, IsSomewhere, IsSomewhereWith, IsUnended, MayGoOn, StandsAsBefore, TakesLine, TakesLineWith, admission, is_forbidden_by, is_in_place, is_next_move, line_taken, line_with, list_in, list_with, untried};
 ghost use Rattle.rail_ledger.specs.declared.judgement.Left.TheVariants.{Admission, Hold as HoldOf, Nothing};
 ghost use Rattle.rail_ledger.specs.declared.ledger.Listed.TheVariants as which;
 ghost use Rattle.rail_queue.specs.Order.{first_time_of, is_sorted};
@@ -38,7 +38,7 @@ impl Ledger {
         ensures input { self.new.input ≡ self.old.input }
         ensures taken { IsNone result → TakesLineWith after_hold self.old self.new (line_taken entry trains.now) }
         ensures refused { IfSome result (IsRefusedWith after_hold self.old (line_taken entry trains.now)) }
-        ensures stays { IsSome result → StandsAsBefore self.old self.new }
+        ensures unchanged { IsSome result → StandsAsBefore self.old self.new }
     {
         if self.state.has_ended {
             return Some(1);
@@ -57,7 +57,7 @@ impl Ledger {
     pub fn judge_end(&mut self) -> Option<u8>
         requires running { IsSomewhere self.old }
         ensures input { self.new.input ≡ self.old.input }
-        ensures stays { StandsAsBefore self.old self.new }
+        ensures unchanged { StandsAsBefore self.old self.new }
         ensures ended { IsNone result → IsEnded self.old }
         ensures missing { IfSome result (IsUnended self.old) }
     {
@@ -87,7 +87,8 @@ impl Ledger {
         requires unlisted { self.old.listed ≡ which.Nothing }
         ensures input { self.new.input ≡ self.old.input }
         ensures listed { self.new.listed ≡ which.Nothing }
-        ensures stays { StandsAsBefore self.old self.new }
+        ensures unchanged { StandsAsBefore self.old self.new }
+        ensures known_unchanged { after_hold ≡ true → self.new.state.trains ≡ self.old.state.trains }
         ensures admission { result ≡ Admission → CouldGo self.old }
         ensures hold { (train : ℕ) → result ≡ HoldOf train → IsHoldDue self.new train }
         ensures nothing { result ≡ Nothing → IsSettled self.old self.new }
@@ -113,6 +114,7 @@ impl Ledger {
         requires known { are_known ≡ true → AreAllKnown self.old.input.plant self.old.state.trains }
         ensures alike { AreAlike self.old self.new }
         ensures at { StandsAsBefore self.old self.new }
+        ensures known_unchanged { are_known ≡ true → self.new.state.trains ≡ self.old.state.trains }
         ensures none { IsNone result → AreAllKnown self.new.input.plant self.new.state.trains }
         ensures some { IsSome result → are_known ≡ false }
         ensures next { IfSome result (IsNextTrain self.new) }
@@ -126,14 +128,17 @@ impl Ledger {
 
     /// Takes a line that is no admission: `None` where it may follow, and then what is kept stands for the lines
     /// with it; else the law that it breaks, and then what is kept stands for the lines so far. `after_hold` tells whether
-    /// the last line was a hold line.
-    fn take_other(&mut self, entry: Entry, trains: &[TrainNo], after_hold: bool) -> Option<u8>
-        requires running { IsSomewhereWith after_hold self.old }
+    /// the last line was a hold line: then each train that waits has a known cause.
+    pub fn take_other(&mut self, entry: Entry, trains: &[TrainNo], after_hold: bool) -> Option<u8>
+        requires running { IsSomewhere self.old }
+        requires known { after_hold ≡ true → AreAllKnown self.old.input.plant self.old.state.trains }
         requires other { is_admission entry.what ≡ false }
         ensures input { self.new.input ≡ self.old.input }
         ensures taken { IsNone result → TakesLine self.old self.new (line_with entry trains.now) }
+        ensures listed { IsNone result → list_in self.new ≡ trains.now }
         ensures refused { IfSome result (IsRefused self.old (line_with entry trains.now)) }
-        ensures stays { IsSome result → StandsAsBefore self.old self.new }
+        ensures unchanged { IsSome result → StandsAsBefore self.old self.new }
+        ensures known_unchanged { after_hold ≡ true → IsSome result → self.new.state.trains ≡ self.old.state.trains }
     {
         if self.state.has_ended {
             return Some(1);
@@ -157,8 +162,10 @@ impl Ledger {
         requires other { is_admission entry.what ≡ false }
         ensures input { self.new.input ≡ self.old.input }
         ensures taken { IsNone result → TakesLine self.old self.new (line_with entry trains.now) }
+        ensures listed { IsNone result → list_in self.new ≡ trains.now }
         ensures refused { IfSome result (IsRefused self.old (line_with entry trains.now)) }
-        ensures stays { IsSome result → StandsAsBefore self.old self.new }
+        ensures unchanged { IsSome result → StandsAsBefore self.old self.new }
+        ensures known_unchanged { IsSome result → self.new.state.trains ≡ self.old.state.trains }
     {
         let due = Entry {
             at: self.state.instant,
@@ -180,8 +187,10 @@ impl Ledger {
         requires other { is_admission entry.what ≡ false }
         ensures input { self.new.input ≡ self.old.input }
         ensures taken { IsNone result → TakesLine self.old self.new (line_with entry trains.now) }
+        ensures listed { IsNone result → list_in self.new ≡ trains.now }
         ensures refused { IfSome result (IsRefused self.old (line_with entry trains.now)) }
-        ensures stays { IsSome result → StandsAsBefore self.old self.new }
+        ensures unchanged { IsSome result → StandsAsBefore self.old self.new }
+        ensures known_unchanged { IsSome result → self.new.state.trains ≡ self.old.state.trains }
     {
         if !self.is_next(&entry, trains) {
             return Some(law_of_other(&entry));
@@ -196,7 +205,7 @@ impl Ledger {
         requires going { self.old.state.has_ended ≡ false }
         requires may { MayGoOn self.old }
         ensures kept { self.new ≡ record self.old { remaining = self.new.remaining } }
-        ensures stays { StandsAsBefore self.old self.new }
+        ensures unchanged { StandsAsBefore self.old self.new }
         ensures exact { (line : Line) × IsNextLine self.old line × (IsTrue result ↔ (line ≡ line_with entry.now trains.now)) }
     {
         match self.state.queue.first() {
@@ -218,7 +227,7 @@ impl Ledger {
         requires settled { self.old.state.is_settled ≡ true }
         requires empty { self.old.state.queue.events ≡ [] }
         ensures kept { self.new ≡ record self.old { remaining = self.new.remaining } }
-        ensures stays { StandsAsBefore self.old self.new }
+        ensures unchanged { StandsAsBefore self.old self.new }
         ensures exact { (line : Line) × IsNextLine self.old line × (IsTrue result ↔ (line ≡ line_with entry.now trains.now)) }
     {
         let due = Entry {
@@ -235,7 +244,7 @@ impl Ledger {
 
     /// Takes an admission: `None` where it may follow, and then what is kept stands for the lines with it;
     /// else the law that it breaks, and then what is kept stands for the lines so far. `after_hold` tells whether the last line was a hold line.
-    fn take_admission(
+    pub fn take_admission(
         &mut self,
         at: Time,
         train: TrainNo,
@@ -248,8 +257,11 @@ impl Ledger {
         requires going { self.old.state.has_ended ≡ false }
         ensures input { self.new.input ≡ self.old.input }
         ensures taken { IsNone result → TakesLineWith after_hold self.old self.new (admission at train place note list.now) }
+        ensures listed { IsNone result → self.new.listed ≡ list_with note }
+        ensures unlisted { IsSome result → self.new.listed ≡ self.old.listed }
+        ensures known_unchanged { IsSome result → self.new.state.trains ≡ self.old.state.trains }
         ensures refused { IfSome result (IsRefusedWith after_hold self.old (admission at train place note list.now)) }
-        ensures stays { IsSome result → StandsAsBefore self.old self.new }
+        ensures unchanged { IsSome result → StandsAsBefore self.old self.new }
     {
         if !self.is_in_place(at, train, place, after_hold) {
             return Some(2);
@@ -329,7 +341,7 @@ impl Ledger {
         ensures exact { (front : Front) → IsAt front self.old → result
             ≡ may_be_given (moves_of self.old.input.plant) (places self.old.input.plant front) (kept self.old.input.plant front) train note list.now }
         ensures given { IsTrue result → (front : Front) → IsAt front self.old → HasGiven front self.old self.new train note list.now }
-        ensures stays { result ≡ false → StandsAsBefore self.old self.new }
+        ensures unchanged { result ≡ false → StandsAsBefore self.old self.new }
     {
         let moves = self.input.plant.moves();
         moves.trains();

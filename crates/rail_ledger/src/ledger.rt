@@ -16,7 +16,7 @@ ghost use Rattle.rail_list.specs.KeptLists.{HasRoomFor};
 ghost use Rattle.rail_place.specs.PlaceStates.{IsMadeFor};
 ghost use Rattle.rail_place.specs.Tables.{moves_in};
 ghost use Rattle.rail_queue.specs.Order.{first_time_of, goes_before, is_sorted};
-ghost use Rattle.rail_rules.specs.Causes.{could_go};
+ghost use Rattle.rail_rules.specs.Causes.{could_go, is_repairable};
 ghost use Rattle.rail_rules.specs.Fronts.{Front, is_hold};
 ghost use Rattle.rail_state.specs.Representation.{AreAllKnown, bare_at};
 ghost use Rattle.rail_state.specs.TrainStates.{IsReadyFirst, lacks_hold_line, state_of};
@@ -25,7 +25,7 @@ use crate::input::RunInput;
 use rail_base::limits::TRAINS;
 use rail_base::{Entry, Note, Order, OutOfMemory, Time, TrainNo, What};
 use rail_consequence::Analyst;
-use rail_list::{KeptList, admit_by_list, is_list_known};
+use rail_list::{KeptList, Reader, admit_by_list, is_list_known};
 use rail_orders::ToldOrders;
 use rail_place::{Moves, Places};
 use rail_queue::{Class, Event};
@@ -51,6 +51,8 @@ pub struct Ledger {
     pub state: RunState,
     pub places: Places,
     pub kept: KeptList,
+    /// With it the kept list is read as a whole.
+    pub reader: Reader,
     pub analyst: Analyst,
     /// The trains that remain, once the end line was given.
     pub remaining: Vec<TrainNo>,
@@ -65,6 +67,7 @@ impl Drop for Ledger {
             state: _state,
             places: _places,
             kept: _kept,
+            reader: _reader,
             analyst: _analyst,
             remaining: _remaining,
             listed: _listed,
@@ -88,6 +91,7 @@ impl Ledger {
             state,
             places: lists.places,
             kept: lists.kept,
+            reader: lists.reader,
             analyst: lists.analyst,
             remaining: lists.remaining,
             listed: Listed::Nothing,
@@ -100,7 +104,7 @@ impl Ledger {
     {
         match self.listed {
             Listed::Nothing => &[],
-            Listed::Kept => self.kept.as_slice(),
+            Listed::Kept => self.kept.as_slice(&self.reader),
             Listed::Remaining => &self.remaining,
         }
     }
@@ -193,7 +197,7 @@ impl Ledger {
 
     /// Whether a list is known that brings every train inside to its exit after the train's next move, which is not
     /// made. With none, that is the cause of the train.
-    pub(crate) fn knows_list(&mut self, train: TrainNo) -> bool
+    pub fn knows_list(&mut self, train: TrainNo) -> bool
         requires running { IsSomewhere self.old }
         requires deciding { IsDeciding self.old }
         requires next { IsNextTrain self.old train }
@@ -201,6 +205,8 @@ impl Ledger {
         ensures at { StandsAsBefore self.old self.new }
         ensures known { IsTrue result → (front : Front) → IsAt front self.old
             → could_go (input_in self.old.input) front train ≡ true }
+        ensures none { result ≡ false → HasTried self.old self.new train }
+        ensures same { IsTrue result → self.new.state.trains ≡ self.old.state.trains }
         ensures fewer { result ≡ false → untried self.new.state.trains < untried self.old.state.trains }
     {
         let moves = self.input.plant.moves();
@@ -209,7 +215,7 @@ impl Ledger {
         if is_list_known(
             moves,
             &mut self.places,
-            &self.kept,
+            &mut self.kept,
             &mut self.analyst,
             depth,
             train,
@@ -218,6 +224,21 @@ impl Ledger {
         }
         self.state.trains.note_no_list(train);
         false
+    }
+
+    /// Whether the kept list, repaired for the train's next move, brings every train inside to its exit after it.
+    pub fn is_repairable(&mut self, train: TrainNo) -> bool
+        requires running { IsSomewhere self.old }
+        requires deciding { IsDeciding self.old }
+        requires next { IsNextTrain self.old train }
+        ensures alike { AreAlike self.old self.new }
+        ensures at { StandsAsBefore self.old self.new }
+        ensures same { self.new.state.trains ≡ self.old.state.trains }
+        ensures exact { (front : Front) → IsAt front self.old → result ≡ is_repairable (input_in self.old.input) front train }
+    {
+        let moves = self.input.plant.moves();
+        moves.trains();
+        self.kept.is_repairable(moves, &self.places, train)
     }
 
     /// The admission of the train's next move, where a list is known that brings every train inside to its
@@ -421,6 +442,7 @@ pub(crate) fn list_with(note: Note) -> Listed
 struct Lists {
     places: Places,
     kept: KeptList,
+    reader: Reader,
     analyst: Analyst,
     remaining: Vec<TrainNo>,
 }
@@ -435,13 +457,14 @@ fn lists_of(alloc: Global, moves: &Moves) -> Result<Lists, OutOfMemory>
     ensures remaining { IfOk result (λ lists. lists.remaining.items ≡ []) }
     ensures capacity { IfOk result (λ lists. TRAINS ≤ vec_capacity lists.remaining) }
 {
-    let kept = KeptList::new(alloc, moves)?;
+    let (kept, reader) = KeptList::new(alloc, moves)?;
     let remaining = Vec::with_capacity(alloc, TRAINS)?;
     let places = Places::outside(alloc, moves)?;
     let analyst = Analyst::new(alloc, moves)?;
     Ok(Lists {
         places,
         kept,
+        reader,
         analyst,
         remaining,
     })

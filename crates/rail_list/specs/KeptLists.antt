@@ -5,10 +5,11 @@ use Rattle.rail_rules.specs.Moves.{Moves}
 use Rattle.rail_place.specs.Tables.{moves_in, MoveLists}
 use Rattle.rail_consequence.specs.Needs.{times}
 
--- the trains that move, in this order, and for how many entries memory was taken
+-- the trains that move, in this order, for how many entries memory was taken, and how many entries were looked at
 pub record Kept : Type 0 where
   pub trains : List ℕ
   pub room : ℕ
+  pub looked : ℕ
 
 -- the kept list was made for these moves: there is room for each move of each train
 abbrev pub HasRoomFor : List MoveLists → Kept → Type 0

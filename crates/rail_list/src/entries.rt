@@ -9,51 +9,57 @@ ghost use Rattle.rail_place.specs.PlaceStates.{IsMadeFor};
 ghost use Rattle.rail_place.specs.Tables.{moves_in};
 ghost use Rattle.rail_list.specs.KeptLists.{before_first, is_free_before};
 
+use crate::KeptList;
 use crate::needers::does_need_from;
 use rail_base::limits::TRAINS;
 use rail_base::{SectionNo, TrainNo};
 use rail_place::{Moves, Places};
 
-/// How many entries stand before the first of the train, where none of them needs one of the sections for its
-/// move. The list has an entry for each move that its trains have left, so that the entries of a train are its
-/// moves from its place on, in turn. The first entry of a train costs a look at the table for each section. A
-/// train that needs none of them for a move that it has left is not looked at again; of another one each entry
-/// costs such a look and one at the sections of its move.
+/// How many entries stand before the first of the train, where none of them needs one of the sections for its move.
+/// No entry behind that one is looked at. The list has an entry for each move that its trains have left, so that
+/// the entries of a train are its moves from its place on, in turn. The first entry of a train costs a look at the
+/// table for each section. A train that needs none of them for a move that it has left is not looked at again; of
+/// another one each entry costs such a look and one at the sections of its move.
 pub fn free_entries_before(
     moves: &Moves,
     places: &Places,
-    list: &[TrainNo],
+    kept: &mut KeptList,
     train: TrainNo,
     sections: &[SectionNo],
 ) -> Option<usize>
     requires made { IsMadeFor moves.now places.now }
-    requires known { All (λ t. t < length moves.now) list.now }
-    requires completes { IsTrue (completes (moves_in moves.now) places.now.positions list.now) }
+    requires known { All (λ t. t < length moves.now) kept.old.trains }
+    requires completes { IsTrue (completes (moves_in moves.now) places.now.positions kept.old.trains) }
     requires in_range { (x : ℕ) → IsTrue (is_in x sections.now) → x < SECTIONS }
-    ensures first { IfSome result (λ first. first ≡ length (before_first train list.now)) }
-    ensures exact { is_some result ≡ is_free_before (moves_in moves.now) train sections.now list.now }
+    ensures first { IfSome result (λ first. first ≡ length (before_first train kept.old.trains)) }
+    ensures exact { is_some result ≡ is_free_before (moves_in moves.now) train sections.now kept.old.trains }
+    ensures trains { kept.new.trains ≡ kept.old.trains }
+    ensures room { kept.new.room ≡ kept.old.room }
+    ensures looked { kept.new.looked ≤ kept.old.looked + length (before_first train kept.old.trains) + 1 }
 {
     // For each train how many of its entries were passed, and `None` where it needs none of the sections any more.
     let mut passed = [Some(0); TRAINS];
-    for (index, other) in list.iter().enumerate() {
+    let count = kept.len();
+    for index in 0..count {
+        let other = kept.look(index);
         let number = usize::from(other.0);
         let Some(times) = passed[number] else {
             continue;
         };
-        if *other == train {
+        if other == train {
             return Some(index);
         }
-        let place = places.position(*other) + times;
-        if times == 0 && !does_need_from(moves, *other, place, sections) {
+        let place = places.position(other) + times;
+        if times == 0 && !does_need_from(moves, other, place, sections) {
             passed[number] = None;
             continue;
         }
-        if does_need_one(moves, *other, place + 1, sections) {
+        if does_need_one(moves, other, place + 1, sections) {
             return None;
         }
         passed[number] = Some(times + 1);
     }
-    Some(list.len())
+    Some(count)
 }
 
 /// Whether the train's move to this place needs one of the sections.

@@ -1,12 +1,12 @@
 //! An admission with a given note and list.
 
-ghost use Rattle.std.specs.Prelude.{◌≡◌, ℕ, ◌<◌, [], true, false, length, nat_lt, IsTrue};
+ghost use Rattle.std.specs.Prelude.{◌≡◌, ℕ, ◌+◌, ◌<◌, ◌≤◌, [], true, false, length, nat_lt, IsTrue};
 ghost use Rattle.std.specs.List.{All, list_all};
 ghost use Rattle.rail_base.specs.declared.history.Note.TheVariants.{Appended, Fresh, Pulled};
 ghost use Rattle.rail_rules.specs.Places.{after, completes, is_inside, is_legal, place_of};
 ghost use Rattle.rail_place.specs.PlaceStates.{IsMadeFor};
 ghost use Rattle.rail_place.specs.Tables.{moves_in};
-ghost use Rattle.rail_list.specs.KeptLists.{HasRoomFor};
+ghost use Rattle.rail_list.specs.KeptLists.{HasRoomFor, before_first};
 ghost use Rattle.rail_list.specs.GivenLists.{given_list, may_be_given};
 
 use crate::KeptList;
@@ -35,6 +35,7 @@ pub fn admit_given(
     ensures given { IsTrue result → (places.new.positions ≡ after places.old.positions train)
         × (kept.new.trains ≡ given_list (moves_in moves.now) kept.old.trains train note list.now) }
     ensures none { result ≡ false → (places.new.positions ≡ places.old.positions) × (kept.new.trains ≡ kept.old.trains) }
+    ensures looked { kept.new.looked ≤ kept.old.looked + length (before_first train kept.old.trains) + 1 }
 {
     match note {
         Note::Pulled => admit_pulled(moves, places, kept, train),
@@ -56,6 +57,7 @@ fn admit_pulled(moves: &Moves, places: &mut Places, kept: &mut KeptList, train: 
     ensures given { IsTrue result → (places.new.positions ≡ after places.old.positions train)
         × (kept.new.trains ≡ given_list (moves_in moves.now) kept.old.trains train Pulled []) }
     ensures none { result ≡ false → (places.new.positions ≡ places.old.positions) × (kept.new.trains ≡ kept.old.trains) }
+    ensures looked { kept.new.looked ≤ kept.old.looked + length (before_first train kept.old.trains) + 1 }
 {
     if places.position(train) == 0 || !kept.pull(moves, places, train) {
         return false;
@@ -77,6 +79,7 @@ fn admit_appended(moves: &Moves, places: &mut Places, kept: &mut KeptList, train
     ensures given { IsTrue result → (places.new.positions ≡ after places.old.positions train)
         × (kept.new.trains ≡ given_list (moves_in moves.now) kept.old.trains train Appended []) }
     ensures none { result ≡ false → (places.new.positions ≡ places.old.positions) × (kept.new.trains ≡ kept.old.trains) }
+    ensures looked { kept.new.looked ≡ kept.old.looked }
 {
     if places.position(train) > 0 || !kept.append(moves, places, train) {
         return false;
@@ -102,6 +105,7 @@ fn admit_listed(
     ensures exact { result ≡ may_be_given (moves_in moves.now) places.old.positions kept.old.trains train Fresh list.now }
     ensures given { IsTrue result → (places.new.positions ≡ after places.old.positions train) × (kept.new.trains ≡ list.now) }
     ensures none { result ≡ false → (places.new.positions ≡ places.old.positions) × (kept.new.trains ≡ kept.old.trains) }
+    ensures looked { kept.new.looked ≡ kept.old.looked }
 {
     if list.is_empty() {
         return false;

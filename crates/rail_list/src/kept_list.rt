@@ -1,21 +1,22 @@
-ghost use Rattle.std.specs.Prelude.{◌≡◌, ◌<◌, ◌≤◌, [], if◌then◌else◌, length, IsTrue, IfOk};
-ghost use Rattle.rail_rules.specs.Fronts.{without_first};
-ghost use Rattle.rail_rules.specs.Numbers.{sum_below};
-ghost use Rattle.rail_rules.specs.Places.{after, completes, is_inside, is_legal, place_of};
-ghost use Rattle.rail_place.specs.PlaceStates.{IsMadeFor};
-ghost use Rattle.rail_place.specs.Tables.{moves_in};
-ghost use Rattle.rail_list.specs.KeptLists.{HasRoomFor, with_moves_left};
-ghost use Rattle.rail_list.specs.Repairs.{is_repairable_for};
+//! The kept list and its entries: each is looked at by itself, and the look is counted.
 
-use crate::entries::{add_times, close_gap, free_entries_before, make_room};
-use crate::needers::is_needed_inside;
+ghost use Rattle.std.specs.Prelude.{◌≡◌, ◌+◌, ◌-◌, ◌^◌, ◌<◌, ◌≤◌, ◌++◌, [], length, min, replicate, slice_index, IfOk};
+ghost use Rattle.std.specs.List.{remove};
+ghost use Rattle.rail_rules.specs.Numbers.{sum_below};
+ghost use Rattle.rail_place.specs.Tables.{moves_in};
+ghost use Rattle.rail_list.specs.KeptLists.{HasRoomFor};
+
+use crate::entries::{add_times, close_gap, make_room};
 use rail_base::{OutOfMemory, TrainNo};
-use rail_place::{Moves, Places};
+use rail_place::Moves;
 use std::alloc::Global;
 use std::marker::Model;
 
 /// A list of moves by their trains, in the order in which they are made. Trains count from 0. It has
 /// room for the moves for which it was made, so that no repair takes memory.
+///
+/// An entry is looked at by itself, and each look is counted, so that a contract can say how much of the list a repair
+/// saw. The whole list is seen by its reader alone.
 #[derive(Debug)]
 pub struct KeptList {
     /// The list, from `front` on.
@@ -23,6 +24,14 @@ pub struct KeptList {
     front: usize,
     /// For how many entries memory was taken.
     room: usize,
+    looked: u64,
+}
+
+/// With it whoever made a kept list reads it as a whole. A repair has none: it sees the entries that it looks at.
+#[derive(Debug, Drop)]
+pub struct Reader {
+    /// Only `KeptList::new` makes one.
+    _made: (),
 }
 
 impl Drop for KeptList {
@@ -31,6 +40,7 @@ impl Drop for KeptList {
             trains: _trains,
             front: _front,
             room: _room,
+            looked: _looked,
         } = self;
     }
 }
@@ -41,94 +51,74 @@ impl Model for KeptList {
 
     ghost Value = { Kept };
 
-    ghost view = { λ kept. record { trains = drop kept.front kept.trains.items; room = kept.room } };
+    ghost view = { λ kept. record { trains = drop kept.front kept.trains.items; room = kept.room; looked = kept.looked } };
 
     ghost invariant = { λ kept. IsKeptIn kept.trains.items kept.front kept.room (vec_capacity kept.trains) };
 }
 
 impl KeptList {
-    /// An empty list, with room for all moves of all trains.
-    pub fn new(alloc: Global, moves: &Moves) -> Result<KeptList, OutOfMemory>
-        ensures trains { IfOk result (λ kept. kept.trains ≡ []) }
-        ensures made { IfOk result (HasRoomFor moves.now) }
+    /// An empty list, with room for all moves of all trains, and its reader.
+    pub fn new(alloc: Global, moves: &Moves) -> Result<(KeptList, Reader), OutOfMemory>
+        ensures trains { IfOk result (λ made. made.0.trains ≡ []) }
+        ensures made { IfOk result (λ made. HasRoomFor moves.now made.0) }
+        ensures looked { IfOk result (λ made. made.0.looked ≡ 0) }
     {
         let room = moves_of_all(moves);
-        Ok(KeptList {
+        let kept = KeptList {
             trains: Vec::with_capacity(alloc, room)?,
             front: 0,
             room,
-        })
+            looked: 0,
+        };
+        Ok((kept, Reader { _made: () }))
     }
 
-    /// Takes the first entry of the train, which is inside and makes this move now, out of the list.
-    /// True exactly where the list without it completes from the places after the move; else the list
-    /// stays. No move is played: the other trains make the moves that they made, so only an entry before
-    /// that first one is in the way, which needs what the train then stands on.
-    pub fn pull(&mut self, moves: &Moves, places: &Places, train: TrainNo) -> bool
-        requires made { IsMadeFor moves.now places.now }
-        requires room { HasRoomFor moves.now self.old }
-        requires completes { IsTrue (completes (moves_in moves.now) places.now.positions self.old.trains) }
-        requires train { train < length moves.now }
-        requires inside { IsTrue (is_inside (moves_in moves.now) places.now.positions train) }
-        requires legal { IsTrue (is_legal (moves_in moves.now) places.now.positions train) }
-        ensures exact { result ≡ completes (moves_in moves.now) (after places.now.positions train) (without_first train self.old.trains) }
-        ensures trains { self.new.trains ≡ (if result then without_first train self.old.trains else self.old.trains) }
-        ensures room { self.new.room ≡ self.old.room }
+    /// How many entries were looked at; it stays at 2^64 - 1 once there.
+    pub fn looked(&self) -> u64
+        ensures { result ≡ self.now.looked }
     {
-        let sections = moves.stand(train, places.position(train) + 1);
-        match free_entries_before(moves, places, self.as_slice(), train, sections) {
-            Some(first) => {
-                close_gap(&mut self.trains, self.front, first);
-                self.front += 1;
-                true
-            }
-            None => false,
-        }
+        self.looked
     }
 
-    /// Adds the moves that are left to the train, which stands outside and makes its first move now, at
-    /// the end of the list. True exactly where the list with them completes from the places after the
-    /// move; else the list stays. No move is played: the list has each move that the trains inside have left,
-    /// and the train then stands still until it is alone, so only a train that needs later what it stands on
-    /// is in the way. This costs a look at each train, and for one inside a look at the table for each section.
-    pub fn append(&mut self, moves: &Moves, places: &Places, train: TrainNo) -> bool
-        requires made { IsMadeFor moves.now places.now }
-        requires room { HasRoomFor moves.now self.old }
-        requires completes { IsTrue (completes (moves_in moves.now) places.now.positions self.old.trains) }
-        requires train { train < length moves.now }
-        requires outside { place_of places.now.positions train ≡ 0 }
-        requires legal { IsTrue (is_legal (moves_in moves.now) places.now.positions train) }
-        ensures exact { result ≡ completes (moves_in moves.now) (after places.now.positions train)
-            (with_moves_left (moves_in moves.now) train self.old.trains) }
-        ensures trains { self.new.trains ≡ (if result
-            then with_moves_left (moves_in moves.now) train self.old.trains
-            else self.old.trains) }
-        ensures room { self.new.room ≡ self.old.room }
+    /// How many entries there are.
+    pub(crate) fn len(&self) -> usize
+        ensures { result ≡ length self.now.trains }
     {
-        if is_needed_inside(moves, places, moves.stand(train, 1)) {
-            return false;
-        }
-        let count = moves.places(train) - 1;
+        self.trains.len() - self.front
+    }
+
+    /// The entry before which so many stand. The look is counted.
+    pub(crate) fn look(&mut self, before: usize) -> TrainNo
+        requires { before < length self.old.trains }
+        ensures entry { result ≡ slice_index self.old.trains before }
+        ensures trains { self.new.trains ≡ self.old.trains }
+        ensures room { self.new.room ≡ self.old.room }
+        ensures looked { self.new.looked ≡ min (self.old.looked + 1) (2 ^ 64 - 1) }
+    {
+        self.looked = self.looked.saturating_add(1);
+        self.trains[self.front + before]
+    }
+
+    /// Takes out the entry before which so many stand. These are moved back by one place.
+    pub(crate) fn take_out(&mut self, before: usize)
+        requires { before < length self.old.trains }
+        ensures trains { self.new.trains ≡ remove self.old.trains before }
+        ensures room { self.new.room ≡ self.old.room }
+        ensures looked { self.new.looked ≡ self.old.looked }
+    {
+        close_gap(&mut self.trains, self.front, before);
+        self.front += 1;
+    }
+
+    /// Adds so many entries of the train at the end.
+    pub(crate) fn add(&mut self, train: TrainNo, count: u16)
+        requires { length self.old.trains + count ≤ self.old.room }
+        ensures trains { self.new.trains ≡ self.old.trains ++ replicate count train }
+        ensures room { self.new.room ≡ self.old.room }
+        ensures looked { self.new.looked ≡ self.old.looked }
+    {
         self.front = make_room(&mut self.trains, self.front, count);
         add_times(&mut self.trains, train, count);
-        true
-    }
-
-    /// Whether the list repaired for the train's next move completes from the places after it: without the first
-    /// entry of a train that is inside, with the moves that are left to an entering train at its end.
-    pub fn is_repairable(&self, moves: &Moves, places: &Places, train: TrainNo) -> bool
-        requires made { IsMadeFor moves.now places.now }
-        requires completes { IsTrue (completes (moves_in moves.now) places.now.positions self.now.trains) }
-        requires train { train < length moves.now }
-        requires legal { IsTrue (is_legal (moves_in moves.now) places.now.positions train) }
-        ensures exact { result ≡ is_repairable_for (moves_in moves.now) places.now.positions self.now.trains train }
-    {
-        let place = places.position(train);
-        let sections = moves.stand(train, place + 1);
-        if place == 0 {
-            return !is_needed_inside(moves, places, sections);
-        }
-        free_entries_before(moves, places, self.as_slice(), train, sections).is_some()
     }
 
     /// The list is then this one.
@@ -136,14 +126,15 @@ impl KeptList {
         requires { length list.now ≤ self.old.room }
         ensures trains { self.new.trains ≡ list.now }
         ensures room { self.new.room ≡ self.old.room }
+        ensures looked { self.new.looked ≡ self.old.looked }
     {
         self.trains.clear();
         self.trains.extend_from_slice(list).unwrap();
         self.front = 0;
     }
 
-    /// The list.
-    pub fn as_slice(&self) -> &[TrainNo]
+    /// The list as a whole.
+    pub fn as_slice(&self, _reader: &Reader) -> &[TrainNo]
         ensures { result.now ≡ self.now.trains }
     {
         &self.trains[self.front..]

@@ -5,26 +5,28 @@
 //! the places after its move: the train's first entry is pulled out of it, or its remaining moves are appended.
 //! Since the old list completes, no move is played to test the new one: an entering train must have ended its
 //! first move safely, and before a pulled entry no entry may need what the train then stands on; both are laws.
-//! The list lies in one room from a front on, so that a pull moves only the entries before it. Only where the list
+//! The list lies in one room from a front on, so that a pull moves only the entries before it. A repair looks at its
+//! entries one by one, each look is counted, and none behind the train's first entry is looked at. Only where the list
 //! can't be repaired is the analysis asked for a fresh one, and a move is made only where a list is known. So
 //! wherever the kept list completes before a call, it does so after it. `specs/` says for which moves a list has
 //! room, what the repaired list is, when a list is known, and which list goes with each note.
 //!
 //! How the repaired list is tested and how a fresh one is found may be changed. That the answer is true exactly
-//! where it completes may not, nor that repair goes before a fresh list, that a move is made exactly where a list
-//! is known, and that nothing but `KeptList::new` takes memory.
+//! where it completes may not, nor how much of the list a repair looks at, that repair goes before a fresh list, that a
+//! move is made exactly where a list is known, and that nothing but `KeptList::new` takes memory.
 #![tactic(auto)]
 
 mod entries;
 mod given_admission;
 mod kept_list;
 mod laws;
+mod list_repairs;
 mod needers;
 mod notes;
 mod repair;
 
 pub use given_admission::admit_given;
-pub use kept_list::KeptList;
+pub use kept_list::{KeptList, Reader};
 pub use laws::{
     a_completing_list_fits,
     a_pulled_list_completes_exactly_where_no_earlier_entry_needs_what_the_train_stands_on,

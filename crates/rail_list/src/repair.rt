@@ -1,10 +1,10 @@
-ghost use Rattle.std.specs.Prelude.{◌≡◌, ℕ, ◌<◌, true, false, length, IsTrue, IsNone, IsSome, IfSome};
+ghost use Rattle.std.specs.Prelude.{◌≡◌, ℕ, ◌+◌, ◌<◌, ◌≤◌, true, false, length, IsTrue, IsNone, IsSome, IfSome};
 ghost use Rattle.rail_rules.specs.Analysis.{finds};
 ghost use Rattle.rail_rules.specs.Places.{after, completes, is_legal};
 ghost use Rattle.rail_place.specs.PlaceStates.{IsMadeFor};
 ghost use Rattle.rail_place.specs.Tables.{moves_in};
 ghost use Rattle.rail_consequence.specs.AnalystStates.{IsAnalystFor};
-ghost use Rattle.rail_list.specs.KeptLists.{HasRoomFor};
+ghost use Rattle.rail_list.specs.KeptLists.{HasRoomFor, before_first};
 ghost use Rattle.rail_list.specs.Repairs.{IsNoted, is_known, is_repairable_for};
 
 use crate::KeptList;
@@ -33,12 +33,13 @@ pub fn admit_by_list(
     ensures made { IsMadeFor moves.now places.new }
     ensures own { IsAnalystFor (moves_in moves.now) analyst.new }
     ensures room { kept.new.room ≡ kept.old.room }
-    ensures none { IsNone result → (places.new.positions ≡ places.old.positions) × (kept.new ≡ kept.old)
+    ensures none { IsNone result → (places.new.positions ≡ places.old.positions) × (kept.new.trains ≡ kept.old.trains)
         × (is_known (moves_in moves.now) depth places.old.positions kept.old.trains train ≡ false) }
     ensures moved { IsSome result → places.new.positions ≡ after places.old.positions train }
     ensures note { IfSome result (λ note.
         IsNoted (moves_in moves.now) depth places.old.positions kept.old.trains train note kept.new.trains) }
     ensures completes { IsTrue (completes (moves_in moves.now) places.new.positions kept.new.trains) }
+    ensures looked { kept.new.looked ≤ kept.old.looked + length (before_first train kept.old.trains) + 1 }
 {
     if let Some(note) = repair(moves, places, kept, train) {
         places.advance(moves, train);
@@ -64,6 +65,7 @@ fn repair(moves: &Moves, places: &Places, kept: &mut KeptList, train: TrainNo) -
         × (is_repairable_for (moves_in moves.now) places.now.positions kept.old.trains train ≡ false) }
     ensures note { IfSome result (λ note. (depth : ℕ)
         → IsNoted (moves_in moves.now) depth places.now.positions kept.old.trains train note kept.new.trains) }
+    ensures looked { kept.new.looked ≤ kept.old.looked + length (before_first train kept.old.trains) + 1 }
 {
     if places.position(train) > 0 {
         if kept.pull(moves, places, train) {
@@ -97,6 +99,7 @@ fn admit_afresh(
     ensures none { result ≡ false → (places.new.positions ≡ places.old.positions) × (kept.new.trains ≡ kept.old.trains) }
     ensures moved { IsTrue result → places.new.positions ≡ after places.old.positions train }
     ensures completes { IsTrue result → IsTrue (completes (moves_in moves.now) (after places.old.positions train) kept.new.trains) }
+    ensures looked { kept.new.looked ≡ kept.old.looked }
 {
     places.advance(moves, train);
     match analyst.find(moves, places, depth) {
@@ -116,20 +119,23 @@ fn admit_afresh(
 pub fn is_list_known(
     moves: &Moves,
     places: &mut Places,
-    kept: &KeptList,
+    kept: &mut KeptList,
     analyst: &mut Analyst,
     depth: u8,
     train: TrainNo,
 ) -> bool
     requires made { IsMadeFor moves.now places.old }
     requires own { IsAnalystFor (moves_in moves.now) analyst.old }
-    requires completes { IsTrue (completes (moves_in moves.now) places.old.positions kept.now.trains) }
+    requires completes { IsTrue (completes (moves_in moves.now) places.old.positions kept.old.trains) }
     requires train { train < length moves.now }
     requires legal { IsTrue (is_legal (moves_in moves.now) places.old.positions train) }
     ensures made { IsMadeFor moves.now places.new }
     ensures own { IsAnalystFor (moves_in moves.now) analyst.new }
     ensures positions { places.new.positions ≡ places.old.positions }
-    ensures exact { result ≡ is_known (moves_in moves.now) depth places.old.positions kept.now.trains train }
+    ensures exact { result ≡ is_known (moves_in moves.now) depth places.old.positions kept.old.trains train }
+    ensures trains { kept.new.trains ≡ kept.old.trains }
+    ensures room { kept.new.room ≡ kept.old.room }
+    ensures looked { kept.new.looked ≤ kept.old.looked + length (before_first train kept.old.trains) + 1 }
 {
     if kept.is_repairable(moves, places, train) {
         return true;

@@ -1,7 +1,7 @@
 -- Reading a table of moves, and adding a train to it.
-use Rattle.std.proofs.Common.{◌≡◌, ℕ, zero, suc, ◌+◌, ◌-◌, ◌<◌, ◌≤◌, Bool, true, ◌&&◌, cond, ltb, List, [], ◌∷◌, ◌++◌, length, get_or, map, refl, sym, ap, ◌∙◌, subst, ⊎_elim, arith}
+use Rattle.std.proofs.Common.{◌≡◌, ℕ, zero, suc, ◌+◌, ◌-◌, ◌<◌, ◌≤◌, Bool, true, ◌&&◌, cond, ltb, List, [], ◌∷◌, ◌++◌, length, get_or, map, set, refl, sym, ap, ◌∙◌, subst, inl, inr, ◌⊎◌, ⊎_elim, arith}
 use Rattle.std.proofs.lemmas.Bool.{and_parts, cases_lt, cases_eq, false≢true, ltb-true, lt-ltb, cond-true}
-use Rattle.std.proofs.lemmas.List.{get_or_past, get_or_push, get_or_append_left, get_or-map, length-map, length_push}
+use Rattle.std.proofs.lemmas.List.{get_or_past, get_or_push, get_or_append_left, get_or-map, get_or-set_other, get_or-set_same, length-map, length-set, length_push, map-set}
 use Rattle.std.specs.List.{list_all}
 use Rattle.rail_base.specs.declared.limits.TheConstants.{ITINERARY_ROUTES, OVERLAP_SECTIONS, ROUTE_SECTIONS, SECTIONS, TRAINS}
 use Rattle.rail_rules.specs.Numbers.{all_below, is_in, are_apart}
@@ -160,3 +160,48 @@ stand_at now t p row sections at low high is =
 pub stand_room : (now : List MoveLists) (t p : ℕ) (row : Row) → IsTable now → t < length now → get_or now t no_lists ≡ row_of row → 0 < p → p < length row.claims → p - 1 < length row.stands
 stand_room now t p row h lt at low high =
     omega (arith, stand_listed now t p h lt low (omega (arith, moves_at now t row at)), ap (λ (r : MoveLists). length r.stands) at)
+
+-- a row of a table passes the tests of a table
+row_kept : (table : List MoveLists) (t : ℕ) → IsTable table → t < length table → row_test (get_or table t no_lists) ≡ true
+row_kept table t h lt = all_below_at (λ u. row_test (get_or table u no_lists)) (length table) t (sym (valid_by_rows table) ∙ h.valid) lt
+
+-- a table in which the row of one train is that of another table's train
+pub table_exchanged : (table others : List MoveLists) (t k : ℕ) → IsTable table → IsTable others → k < length others → IsTable (set table t (get_or others k no_lists))
+table_exchanged table others t k h other lt =
+    let row : MoveLists = get_or others k no_lists in
+    let whole : List MoveLists = set table t row in
+    let size : length whole ≡ length table = length-set table t row in
+    let one_of : (u : ℕ) → (get_or whole u no_lists ≡ row) ⊎ (get_or whole u no_lists ≡ get_or table u no_lists) = λ u.
+    ⊎_elim
+    (λ here. ⊎_elim
+    (λ below. inl (ap (λ i. get_or whole i no_lists) here ∙ get_or-set_same table t row no_lists below))
+    (λ past. inr (get_or_past whole u no_lists (omega (arith, size, here, past)) ∙ sym (get_or_past table u no_lists (omega (arith, here, past)))))
+    (cases_lt t (length table)))
+    (λ apart. inr (get_or-set_other table t u row no_lists apart))
+    (cases_eq u t) in
+    record {
+      valid = valid_by_rows whole ∙ all_below_from (λ u. row_test (get_or whole u no_lists)) (length whole) (λ u below.
+          ⊎_elim
+          (λ (new : get_or whole u no_lists ≡ row). ap row_test new ∙ row_kept others k other lt)
+          (λ (old : get_or whole u no_lists ≡ get_or table u no_lists). ap row_test old ∙ row_kept table u h (omega (arith, below, size)))
+          (one_of u));
+      few = omega (arith, size, h.few);
+      short = λ u. ⊎_elim
+          (λ (new : get_or whole u no_lists ≡ row). omega (arith, ap (λ (r : MoveLists). length r.claims) new, other.short k))
+          (λ (old : get_or whole u no_lists ≡ get_or table u no_lists). omega (arith, ap (λ (r : MoveLists). length r.claims) old, h.short u))
+          (one_of u);
+      narrow = λ u m. ⊎_elim
+          (λ (new : get_or whole u no_lists ≡ row). omega (arith, ap (λ (r : MoveLists). length (get_or r.claims m [])) new, other.narrow k m))
+          (λ (old : get_or whole u no_lists ≡ get_or table u no_lists). omega (arith, ap (λ (r : MoveLists). length (get_or r.claims m [])) old, h.narrow u m))
+          (one_of u);
+      in_range = λ u m x is. ⊎_elim
+          (λ (new : get_or whole u no_lists ≡ row). other.in_range k m x (ap (λ (r : MoveLists). is_in x (get_or r.claims m [])) (sym new) ∙ is))
+          (λ (old : get_or whole u no_lists ≡ get_or table u no_lists). h.in_range u m x (ap (λ (r : MoveLists). is_in x (get_or r.claims m [])) (sym old) ∙ is))
+          (one_of u);
+    }
+
+-- a row put among others, as a table sees it
+pub row_set : (now : List MoveLists) (rows : List Row) (i t : ℕ) (row : Row) (lists : MoveLists) → map row_of rows ≡ now → i ≡ t → row_of row ≡ lists
+    → map row_of (set rows i row) ≡ set now t lists
+row_set now rows i t row lists view same is =
+    map-set row_of rows i row ∙ (λ j. set (view j) (same j) (is j))

@@ -1,4 +1,4 @@
-ghost use Rattle.std.specs.Prelude.{◌≡◌, ℕ, ◌+◌, ◌-◌, ◌<◌, ◌≤◌, ◌&&◌, [], ◌∷◌, ◌++◌, nat_le, length, get_or, IsTrue, OnOk, OnErr};
+ghost use Rattle.std.specs.Prelude.{◌≡◌, ℕ, ◌+◌, ◌-◌, ◌<◌, ◌≤◌, ◌&&◌, [], ◌∷◌, ◌++◌, nat_le, length, get_or, set, IsTrue, OnOk, OnErr};
 ghost use Rattle.rail_rules.specs.Numbers.{any_below, is_in};
 ghost use Rattle.rail_rules.specs.Moves.{is_valid, stand};
 ghost use Rattle.rail_place.specs.Lasts.{last_claim};
@@ -10,6 +10,7 @@ use rail_base::limits::{ITINERARY_ROUTES, OVERLAP_SECTIONS, ROUTE_SECTIONS, SECT
 use rail_base::{OutOfMemory, SectionNo, TrainNo};
 use std::alloc::Global;
 use std::marker::Model;
+use std::mem;
 
 /// The moves of one train.
 #[derive(Debug, Drop)]
@@ -52,7 +53,7 @@ impl Model for Moves {
 }
 
 impl Moves {
-    ghost use Rattle.rail_place.specs.Tables.{EndsWith, IsTable, joined, lists_of, moves_in, over_of};
+    ghost use Rattle.rail_place.specs.Tables.{EndsWith, IsTable, joined, lists_of, moves_in, no_lists, over_of};
 
     /// No trains. It takes no memory.
     pub fn new(alloc: Global) -> Moves
@@ -98,6 +99,16 @@ impl Moves {
             return Err(OutOfMemory);
         };
         Ok(())
+    }
+
+    /// Exchanges the moves of the train with those of the first train of the other table. It takes no memory.
+    pub fn exchange(&mut self, train: TrainNo, others: &mut Moves)
+        requires train { train < length self.old }
+        requires some { 0 < length others.old }
+        ensures here { self.new ≡ set self.old train (get_or others.old 0 no_lists) }
+        ensures there { others.new ≡ set others.old 0 (get_or self.old train no_lists) }
+    {
+        mem::swap(&mut self.rows[usize::from(train.0)], &mut others.rows[0]);
     }
 
     /// The number of trains.

@@ -4,3 +4,5 @@
 
 -- a set of the names before an index, with the name at the index
 pub use Rattle.rail_plan.proofs.Naming.{inserted}
+-- Spelled: the table that tables spell has their moves
+pub use Rattle.rail_plan.proofs.Spelled.{moves_spelled}

@@ -11,8 +11,9 @@ use Rattle.rail_rules.specs.Numbers.{is_in, are_apart}
 use Rattle.rail_rules.specs.Moves.{Moves, is_valid_move, is_valid}
 use Rattle.rail_rules.specs.Plant.{Plant, no_train, no_move, train, moves, move_row, moves_of, needed, overlap, claimed, standing_after}
 use Rattle.rail_rules.proofs.CallerLemmas.{all_below_from, list_all_at, move_in_range, row_in_range}
-use Rattle.rail_place.specs.Tables.{joined, moves_in, MoveLists, no_lists, lists_of}
+use Rattle.rail_place.specs.Tables.{joined, moves_in, MoveLists, no_lists}
 use Rattle.rail_plan.specs.PlanFaults.{IsPlannable, bare, standing_of, fault_of}
+use Rattle.rail_plan.specs.MoveTables.{needs_in, overs_in, spelled}
 use Rattle.rail_plan.proofs.Valid.{valid_move}
 
 pub get_or-map_all : {X Y : Type 0} (f : X → Y) (xs : List X) (i : ℕ) (d : X) → get_or (map f xs) i (f d) ≡ f (get_or xs i d)
@@ -24,21 +25,10 @@ get_or-map_all f (x ∷ xs) (suc i) d = get_or-map_all f xs i d
 abbrev pub claim : MoveRow → List ℕ
 claim row = row.sections ++ row.overlap
 
--- the sections that each move needs, and those of each move's overlap
-abbrev pub needs_in : List MoveRow → List (List ℕ)
-needs_in moves = map (λ (row : MoveRow). row.sections) moves
-
-abbrev pub overs_in : List MoveRow → List (List ℕ)
-overs_in moves = map (λ (row : MoveRow). row.overlap) moves
-
 -- together they are what the moves claim
 claims_in : (moves : List MoveRow) → joined (needs_in moves) (overs_in moves) ≡ map claim moves
 claims_in [] = refl
 claims_in (row ∷ rows) = ap (λ rest. claim row ∷ rest) (claims_in rows)
-
--- a train as the table of moves has it
-abbrev pub spelled : Plant → TrainRow → MoveLists
-spelled plant row = lists_of (needs_in row.moves) (overs_in row.moves) (map (standing_of plant row.kind.length) row.moves)
 
 claims_of : (plant : Plant) (row : TrainRow) → (spelled plant row).claims ≡ map claim row.moves
 claims_of plant row = claims_in row.moves

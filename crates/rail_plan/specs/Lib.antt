@@ -2,4 +2,5 @@
 pub mod PlanFaults
 pub mod CallTables
 pub mod PlantFields
+pub mod MoveTables
 pub mod MoveLineCounts

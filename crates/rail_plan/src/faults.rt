@@ -63,7 +63,7 @@ pub fn first_fault(tables: &Tables) -> Option<PlanFault>
 }
 
 /// The first fault of the train, place by place.
-fn train_fault(tables: &Tables, train: TrainNo) -> Option<PlanFault>
+pub fn train_fault(tables: &Tables, train: TrainNo) -> Option<PlanFault>
     requires tables { IsPlannable tables.now }
     requires train { train < length tables.now.trains }
     ensures { result ≡ fault_of_train (bare tables.now) train }

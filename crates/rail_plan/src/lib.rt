@@ -7,7 +7,7 @@
 //! word. `specs/` says which tables are planned, what their fault is, and which calls belong to them.
 //!
 //! The layers above use the contracts alone: what a plant keeps beside its tables may be changed. What
-//! may not change is that only `Plant::new` and `Calls::new` take memory.
+//! may not change is that only `Plant::new`, `Calls::new` and `moves_of_train` take memory.
 #![tactic(auto)]
 
 mod bounds;
@@ -19,5 +19,6 @@ mod rows;
 mod standing;
 
 pub use calls::Calls;
-pub use faults::PlanFault;
+pub use faults::{PlanFault, train_fault};
+pub use making::moves_of_train;
 pub use plant::Plant;

@@ -1,13 +1,15 @@
 //! What a plant keeps beside its tables: the moves and the names that they spell.
 
-ghost use Rattle.std.specs.Prelude.{◌≡◌, ◌+◌, ◌-◌, ◌<◌, ◌^◌, ◌++◌, List, Option, None, IsTrue, IfOk, length, map, min, sum_by};
+ghost use Rattle.std.specs.Prelude.{◌≡◌, ◌+◌, ◌-◌, ◌<◌, ◌^◌, ◌++◌, ◌∷◌, [], List, Option, OnOk, get_or, None, IsTrue, IfOk, length, map, min, sum_by};
 ghost use Rattle.rail_base.specs.declared.plant.MoveRow.{MoveRow};
 ghost use Rattle.rail_base.specs.declared.plant.SectionRow.{SectionRow};
 ghost use Rattle.rail_base.specs.declared.plant.TrainRow.{TrainRow};
-ghost use Rattle.rail_rules.specs.Plant.{moves_of, train};
+ghost use Rattle.rail_base.specs.declared.limits.TheConstants.{TRAINS};
+ghost use Rattle.rail_rules.specs.Plant.{moves_of, no_train, train};
 ghost use Rattle.rail_rules.specs.Accepted.{are_distinct_names};
 ghost use Rattle.rail_place.specs.Tables.{moves_in};
 ghost use Rattle.rail_plan.specs.PlanFaults.{IsPlannable, bare, fault_of, standing_of};
+ghost use Rattle.rail_plan.specs.MoveTables.{spelled, table_of};
 
 use crate::rows::train_row;
 use crate::standing::standing;
@@ -23,18 +25,46 @@ use std::alloc::{AllocError, Global};
 pub fn moves_of(alloc: Global, tables: &Tables) -> Result<Moves, OutOfMemory>
     requires tables { IsPlannable tables.now }
     requires faultless { fault_of tables.now ≡ None }
-    ensures { IfOk result (λ moves. moves_in moves ≡ moves_of (bare tables.now)) }
+    ensures table { IfOk result (λ moves. moves ≡ table_of tables.now) }
+    ensures moves { IfOk result (λ moves. moves_in moves ≡ moves_of (bare tables.now)) }
 {
     let mut moves = Moves::new(alloc);
     for index in 0..tables.trains.as_slice().len() {
-        let train = TrainNo(index as u16);
-        let rows = train_row(tables, train).moves.as_slice();
-        let need = needs_of(alloc, rows)?;
-        let over = overs_of(alloc, rows)?;
-        let stand = stands_of(alloc, tables, train)?;
-        moves.push_train(alloc, need, over, stand)?;
+        push_moves_of(alloc, tables, TrainNo(index as u16), &mut moves)?;
     }
     Ok(moves)
+}
+
+/// The moves of one train alone.
+pub fn moves_of_train(alloc: Global, tables: &Tables, train: TrainNo) -> Result<Moves, OutOfMemory>
+    requires tables { IsPlannable tables.now }
+    requires faultless { fault_of tables.now ≡ None }
+    requires train { train < length tables.now.trains }
+    ensures { IfOk result (λ moves. moves ≡ spelled (bare tables.now) (get_or tables.now.trains train no_train) ∷ []) }
+{
+    let mut moves = Moves::new(alloc);
+    push_moves_of(alloc, tables, train, &mut moves)?;
+    Ok(moves)
+}
+
+/// Adds the moves of the train behind those of others.
+fn push_moves_of(
+    alloc: Global,
+    tables: &Tables,
+    train: TrainNo,
+    moves: &mut Moves,
+) -> Result<(), OutOfMemory>
+    requires tables { IsPlannable tables.now }
+    requires faultless { fault_of tables.now ≡ None }
+    requires train { train < length tables.now.trains }
+    requires room { length moves.old < TRAINS }
+    ensures { OnOk result (moves.new ≡ moves.old ++ spelled (bare tables.now) (get_or tables.now.trains train no_train) ∷ []) }
+{
+    let rows = train_row(tables, train).moves.as_slice();
+    let need = needs_of(alloc, rows)?;
+    let over = overs_of(alloc, rows)?;
+    let stand = stands_of(alloc, tables, train)?;
+    moves.push_train(alloc, need, over, stand)
 }
 
 /// The sections that each move of the train needs, those of its route in order.

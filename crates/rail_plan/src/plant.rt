@@ -8,6 +8,7 @@ ghost use Rattle.rail_rules.specs.RunHistories.{due};
 ghost use Rattle.rail_place.specs.Tables.{moves_in};
 ghost use Rattle.rail_plan.specs.PlanFaults.{IsAnswer, IsPlannable, bare, fault_of};
 ghost use Rattle.rail_plan.specs.CallTables.{AreCallsFor, with_calls};
+ghost use Rattle.rail_plan.specs.MoveTables.{table_of};
 
 use crate::bounds::event_bound;
 use crate::calls::Calls;
@@ -96,6 +97,21 @@ impl Plant {
             names,
             moves,
         }
+    }
+
+    /// The tables and the moves. It takes no memory.
+    pub fn into_parts(self) -> (Tables, Moves)
+        ensures tables { result.0 ≡ self.tables }
+        ensures moves { result.1 ≡ table_of self.tables }
+        ensures plannable { IsPlannable self.tables }
+    {
+        let Plant {
+            tables,
+            calls: _,
+            names: _,
+            moves,
+        } = self;
+        (tables, moves)
     }
 
     /// The names of the sections and of the trains, in the order of their numbers.

@@ -4,9 +4,9 @@ ghost use Rattle.rail_policy.specs.Desks.{Drops, PutsInForce, after_answer, afte
 ghost use Rattle.rail_policy.specs.Seats.{is_fine_deck, names_of, index_of, seat_at};
 
 use crate::deck;
+use crate::desk_table::Seen;
 use crate::offer::Offer;
 use crate::policy::Policy;
-use crate::seen::Seen;
 use rail_base::{Name, OutOfMemory, PolicyKind, TrainNo};
 use std::alloc::Global;
 use thiserror::Error;
@@ -155,7 +155,7 @@ impl Desk {
     /// Drops the policy at this index, which is not in force.
     fn drop_at(&mut self, index: usize)
         requires index { index < length (⟦<Desk as Seen>⟧.table self.old).seats }
-        requires stays { index ≢ (⟦<Desk as Seen>⟧.table self.old).force }
+        requires not_in_force { index ≢ (⟦<Desk as Seen>⟧.table self.old).force }
         ensures { let table = ⟦<Desk as Seen>⟧.table in table self.new ≡ without (table self.old) index }
     {
         deck::drop_at(&mut self.deck, index);

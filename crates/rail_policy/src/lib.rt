@@ -16,13 +16,13 @@ mod boxes;
 mod built_in_policies;
 mod deck;
 mod desk;
+mod desk_table;
 mod offer;
 mod policy;
-mod seen;
 
 pub use built_in_policies::{FcfsPolicy, PriorityPolicy, RotatingPolicy, TimetablePolicy};
 pub use deck::{deck_is_fine, names_of, read_marks};
 pub use desk::{Asked, Desk, Retire, UnknownName};
+pub use desk_table::Seen;
 pub use offer::Offer;
 pub use policy::Policy;
-pub use seen::Seen;

@@ -20,7 +20,7 @@ pub trait Policy: Drop {
         ensures { result ≡ (seat self.now).kind };
 
     /// Where a rotating policy begins: the number behind the train that was admitted last. A custom policy counts
-    /// by it how often it was asked, and goes on from 65,535 with 0. It is 0 for ever for all others.
+    /// by it how often it was asked, and goes on from 65,535 with 0. Every other policy begins with 0 and keeps it.
     fn mark(&self) -> u16
         ensures { result ≡ (seat self.now).mark };
 

@@ -142,7 +142,7 @@ impl EventQueue {
         first_event(&self.slots, chain)
     }
 
-    /// Takes out the next event, if there is one.
+    /// Takes out the next event, if there is one. No chain is searched: one step, to the event behind it.
     #[inline(always)]
     pub fn pop(&mut self) -> Option<Event>
         ensures none { IsNone result ↔ (self.old.events ≡ []) }
@@ -152,6 +152,7 @@ impl EventQueue {
         ensures counted { IfSome result (λ event. (p : Event → Bool)
             → count_by p self.old.events ≡ count_by p (event ∷ []) + count_by p self.new.events) }
         ensures base { MatchOption result (self.new.base ≡ self.old.base) (λ event. self.new.base ≡ max self.old.base (bucket event)) }
+        ensures walked { self.new.slots.walked ≤ self.old.slots.walked + 1 }
     {
         let chain = self.first_chain?;
         let Some(event) = self.slots.take_first(chain) else {

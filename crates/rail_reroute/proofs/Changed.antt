@@ -1,8 +1,8 @@
 -- The faults of tables in which the row of one train is changed.
-use Rattle.std.proofs.Common.{◌++◌, ◌≡◌, ℕ, zero, suc, ◌-◌, ◌<◌, ◌≤◌, Bool, true, false, not, cond, List, [], ◌∷◌, length, get_or, set, Option, Some, None, refl, sym, ap, ◌∙◌, subst, ⊎_elim, arith}
+use Rattle.std.proofs.Common.{◌++◌, ◌≡◌, ◌≢◌, ℕ, zero, suc, ◌-◌, ◌<◌, ◌≤◌, Bool, true, false, not, cond, List, [], ◌∷◌, length, get_or, set, Option, Some, None, refl, sym, ap, ◌∙◌, subst, ⊎_elim, arith}
 use Rattle.std.specs.Prelude.{nat_le, sum_by}
 use Rattle.std.specs.List.{find}
-use Rattle.std.proofs.lemmas.Bool.{cases_eq}
+use Rattle.std.proofs.lemmas.Bool.{cases_eq, cases_lt}
 use Rattle.std.proofs.lemmas.List.{get_or-set_other, length-set}
 use Rattle.rail_base.specs.declared.plant.Tables.{Tables}
 use Rattle.rail_base.specs.declared.plant.TrainRow.{TrainRow}
@@ -10,11 +10,8 @@ use Rattle.rail_rules.specs.Numbers.{is_in, or_else}
 use Rattle.rail_rules.specs.Plant.{Plant, from_turn, longer, moves, no_move, no_train, section, shortest_end}
 use Rattle.rail_plan.specs.PlanFaults.{bare, blocked_by, blocking, fault_at, fault_of, fault_of_train, first_answer, is_too_long, metres_of}
 use Rattle.rail_plan.specs.declared.faults.PlanFault.{PlanFault}
+use Rattle.rail_reroute.specs.Judges.{with_row}
 use Rattle.rail_plan.specs.declared.faults.PlanFault.TheVariants.{TooLong, SelfBlocked, OutOfMemory}
-
--- the tables with another row for the train
-abbrev pub with_row : Tables → ℕ → TrainRow → Tables
-with_row tables t row = record tables { trains = set tables.trains t row }
 
 -- the fault is one of this train, at a place up to the last
 abbrev pub IsFaultOf : ℕ → ℕ → PlanFault → Type 0
@@ -58,6 +55,28 @@ fault_own plant t m last why le is = by (is_too_long plant t m) (blocking plant 
     by false None found = cc
     by false (Some x) found = let same : SelfBlocked t (suc m) x ≡ why = cc in subst (IsFaultOf t last) same (refl, le)
 
+-- where no other number has an answer, the first one is that of the number
+only_one : (f : ℕ → Option PlanFault) (n t : ℕ) → t < n → ((u : ℕ) → u < n → u ≢ t → f u ≡ None) → first_answer f n ≡ f t
+only_one f zero t lt others = absurd (omega (arith, lt))
+only_one f (suc n) t lt others = ⊎_elim
+    (λ last. ap (λ o. or_else o (f n)) (none_below f n (λ u below. others u (omega (arith, below)) (λ same. omega (arith, same, last, below)))) ∙ ap f last)
+    (λ apart.
+    ap (or_else (first_answer f n)) (others n (omega arith) apart)
+    ∙ or_none (first_answer f n)
+    ∙ only_one f n t (before n t lt apart) (λ u below other. others u (omega (arith, below)) other))
+    (cases_eq n t)
+  where
+    before : (m k : ℕ) → k < suc m → m ≢ k → k < m
+    before m k less apart = ⊎_elim (λ below. below) (λ past. absurd (apart (omega (arith, less, past)))) (cases_lt k m)
+
+    or_none : (o : Option PlanFault) → or_else o None ≡ o
+    or_none None = refl
+    or_none (Some x) = refl
+
+    none_below : (g : ℕ → Option PlanFault) (k : ℕ) → ((u : ℕ) → u < k → g u ≡ None) → first_answer g k ≡ None
+    none_below g zero none = refl
+    none_below g (suc k) none = ap (λ o. or_else o (g k)) (none_below g k (λ u below. none u (omega (arith, below)))) ∙ none k (omega arith)
+
 -- the first fault is one of a train
 pub fault_told : (tables : Tables) (why : PlanFault) → fault_of tables ≡ Some why → (t : ℕ) × (last : ℕ) × IsFaultOf t last why
 fault_told tables why is =
@@ -69,7 +88,7 @@ module _ (tables : Tables) (t : ℕ) (row : TrainRow) where
   abbrev pub other : Tables
   other = with_row tables t row
 
-  end_same : (metres : ℕ) (xs : List ℕ) → shortest_end (bare other) metres xs ≡ shortest_end (bare tables) metres xs
+  pub end_same : (metres : ℕ) (xs : List ℕ) → shortest_end (bare other) metres xs ≡ shortest_end (bare tables) metres xs
   end_same metres [] = refl
   end_same metres (x ∷ xs) = ap (λ shorter. cond (nat_le metres (sum_by (λ y. (section (bare tables) y).length) xs)) shorter (x ∷ xs)) (end_same metres xs)
 
@@ -104,3 +123,11 @@ module _ (tables : Tables) (t : ℕ) (row : TrainRow) where
       let nothing = none_found (fault_at (bare tables) u) (moves (bare tables) u - 1) silent at.0 (omega (arith, at.1, ap (λ (r : TrainRow). length r.moves) rows)) in
       let bad : None ≡ Some why = sym nothing ∙ before in cc)
       (cases_eq u t)
+
+  -- the changed tables have no fault but one of the changed train
+  pub only_changed : fault_of tables ≡ None → t < length tables.trains → fault_of other ≡ fault_of_train (bare other) t
+  only_changed none lt = only_one (fault_of_train (bare other)) (length other.trains) t (omega (arith, lt, length-set tables.trains t row)) (λ u below apart.
+      let rows : get_or (set tables.trains t row) u no_train ≡ get_or tables.trains u no_train = get_or-set_other tables.trains t u row no_train apart in
+      let each : (m : ℕ) → fault_at (bare other) u m ≡ fault_at (bare tables) u m = λ m. of_other u m ∙ ap (fault_by u m) rows ∙ sym (of_tables u m) in
+      (λ i. first_answer (λ m. each m i) (length (rows i).moves - 1))
+      ∙ none_found (fault_of_train (bare tables)) (length tables.trains) none u (omega (arith, below, length-set tables.trains t row)))

@@ -8,3 +8,5 @@ mod Proposed
 mod Ready
 mod Refused
 mod States
+mod Exchanged
+mod Ranges

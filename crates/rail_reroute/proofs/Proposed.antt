@@ -58,7 +58,7 @@ module _ (scene : Scene) (s : List ℕ) (t : ℕ) (routes : List (List ℕ)) (h 
   itinerary : length after.routes ≡ place_of s t + length routes
   itinerary = omega (arith, place_within, length-append (take (place_of s t) before.routes) routes, length-take (place_of s t) before.routes)
 
-  fit : is_fit_train after ≡ true
+  pub fit : is_fit_train after ≡ true
   fit =
       let parts = and_parts (nat_le before.entry (most InputTime)) (is_from_one (most ItineraryRoutes) (length before.routes)) (all_at is_fit_train scene.trains t no_scene_train h.kept.trains h.train) in
       and_from (nat_le after.entry (most InputTime)) (is_from_one (most ItineraryRoutes) (length after.routes)) parts.0

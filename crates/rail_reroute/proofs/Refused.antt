@@ -3,31 +3,34 @@ use Rattle.std.proofs.Common.{◌≡◌, ℕ, zero, suc, ◌+◌, ◌<◌, ◌�
 use Rattle.std.specs.List.{list_all}
 use Rattle.std.specs.Option.{option_or}
 use Rattle.std.proofs.lemmas.Bool.{and_from, and_parts, ltb-false}
-use Rattle.std.proofs.lemmas.List.{get_or_default, get_or-map, get_or-set_same, length-append, length-map, length-take, map-set}
+use Rattle.std.proofs.lemmas.List.{get_or_default, get_or-map, get_or-set_same, length-append, length-map, length-set, length-take, map-set}
 use Rattle.std.proofs.lemmas.List.Folds.{list_all-append}
 use Rattle.rail_base.specs.FirstRefusals.{first_failing}
 use Rattle.rail_base.specs.Limits.{most, ItineraryRoutes}
-use Rattle.rail_base.specs.Refusals.{refusal_in}
+use Rattle.rail_base.specs.Refusals.{AnswersFirst, refusal_in}
+use Rattle.rail_base.specs.declared.refusals.Fault.{Fault}
+use Rattle.rail_base.specs.declared.refusals.Fault.TheVariants as fault
 use Rattle.rail_base.specs.declared.plant.TrainRow.{TrainRow}
 use Rattle.rail_base.specs.declared.refusals.Reason.TheVariants as reason
 use Rattle.rail_base.specs.declared.refusals.Refusal.{Refusal}
 use Rattle.rail_rules.specs.Places.{place_of}
 use Rattle.rail_rules.specs.Plant.{moves, no_train}
-use Rattle.rail_plan.specs.PlanFaults.{bare, fault_of}
+use Rattle.rail_plan.specs.PlanFaults.{bare, fault_of, fault_of_train}
 use Rattle.rail_plan.specs.declared.faults.PlanFault.{PlanFault}
 use Rattle.rail_plan.specs.declared.faults.PlanFault.TheVariants.{TooLong, SelfBlocked, OutOfMemory}
 use Rattle.rail_routes.specs.declared.items.Route.{Route}
 use Rattle.rail_scene.specs.declared.scene.Scene.{Scene}
 use Rattle.rail_scene.specs.declared.scene.SceneTrain.{SceneTrain}
 use Rattle.rail_compile.specs.Itineraries.{plant_of_scene, route_of, routes_of, tables_of, train_row}
-use Rattle.rail_compile.specs.Refusals.{are_known, compile_refusal, fault_for, is_known, route_tests, trains_tests}
+use Rattle.rail_compile.specs.Refusals.{are_known, compile_refusal, fault_for, is_known, route_tests, train_tests, trains_tests}
 use Rattle.rail_compile.proofs.CallerLemmas.{IsUnrefused, length-moves_over, train_is, unrefused_at}
 use Rattle.rail_reroute.specs.Judgements.{IsItineraryRefusal, IsProposed, no_scene_train, rerouted, rerouted_train}
-use Rattle.rail_reroute.proofs.Changed.{IsFaultOf, changed_train, fault_told, fault_within, with_row}
+use Rattle.rail_reroute.proofs.Changed.{IsFaultOf, changed_train, fault_told, fault_within, only_changed}
+use Rattle.rail_reroute.specs.Judges.{with_row}
 use Rattle.rail_reroute.proofs.Itineraries.{both_none, changed_tests, route_told, told_at}
 
 -- what a fault of the tables is refused as
-abbrev refusal_for : Option PlanFault → Option Refusal
+abbrev pub refusal_for : Option PlanFault → Option Refusal
 refusal_for fault = option_and_then (λ why. refusal_in (fault_for why)) fault
 
 -- a fault that is one of a train is refused
@@ -57,10 +60,10 @@ module _ (scene : Scene) (s : List ℕ) (t : ℕ) (routes : List (List ℕ)) (h 
   abbrev before : SceneTrain
   before = get_or scene.trains t no_scene_train
 
-  abbrev after : SceneTrain
+  abbrev pub after : SceneTrain
   after = rerouted_train before (place_of s t) routes
 
-  abbrev changed : Scene
+  abbrev pub changed : Scene
   changed = rerouted scene s t routes
 
   -- the new itinerary is within the limit
@@ -75,7 +78,7 @@ module _ (scene : Scene) (s : List ℕ) (t : ℕ) (routes : List (List ℕ)) (h 
   known : IsUnrefused scene before
   known = unrefused_at scene 1 scene.trains t before neither.0 h.train (get_or_default scene.trains t no_scene_train before h.train)
 
-  all_known : are_known scene.network after.routes ≡ true
+  pub all_known : are_known scene.network after.routes ≡ true
   all_known =
       let front : are_known scene.network (take (place_of s t) before.routes) ≡ true = all_of_front (is_known scene.network) before.routes (place_of s t) known.routes in
       list_all-append (is_known scene.network) (take (place_of s t) before.routes) routes
@@ -93,7 +96,7 @@ module _ (scene : Scene) (s : List ℕ) (t : ℕ) (routes : List (List ℕ)) (h 
       ∙ sym (changed_tests scene changed.trains 1 scene.trains t after neither.0 h.train)
       ∙ is)
 
-  same_tables : tables_of changed ≡ with_row (tables_of scene) t (train_row scene after)
+  pub same_tables : tables_of changed ≡ with_row (tables_of scene) t (train_row scene after)
   same_tables = ap (λ (rows : List TrainRow). record (tables_of scene) { trains = rows }) (map-set (train_row scene) scene.trains t after)
 
   -- the first fault of the new tables is one of the train
@@ -123,3 +126,29 @@ module _ (scene : Scene) (s : List ℕ) (t : ℕ) (routes : List (List ℕ)) (h 
   -- where the scene with the new itinerary is refused, the train is, for it
   pub refused : (r : Refusal) → compile_refusal changed ≡ Some r → IsItineraryRefusal t r
   refused r is = told_by r (first_failing (trains_tests changed 1 changed.trains)) (fault_of (tables_of changed)) (tests_told r) fault_own is
+
+  -- the first test that fails is the first one of the train
+  pub tests_are : first_failing (trains_tests changed 1 changed.trains) ≡ first_failing (train_tests scene (suc t) after)
+  tests_are = let number : 1 + t ≡ suc t = omega arith in
+      changed_tests scene changed.trains 1 scene.trains t after neither.0 h.train ∙ ap (λ n. first_failing (train_tests scene n after)) number
+
+  -- where none does, the scene is refused for the first fault of its tables
+  pub refusal_is : first_failing (train_tests scene (suc t) after) ≡ None → compile_refusal changed ≡ refusal_for (fault_of (tables_of changed))
+  refusal_is none = ap (λ o. option_or o (refusal_for (fault_of (tables_of changed)))) (tests_are ∙ none)
+
+  -- where one does, the scene is refused by it
+  pub refused_first : (fault : Fault) → AnswersFirst (first_failing (train_tests scene (suc t) after)) fault → AnswersFirst (compile_refusal changed) fault
+  refused_first (fault.Refused refusal) told = ap (λ o. option_or o (refusal_for (fault_of (tables_of changed)))) (tests_are ∙ told)
+  refused_first fault.OutOfMemory told = tt
+
+  -- the tables have no fault but one of the train
+  pub own_fault : fault_of (with_row (tables_of scene) t (train_row scene after)) ≡ fault_of_train (bare (with_row (tables_of scene) t (train_row scene after))) t
+  own_fault = only_changed (tables_of scene) t (train_row scene after) (no_fault (fault_of (tables_of scene)) (fault_told (tables_of scene)) neither.1)
+      (omega (arith, h.train, length-map scene.trains (train_row scene)))
+
+  -- the train has a known kind and known routes, and goes out
+  pub unrefused : first_failing (train_tests scene (suc t) after) ≡ None → IsUnrefused changed after
+  unrefused none =
+      let rows : List SceneTrain = set scene.trains t after in
+      let at : after ≡ get_or rows t after = sym (get_or-set_same scene.trains t after after h.train) in
+      unrefused_at changed 1 rows t after (tests_are ∙ none) (omega (arith, h.train, length-set scene.trains t after)) at

@@ -6,7 +6,8 @@ use Rattle.rail_base.specs.declared.refusals.Reason.{Reason}
 use Rattle.rail_base.specs.declared.refusals.Reason.TheVariants.{ItineraryBroken, NotPortal, TooLong, SelfBlocked, TooMany}
 use Rattle.rail_rules.specs.Analysis.{finds}
 use Rattle.rail_rules.specs.Places.{completes, is_valid_state, place_of}
-use Rattle.rail_rules.specs.Plant.{Plant, moves, moves_of}
+use Rattle.rail_rules.specs.Moves.{Moves}
+use Rattle.rail_rules.specs.Plant.{moves, moves_of}
 use Rattle.rail_place.specs.Overlaps.{IsOverlap}
 use Rattle.rail_scene.specs.declared.scene.Scene.{Scene}
 use Rattle.rail_scene.specs.declared.scene.SceneTrain.{SceneTrain}
@@ -90,15 +91,14 @@ pub record IsRerouted (scene : Scene) (s : List ℕ) (t : ℕ) (routes : List (L
   pub few : is_too_many s t routes ≡ false
   pub compiles : compile_refusal (rerouted scene s t routes) ≡ None
 
--- what a state of a plant leads to, by its answer: two trains hold one section; no list of legs brings every train
--- inside to its exit; or this list does
-abbrev pub LeadsTo : Plant → List ℕ → Judged → Type 0
-LeadsTo plant s judged.Out = ⊥
-LeadsTo plant s (judged.Refused why place) = ⊥
-LeadsTo plant s (judged.Overlap x first second) = IsOverlap (moves_of plant) s x first second
-LeadsTo plant s judged.NoList = IsTrue (is_valid_state (moves_of plant) s) × (finds (moves_of plant) plant.tables.depth s ≡ false)
-LeadsTo plant s (judged.List list) = IsTrue (is_valid_state (moves_of plant) s) × IsTrue (finds (moves_of plant) plant.tables.depth s)
-    × IsTrue (completes (moves_of plant) s list)
+-- what a state of moves leads to by so many free legs, by its answer: two trains hold one section; no list of legs brings
+-- every train inside to its exit; or this list does
+abbrev pub LeadsTo : Moves → ℕ → List ℕ → Judged → Type 0
+LeadsTo plan depth s judged.Out = ⊥
+LeadsTo plan depth s (judged.Refused why place) = ⊥
+LeadsTo plan depth s (judged.Overlap x first second) = IsOverlap plan s x first second
+LeadsTo plan depth s judged.NoList = IsTrue (is_valid_state plan s) × (finds plan depth s ≡ false)
+LeadsTo plan depth s (judged.List list) = IsTrue (is_valid_state plan s) × IsTrue (finds plan depth s) × IsTrue (completes plan s list)
 
 -- the answer to the proposal that the train takes these routes from where it stands in the state: each is the first that
 -- applies, since it says that none before it does
@@ -106,7 +106,7 @@ abbrev pub IsJudged : Scene → List ℕ → ℕ → List (List ℕ) → Judged 
 IsJudged scene s t routes judged.Out = IsTrue (is_out_at scene s t)
 IsJudged scene s t routes (judged.Refused why place) = (is_out_at scene s t ≡ false)
     × (IsTooMany s t routes why place ⊎ IsRefusedItinerary scene s t routes why place)
-IsJudged scene s t routes answer = IsRerouted scene s t routes × LeadsTo (plant_of_scene (rerouted scene s t routes)) s answer
+IsJudged scene s t routes answer = IsRerouted scene s t routes × LeadsTo (moves_of (plant_of_scene (rerouted scene s t routes))) scene.depth s answer
 
 -- the answer, but for which list it has
 abbrev pub without_list : Judged → Judged

@@ -4,19 +4,18 @@ ghost use Rattle.std.specs.Prelude.{◌≡◌, ◌≤◌, ◌<◌, ◌^◌, ◌+
 ghost use Rattle.rail_base.specs.declared.limits.TheConstants.{ITINERARY_ROUTES};
 ghost use Rattle.rail_base.specs.Refusals.{refusal_in};
 ghost use Rattle.rail_compile.specs.Itineraries.{plant_of_scene};
-ghost use Rattle.rail_compile.specs.Refusals.{are_known, compile_refusal};
-ghost use Rattle.rail_compile.specs.Ways.{AreLookups};
+ghost use Rattle.rail_compile.specs.Refusals.{are_known, compile_refusal, fault_for};
 ghost use Rattle.rail_rules.specs.Places.{is_valid_state};
 ghost use Rattle.rail_rules.specs.Plant.{moves, moves_of};
 ghost use Rattle.rail_scene.specs.Scenes.{IsScene};
-ghost use Rattle.rail_reroute.specs.Judgements.{IsJudged, IsProposed};
+ghost use Rattle.rail_reroute.specs.Judgements.{IsJudged};
 ghost use Rattle.rail_reroute.specs.declared.judgements.Judged.TheVariants.{Refused};
 
-use crate::state::find_way;
-use crate::trains::rerouted_trains;
+use crate::judges::Judge;
 use rail_base::limits::ITINERARY_ROUTES;
 use rail_base::{Fault, Name, OutOfMemory, Reason, SectionNo, Seq, TrainNo};
-use rail_compile::{Lookups, compile_with};
+use rail_compile::compile;
+use rail_plan::PlanFault;
 use rail_scene::Scene;
 use std::alloc::Global;
 
@@ -43,11 +42,8 @@ pub enum Judged {
     List(Seq<TrainNo>),
 }
 
-/// The answer to the proposal that the train takes these routes from where it stands.
-///
-/// `positions` has how many moves each train has made. The scene is one that `compile` accepts, and the places are ones
-/// that `Places::new` accepts for its plant; the routes are some, and known to the scene. Many proposals are judged by
-/// `judge_with`.
+/// The answer to the proposal that the train takes these routes from where it stands, where it is the only one for the
+/// scene: it is that of `Judge::judge`.
 pub fn judge(
     alloc: Global,
     scene: &Scene,
@@ -65,45 +61,15 @@ pub fn judge(
     requires known { IsTrue (are_known scene.now.network routes.now) }
     ensures { IfOk result (IsJudged scene.now positions.now train routes.now) }
 {
-    let lookups = Lookups::of_scene(alloc, scene)?;
-    judge_with(alloc, scene, &lookups, positions, train, routes)
-}
-
-/// The same, with what is looked up of the scene once for all proposals.
-pub fn judge_with(
-    alloc: Global,
-    scene: &Scene,
-    lookups: &Lookups,
-    positions: &[u16],
-    train: TrainNo,
-    routes: &[Name],
-) -> Result<Judged, OutOfMemory>
-    requires lookups { AreLookups scene.now lookups.now }
-    requires kept { IsScene scene.now }
-    requires compiled { compile_refusal scene.now ≡ None }
-    requires train { train < length scene.now.trains }
-    requires long { length positions.now ≡ length scene.now.trains }
-    requires within { (t : ℕ) → t < length scene.now.trains → slice_index positions.now t ≤ moves (plant_of_scene scene.now) t }
-    requires valid { IsTrue (is_valid_state (moves_of (plant_of_scene scene.now)) positions.now) }
-    requires some { 0 < length routes.now }
-    requires known { IsTrue (are_known scene.now.network routes.now) }
-    ensures { IfOk result (IsJudged scene.now positions.now train routes.now) }
-{
-    let place = positions[usize::from(train.0)];
-    if is_out_at(scene, train, place) {
-        return Ok(Judged::Out);
-    }
-    if is_too_many(place, routes) {
-        return Ok(Judged::Refused {
-            reason: Reason::TooMany,
-            place: 0,
-        });
-    }
-    judge_rerouted(alloc, scene, lookups, positions, train, routes)
+    let Ok(plant) = compile(alloc, scene) else {
+        return Err(OutOfMemory);
+    };
+    let mut judge = Judge::new(alloc, scene, plant)?;
+    judge.judge(alloc, scene, positions, train, routes)
 }
 
 /// Whether the train has made all its moves at the place.
-fn is_out_at(scene: &Scene, train: TrainNo, place: u16) -> bool
+pub fn is_out_at(scene: &Scene, train: TrainNo, place: u16) -> bool
     requires { train < length scene.now.trains }
     ensures { result ≡ (place == moves (plant_of_scene scene.now) train) }
 {
@@ -112,36 +78,15 @@ fn is_out_at(scene: &Scene, train: TrainNo, place: u16) -> bool
 }
 
 /// Whether an itinerary with these routes behind the place has more than the limit.
-fn is_too_many(place: u16, routes: &[Name]) -> bool
+pub fn is_too_many(place: u16, routes: &[Name]) -> bool
     requires { place ≤ ITINERARY_ROUTES }
     ensures { result ≡ nat_lt ITINERARY_ROUTES (place + length routes.now) }
 {
     routes.len() > ITINERARY_ROUTES - usize::from(place)
 }
 
-/// The answer where the train is not out and the new itinerary has not too many routes.
-fn judge_rerouted(
-    alloc: Global,
-    scene: &Scene,
-    lookups: &Lookups,
-    positions: &[u16],
-    train: TrainNo,
-    routes: &[Name],
-) -> Result<Judged, OutOfMemory>
-    requires lookups { AreLookups scene.now lookups.now }
-    requires proposed { IsProposed scene.now positions.now train routes.now }
-    ensures { IfOk result (IsJudged scene.now positions.now train routes.now) }
-{
-    let place = positions[usize::from(train.0)];
-    let trains = rerouted_trains(alloc, scene.trains.as_slice(), train, place, routes)?;
-    match compile_with(alloc, scene, lookups, &trains) {
-        Ok(plant) => find_way(alloc, &plant, positions),
-        Err(fault) => refused_for(fault),
-    }
-}
-
 /// That the new itinerary is refused so.
-fn refused_for(fault: Fault) -> Result<Judged, OutOfMemory>
+pub fn refused_for(fault: Fault) -> Result<Judged, OutOfMemory>
     requires { IfSome (refusal_in fault) (λ refusal. refusal.step < 2 ^ 16) }
     ensures { MatchOption (refusal_in fault) (IsErr result) (λ refusal. result ≡ Ok (Refused refusal.reason refusal.step)) }
 {
@@ -151,5 +96,22 @@ fn refused_for(fault: Fault) -> Result<Judged, OutOfMemory>
             place: refusal.step as u16,
         }),
         Fault::OutOfMemory => Err(OutOfMemory),
+    }
+}
+
+/// That the new itinerary is refused for this fault of the plant.
+pub fn fault_told(fault: PlanFault) -> Result<Judged, OutOfMemory>
+    ensures { MatchOption (refusal_in (fault_for fault)) (IsErr result) (λ refusal. result ≡ Ok (Refused refusal.reason refusal.step)) }
+{
+    match fault {
+        PlanFault::TooLong { place, .. } => Ok(Judged::Refused {
+            reason: Reason::TooLong,
+            place,
+        }),
+        PlanFault::SelfBlocked { place, .. } => Ok(Judged::Refused {
+            reason: Reason::SelfBlocked,
+            place,
+        }),
+        PlanFault::OutOfMemory => Err(OutOfMemory),
     }
 }

@@ -7,13 +7,15 @@
 #![tactic(auto)]
 
 mod judgements;
+mod judges;
 mod laws;
 mod lines;
 mod proposals;
 mod state;
 mod trains;
 
-pub use judgements::{Judged, judge, judge_with};
+pub use judgements::{Judged, judge};
+pub use judges::Judge;
 pub use laws::{a_proposal_has_one_answer, a_refused_rerouting_is_refused_for_its_itinerary};
 pub use lines::write_judged;
 pub use proposals::{Proposal, read_proposals};

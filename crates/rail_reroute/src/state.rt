@@ -3,34 +3,41 @@
 ghost use Rattle.std.specs.Prelude.{◌≡◌, ◌≤◌, ◌<◌, ℕ, List as ListOf, length, slice_index, IfOk};
 ghost use Rattle.rail_place.specs.PlaceStates.{IsMadeFor};
 ghost use Rattle.rail_place.specs.Overlaps.{IsFault, IsOverlap};
-ghost use Rattle.rail_place.specs.Tables.{IsTable, MoveLists, moves_in};
-ghost use Rattle.rail_rules.specs.Moves.{Moves};
-ghost use Rattle.rail_rules.specs.Plant.{moves, moves_of, trains};
+ghost use Rattle.rail_place.specs.Tables.{moves_in};
+ghost use Rattle.rail_consequence.specs.AnalystStates.{IsAnalystFor};
+ghost use Rattle.rail_rules.specs.Moves.{Moves as Plan};
 ghost use Rattle.rail_reroute.specs.Judgements.{LeadsTo};
 ghost use Rattle.rail_reroute.specs.declared.judgements.Judged.TheVariants.{List, Overlap};
 
 use crate::judgements::Judged;
 use rail_base::{OutOfMemory, Seq, TrainNo};
 use rail_consequence::Analyst;
-use rail_place::{Places, PlacesFault};
-use rail_plan::Plant;
+use rail_place::{Moves, Places, PlacesFault};
 use std::alloc::Global;
 
-/// What the state leads to in which the trains of the plant stand at these places.
-pub fn find_way(alloc: Global, plant: &Plant, positions: &[u16]) -> Result<Judged, OutOfMemory>
-    requires long { length positions.now ≡ trains plant.now }
-    requires within { (t : ℕ) → t < trains plant.now → slice_index positions.now t ≤ moves plant.now t }
-    ensures { IfOk result (LeadsTo plant.now positions.now) }
+/// What the state leads to in which the trains stand at these places, by so many free legs at most.
+pub fn find_way(
+    alloc: Global,
+    moves: &Moves,
+    analyst: &mut Analyst,
+    depth: u8,
+    positions: &[u16],
+) -> Result<Judged, OutOfMemory>
+    requires own { IsAnalystFor (moves_in moves.now) analyst.old }
+    requires long { length positions.now ≡ length moves.now }
+    requires within { (t : ℕ) → t < length moves.now → slice_index positions.now t ≤ (moves_in moves.now).moves t }
+    ensures own { IsAnalystFor (moves_in moves.now) analyst.new }
+    ensures answer { IfOk result (LeadsTo (moves_in moves.now) depth positions.now) }
 {
-    match Places::new(alloc, plant.moves(), positions) {
-        Ok(places) => find_list(alloc, plant, &places),
+    match Places::new(alloc, moves, positions) {
+        Ok(places) => find_list(alloc, moves, analyst, depth, &places),
         Err(fault) => found_for(fault),
     }
 }
 
 /// What a fault of the places says of them.
 fn found_for(fault: PlacesFault) -> Result<Judged, OutOfMemory>
-    ensures { (plan : Moves) (s : ListOf ℕ) → IsFault plan s fault → IfOk result (λ found. (x first second : ℕ)
+    ensures { (plan : Plan) (s : ListOf ℕ) → IsFault plan s fault → IfOk result (λ found. (x first second : ℕ)
         × (found ≡ Overlap x first second) × IsOverlap plan s x first second) }
 {
     match fault {
@@ -48,14 +55,19 @@ fn found_for(fault: PlacesFault) -> Result<Judged, OutOfMemory>
 }
 
 /// A list that brings every train inside from the places to its exit, or that none is known.
-fn find_list(alloc: Global, plant: &Plant, places: &Places) -> Result<Judged, OutOfMemory>
-    requires { (table : ListOf MoveLists) → moves_in table ≡ moves_of plant.now → IsTable table → IsMadeFor table places.now }
-    ensures { IfOk result (LeadsTo plant.now places.now.positions) }
+fn find_list(
+    alloc: Global,
+    moves: &Moves,
+    analyst: &mut Analyst,
+    depth: u8,
+    places: &Places,
+) -> Result<Judged, OutOfMemory>
+    requires made { IsMadeFor moves.now places.now }
+    requires own { IsAnalystFor (moves_in moves.now) analyst.old }
+    ensures own { IsAnalystFor (moves_in moves.now) analyst.new }
+    ensures answer { IfOk result (LeadsTo (moves_in moves.now) depth places.now.positions) }
 {
-    let moves = plant.moves();
-    moves.trains();
-    let mut analyst = Analyst::new(alloc, moves)?;
-    match analyst.find(moves, places, plant.depth()) {
+    match analyst.find(moves, places, depth) {
         Some(list) => listed(alloc, list),
         None => Ok(Judged::NoList),
     }

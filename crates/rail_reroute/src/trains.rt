@@ -1,43 +1,28 @@
 //! The trains of a scene, of which one takes other routes.
 
+ghost use Rattle.rail_rules.specs.Plant.{no_train};
+ghost use Rattle.rail_reroute.specs.Judges.{with_row};
 ghost use Rattle.std.specs.Prelude.{◌≡◌, ◌≤◌, ◌<◌, get_or, length, IfOk};
-ghost use Rattle.rail_reroute.specs.Judgements.{no_scene_train, rerouted_train, rerouted_trains};
+ghost use Rattle.rail_reroute.specs.Judgements.{rerouted_train};
 
-use rail_base::{Name, Seq, TrainNo};
+use rail_base::{Name, Seq, Tables, TrainNo, TrainRow};
 use rail_scene::SceneTrain;
 use std::alloc::{AllocError, Global};
+use std::mem;
 
-/// A copy of the trains, of which one has its itinerary up to the place, and these routes behind it.
-pub fn rerouted_trains(
-    alloc: Global,
-    trains: &[SceneTrain],
-    train: TrainNo,
-    place: u16,
-    routes: &[Name],
-) -> Result<Vec<SceneTrain>, AllocError>
-    requires train { train < length trains.now }
-    requires place { place ≤ length (get_or trains.now train no_scene_train).routes }
-    ensures { IfOk result (λ made. made.items ≡ rerouted_trains trains.now train place routes.now) }
+/// Exchanges the row of the train in the tables. It takes no memory.
+pub fn exchange_row(alloc: Global, tables: &mut Tables, train: TrainNo, row: &mut TrainRow)
+    requires { train < length tables.old.trains }
+    ensures here { tables.new ≡ with_row tables.old train row.old }
+    ensures there { row.new ≡ get_or tables.old.trains train no_train }
 {
-    let mut made = copied(alloc, trains)?;
-    let index = usize::from(train.0);
-    made[index] = rerouted_train(alloc, &trains[index], place, routes)?;
-    Ok(made)
-}
-
-/// A copy of the trains.
-fn copied(alloc: Global, trains: &[SceneTrain]) -> Result<Vec<SceneTrain>, AllocError>
-    ensures { IfOk result (λ copies. copies.items ≡ trains.now) }
-{
-    let mut copies = Vec::with_capacity(alloc, trains.len())?;
-    for train in trains {
-        copies.push(with_routes(train, train.routes.as_slice().to_vec(alloc)?))?;
-    }
-    Ok(copies)
+    let mut rows = mem::replace(&mut tables.trains, Seq::from_vec(Vec::new(alloc))).into_vec();
+    mem::swap(&mut rows[usize::from(train.0)], row);
+    tables.trains = Seq::from_vec(rows);
 }
 
 /// The train with its itinerary up to the place, and these routes behind it.
-fn rerouted_train(
+pub fn rerouted_train(
     alloc: Global,
     train: &SceneTrain,
     place: u16,

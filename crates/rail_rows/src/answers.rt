@@ -46,6 +46,7 @@ impl<'a> Asked<'a> {
             "odd" => asked.deck = Deck::Odd {
                 always: value.parse().ok(),
             },
+            "counting" => asked.deck = Deck::Counting,
             "twice" => asked.is_twice = true,
             _ => return None,
         }

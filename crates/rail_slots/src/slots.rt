@@ -122,7 +122,8 @@ impl<T: Copy> Slots<T> {
         self.spare
     }
 
-    /// How many steps were made from a slot to the next one; it stays at 2^64 - 1 once there.
+    /// How many steps were made from a slot to the next one, and how many items were asked for to be taken out; it stays at
+    /// 2^64 - 1 once there.
     pub fn walked(&self) -> u64
         ensures { result ≡ self.now.walked }
     {
@@ -193,14 +194,16 @@ impl<T: Copy> Slots<T> {
         new
     }
 
-    /// Takes out the first item of the chain, if it has one.
+    /// Takes out the first item of the chain, if it has one. The step is counted, as the one behind it comes first then:
+    /// so a chain that is taken apart from its front is as dear as one that is walked.
     pub fn take_first(&mut self, chain: usize) -> Option<T>
         requires { chain < length self.old.chains }
         ensures item { result ≡ first_item (get_or self.old.chains chain []) }
         ensures chains { self.new.chains ≡ set self.old.chains chain (behind_first (get_or self.old.chains chain [])) }
         ensures spare { MatchOption result (self.new.spare ≡ self.old.spare) (λ _. self.new.spare ≡ self.old.spare + 1) }
-        ensures walked { self.new.walked ≡ self.old.walked }
+        ensures walked { self.new.walked ≡ min (self.old.walked + 1) (2 ^ 64 - 1) }
     {
+        self.walked = counted(self.walked);
         let Some(slot) = self.next[chain + 1].cell() else {
             return None;
         };

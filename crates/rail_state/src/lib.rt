@@ -14,13 +14,13 @@
 #![tactic(auto)]
 
 mod admission;
-mod each;
 mod events;
 mod pushes;
 mod run_state;
 mod train;
 mod train_set;
 mod train_sets;
+mod train_walks;
 mod trains;
 
 pub use events::{event_of_section, event_of_train};

@@ -43,10 +43,31 @@ fn begins_empty(rt: HostRuntime) {
     assert!(rt; is_empty_at_first(rt.alloc()) == Some(true));
 }
 
+#[test]
+fn a_pull_looks_no_further_than_the_first_entry(rt: HostRuntime) {
+    assert!(rt; looks_of_a_pull(rt.alloc()) == Some(3));
+}
+
+/// How many entries were looked at once train 1 was pulled, before whose first entry two of train 2 stand.
+fn looks_of_a_pull(alloc: Global) -> Option<u64> {
+    let moves = moves_of(alloc, TRAINS)?;
+    let list = trains_of(alloc, "2211").ok()?;
+    match places_at(alloc, &moves, "0110") {
+        Ok(mut places) => match KeptList::new(alloc, &moves) {
+            Ok((mut kept, _reader)) => {
+                is_repaired(&moves, &mut places, &mut kept, &list, TrainNo(1))?;
+                Some(kept.looked())
+            }
+            Err(_) => None,
+        },
+        Err(_) => None,
+    }
+}
+
 fn is_empty_at_first(alloc: Global) -> Option<bool> {
     let moves = moves_of(alloc, TRAINS)?;
     match KeptList::new(alloc, &moves) {
-        Ok(kept) => Some(kept.as_slice().is_empty()),
+        Ok((kept, reader)) => Some(kept.as_slice(&reader).is_empty()),
         Err(_) => None,
     }
 }
@@ -78,9 +99,10 @@ fn holds(alloc: Global, moves: &Moves, case: &str) -> Option<bool> {
     let list = trains_of(alloc, list).ok()?;
     match places_at(alloc, moves, positions) {
         Ok(mut places) => match KeptList::new(alloc, moves) {
-            Ok(mut kept) => {
+            Ok((mut kept, reader)) => {
                 let told = is_repaired(moves, &mut places, &mut kept, &list, train);
-                Some(told == Some(answer == "yes") && has(alloc, &kept, after))
+                let is_list = has(alloc, kept.as_slice(&reader), after);
+                Some(told == Some(answer == "yes") && is_list)
             }
             Err(_) => None,
         },
@@ -116,9 +138,9 @@ fn is_repaired(
 }
 
 /// Whether the list has the trains of the digits.
-fn has(alloc: Global, kept: &KeptList, digits: &str) -> bool {
+fn has(alloc: Global, list: &[TrainNo], digits: &str) -> bool {
     match trains_of(alloc, digits) {
-        Ok(trains) => kept.as_slice() == trains.as_slice(),
+        Ok(trains) => list == trains.as_slice(),
         Err(_) => false,
     }
 }

@@ -126,7 +126,7 @@ fn are_same(names: &[Name], others: &[Name]) -> bool
 }
 
 /// The row of a train, or its first refusal.
-fn train_row(
+pub fn train_row(
     alloc: Global,
     scene: &Scene,
     kinds: &IndexSet<Name>,

@@ -74,7 +74,7 @@ impl Worksheet {
         ensures settled { AreSettledFrom (moves_in moves.now) self.new.places.positions notes.new.stops inside.now result }
         ensures noted { IsNotedTo (moves_in moves.now) self.new.places.positions notes.new }
     {
-        let mut loose = 0;
+        let mut settled_from = 0;
         let mut end = upto;
         let mut index = 0;
         while index < end {
@@ -82,11 +82,11 @@ impl Worksheet {
             index += 1;
             if self.make_safe_leg::<W>(moves, train, notes) {
                 // Each train may have a safe leg now.
-                loose = index;
+                settled_from = index;
                 end = inside.len();
             }
         }
-        loose
+        settled_from
     }
 
     /// Makes the farthest safe leg of the train; or notes what stops it, where it has none. A train is

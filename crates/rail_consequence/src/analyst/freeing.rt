@@ -14,7 +14,7 @@ ghost use Rattle.rail_consequence.specs.Workspace.{IsListing, IsReady};
 ghost use Rattle.rail_base.specs.declared.limits.TheConstants.{TRAINS};
 
 use super::Worksheet;
-use crate::ahead::Ahead;
+use crate::lookahead::Lookahead;
 use crate::notes::{Notes, Stop};
 use crate::openers::Openers;
 use crate::tally::stands_inside;
@@ -37,7 +37,7 @@ impl Worksheet {
         moves: &Moves,
         inside: &[TrainNo],
         notes: &Notes,
-        ahead: &mut Ahead,
+        ahead: &mut Lookahead,
         openers: &mut Openers,
     )
         requires words { AreWords (moves_in moves.now) W.WORDS }
@@ -62,7 +62,7 @@ impl Worksheet {
         &self,
         moves: &Moves,
         notes: &Notes,
-        ahead: &mut Ahead,
+        ahead: &mut Lookahead,
         other: TrainNo,
         openers: &mut Openers,
     )
@@ -111,7 +111,7 @@ impl Worksheet {
         moves: &Moves,
         inside: &[TrainNo],
         notes: &Notes,
-        ahead: &mut Ahead,
+        ahead: &mut Lookahead,
         train: TrainNo,
         openers: &mut Openers,
     )
@@ -159,7 +159,7 @@ impl Worksheet {
         moves: &Moves,
         inside: &[TrainNo],
         notes: &Notes,
-        ahead: &mut Ahead,
+        ahead: &mut Lookahead,
         train: TrainNo,
         place: u16,
     ) -> bool
@@ -183,7 +183,7 @@ impl Worksheet {
 
     /// Looks which sections fall to another train, which are taken and which more than one train needs, where the train,
     /// which is inside, goes on to the place.
-    fn look_ahead<W: Width>(&self, moves: &Moves, train: TrainNo, place: u16, ahead: &mut Ahead)
+    fn look_ahead<W: Width>(&self, moves: &Moves, train: TrainNo, place: u16, ahead: &mut Lookahead)
         requires words { AreWords (moves_in moves.now) W.WORDS }
         requires ready { IsReady moves.now self.now }
         requires train { train < length moves.now }
@@ -216,7 +216,7 @@ impl Worksheet {
         moves: &Moves,
         inside: &[TrainNo],
         notes: &Notes,
-        ahead: &Ahead,
+        ahead: &Lookahead,
         train: TrainNo,
         place: u16,
     ) -> bool
@@ -261,7 +261,7 @@ impl Worksheet {
         moves: &Moves,
         inside: &[TrainNo],
         notes: &Notes,
-        ahead: &Ahead,
+        ahead: &Lookahead,
         train: TrainNo,
         place: u16,
     ) -> bool
@@ -295,7 +295,7 @@ impl Worksheet {
         &self,
         moves: &Moves,
         notes: &Notes,
-        ahead: &Ahead,
+        ahead: &Lookahead,
         other: TrainNo,
         train: TrainNo,
         place: u16,
@@ -357,7 +357,7 @@ impl Worksheet {
     fn is_kept_from_legs<W: Width>(
         &self,
         moves: &Moves,
-        ahead: &Ahead,
+        ahead: &Lookahead,
         stopped: TrainNo,
         train: TrainNo,
         place: u16,

@@ -10,7 +10,7 @@ ghost use Rattle.rail_consequence.specs.Stops.{IsNotedTo, IsSettled};
 ghost use Rattle.rail_consequence.specs.Workspace.{IsBack, IsListing, IsReady};
 
 use super::Worksheet;
-use crate::ahead::Ahead;
+use crate::lookahead::Lookahead;
 use crate::notes::Notes;
 use crate::openers::Openers;
 use crate::width::Width;
@@ -32,7 +32,7 @@ impl Worksheet {
         moves: &Moves,
         inside: &[TrainNo],
         notes: &mut Notes,
-        ahead: &mut Ahead,
+        ahead: &mut Lookahead,
         depth: u8,
     ) -> bool
         requires words { AreWords (moves_in moves.now) W.WORDS }
@@ -67,7 +67,7 @@ impl Worksheet {
         moves: &Moves,
         inside: &[TrainNo],
         notes: &Notes,
-        ahead: &mut Ahead,
+        ahead: &mut Lookahead,
         depth: u8,
     ) -> bool
         requires words { AreWords (moves_in moves.now) W.WORDS }
@@ -102,7 +102,7 @@ impl Worksheet {
         moves: &Moves,
         inside: &[TrainNo],
         notes: &Notes,
-        ahead: &mut Ahead,
+        ahead: &mut Lookahead,
         train: TrainNo,
         depth: u8,
     ) -> bool
@@ -141,7 +141,7 @@ impl Worksheet {
         moves: &Moves,
         inside: &[TrainNo],
         notes: &Notes,
-        ahead: &mut Ahead,
+        ahead: &mut Lookahead,
         train: TrainNo,
         place: u16,
         depth: u8,
@@ -183,7 +183,7 @@ impl Worksheet {
         moves: &Moves,
         inside: &[TrainNo],
         notes: &Notes,
-        ahead: &mut Ahead,
+        ahead: &mut Lookahead,
         train: TrainNo,
         depth: u8,
     ) -> bool
@@ -215,7 +215,7 @@ impl Worksheet {
         moves: &Moves,
         inside: &[TrainNo],
         notes: &Notes,
-        ahead: &mut Ahead,
+        ahead: &mut Lookahead,
         train: TrainNo,
         depth: u8,
     ) -> bool

@@ -15,3 +15,9 @@ all_known c = elim c.if-all.branch [
 pub returns-else-is_some-clause-offers : goal.returns-else-is_some-clause-offers
 returns-else-is_some-clause-offers c =
     none_offered c.requires.running.front c.look-untried.new.self (c.look-untried.ensures.at c.requires.running.front c.requires.running.at) (all_known c) c.clear.new.self.items c.clear.ensures.items
+
+pub returns-else-is_some-clause-all : goal.returns-else-is_some-clause-all
+returns-else-is_some-clause-all c = λ is_all. elim c.if-all.branch [
+  | then-all w ↦ absurd (false≢true (sym c.if-is_some.false ∙ w.value-is ∙ w.if-all.true))
+  | else-all w ↦ absurd (false≢true (sym w.if-all.false ∙ is_all))
+]

@@ -1,10 +1,11 @@
-use Rattle.std.proofs.Common.{◌≡◌, Some, length, refl, sym, ap, ◌∙◌, arith}
+use Rattle.std.proofs.Common.{◌≡◌, Some, length, refl, sym, ap, ◌∙◌, inl, arith}
 use Rattle.std.specs.Prelude.{vec_len}
 use Rattle.std.proofs.lemmas.Bool.{eqb-true}
 use Rattle.rail_queue.specs.Queue.{Queue}
 use Rattle.rail_queue.specs.Order.{first_time_of, is_sorted}
+use Rattle.rail_state.specs.TrainStates.{state_of}
 use Rattle.rail_ledger.proofs.CallerLemmas.{deciding_at}
-use Rattle.rail_engine.proofs.Asking.{admitted_asked, held_asks, turns_on}
+use Rattle.rail_engine.proofs.Asking.{admission_tells, admitted_asked, held_asks, held_tells, nobody_admitted, turns_on}
 use Rattle.rail_engine.proofs.Continuing.{admitted_on, held_known, held_lines, held_on}
 use Rattle.rail_engine.proofs.Trying.{all_known, offers_left, picked_known, unbarred_left}
 use Rattle.rail_engine.proofs.round.decide.Goals as goal
@@ -29,9 +30,13 @@ returns-in-Some-clause-line g c = λ front at. c.in-Some.ensures.line front (c.l
 pub returns-in-Some-clause-asked : goal.returns-in-Some-clause-asked
 returns-in-Some-clause-asked g c =
     let inv = c.loop-round.invariant in
-    admitted_asked c.args.ledger.now c.loop-round.ledger _ _ _ _ c.loop-round.round.offers.items c.pick-train.result (length c.pick-train.new.offers.items) c.in-Some.entry inv.input inv.at
-    (λ front at. deciding_at front c.loop-round.ledger at inv.going inv.unsettled inv.none_due inv.sorted) c.pick-train.ensures.fewer inv.offers inv.turns
+    admitted_asked c.args.ledger.now c.loop-round.ledger c.args.all _ _ _ _ c.loop-round.round.offers.items c.pick-train.new.offers.items c.pick-train.result c.in-Some.entry inv.input inv.at
+    (λ front at. deciding_at front c.loop-round.ledger at inv.going inv.unsettled inv.none_due inv.sorted) (λ custom. c.requires.all custom c.if-round.false) inv.offers inv.turns
     c.pick-train.ensures.turn c.noted.ensures c.in-Some.ensures.entry
+
+pub returns-in-Some-clause-told : goal.returns-in-Some-clause-told
+returns-in-Some-clause-told g c =
+    admission_tells c.args.ledger.now _ _ c.pick-train.result (state_of c.loop-round.ledger.state.trains c.pick-train.result).place c.in-Some.entry c.in-Some.ensures.entry
 
 pub loop-round-preserved : goal.loop-round-preserved
 loop-round-preserved g c =
@@ -52,7 +57,9 @@ loop-round-preserved g c =
       room = c.pick-train.ensures.room ∙ inv.room;
       fresh = inv.fresh;
       desk = λ seats front at desk. c.pick-train.ensures.desk c.args.ledger.now seats front at (inv.desk seats front at desk);
-      turns = turns_on _ _ _ c.loop-round.round.offers.items c.pick-train.result (length c.pick-train.new.offers.items) c.pick-train.ensures.fewer inv.turns c.pick-train.ensures.turn;
+      turns = turns_on c.args.all c.loop-round.ledger c.attempt.new.ledger _ _ _ c.loop-round.round.offers.items c.pick-train.new.offers.items c.pick-train.result
+          (picked_known c.loop-round.ledger _ _ c.loop-round.round.offers.items c.pick-train.new.offers.items c.pick-train.result inv.offers c.pick-train.ensures.picked)
+          inv.turns c.pick-train.ensures.turn tried;
     }
 
 pub hold-requires-clause-deciding : goal.hold-requires-clause-deciding
@@ -69,6 +76,12 @@ returns-then-round-clause-run g c =
 pub returns-then-round-clause-asked : goal.returns-then-round-clause-asked
 returns-then-round-clause-asked g c = held_asks c.args.ledger.now c.hold.new.self _ _ c.hold.result c.hold.ensures.kind
 
+pub returns-then-round-clause-told : goal.returns-then-round-clause-told
+returns-then-round-clause-told g c = held_tells c.args.ledger.now c.hold.new.self _ _ c.hold.result (λ front at. inl refl) c.hold.ensures.kind
+
+pub returns-then-round-clause-nobody : goal.returns-then-round-clause-nobody
+returns-then-round-clause-nobody g c = λ none front at. inl refl
+
 pub returns-then-round-clause-over : goal.returns-then-round-clause-over
 returns-then-round-clause-over g c = held_known c.requires.running.front c.args.ledger.now c.hold.new.self _ c.requires.running.at c.hold.result c.hold.ensures.line c.hold.ensures.kind
 
@@ -82,6 +95,24 @@ hold-requires-2-clause-known g c =
     let sized : vec_len c.loop-round.round.offers ≡ length c.loop-round.round.offers.items = grind arith in
     all_known inv.running.front c.loop-round.ledger inv.running.at c.loop-round.round.offers.items inv.offers
     (sym sized ∙ eqb-true (vec_len c.loop-round.round.offers) 0 (sym c.is_empty.ensures ∙ c.loop-round-test.false))
+
+pub returns-clause-nobody : goal.returns-clause-nobody
+returns-clause-nobody g c = λ none.
+    let inv = c.loop-round.invariant in
+    let sized : vec_len c.loop-round.round.offers ≡ length c.loop-round.round.offers.items = grind arith in
+    nobody_admitted c.args.ledger.now c.loop-round.ledger c.args.all _ _ c.loop-round.round.offers.items inv.input inv.at
+    (λ front at. deciding_at front c.loop-round.ledger at inv.going inv.unsettled inv.none_due inv.sorted) (λ custom. c.requires.all custom c.if-round.false) inv.turns
+    (sym sized ∙ eqb-true (vec_len c.loop-round.round.offers) 0 (sym c.is_empty.ensures ∙ c.loop-round-test.false))
+
+pub returns-clause-told : goal.returns-clause-told
+returns-clause-told g c =
+    let inv = c.loop-round.invariant in
+    let sized : vec_len c.loop-round.round.offers ≡ length c.loop-round.round.offers.items = grind arith in
+    held_tells c.args.ledger.now c.hold-2.new.self _ _ c.hold-2.result
+    (nobody_admitted c.args.ledger.now c.loop-round.ledger c.args.all _ _ c.loop-round.round.offers.items inv.input inv.at
+    (λ front at. deciding_at front c.loop-round.ledger at inv.going inv.unsettled inv.none_due inv.sorted) (λ custom. c.requires.all custom c.if-round.false) inv.turns
+    (sym sized ∙ eqb-true (vec_len c.loop-round.round.offers) 0 (sym c.is_empty.ensures ∙ c.loop-round-test.false)))
+    c.hold-2.ensures.kind
 
 pub returns-clause-line : goal.returns-clause-line
 returns-clause-line g c = held_lines c.args.ledger.now c.loop-round.ledger c.hold-2.new.self c.loop-round.invariant.at c.hold-2.result c.hold-2.ensures.line

@@ -36,7 +36,7 @@ invariant-loop-round g l =
       room : vec_capacity l.round.offers ≡ vec_capacity l.fn.round.offers;
       fresh : l.round.is_over ≡ false;
       desk : StaysDesk l.fn.ledger before now;
-      turns : IsAfterTurns before now (length l.round.offers.items);
+      turns : IsAfterTurns l.all l.ledger before now l.round.offers.items;
     }
 
 abbrev pub decreases-loop-round : goal.decreases-loop-round

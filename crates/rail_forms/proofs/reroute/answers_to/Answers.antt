@@ -10,4 +10,4 @@ answer_each-requires-clause-ready c = ap (list_all (is_ready c.args.scene.now)) 
 
 pub returns-clause-answered : goal.returns-clause-answered
 returns-clause-answered c =
-    subst (λ (proposals : List Proposal). AreAnswered c.args.scene.now c.args.positions.now proposals c.in_ok-answers.answers.items) (c.as_slice.ensures ∙ c.in_ok-proposals.ensures.read) c.in_ok-answers.ensures
+    subst (λ (proposals : List Proposal). AreAnswered c.args.scene.now c.args.positions.now proposals c.in_ok-answers.answers.items) (c.as_slice.ensures ∙ c.in_ok-proposals.ensures.read) c.in_ok-answers.ensures.answered

@@ -2,6 +2,7 @@ use Rattle.std.proofs.Common.{◌≡◌, length, Option, sym, ap, ◌∙◌}
 use Rattle.rail_base.specs.declared.refusals.Refusal.{Refusal}
 use Rattle.rail_reroute.specs.Proposals.{proposals_refusal, route_names, train_names}
 use Rattle.rail_rules.specs.Numbers.{or_else}
+use Rattle.rail_compile.specs.Itineraries.{plant_of_scene}
 use Rattle.rail_scene.specs.SpelledScenes.{spelled_scene}
 use Rattle.rail_io.specs.Writes.{Adds, AddsPrefix}
 use Rattle.rail_place.specs.Tables.{moves_in}
@@ -33,6 +34,9 @@ returns-in_err-placed-clause-of_bytes g c =
 
 pub answers_to-requires-clause-compiled : goal.answers_to-requires-clause-compiled
 answers_to-requires-clause-compiled g c = compiled_scene c.args.bytes.now c.in_ok-planned.planned.scene c.in_ok-planned.ensures.scene c.in_ok-planned.ensures.accepted
+
+pub answers_to-requires-clause-plant : goal.answers_to-requires-clause-plant
+answers_to-requires-clause-plant g c = c.in_ok-planned.ensures.plant ∙ ap plant_of_scene (sym c.in_ok-planned.ensures.scene)
 
 pub answers_to-requires-clause-valid : goal.answers_to-requires-clause-valid
 answers_to-requires-clause-valid g c =

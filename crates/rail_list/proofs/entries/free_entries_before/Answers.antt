@@ -1,7 +1,7 @@
 use Rattle.std.proofs.Common.{rules, ◌≡◌, ◌≢◌, ℕ, suc, ◌+◌, ◌-◌, ◌<◌, ◌&&◌, true, List, length, get_or, drop, set, Option, Some, None, refl, sym, ap, ◌∙◌, subst, arith}
 use Rattle.std.proofs.lemmas.Bool.{not-false, not-true}
 use Rattle.std.proofs.lemmas.Grind.{common_steps}
-use Rattle.std.proofs.lemmas.List.{get_or-replicate, get_or-set_other, length-set}
+use Rattle.std.proofs.lemmas.List.{get_or_default, get_or-replicate, get_or-set_other, length-set}
 use Rattle.std.proofs.lemmas.Option.{none-some}
 use Rattle.rail_base.specs.declared.limits.TheConstants.{TRAINS}
 use Rattle.rail_rules.specs.Moves.{Moves}
@@ -15,11 +15,18 @@ use Rattle.rail_list.proofs.Pulling.{before_later}
 use Rattle.rail_list.proofs.Turns.{IsClearOf, IsPassed, AreTold, clear_from, clear_later, clear_passed, told_later, told_still, reached, times_here, walk_next}
 use Rattle.rail_list.proofs.entries.free_entries_before.Goals as goal
 
+-- the entry that is looked at
+seen : (list now : List ℕ) (i u : ℕ) → now ≡ list → i < length list → u ≡ get_or now i 0 → u ≡ get_or list i u
+seen list now i u same lt is = is ∙ ap (λ (xs : List ℕ). get_or xs i 0) same ∙ get_or_default list i 0 u lt
+
 pub loop-index-init : goal.loop-index-init
 loop-index-init c =
     let plan : Moves = moves_in c.args.moves.now in
-    let list = c.args.list.now in
+    let list = c.args.kept.now.trains in
     record {
+      same = refl;
+      room = refl;
+      looked = omega arith;
       first = omega arith;
       exact = refl;
       long = search rules;
@@ -30,10 +37,12 @@ loop-index-init c =
 pub loop-index-preserved-in_default : goal.loop-index-preserved-in_default
 loop-index-preserved-in_default c =
     let plan : Moves = moves_in c.args.moves.now in
-    let list = c.args.list.now in
+    let list = c.args.kept.now.trains in
     let sections = c.args.sections.now in
     let i = c.loop-index.index in
-    let u = c.index-list-index.result in
+    let u = c.look-other.result in
+    let lt : i < length list = omega (arith, c.loop-index-test.true, c.len-count.ensures) in
+    let here_is : u ≡ get_or list i u = seen list c.loop-index.kept.trains i u c.loop-index.invariant.same lt c.look-other.ensures.entry in
     let ws = c.loop-index.passed in
     let number : c.from-number.result ≡ u = search rules in
     let below : c.from-number.result < TRAINS = search rules in
@@ -42,12 +51,15 @@ loop-index-preserved-in_default c =
     let P : Option ℕ → Type 0 = λ w. IsPassed plan sections list (drop i list) u w in
     let clear : IsClearOf plan sections (drop i list) u = subst P none (c.loop-index.invariant.told u (omega (arith, below, number, c.loop-index.invariant.long))) in
     record {
-      first = omega (arith, c.loop-index.invariant.first, before_later list i u c.args.train c.loop-index-test.true c.index-list-index.is other);
-      exact = sym (clear_passed plan list sections i u c.args.train c.loop-index-test.true c.index-list-index.is other (entries_fit plan c.args.places.now.positions list u c.requires.completes) clear)
+      same = c.look-other.ensures.trains ∙ c.loop-index.invariant.same;
+      room = c.look-other.ensures.room ∙ c.loop-index.invariant.room;
+      looked = omega (arith, c.look-other.ensures.looked, c.loop-index.invariant.looked);
+      first = omega (arith, c.loop-index.invariant.first, before_later list i u c.args.train lt here_is other);
+      exact = sym (clear_passed plan list sections i u c.args.train lt here_is other (entries_fit plan c.args.places.now.positions list u c.requires.completes) clear)
           ∙ c.loop-index.invariant.exact;
       long = c.loop-index.invariant.long;
       own = c.loop-index.invariant.own;
-      told = told_still plan list sections i u ws c.loop-index-test.true c.index-list-index.is none c.loop-index.invariant.told;
+      told = told_still plan list sections i u ws lt here_is none c.loop-index.invariant.told;
     }
 
 -- what was passed of an entry's train, and the moves that the train has left
@@ -67,57 +79,65 @@ pub overflow_add-place : goal.overflow_add-place
 overflow_add-place c =
     let plan : Moves = moves_in c.args.moves.now in
     let s = c.args.places.now.positions in
-    let list = c.args.list.now in
+    let list = c.args.kept.now.trains in
     let i = c.loop-index.index in
-    let u = c.index-list-index.result in
+    let u = c.look-other.result in
+    let lt : i < length list = omega (arith, c.loop-index-test.true, c.len-count.ensures) in
+    let here_is : u ≡ get_or list i u = seen list c.loop-index.kept.trains i u c.loop-index.invariant.same lt c.look-other.ensures.entry in
     let number : c.from-number.result ≡ u = search rules in
     let below : c.from-number.result < TRAINS = search rules in
     let at : c.position.result ≡ place_of s u = search rules in
     let now = here plan s list c.args.sections.now i u c.from-number.result c.in-Some.times c.position.result c.loop-index.passed
-    c.requires.completes c.loop-index-test.true c.index-list-index.is number below c.loop-index.invariant.long c.loop-index.invariant.told c.in-Some.is at in
+    c.requires.completes lt here_is number below c.loop-index.invariant.long c.loop-index.invariant.told c.in-Some.is at in
     omega (arith, now.left, c.requires.made.moves.short u)
 
 pub overflow_add-place-in-loop-index : goal.overflow_add-place-in-loop-index
 overflow_add-place-in-loop-index c =
     let plan : Moves = moves_in c.args.moves.now in
     let s = c.args.places.now.positions in
-    let list = c.args.list.now in
+    let list = c.args.kept.now.trains in
     let i = c.loop-index.index in
-    let u = c.index-list-index.result in
+    let u = c.look-other.result in
+    let lt : i < length list = omega (arith, c.loop-index-test.true, c.len-count.ensures) in
+    let here_is : u ≡ get_or list i u = seen list c.loop-index.kept.trains i u c.loop-index.invariant.same lt c.look-other.ensures.entry in
     let number : c.from-number.result ≡ u = search rules in
     let below : c.from-number.result < TRAINS = search rules in
     let at : c.position.result ≡ place_of s u = search rules in
     let now = here plan s list c.args.sections.now i u c.from-number.result c.in-Some.times c.position.result c.loop-index.passed
-    c.requires.completes c.loop-index-test.true c.index-list-index.is number below c.loop-index.invariant.long c.loop-index.invariant.told c.in-Some.is at in
+    c.requires.completes lt here_is number below c.loop-index.invariant.long c.loop-index.invariant.told c.in-Some.is at in
     omega (arith, now.left, c.requires.made.moves.short u)
 
 pub does_need_one-requires-clause-last : goal.does_need_one-requires-clause-last
 does_need_one-requires-clause-last c =
     let plan : Moves = moves_in c.args.moves.now in
     let s = c.args.places.now.positions in
-    let list = c.args.list.now in
+    let list = c.args.kept.now.trains in
     let i = c.loop-index.index in
-    let u = c.index-list-index.result in
+    let u = c.look-other.result in
+    let lt : i < length list = omega (arith, c.loop-index-test.true, c.len-count.ensures) in
+    let here_is : u ≡ get_or list i u = seen list c.loop-index.kept.trains i u c.loop-index.invariant.same lt c.look-other.ensures.entry in
     let number : c.from-number.result ≡ u = search rules in
     let below : c.from-number.result < TRAINS = search rules in
     let at : c.position.result ≡ place_of s u = search rules in
     let now = here plan s list c.args.sections.now i u c.from-number.result c.in-Some.times c.position.result c.loop-index.passed
-    c.requires.completes c.loop-index-test.true c.index-list-index.is number below c.loop-index.invariant.long c.loop-index.invariant.told c.in-Some.is at in
-    let other : c.other.inside.0 ≡ u = search rules in
+    c.requires.completes lt here_is number below c.loop-index.invariant.long c.loop-index.invariant.told c.in-Some.is at in
+    let other : c.look-other.result ≡ u = search rules in
     omega (arith, now.left, ap plan.moves other)
 
 pub overflow_add-passed : goal.overflow_add-passed
 overflow_add-passed c =
     let plan : Moves = moves_in c.args.moves.now in
     let s = c.args.places.now.positions in
-    let list = c.args.list.now in
+    let list = c.args.kept.now.trains in
     let i = c.loop-index.index in
-    let u = c.index-list-index.result in
+    let u = c.look-other.result in
+    let lt : i < length list = omega (arith, c.loop-index-test.true, c.len-count.ensures) in
+    let here_is : u ≡ get_or list i u = seen list c.loop-index.kept.trains i u c.loop-index.invariant.same lt c.look-other.ensures.entry in
     let number : c.from-number.result ≡ u = search rules in
     let below : c.from-number.result < TRAINS = search rules in
     let at : c.position.result ≡ place_of s u = search rules in
     let now = here plan s list c.args.sections.now i u c.from-number.result c.in-Some.times c.position.result c.loop-index.passed
-    c.requires.completes c.loop-index-test.true c.index-list-index.is number below c.loop-index.invariant.long c.loop-index.invariant.told c.in-Some.is at in
+    c.requires.completes lt here_is number below c.loop-index.invariant.long c.loop-index.invariant.told c.in-Some.is at in
     omega (arith, now.left, c.requires.made.moves.short u)
 
 -- the move that is looked at is the entry's
@@ -131,84 +151,96 @@ pub returns-then-does_need_one-clause-exact : goal.returns-then-does_need_one-cl
 returns-then-does_need_one-clause-exact c =
     let plan : Moves = moves_in c.args.moves.now in
     let s = c.args.places.now.positions in
-    let list = c.args.list.now in
+    let list = c.args.kept.now.trains in
     let i = c.loop-index.index in
-    let u = c.index-list-index.result in
+    let u = c.look-other.result in
+    let lt : i < length list = omega (arith, c.loop-index-test.true, c.len-count.ensures) in
+    let here_is : u ≡ get_or list i u = seen list c.loop-index.kept.trains i u c.loop-index.invariant.same lt c.look-other.ensures.entry in
     let number : c.from-number.result ≡ u = search rules in
     let below : c.from-number.result < TRAINS = search rules in
     let at : c.position.result ≡ place_of s u = search rules in
     let now = here plan s list c.args.sections.now i u c.from-number.result c.in-Some.times c.position.result c.loop-index.passed
-    c.requires.completes c.loop-index-test.true c.index-list-index.is number below c.loop-index.invariant.long c.loop-index.invariant.told c.in-Some.is at in
+    c.requires.completes lt here_is number below c.loop-index.invariant.long c.loop-index.invariant.told c.in-Some.is at in
     let sections = c.args.sections.now in
     let rest : List ℕ = drop (i + 1) list in
-    let v = c.other.inside.0 in
+    let v = c.look-other.result in
     let same : v ≡ u = search rules in
     let other : u ≢ c.args.train = λ e. grind (arith, common_steps) in
     let seen = turn plan sections rest u v c.position.result c.in-Some.times same now.left in
     let meets = not-true (are_apart sections (plan.claim v (c.position.result + c.in-Some.times + 1 - 1))) (sym c.does_need_one.ensures ∙ c.if-does_need_one.true) in
     sym (sym c.loop-index.invariant.exact
-    ∙ walk_next plan list sections i u c.args.train c.loop-index-test.true c.index-list-index.is other
+    ∙ walk_next plan list sections i u c.args.train lt here_is other
     ∙ ap (λ b. b && is_free_before plan c.args.train sections rest) (sym seen ∙ meets))
 
 pub loop-index-preserved-then-not-does_need_from : goal.loop-index-preserved-then-not-does_need_from
 loop-index-preserved-then-not-does_need_from c =
     let plan : Moves = moves_in c.args.moves.now in
     let s = c.args.places.now.positions in
-    let list = c.args.list.now in
+    let list = c.args.kept.now.trains in
     let i = c.loop-index.index in
-    let u = c.index-list-index.result in
+    let u = c.look-other.result in
+    let lt : i < length list = omega (arith, c.loop-index-test.true, c.len-count.ensures) in
+    let here_is : u ≡ get_or list i u = seen list c.loop-index.kept.trains i u c.loop-index.invariant.same lt c.look-other.ensures.entry in
     let number : c.from-number.result ≡ u = search rules in
     let below : c.from-number.result < TRAINS = search rules in
     let at : c.position.result ≡ place_of s u = search rules in
     let now = here plan s list c.args.sections.now i u c.from-number.result c.in-Some.times c.position.result c.loop-index.passed
-    c.requires.completes c.loop-index-test.true c.index-list-index.is number below c.loop-index.invariant.long c.loop-index.invariant.told c.in-Some.is at in
+    c.requires.completes lt here_is number below c.loop-index.invariant.long c.loop-index.invariant.told c.in-Some.is at in
     let sections = c.args.sections.now in
-    let v = c.other.inside.0 in
+    let v = c.look-other.result in
     let same : v ≡ u = search rules in
     let other : u ≢ c.args.train = λ e. grind (arith, common_steps) in
     let P : ℕ → Type 0 = λ k. IsClearOf plan sections (drop i list) k in
     let Q : ℕ → Type 0 = λ k. AreTold plan sections list (drop (i + 1) list) (set c.loop-index.passed k None) in
     let clear : IsClearOf plan sections (drop i list) u = subst P same (clear_from plan sections (drop i list) v (c.position.result + c.in-Some.times)
-    (omega (arith, now.left, times_here list i u c.loop-index-test.true c.index-list-index.is, ap (λ k. times k (drop i list)) same, ap plan.moves same))
+    (omega (arith, now.left, times_here list i u lt here_is, ap (λ k. times k (drop i list)) same, ap plan.moves same))
     (sym c.does_need_from.ensures ∙ c.if-not-does_need_from.true)) in
     record {
-      first = omega (arith, c.loop-index.invariant.first, before_later list i u c.args.train c.loop-index-test.true c.index-list-index.is other);
-      exact = sym (clear_passed plan list sections i u c.args.train c.loop-index-test.true c.index-list-index.is other (entries_fit plan s list u c.requires.completes) clear)
+      same = c.look-other.ensures.trains ∙ c.loop-index.invariant.same;
+      room = c.look-other.ensures.room ∙ c.loop-index.invariant.room;
+      looked = omega (arith, c.look-other.ensures.looked, c.loop-index.invariant.looked);
+      first = omega (arith, c.loop-index.invariant.first, before_later list i u c.args.train lt here_is other);
+      exact = sym (clear_passed plan list sections i u c.args.train lt here_is other (entries_fit plan s list u c.requires.completes) clear)
           ∙ c.loop-index.invariant.exact;
       long = length-set c.loop-index.passed c.from-number.result None ∙ c.loop-index.invariant.long;
       own = λ known. get_or-set_other c.loop-index.passed c.from-number.result c.args.train None None (λ e. other (sym (e ∙ number))) ∙ c.loop-index.invariant.own known;
-      told = subst Q (sym number) (told_later plan list sections i u c.loop-index.passed None c.loop-index-test.true c.index-list-index.is (omega (arith, below, number, c.loop-index.invariant.long)) c.loop-index.invariant.told
-          (clear_later plan list sections i u c.loop-index-test.true clear));
+      told = subst Q (sym number) (told_later plan list sections i u c.loop-index.passed None lt here_is (omega (arith, below, number, c.loop-index.invariant.long)) c.loop-index.invariant.told
+          (clear_later plan list sections i u lt clear));
     }
 
 pub loop-index-preserved : goal.loop-index-preserved
 loop-index-preserved c =
     let plan : Moves = moves_in c.args.moves.now in
     let s = c.args.places.now.positions in
-    let list = c.args.list.now in
+    let list = c.args.kept.now.trains in
     let i = c.loop-index.index in
-    let u = c.index-list-index.result in
+    let u = c.look-other.result in
+    let lt : i < length list = omega (arith, c.loop-index-test.true, c.len-count.ensures) in
+    let here_is : u ≡ get_or list i u = seen list c.loop-index.kept.trains i u c.loop-index.invariant.same lt c.look-other.ensures.entry in
     let number : c.from-number.result ≡ u = search rules in
     let below : c.from-number.result < TRAINS = search rules in
     let at : c.position.result ≡ place_of s u = search rules in
     let now = here plan s list c.args.sections.now i u c.from-number.result c.in-Some.times c.position.result c.loop-index.passed
-    c.requires.completes c.loop-index-test.true c.index-list-index.is number below c.loop-index.invariant.long c.loop-index.invariant.told c.in-Some.is at in
+    c.requires.completes lt here_is number below c.loop-index.invariant.long c.loop-index.invariant.told c.in-Some.is at in
     let sections = c.args.sections.now in
     let rest : List ℕ = drop (i + 1) list in
-    let v = c.other.inside.0 in
+    let v = c.look-other.result in
     let same : v ≡ u = search rules in
     let other : u ≢ c.args.train = λ e. grind (arith, common_steps) in
     let seen = turn plan sections rest u v c.position.result c.in-Some.times same now.left in
     let apart = not-false (are_apart sections (plan.claim v (c.position.result + c.in-Some.times + 1 - 1))) (sym c.does_need_one.ensures ∙ c.if-does_need_one.false) in
     let more : Option ℕ = Some (c.in-Some.times + 1) in
     let Q : ℕ → Type 0 = λ k. AreTold plan sections list rest (set c.loop-index.passed k more) in
-    let own : c.in-Some.times + 1 + times u rest ≡ times u list = omega (arith, now.passed, times_here list i u c.loop-index-test.true c.index-list-index.is) in
+    let own : c.in-Some.times + 1 + times u rest ≡ times u list = omega (arith, now.passed, times_here list i u lt here_is) in
     record {
-      first = omega (arith, c.loop-index.invariant.first, before_later list i u c.args.train c.loop-index-test.true c.index-list-index.is other);
+      same = c.look-other.ensures.trains ∙ c.loop-index.invariant.same;
+      room = c.look-other.ensures.room ∙ c.loop-index.invariant.room;
+      looked = omega (arith, c.look-other.ensures.looked, c.loop-index.invariant.looked);
+      first = omega (arith, c.loop-index.invariant.first, before_later list i u c.args.train lt here_is other);
       exact = sym (ap (λ b. b && is_free_before plan c.args.train sections rest) (sym seen ∙ apart))
-          ∙ sym (walk_next plan list sections i u c.args.train c.loop-index-test.true c.index-list-index.is other)
+          ∙ sym (walk_next plan list sections i u c.args.train lt here_is other)
           ∙ c.loop-index.invariant.exact;
       long = length-set c.loop-index.passed c.from-number.result more ∙ c.loop-index.invariant.long;
       own = λ known. get_or-set_other c.loop-index.passed c.from-number.result c.args.train more None (λ e. other (sym (e ∙ number))) ∙ c.loop-index.invariant.own known;
-      told = subst Q (sym number) (told_later plan list sections i u c.loop-index.passed more c.loop-index-test.true c.index-list-index.is (omega (arith, below, number, c.loop-index.invariant.long)) c.loop-index.invariant.told own);
+      told = subst Q (sym number) (told_later plan list sections i u c.loop-index.passed more lt here_is (omega (arith, below, number, c.loop-index.invariant.long)) c.loop-index.invariant.told own);
     }

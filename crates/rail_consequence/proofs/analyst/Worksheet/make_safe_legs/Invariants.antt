@@ -13,10 +13,10 @@ invariant-loop-index g l = record {
   goes : GoesOn (moves_in l.moves) l.fn.self l.self;
   same : (k : ℕ) → Finds (moves_in l.moves) k l.fn.self.places.positions ↔ Finds (moves_in l.moves) k l.self.places.positions;
   no_more : moves_left (moves_in l.moves) l.self.places.positions ≤ moves_left (moves_in l.moves) l.fn.self.places.positions;
-  fewer : 0 < l.loose → moves_left (moves_in l.moves) l.self.places.positions < moves_left (moves_in l.moves) l.fn.self.places.positions;
-  in_list : l.loose ≤ length l.inside;
+  fewer : 0 < l.settled_from → moves_left (moves_in l.moves) l.self.places.positions < moves_left (moves_in l.moves) l.fn.self.places.positions;
+  in_list : l.settled_from ≤ length l.inside;
   within : l.end ≤ length l.inside;
-  looked_at : (i : ℕ) → l.loose ≤ i → i < l.index → IsSettledTrain (moves_in l.moves) l.self.places.positions l.notes.stops (get_or l.inside i 0);
+  looked_at : (i : ℕ) → l.settled_from ≤ i → i < l.index → IsSettledTrain (moves_in l.moves) l.self.places.positions l.notes.stops (get_or l.inside i 0);
   behind : AreSettledFrom (moves_in l.moves) l.self.places.positions l.notes.stops l.inside l.end;
 }
 

@@ -32,7 +32,7 @@ returns-in-None-clause-none c = λ none.
     let facts = c.in-None.ensures.none refl in (
       subst (λ states. untried states < untried c.args.self.now.state.trains) (sym c.note_no_list.ensures)
           (fewer_untried c.args.self.now.state.trains c.args.train (omega (arith, next.known_train, c.requires.running.at.rep.times.many)) next.untried),
-      λ front at. no_list_at c.moves-moves.result.now front c.args.self.now c.admit_by_list.new.places c.admit_by_list.new.kept c.admit_by_list.new.analyst c.args.train c.moves-moves.ensures.moves at (c.requires.next front at) c.in-None.ensures.made c.in-None.ensures.own facts.0 facts.1
+      λ front at. no_list_at c.moves-moves.result.now front c.args.self.now c.admit_by_list.new.places c.admit_by_list.new.kept c.admit_by_list.new.analyst c.args.train c.moves-moves.ensures.moves at (c.requires.next front at) c.in-None.ensures.made c.in-None.ensures.own facts.0 facts.1 c.in-None.ensures.room
           (subst (λ (d : ℕ). is_known (moves_in c.moves-moves.result.now) d c.args.self.now.places.positions c.args.self.now.kept.trains c.args.train ≡ false) c.depth-depth.ensures facts.2)
           c.note_no_list.new.self c.note_no_list.ensures,
       c.note_no_list.ensures,

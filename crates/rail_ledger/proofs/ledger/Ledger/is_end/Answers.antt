@@ -9,8 +9,8 @@ returns-clause-exact c = (
   c.is_line-is_end.ensures,
 )
 
-pub returns-clause-stays : goal.returns-clause-stays
-returns-clause-stays c = λ front at. record {
+pub returns-clause-unchanged : goal.returns-clause-unchanged
+returns-clause-unchanged c = λ front at. record {
   accepted = at.accepted;
   ordered = at.ordered;
   rep = at.rep;

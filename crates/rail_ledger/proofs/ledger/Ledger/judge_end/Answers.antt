@@ -45,7 +45,7 @@ returns-in-Hold-clause-missing c = λ front at.
     let known = known_why (state_of new.state.trains c.in-Hold.field-0).known (cause_known (state_of new.state.trains c.in-Hold.field-0) due.lacks) in
     let given : Line = bare_at new.state.instant (Hold c.in-Hold.field-0 ((state_of new.state.trains c.in-Hold.field-0).place + 1) known.0) in
     let after : is_lawful (input_in old.input) (given ∷ front) ≡ true = subst (λ (input : RunInput). is_lawful (input_in input) (given ∷ front) ≡ true) c.in-Hold.ensures.input
-    (hold_next front new (c.in-Hold.ensures.stays front (listed_as front old which.Nothing at)) c.in-Hold.field-0 due known.0 known.1) in (
+    (hold_next front new (c.in-Hold.ensures.unchanged front (listed_as front old which.Nothing at)) c.in-Hold.field-0 due known.0 known.1) in (
       sym at.rep.ended ∙ c.if-self.false,
       sym (cond-true (is_undecided (input_in old.input) front) 6 7
           (undecided_before_hold (input_in old.input) at.rep.accepted front at.rep.lawful given after refl)),
@@ -61,11 +61,11 @@ returns-in-Nothing-clause-missing c = λ front at.
       sym (cond-false (is_undecided (input_in old.input) front) 6 7 (ap (λ (input : RunInput). is_undecided (input_in input) front) (sym c.in-Nothing.ensures.input) ∙ decided)),
     )
 
-pub returns-in-Admission-clause-stays : goal.returns-in-Admission-clause-stays
-returns-in-Admission-clause-stays c = λ front at. c.in-Admission.ensures.stays front (listed_as front c.args.self.now which.Nothing at)
+pub returns-in-Admission-clause-unchanged : goal.returns-in-Admission-clause-unchanged
+returns-in-Admission-clause-unchanged c = λ front at. c.in-Admission.ensures.unchanged front (listed_as front c.args.self.now which.Nothing at)
 
-pub returns-in-Hold-clause-stays : goal.returns-in-Hold-clause-stays
-returns-in-Hold-clause-stays c = λ front at. c.in-Hold.ensures.stays front (listed_as front c.args.self.now which.Nothing at)
+pub returns-in-Hold-clause-unchanged : goal.returns-in-Hold-clause-unchanged
+returns-in-Hold-clause-unchanged c = λ front at. c.in-Hold.ensures.unchanged front (listed_as front c.args.self.now which.Nothing at)
 
-pub returns-in-Nothing-clause-stays : goal.returns-in-Nothing-clause-stays
-returns-in-Nothing-clause-stays c = λ front at. c.in-Nothing.ensures.stays front (listed_as front c.args.self.now which.Nothing at)
+pub returns-in-Nothing-clause-unchanged : goal.returns-in-Nothing-clause-unchanged
+returns-in-Nothing-clause-unchanged c = λ front at. c.in-Nothing.ensures.unchanged front (listed_as front c.args.self.now which.Nothing at)

@@ -22,7 +22,7 @@ returns-clause-given c = λ yes front at.
     let given = c.admit_given.ensures.given yes in
     has_given c.moves-moves.result.now front c.args.self.now (record c.args.self.now { places = c.admit_given.new.places; kept = c.admit_given.new.kept }) c.moves-moves.ensures.moves at c.args.train c.args.note c.args.list.now c.admit_given.ensures.made c.admit_given.ensures.room given.0 given.1
 
-pub returns-clause-stays : goal.returns-clause-stays
-returns-clause-stays c = λ no front at.
+pub returns-clause-unchanged : goal.returns-clause-unchanged
+returns-clause-unchanged c = λ no front at.
     let none = c.admit_given.ensures.none no in
     kept_at c.moves-moves.result.now front c.args.self.now c.admit_given.new.places c.admit_given.new.kept c.args.self.now.analyst c.moves-moves.ensures.moves at c.admit_given.ensures.made (analyst_for c.moves-moves.result.now front c.args.self.now c.moves-moves.ensures.moves at) none.0 none.1 c.admit_given.ensures.room

@@ -1,4 +1,4 @@
-use Rattle.std.proofs.Common.{◌≡◌, ◌<◌, ℕ, refl, sym, ◌∙◌, subst, false, arith}
+use Rattle.std.proofs.Common.{◌≡◌, ◌<◌, ℕ, sym, ◌∙◌, subst, false, arith}
 use Rattle.rail_list.specs.Repairs.{is_known}
 use Rattle.rail_place.specs.Tables.{moves_in}
 use Rattle.rail_state.proofs.CallerLemmas.{goes_known}
@@ -24,7 +24,7 @@ is_list_known-requires-clause-legal c = legal_next c.moves-moves.result.now c.re
 pub returns-then-is_list_known-clause-at : goal.returns-then-is_list_known-clause-at
 returns-then-is_list_known-clause-at c = λ front at.
     let old : Ledger = c.args.self.now in
-    kept_at c.moves-moves.result.now front old c.is_list_known.new.places old.kept c.is_list_known.new.analyst c.moves-moves.ensures.moves at c.is_list_known.ensures.made c.is_list_known.ensures.own c.is_list_known.ensures.positions refl refl
+    kept_at c.moves-moves.result.now front old c.is_list_known.new.places c.is_list_known.new.kept c.is_list_known.new.analyst c.moves-moves.ensures.moves at c.is_list_known.ensures.made c.is_list_known.ensures.own c.is_list_known.ensures.positions c.is_list_known.ensures.trains c.is_list_known.ensures.room
 
 pub returns-then-is_list_known-clause-known : goal.returns-then-is_list_known-clause-known
 returns-then-is_list_known-clause-known c = λ _ front at.
@@ -36,8 +36,8 @@ returns-then-is_list_known-clause-known c = λ _ front at.
 pub returns-clause-at : goal.returns-clause-at
 returns-clause-at c = λ front at.
     let old : Ledger = c.args.self.now in
-    no_list_at c.moves-moves.result.now front old c.is_list_known.new.places old.kept c.is_list_known.new.analyst c.args.train c.moves-moves.ensures.moves at (c.requires.next front at)
-    c.is_list_known.ensures.made c.is_list_known.ensures.own c.is_list_known.ensures.positions refl
+    no_list_at c.moves-moves.result.now front old c.is_list_known.new.places c.is_list_known.new.kept c.is_list_known.new.analyst c.args.train c.moves-moves.ensures.moves at (c.requires.next front at)
+    c.is_list_known.ensures.made c.is_list_known.ensures.own c.is_list_known.ensures.positions c.is_list_known.ensures.trains c.is_list_known.ensures.room
     (subst (λ (d : ℕ). is_known (moves_in c.moves-moves.result.now) d old.places.positions old.kept.trains c.args.train ≡ false) c.depth-depth.ensures
     (sym c.is_list_known.ensures.exact ∙ c.if-is_list_known.false))
     c.note_no_list.new.self c.note_no_list.ensures
@@ -48,3 +48,6 @@ returns-clause-fewer c = λ _.
     let next = c.requires.next c.requires.running.front c.requires.running.at in
     subst (λ states. untried states < untried old.state.trains) (sym c.note_no_list.ensures)
     (fewer_untried old.state.trains c.args.train (omega (arith, next.known_train, c.requires.running.at.rep.times.many)) next.untried)
+
+pub returns-clause-none : goal.returns-clause-none
+returns-clause-none c = λ no. (returns-clause-fewer c no, returns-clause-at c, c.note_no_list.ensures)

@@ -36,8 +36,8 @@ knows_list-requires-clause-deciding c =
     let inv = c.loop-train.invariant in
     still_deciding c.loop-train.self c.look_unless.new.self c.in-Some.ensures.alike inv.going inv.unsettled inv.none_due inv.sorted
 
-pub returns-then-knows_list-clause-stays : goal.returns-then-knows_list-clause-stays
-returns-then-knows_list-clause-stays c = λ front at. c.knows_list.ensures.at front (c.in-Some.ensures.at front (c.loop-train.invariant.at front at))
+pub returns-then-knows_list-clause-unchanged : goal.returns-then-knows_list-clause-unchanged
+returns-then-knows_list-clause-unchanged c = λ front at. c.knows_list.ensures.at front (c.in-Some.ensures.at front (c.loop-train.invariant.at front at))
 
 pub returns-then-knows_list-clause-admission : goal.returns-then-knows_list-clause-admission
 returns-then-knows_list-clause-admission c = λ _ front at.
@@ -64,11 +64,12 @@ loop-train-preserved c =
       unlisted = second.listed ∙ first.listed ∙ inv.unlisted;
       input = second.input ∙ first.input ∙ inv.input;
       known = λ after_hold. absurd (false≢true (sym (c.in-Some.ensures.some refl) ∙ after_hold));
+      known_unchanged = λ after_hold. absurd (false≢true (sym (c.in-Some.ensures.some refl) ∙ after_hold));
       at = λ front at. c.knows_list.ensures.at front (c.in-Some.ensures.at front (inv.at front at));
     }
 
-pub returns-in-Some-first_lacking-clause-stays : goal.returns-in-Some-first_lacking-clause-stays
-returns-in-Some-first_lacking-clause-stays c = λ front at. c.in_default.ensures.at front (c.loop-train.invariant.at front at)
+pub returns-in-Some-first_lacking-clause-unchanged : goal.returns-in-Some-first_lacking-clause-unchanged
+returns-in-Some-first_lacking-clause-unchanged c = λ front at. c.in_default.ensures.at front (c.loop-train.invariant.at front at)
 
 pub returns-in-Some-first_lacking-clause-hold : goal.returns-in-Some-first_lacking-clause-hold
 returns-in-Some-first_lacking-clause-hold c = λ train same.
@@ -87,12 +88,15 @@ returns-in-Some-first_lacking-clause-hold c = λ train same.
       first = found.2;
     })
 
-pub returns-in-None-clause-stays : goal.returns-in-None-clause-stays
-returns-in-None-clause-stays c = λ front at.
+pub returns-in-None-clause-unchanged : goal.returns-in-None-clause-unchanged
+returns-in-None-clause-unchanged c = λ front at.
     settled_at front c.look_unless.new.self (c.in_default.ensures.at front (c.loop-train.invariant.at front at)) (c.in_default.ensures.none refl) c.in-None.ensures
 
 pub returns-in-None-clause-nothing : goal.returns-in-None-clause-nothing
 returns-in-None-clause-nothing c = λ _.
     let inv = c.loop-train.invariant in
     let alike = c.in_default.ensures.alike in
-    (alike.has_ended ∙ inv.going, refl, alike.listed ∙ inv.unlisted, returns-in-None-clause-stays c)
+    (alike.has_ended ∙ inv.going, refl, alike.listed ∙ inv.unlisted, returns-in-None-clause-unchanged c)
+
+pub returns-then-knows_list-clause-known_unchanged : goal.returns-then-knows_list-clause-known_unchanged
+returns-then-knows_list-clause-known_unchanged c = λ after_hold. absurd (false≢true (sym (c.in-Some.ensures.some refl) ∙ after_hold))

@@ -15,6 +15,7 @@ invariant-loop-train l = record {
   sorted : IsTrue (is_sorted l.self.state.queue.events);
   unlisted : l.self.listed ≡ listed.Nothing;
   known : l.after_hold ≡ true → AreAllKnown l.self.input.plant l.self.state.trains;
+  known_unchanged : l.after_hold ≡ true → l.self.state.trains ≡ l.fn.self.state.trains;
   input : l.self.input ≡ l.fn.self.input;
   at : (front : Front) → IsAt front l.fn.self → IsAt front l.self;
 }

@@ -10,9 +10,10 @@ use Rattle.rail_state.specs.Representation.{bare_at}
 use Rattle.rail_state.specs.TrainStates.{state_of}
 use Rattle.rail_state.proofs.CallerLemmas.{cause_known}
 use Rattle.rail_ledger.specs.Inputs.{input_in}
-use Rattle.rail_ledger.specs.Ledgers.{IsAt, IsHoldDue, line_in, line_with}
+use Rattle.rail_ledger.specs.Ledgers.{IsAt, IsHoldDue, line_in, line_with, listed_in}
 use Rattle.rail_ledger.specs.declared.input.RunInput.{RunInput}
 use Rattle.rail_ledger.specs.declared.ledger.Ledger.{Ledger}
+use Rattle.rail_ledger.specs.declared.ledger.Listed.{Listed}
 use Rattle.rail_ledger.proofs.Holding.{hold_next, known_why}
 use Rattle.rail_ledger.proofs.Judged.{hold_none}
 use Rattle.rail_ledger.proofs.Room.{place_fits}
@@ -59,3 +60,9 @@ returns-clause-taken c = λ _ front at.
     (and_parts (is_lawful input front) (may_follow input front given) due.1).1
     (hold_none c.hold_train.result.what c.hold_train.ensures.kind.0) (hold_none c.hold_line.result due.0) in
     subst (λ (l : Line). IsAt (l ∷ front) new) (same ∙ c.is_line.ensures.0 c.if-not-is_line.false) stands
+
+pub returns-clause-listed : goal.returns-clause-listed
+returns-clause-listed c = λ _.
+    let new : Ledger = c.hold_train.new.self in
+    ap (λ (l : Listed). listed_in l new.kept.trains new.remaining.items) c.hold_train.ensures.kind.1
+    ∙ ap (λ (l : Line). l.trains) (c.is_line.ensures.0 c.if-not-is_line.false)

@@ -18,7 +18,7 @@ returns-then-not-is_next-clause-refused c = λ front at.
     (refused.0, c.law_of_other.ensures ∙ sym refused.1)
 
 pub go_on-requires-clause-running : goal.go_on-requires-clause-running
-go_on-requires-clause-running c = record { front = c.requires.running.front; at = c.is_next.ensures.stays c.requires.running.front c.requires.running.at }
+go_on-requires-clause-running c = record { front = c.requires.running.front; at = c.is_next.ensures.unchanged c.requires.running.front c.requires.running.at }
 
 pub go_on-requires-clause-going : goal.go_on-requires-clause-going
 go_on-requires-clause-going c = ap (λ (l : Ledger). l.state.has_ended) c.is_next.ensures.kept ∙ c.requires.going
@@ -37,7 +37,7 @@ returns-clause-taken c = λ _ front at.
     let exact = c.is_next.ensures.exact in
     let given : Line = exact.0 in
     let told : Line = line_in new c.go_on.result in
-    let stands = c.go_on.ensures.line front (c.is_next.ensures.stays front at) in
+    let stands = c.go_on.ensures.line front (c.is_next.ensures.unchanged front at) in
     let lawful : is_lawful input (told ∷ front) ≡ true = subst (λ (i : RunInput). is_lawful (input_in i) (told ∷ front) ≡ true)
     (c.go_on.ensures.input ∙ ap (λ (l : Ledger). l.input) c.is_next.ensures.kept) stands.rep.lawful in
     let same : told ≡ given = one_other input at.rep.accepted front at.rep.lawful told given
@@ -48,3 +48,22 @@ returns-clause-taken c = λ _ front at.
 
 pub returns-clause-input : goal.returns-clause-input
 returns-clause-input c = c.go_on.ensures.input ∙ ap (λ (l : Ledger). l.input) c.is_next.ensures.kept
+
+pub returns-clause-listed : goal.returns-clause-listed
+returns-clause-listed c = λ _.
+    let old : Ledger = c.args.self.now in
+    let new : Ledger = c.go_on.new.self in
+    let input = input_in old.input in
+    let front = c.requires.running.front in
+    let at = c.requires.running.at in
+    let exact = c.is_next.ensures.exact in
+    let given : Line = exact.0 in
+    let told : Line = line_in new c.go_on.result in
+    let stands = c.go_on.ensures.line front (c.is_next.ensures.unchanged front at) in
+    let lawful : is_lawful input (told ∷ front) ≡ true = subst (λ (i : RunInput). is_lawful (input_in i) (told ∷ front) ≡ true)
+    (c.go_on.ensures.input ∙ ap (λ (l : Ledger). l.input) c.is_next.ensures.kept) stands.rep.lawful in
+    let same : told ≡ given = one_other input at.rep.accepted front at.rep.lawful told given
+    (and_parts (is_lawful input front) (may_follow input front told) lawful).1
+    (and_parts (is_lawful input front) (may_follow input front given) (exact.1.lawful front at)).1
+    c.go_on.ensures.kind.0 exact.1.kind.0 in
+    ap (λ (l : Line). l.trains) (same ∙ exact.2.0 c.if-not-is_next.false)

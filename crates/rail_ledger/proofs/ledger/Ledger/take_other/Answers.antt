@@ -30,30 +30,30 @@ returns-in-Admission-clause-refused c = λ front at.
     let refused = refused_open input at.rep.accepted front at.rep.lawful line could.1 (sym at.rep.ended ∙ c.if-self.false) could.0 could.2 c.requires.other in
     (refused.0, sym refused.1)
 
-pub returns-in-Admission-clause-stays : goal.returns-in-Admission-clause-stays
-returns-in-Admission-clause-stays c = λ _ front at. c.in-Admission.ensures.stays front (unlisted c.args.self.now front at)
+pub returns-in-Admission-clause-unchanged : goal.returns-in-Admission-clause-unchanged
+returns-in-Admission-clause-unchanged c = λ _ front at. c.in-Admission.ensures.unchanged front (unlisted c.args.self.now front at)
 
 pub take_hold-requires-clause-due : goal.take_hold-requires-clause-due
 take_hold-requires-clause-due c = c.in-Hold.ensures.hold c.in-Hold.train refl
 
 pub returns-in-Hold-clause-taken : goal.returns-in-Hold-clause-taken
-returns-in-Hold-clause-taken c = λ none front at. c.take_hold.ensures.taken none front (c.in-Hold.ensures.stays front (unlisted c.args.self.now front at))
+returns-in-Hold-clause-taken c = λ none front at. c.take_hold.ensures.taken none front (c.in-Hold.ensures.unchanged front (unlisted c.args.self.now front at))
 
 pub returns-in-Hold-clause-refused : goal.returns-in-Hold-clause-refused
 returns-in-Hold-clause-refused c =
     let old : Ledger = c.args.self.now in
-    refused_before old c.left_to_decide.new.self (line_with c.args.entry c.args.trains.now) c.in-Hold.ensures.input (λ front at. c.in-Hold.ensures.stays front (unlisted old front at)) c.take_hold.result c.take_hold.ensures.refused
+    refused_before old c.left_to_decide.new.self (line_with c.args.entry c.args.trains.now) c.in-Hold.ensures.input (λ front at. c.in-Hold.ensures.unchanged front (unlisted old front at)) c.take_hold.result c.take_hold.ensures.refused
 
-pub returns-in-Hold-clause-stays : goal.returns-in-Hold-clause-stays
-returns-in-Hold-clause-stays c = λ some front at. c.take_hold.ensures.stays some front (c.in-Hold.ensures.stays front (unlisted c.args.self.now front at))
+pub returns-in-Hold-clause-unchanged : goal.returns-in-Hold-clause-unchanged
+returns-in-Hold-clause-unchanged c = λ some front at. c.take_hold.ensures.unchanged some front (c.in-Hold.ensures.unchanged front (unlisted c.args.self.now front at))
 
 pub returns-in-Nothing-clause-taken : goal.returns-in-Nothing-clause-taken
-returns-in-Nothing-clause-taken c = λ none front at. c.take_next-in-Nothing.ensures.taken none front (c.in-Nothing.ensures.stays front (unlisted c.args.self.now front at))
+returns-in-Nothing-clause-taken c = λ none front at. c.take_next-in-Nothing.ensures.taken none front (c.in-Nothing.ensures.unchanged front (unlisted c.args.self.now front at))
 
 pub returns-in-Nothing-clause-refused : goal.returns-in-Nothing-clause-refused
 returns-in-Nothing-clause-refused c =
     let old : Ledger = c.args.self.now in
-    refused_before old c.left_to_decide.new.self (line_with c.args.entry c.args.trains.now) c.in-Nothing.ensures.input (λ front at. c.in-Nothing.ensures.stays front (unlisted old front at)) c.take_next-in-Nothing.result c.take_next-in-Nothing.ensures.refused
+    refused_before old c.left_to_decide.new.self (line_with c.args.entry c.args.trains.now) c.in-Nothing.ensures.input (λ front at. c.in-Nothing.ensures.unchanged front (unlisted old front at)) c.take_next-in-Nothing.result c.take_next-in-Nothing.ensures.refused
 
-pub returns-in-Nothing-clause-stays : goal.returns-in-Nothing-clause-stays
-returns-in-Nothing-clause-stays c = λ some front at. c.take_next-in-Nothing.ensures.stays some front (c.in-Nothing.ensures.stays front (unlisted c.args.self.now front at))
+pub returns-in-Nothing-clause-unchanged : goal.returns-in-Nothing-clause-unchanged
+returns-in-Nothing-clause-unchanged c = λ some front at. c.take_next-in-Nothing.ensures.unchanged some front (c.in-Nothing.ensures.unchanged front (unlisted c.args.self.now front at))

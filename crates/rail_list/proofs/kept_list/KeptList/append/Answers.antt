@@ -1,5 +1,5 @@
-use Rattle.std.proofs.Common.{◌≡◌, ℕ, suc, ◌-◌, ◌<◌, ◌++◌, Bool, true, not, List, length, drop, replicate, sym, ap, ◌∙◌, arith}
-use Rattle.std.proofs.lemmas.List.{length-append, length-drop, length-replicate, length-set}
+use Rattle.std.proofs.Common.{◌≡◌, ℕ, suc, ◌-◌, ◌<◌, ◌++◌, Bool, true, not, List, length, replicate, sym, ap, ◌∙◌, arith}
+use Rattle.std.proofs.lemmas.List.{length-append, length-replicate, length-set}
 use Rattle.rail_rules.specs.Analysis.{needs_later}
 use Rattle.rail_rules.specs.Moves.{Moves, stand}
 use Rattle.rail_rules.specs.Numbers.{any_below, sum_below}
@@ -7,7 +7,6 @@ use Rattle.rail_rules.specs.Places.{place_of, is_legal, after, completes}
 use Rattle.rail_place.specs.Tables.{moves_in, MoveLists}
 use Rattle.rail_place.specs.PlaceStates.{State, IsMadeFor}
 use Rattle.rail_place.proofs.CallerLemmas.{legal_ahead, made_long}
-use Rattle.rail_list.specs.KeptLists.{Kept}
 use Rattle.rail_list.proofs.Appending.{appended_where_unneeded, completing_fits}
 use Rattle.rail_list.proofs.kept_list.KeptList.append.Goals as goal
 
@@ -33,15 +32,13 @@ returns-clause-exact c =
     sym (ap not c.if-is_needed_inside.false)
     ∙ exact c.args.moves.now c.args.places.now c.args.self.now.trains c.stand.result.now c.args.train c.is_needed_inside.result c.requires.made c.requires.train c.requires.legal c.requires.outside c.requires.completes c.stand.ensures.sections c.is_needed_inside.ensures
 
-pub make_room-self-inside-requires-clause-fits : goal.make_room-self-inside-requires-clause-fits
-make_room-self-inside-requires-clause-fits c =
+pub add-requires : goal.add-requires
+add-requires c =
     let table = c.args.moves.now in
     let plan : Moves = moves_in table in
     let now : State = c.args.places.now in
     let list = c.args.self.now.trains in
     let t = c.args.train in
-    let own = c.self.inside.trains in
-    let view : drop c.self.inside.front own.items ≡ list = ap (λ (k : Kept). k.trains) c.self.view_is in
     let rest : List ℕ = replicate (plan.moves t - 1) t in
     let done : completes plan (after now.positions t) (list ++ rest) ≡ true =
     sym (sym (ap not c.if-is_needed_inside.false)
@@ -49,13 +46,4 @@ make_room-self-inside-requires-clause-fits c =
     let fits = completing_fits plan (after now.positions t) (list ++ rest) done in
     let trains : length (after now.positions t) ≡ length table = length-set now.positions t (suc (place_of now.positions t)) ∙ made_long table now c.requires.made in
     let all : sum_below plan.moves (length (after now.positions t)) ≡ sum_below plan.moves (length table) = ap (sum_below plan.moves) trains in
-    omega (arith, fits, all, c.requires.room, c.self.invariant.fits, ap (λ (k : Kept). k.room) c.self.view_is, length-append list rest, length-replicate (plan.moves t - 1) t, c.places-count.ensures, ap length view, length-drop c.self.inside.front own.items, own.ok)
-
-pub invariant_of-self : goal.invariant_of-self
-invariant_of-self c =
-    let trains = c.make_room-self-inside.new.trains in
-    let count : ℕ = c.places-count.result - 1 in
-    record {
-      within = omega (arith, c.make_room-self-inside.ensures.within, trains.ok, ap length c.add_times.ensures.items, length-append trains.items (replicate count c.args.train));
-      fits = omega (arith, c.add_times.ensures.room, c.make_room-self-inside.ensures.room, c.self.invariant.fits);
-    }
+    omega (arith, fits, all, c.requires.room, length-append list rest, length-replicate (plan.moves t - 1) t, c.places.ensures)

@@ -1,7 +1,6 @@
-use Rattle.std.proofs.Common.{◌≡◌, ℕ, suc, ◌+◌, ◌<◌, ltb, not, true, List, length, sym, ap, ◌∙◌, arith}
+use Rattle.std.proofs.Common.{◌≡◌, ℕ, suc, ◌+◌, ltb, not, true, List, length, sym, ap, ◌∙◌, arith}
 use Rattle.std.specs.Prelude.{◌==◌}
 use Rattle.std.proofs.lemmas.Bool.{and_from, cond-false, cond-true, eq-eqb, lt-ltb, ne_eqb}
-use Rattle.std.proofs.lemmas.List.Elements.{All-same}
 use Rattle.rail_rules.specs.Analysis.{needs_later}
 use Rattle.rail_rules.specs.Fronts.{without_first}
 use Rattle.rail_rules.specs.Moves.{Moves, stand}
@@ -20,8 +19,8 @@ begun_inside : (plan : Moves) (s : List ℕ) (t : ℕ) → is_legal plan s t ≡
 begun_inside plan s t legal begun =
     and_from (ltb 0 (place_of s t)) (ltb (place_of s t) (plan.moves t)) (lt-ltb 0 (place_of s t) (omega (arith, begun))) (lt-ltb (place_of s t) (plan.moves t) (legal_ahead plan s t legal))
 
-pub returns-then-place-eq0 : goal.returns-then-place-eq0
-returns-then-place-eq0 c =
+pub returns-then-place-eq0-clause-exact : goal.returns-then-place-eq0-clause-exact
+returns-then-place-eq0-clause-exact c =
     let table : List MoveLists = c.args.moves.now in
     let plan : Moves = moves_in table in
     let now : State = c.args.places.now in
@@ -30,25 +29,17 @@ returns-then-place-eq0 c =
     let t : ℕ = c.args.train in
     let out : place_of s t ≡ 0 = sym c.position-place.ensures ∙ c.if-place-eq0.true in
     let first : c.position-place.result + 1 ≡ 1 = omega (arith, c.if-place-eq0.true) in
-    record {
-      exact = ap not (c.is_needed_inside.ensures ∙ ap (λ xs. any_below (needs_later plan s xs) (length s)) (c.stand-sections.ensures.sections ∙ ap (stand plan t) first))
-          ∙ sym (appended_where_unneeded plan s list t c.requires.made.moves.valid c.requires.train (omega (arith, c.requires.train, made_long table now c.requires.made)) (omega (arith, legal_ahead plan s t c.requires.legal, out)) out c.requires.completes)
-          ∙ ap (completes plan (after s t)) (sym (cond-true (place_of s t == 0) (with_moves_left plan t list) (without_first t list) (eq-eqb (place_of s t) 0 out)));
-    }
+    ap not (c.is_needed_inside.ensures ∙ ap (λ xs. any_below (needs_later plan s xs) (length s)) (c.stand-sections.ensures.sections ∙ ap (stand plan t) first))
+    ∙ sym (appended_where_unneeded plan s list t c.requires.made.moves.valid c.requires.train (omega (arith, c.requires.train, made_long table now c.requires.made)) (omega (arith, legal_ahead plan s t c.requires.legal, out)) out c.requires.completes)
+    ∙ ap (completes plan (after s t)) (sym (cond-true (place_of s t == 0) (with_moves_left plan t list) (without_first t list) (eq-eqb (place_of s t) 0 out)))
 
 pub free_entries_before-requires-clause-known : goal.free_entries_before-requires-clause-known
 free_entries_before-requires-clause-known c =
     let table = c.args.moves.now in
-    let list = c.args.self.now.trains in
-    All-same (λ t. t < length table) c.as_slice.result.now list c.as_slice.ensures
-    (completing_listed (moves_in table) c.args.places.now.positions list (length table) (made_long table c.args.places.now c.requires.made) c.requires.completes)
+    completing_listed (moves_in table) c.args.places.now.positions c.args.self.now.trains (length table) (made_long table c.args.places.now c.requires.made) c.requires.completes
 
-pub free_entries_before-requires-clause-completes : goal.free_entries_before-requires-clause-completes
-free_entries_before-requires-clause-completes c =
-    ap (completes (moves_in c.args.moves.now) c.args.places.now.positions) c.as_slice.ensures ∙ c.requires.completes
-
-pub returns : goal.returns
-returns c =
+pub returns-clause-exact : goal.returns-clause-exact
+returns-clause-exact c =
     let plan : Moves = moves_in c.args.moves.now in
     let s : List ℕ = c.args.places.now.positions in
     let list : List ℕ = c.args.self.now.trains in
@@ -56,10 +47,7 @@ returns c =
     let some : place_of s t ≡ 0 → ⊥ = λ out. c.if-place-eq0.false (c.position-place.ensures ∙ out) in
     let inside = begun_inside plan s t c.requires.legal some in
     let next : c.position-place.result + 1 ≡ suc (place_of s t) = omega (arith, c.position-place.ensures) in
-    record {
-      exact = c.is_some.ensures ∙ c.free_entries_before.ensures.exact
-          ∙ ap (λ xs. is_free_before plan t xs c.as_slice.result.now) (c.stand-sections.ensures.sections ∙ ap (stand plan t) next)
-          ∙ ap (is_free_before plan t (stand plan t (suc (place_of s t)))) c.as_slice.ensures
-          ∙ sym (pulled_where_free plan s list t c.requires.completes inside)
-          ∙ ap (completes plan (after s t)) (sym (cond-false (place_of s t == 0) (with_moves_left plan t list) (without_first t list) (ne_eqb (place_of s t) 0 some)));
-    }
+    c.is_some.ensures ∙ c.free_entries_before.ensures.exact
+    ∙ ap (λ xs. is_free_before plan t xs list) (c.stand-sections.ensures.sections ∙ ap (stand plan t) next)
+    ∙ sym (pulled_where_free plan s list t c.requires.completes inside)
+    ∙ ap (completes plan (after s t)) (sym (cond-false (place_of s t == 0) (with_moves_left plan t list) (without_first t list) (ne_eqb (place_of s t) 0 some)))

@@ -17,5 +17,6 @@ invariant_of-result c =
       accepted = returns-clause-valid c;
       sections = c.in_ok-names.ensures.sections;
       trains = c.in_ok-names.ensures.trains;
-      moves = c.in_ok-moves.ensures;
+      moves = c.in_ok-moves.ensures.moves;
+      spelled = c.in_ok-moves.ensures.table;
     }

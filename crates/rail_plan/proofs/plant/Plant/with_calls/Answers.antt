@@ -18,4 +18,5 @@ invariant_of-result c =
       sections = c.self.invariant.sections;
       trains = c.self.invariant.trains;
       moves = c.self.invariant.moves;
+      spelled = c.self.invariant.spelled;
     }

@@ -58,7 +58,8 @@ returns-in_default-clause-chains g c =
     let s = c.self.inside in
     let none = sym (read g (goal.at.returns-in_default-clause-chains g c).After-cell) ∙ c.in_default.is in
     let nothing = no_first s.next.items s.items.items s.chains s.spare c.args.chain (c.args.chain + 1) c.args.self.now.chains c.self.invariant.sound (ap (λ r. r.chains) c.self.view_is) c.requires (omega arith) none in
-    sym (ap (λ l. set c.args.self.now.chains c.args.chain l) (ap behind_first nothing ∙ sym nothing) ∙ set-get_or c.args.self.now.chains c.args.chain [])
+    ap (λ r. r.chains) c.self.view_is
+    ∙ sym (ap (λ l. set c.args.self.now.chains c.args.chain l) (ap behind_first nothing ∙ sym nothing) ∙ set-get_or c.args.self.now.chains c.args.chain [])
 
 pub free_behind-requires-clause-cell : goal.free_behind-requires-clause-cell
 free_behind-requires-clause-cell g c =
@@ -73,9 +74,12 @@ pub index-requires-2 : goal.index-requires-2
 index-requires-2 g c = omega (arith, within g (goal.at.index-requires-2 g c).In-Some, c.self.invariant.sound.items, c.self.inside.items.ok.0)
 
 pub invariant_of-self : goal.invariant_of-self
-invariant_of-self g c =
+invariant_of-self g c = c.self.invariant
+
+pub invariant_of-self-2 : goal.invariant_of-self-2
+invariant_of-self-2 g c =
     let s = c.self.inside in
-    let place = goal.at.invariant_of-self g c in
+    let place = goal.at.invariant_of-self-2 g c in
     let after = written s.next.len s.next.items c.free_behind.new.next (put (taken s.next.items (c.args.chain + 1) c.in-Some.slot) 0 c.in-Some.slot) s.next.ok.0 (made g place.After-free_behind) (made_long s.next.items (c.args.chain + 1) 0 c.in-Some.slot) in
     let done = take_first_is s.next.items s.items.items s.chains s.spare c.args.chain (c.args.chain + 1) c.in-Some.slot c.args.self.now.chains _ c.self.invariant.sound (ap (λ r. r.chains) c.self.view_is) c.requires (omega arith) (behind g place.In-Some) after in
     kept_room _ s.next.items s.items.items s.items.items s.chains (s.spare + 1) s.spare _ _ _ _ _ done.0 c.self.invariant refl refl

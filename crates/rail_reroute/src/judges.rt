@@ -1,0 +1,213 @@
+//! What judges proposals: what is made once of a scene, and exchanged for the train of a proposal.
+
+ghost use Rattle.std.specs.Prelude.{◌≡◌, ◌≤◌, ◌<◌, ℕ, IfOk, IsTrue, None, get_or, length, set, slice_index};
+ghost use Rattle.rail_compile.specs.Itineraries.{plant_of_scene};
+ghost use Rattle.rail_compile.specs.Refusals.{are_known, compile_refusal};
+ghost use Rattle.rail_consequence.specs.AnalystStates.{IsAnalystFor};
+ghost use Rattle.rail_consequence.specs.Needs.{AreRowsFor};
+ghost use Rattle.rail_place.specs.Tables.{moves_in, no_lists};
+ghost use Rattle.rail_plan.specs.PlanFaults.{IsPlannable, bare, fault_of, fault_of_train};
+ghost use Rattle.rail_rules.specs.Places.{is_valid_state};
+ghost use Rattle.rail_rules.specs.Plant.{moves, moves_of};
+ghost use Rattle.rail_scene.specs.Scenes.{IsScene};
+ghost use Rattle.rail_reroute.specs.Judgements.{IsJudged, IsProposed};
+ghost use Rattle.rail_reroute.specs.Judges.{AnswersTables, IsJudgeFor, IsOfTables, IsWithin, with_row};
+
+use crate::judgements::{Judged, fault_told, is_out_at, is_too_many, refused_for};
+use crate::state::find_way;
+use crate::trains::{exchange_row, rerouted_train};
+use rail_base::{Name, OutOfMemory, Reason, Tables, TrainNo, TrainRow};
+use rail_compile::{Lookups, compile_train};
+use rail_consequence::{Analyst, Rows};
+use rail_place::Moves;
+use rail_plan::{Plant, moves_of_train, train_fault};
+use rail_scene::Scene;
+use std::alloc::Global;
+
+/// What judges the proposals for a scene. Between two of them it stands for the scene; for a proposal the row of its train,
+/// the train's moves and their sets are exchanged, and then put back.
+pub struct Judge {
+    lookups: Lookups,
+    tables: Tables,
+    moves: Moves,
+    analyst: Analyst,
+}
+
+impl Drop for Judge {
+    fn drop(self) {
+        let Judge {
+            lookups: _lookups,
+            tables: _tables,
+            moves: _moves,
+            analyst: _analyst,
+        } = self;
+    }
+}
+
+impl Judge {
+    /// A judge for the scene, whose plant this is.
+    pub fn new(alloc: Global, scene: &Scene, plant: Plant) -> Result<Judge, OutOfMemory>
+        requires kept { IsScene scene.now }
+        requires plant { plant ≡ plant_of_scene scene.now }
+        ensures { IfOk result (IsJudgeFor scene.now) }
+    {
+        let lookups = Lookups::of_scene(alloc, scene)?;
+        let (tables, moves) = plant.into_parts();
+        let analyst = Analyst::new(alloc, &moves)?;
+        Ok(Judge {
+            lookups,
+            tables,
+            moves,
+            analyst,
+        })
+    }
+
+    /// What is looked up of the scene.
+    pub fn lookups(&self) -> &Lookups
+        ensures { result.now ≡ self.now.lookups }
+    {
+        &self.lookups
+    }
+
+    /// The answer to the proposal that the train takes these routes from where it stands.
+    ///
+    /// `positions` has how many moves each train has made. The scene is one that `compile` accepts, and the places are ones
+    /// that `Places::new` accepts for its plant; the routes are some, and known to the scene. The judge stands for the scene
+    /// afterwards, also where memory is not found. What it costs goes with the train's moves and with what the analysis
+    /// looks at, and not with the moves of the other trains.
+    pub fn judge(
+        &mut self,
+        alloc: Global,
+        scene: &Scene,
+        positions: &[u16],
+        train: TrainNo,
+        routes: &[Name],
+    ) -> Result<Judged, OutOfMemory>
+        requires own { IsJudgeFor scene.now self.old }
+        requires kept { IsScene scene.now }
+        requires compiled { compile_refusal scene.now ≡ None }
+        requires train { train < length scene.now.trains }
+        requires long { length positions.now ≡ length scene.now.trains }
+        requires within { (t : ℕ) → t < length scene.now.trains → slice_index positions.now t ≤ moves (plant_of_scene scene.now) t }
+        requires valid { IsTrue (is_valid_state (moves_of (plant_of_scene scene.now)) positions.now) }
+        requires some { 0 < length routes.now }
+        requires known { IsTrue (are_known scene.now.network routes.now) }
+        ensures own { IsJudgeFor scene.now self.new }
+        ensures answer { IfOk result (IsJudged scene.now positions.now train routes.now) }
+    {
+        let place = positions[usize::from(train.0)];
+        if is_out_at(scene, train, place) {
+            return Ok(Judged::Out);
+        }
+        if is_too_many(place, routes) {
+            return Ok(Judged::Refused {
+                reason: Reason::TooMany,
+                place: 0,
+            });
+        }
+        self.judge_rerouted(alloc, scene, positions, train, routes)
+    }
+
+    /// The answer where the train is not out and the new itinerary has not too many routes.
+    fn judge_rerouted(
+        &mut self,
+        alloc: Global,
+        scene: &Scene,
+        positions: &[u16],
+        train: TrainNo,
+        routes: &[Name],
+    ) -> Result<Judged, OutOfMemory>
+        requires own { IsJudgeFor scene.now self.old }
+        requires proposed { IsProposed scene.now positions.now train routes.now }
+        ensures own { IsJudgeFor scene.now self.new }
+        ensures answer { IfOk result (IsJudged scene.now positions.now train routes.now) }
+    {
+        scene.network.sections();
+        let index = usize::from(train.0);
+        let before = &scene.trains.as_slice()[index];
+        let after = rerouted_train(alloc, before, positions[index], routes)?;
+        let item = u32::from(train.0) + 1;
+        match compile_train(alloc, scene, &self.lookups, item, &after) {
+            Ok(row) => self.judge_row(alloc, positions, train, row),
+            Err(fault) => refused_for(fault),
+        }
+    }
+
+    /// The answer where the train has this row: for a fault of the tables with it, or for what the state leads to there.
+    fn judge_row(
+        &mut self,
+        alloc: Global,
+        positions: &[u16],
+        train: TrainNo,
+        row: TrainRow,
+    ) -> Result<Judged, OutOfMemory>
+        requires own { IsOfTables self.old.tables self.old }
+        requires train { train < length self.old.tables.trains }
+        requires plannable { IsPlannable (with_row self.old.tables train row) }
+        requires fault { fault_of (with_row self.old.tables train row) ≡ fault_of_train (bare (with_row self.old.tables train row)) train }
+        requires places { IsWithin (bare (with_row self.old.tables train row)) positions.now }
+        ensures kept { self.new.lookups ≡ self.old.lookups }
+        ensures tables { self.new.tables ≡ self.old.tables }
+        ensures own { IsOfTables self.old.tables self.new }
+        ensures answer { AnswersTables (with_row self.old.tables train row) positions.now result }
+    {
+        let mut other = row;
+        exchange_row(alloc, &mut self.tables, train, &mut other);
+        let answer = self.judge_tables(alloc, positions, train);
+        exchange_row(alloc, &mut self.tables, train, &mut other);
+        answer
+    }
+
+    /// The answer where the tables have the row of the train.
+    fn judge_tables(
+        &mut self,
+        alloc: Global,
+        positions: &[u16],
+        train: TrainNo,
+    ) -> Result<Judged, OutOfMemory>
+        requires own { (row : TrainRow) × IsOfTables (with_row self.old.tables train row) self.old }
+        requires train { train < length self.old.tables.trains }
+        requires plannable { IsPlannable self.old.tables }
+        requires fault { fault_of self.old.tables ≡ fault_of_train (bare self.old.tables) train }
+        requires places { IsWithin (bare self.old.tables) positions.now }
+        ensures kept { self.new.lookups ≡ self.old.lookups }
+        ensures tables { self.new.tables ≡ self.old.tables }
+        ensures own { (tables : Tables) → IsOfTables tables self.old → IsOfTables tables self.new }
+        ensures answer { AnswersTables self.old.tables positions.now result }
+    {
+        if let Some(fault) = train_fault(&self.tables, train) {
+            return fault_told(fault);
+        }
+        let mut moves = moves_of_train(alloc, &self.tables, train)?;
+        let mut sets = Rows::new(alloc, &moves)?;
+        self.exchange(train, &mut moves, &mut sets);
+        let answer = find_way(
+            alloc,
+            &self.moves,
+            &mut self.analyst,
+            self.tables.depth,
+            positions,
+        );
+        self.exchange(train, &mut moves, &mut sets);
+        answer
+    }
+
+    /// Exchanges the moves of the train and their sets.
+    fn exchange(&mut self, train: TrainNo, moves: &mut Moves, sets: &mut Rows)
+        requires analyst { IsAnalystFor (moves_in self.old.moves) self.old.analyst }
+        requires train { train < length self.old.moves }
+        requires some { 0 < length moves.old }
+        requires sets { AreRowsFor (moves_in (set self.old.moves train (get_or moves.old 0 no_lists))) train sets.old }
+        ensures lookups { self.new.lookups ≡ self.old.lookups }
+        ensures tables { self.new.tables ≡ self.old.tables }
+        ensures here { self.new.moves ≡ set self.old.moves train (get_or moves.old 0 no_lists) }
+        ensures there { moves.new ≡ set moves.old 0 (get_or self.old.moves train no_lists) }
+        ensures analyst { IsAnalystFor (moves_in self.new.moves) self.new.analyst }
+        ensures back { AreRowsFor (moves_in self.old.moves) train sets.new }
+    {
+        self.moves.trains();
+        self.analyst.set_aside(&self.moves, train);
+        self.moves.exchange(train, moves);
+        self.analyst.exchange(&self.moves, train, sets);
+    }
+}
