@@ -15,6 +15,7 @@ departures and the stops; and OUT.places, a line `train,place,station` for each 
 
 import csv
 import sys
+from pathlib import Path
 
 SIGHT = {"setting": 60, "watching": 50, "approach": 300}  # of each portal and signal, in tenths of a second
 POINTS, TURN, BEFORE = 50, 2400, 120  # metres; tenths of a second; seconds from the entry to the first departure
@@ -29,8 +30,8 @@ def add(table, name, **keys):
 
 
 def read(name):
-    with open(name, newline="") as file:
-        return [{key: int(text) if text.isdigit() else text for key, text in row.items()} for row in csv.DictReader(file)]
+    rows = csv.DictReader(Path(name).read_text().splitlines())
+    return [{key: int(text) if text.isdigit() else text for key, text in row.items()} for row in rows]
 
 
 def throat(station, side, line_tracks):
@@ -77,8 +78,7 @@ def build(stations):
 
 
 def leave(here, there, from_track, to_track, way):
-    """The way from a track of a station to one of the next, eastward ("E") or westward ("W"): the joints at which signals
-    stand, and all its joints and sections in turn."""
+    """The way from a track of a station to one of the next, "E" or "W": the joints of its signals; all joints and sections."""
     lines = (here if way == "E" else there)["lines"]
     line = lines[min(from_track, len(lines))][:: 1 if way == "E" else -1]
     out, into = here[way][from_track], there[OTHER[way]][to_track][::-1]
@@ -113,7 +113,8 @@ def journey(stations, train):
                 add("turn", final, arriving=final, leaving=f"{goal}{OTHER[way]}{OTHER[way]}", time=TURN)
             for one, two in zip(posts, posts[1:] + [path[-1]]):
                 to, part = final if two == path[-1] else f"{two}{way}", path[path.index(one):path.index(two) + 1]
-                routes.append(add("route", f"{one}-{to}", **{"from": f"{one}{way}", "to": to}, path=part))
+                name = f"{one}-{to}" if len(one + to) < 16 else f"{one}{way}"  # at most 16 bytes; a block signal has one route
+                routes.append(add("route", name, **{"from": f"{one}{way}", "to": to}, path=part))
             places.append((len(routes), codes[there]))
     return routes, places
 
@@ -122,12 +123,8 @@ def clock(seconds):
     return f"{seconds // 3600:02}:{seconds // 60 % 60:02}:{seconds % 60:02}"
 
 
-def toml(item):
-    return "".join(f"{key} = {value!r}\n" for key, value in item.items()).replace("'", '"')
-
-
 def main():
-    stations, trains, kinds, out = read(sys.argv[1]), read(sys.argv[2]), read(sys.argv[3]), sys.argv[4]
+    stations, trains, kinds = map(read, sys.argv[1:4])
     build(stations)
     for kind in kinds:
         add("kind", kind.pop("kind"), **kind)
@@ -143,10 +140,10 @@ def main():
             calls += [f"{name},{place},,,{clock(int(stops[code]))}" for place, code in places[1:-1] if code in stops]
             index += [f"{name},{place},{code}" for place, code in places]
     head = 'version = 1\nrelease = 20\ndepth = 1\npolicy = "timetable"\n'
+    toml = lambda item: "".join(f"{key} = {value!r}\n" for key, value in item.items()).replace("'", '"')
     scene = head + "".join(f"\n[[{table}]]\n{toml(item)}" for table, items in tables.items() for item in items.values())
     for ending, text in {"toml": scene, "csv": "\n".join(calls) + "\n", "places": "\n".join(index) + "\n"}.items():
-        with open(f"{out}.{ending}", "w") as file:
-            file.write(text)
+        Path(f"{sys.argv[4]}.{ending}").write_text(text)
 
 
 main()

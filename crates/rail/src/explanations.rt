@@ -1,11 +1,13 @@
 //! What a status means, on standard error before the status text. What standard error does not take changes nothing, and
 //! no answer depends on it.
 
-use rail_base::limits::FILE_BYTES;
 use rail_base::{Name, Refusal, Word};
 use rail_cli::Status;
-use rail_explain::{OTHER_FORMS, explained, file_of, law_text, usage, usage_with_hint};
-use rail_io::{FileShelf, read_whole};
+use rail_explain::{
+    HELP_BEFORE, HELP_BEHIND, KeepingShelf, OTHER_FORMS, detail, file_of, help_line, law_text,
+    usage, usage_with_hint, write_read_fault, write_refusal,
+};
+use rail_io::{FileShelf, OutSink};
 use rail_scene::keys::keys_in;
 use rail_scene::{Version, item_name};
 use rail_text::LineBuffer;
@@ -13,21 +15,36 @@ use rail_words::{FORMS, form_named, request_of};
 use std::io;
 use std::rt::HostRuntime;
 
+/// The files of the system, with what was read of them.
+pub type Files<'r> = KeepingShelf<FileShelf<&'r HostRuntime>>;
+
 /// Says what a status means, as far as there is something to say: one line, and for words that are in no form the forms.
-/// `failed` is the name of the file that could not be read.
-pub fn explain(rt: &HostRuntime, words: &[Word], status: Status, failed: Option<&Word>) {
+/// What the files read is found in what was kept of them: no file is opened again.
+pub fn explain(rt: &HostRuntime, words: &[Word], status: Status, files: &Files<'_>) {
     let _ = match status {
         Status::Usage => explain_usage(rt, words),
-        Status::Refused(refusal) => explain_refusal(rt, words, &refusal),
-        Status::ReadFault => explain_read_fault(rt, failed),
-        Status::WriteFault => rt.eprintln("standard output did not take all that was written"),
+        Status::Refused(refusal) => {
+            explain_refusal(rt, words, &refusal, files);
+            Ok(())
+        }
+        Status::ReadFault => {
+            explain_read_fault(rt, files.behind().failed());
+            Ok(())
+        }
+        Status::WriteFault => explain_write_fault(rt),
         Status::CheckedNo { law, .. } => rt.eprintln(law_text(law)),
         Status::Done | Status::OutOfMemory => Ok(()),
     };
 }
 
-/// Shows the form that begins with the same word as the command line; where there is none, all forms, a line each.
+/// Shows the form that begins with the same word as the command line; where there is none, all forms, a line each. Who asks
+/// for help by another word than `--help` gets it here.
 fn explain_usage(rt: &HostRuntime, words: &[Word]) -> io::Result<()> {
+    if let [word] = words
+        && matches!(word.as_str(), "help" | "-h" | "-help")
+    {
+        return print_help(rt);
+    }
     if let Some(verb) = words.first()
         && let Some(form) = form_named(verb.as_str())
     {
@@ -39,6 +56,17 @@ fn explain_usage(rt: &HostRuntime, words: &[Word]) -> io::Result<()> {
     rt.eprintln(OTHER_FORMS)
 }
 
+/// Prints the forms and what each of them prints, as `--help` does on standard output.
+fn print_help(rt: &HostRuntime) -> io::Result<()> {
+    rt.eprint(HELP_BEFORE)?;
+    for form in FORMS {
+        if let Ok(text) = str::from_utf8(help_line(form).as_slice()) {
+            rt.eprint(text)?;
+        }
+    }
+    rt.eprint(HELP_BEHIND)
+}
+
 /// Prints a line.
 fn print_line(rt: &HostRuntime, line: &LineBuffer) -> io::Result<()> {
     match str::from_utf8(line.as_slice()) {
@@ -47,39 +75,34 @@ fn print_line(rt: &HostRuntime, line: &LineBuffer) -> io::Result<()> {
     }
 }
 
+/// Says that standard output failed.
+pub fn explain_write_fault(rt: &HostRuntime) -> io::Result<()> {
+    rt.eprintln("standard output did not take all that was written")
+}
+
 /// Says which file could not be read.
-fn explain_read_fault(rt: &HostRuntime, failed: Option<&Word>) -> io::Result<()> {
-    match failed {
-        Some(name) => {
-            rt.eprint(name.as_str())?;
-            rt.eprintln(": the file is not there, or could not be read")
-        }
-        None => Ok(()),
+fn explain_read_fault(rt: &HostRuntime, failed: Option<&Word>) {
+    if let Some(name) = failed {
+        let _ = write_read_fault(name.as_str(), &mut OutSink::new(rt.stderr()));
     }
 }
 
-/// Says in which file a refusal lies, where in it, and what was expected there.
-fn explain_refusal(rt: &HostRuntime, words: &[Word], refusal: &Refusal) -> io::Result<()> {
+/// Says in which file a refusal lies, where in it, what was expected there, and what the file reads there.
+fn explain_refusal(rt: &HostRuntime, words: &[Word], refusal: &Refusal, files: &Files<'_>) {
     let Some(request) = request_of(words) else {
-        return Ok(());
+        return;
     };
     let file = file_of(&request, refusal);
-    if let Some(file) = file {
-        rt.eprint(file)?;
-        rt.eprint(": ")?;
-    }
-    print_line(
-        rt,
-        &explained(refusal, file.and_then(|file| name_in(rt, file, refusal))),
-    )
+    let bytes = file.and_then(|file| files.bytes_of(file)).unwrap_or(&[]);
+    let name = name_in(rt, bytes, refusal);
+    let detail = detail(rt.alloc(), refusal, bytes);
+    let _ = write_refusal(file, refusal, name, &detail, &mut OutSink::new(rt.stderr()));
 }
 
-/// The name of the item in which a refusal of a scene lies. The file is read again for it.
-fn name_in(rt: &HostRuntime, file: &str, refusal: &Refusal) -> Option<Name> {
+/// The name of the item in which a refusal of a scene lies.
+fn name_in(rt: &HostRuntime, bytes: &[u8], refusal: &Refusal) -> Option<Name> {
     if keys_in(refusal.part, Version::NEWEST).is_empty() || refusal.item == 0 {
         return None;
     }
-    let mut shelf = FileShelf::new(rt);
-    let bytes = read_whole(rt.alloc(), &mut shelf, file, FILE_BYTES).ok()?;
-    item_name(rt.alloc(), &bytes, refusal.part, refusal.item).ok()?
+    item_name(rt.alloc(), bytes, refusal.part, refusal.item).ok()?
 }

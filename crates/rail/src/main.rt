@@ -8,10 +8,10 @@ ghost use Rattle.rail_io.specs.GatheredSink.{gathered_by};
 
 mod explanations;
 
-use explanations::explain;
+use explanations::{explain, explain_write_fault};
 use rail_base::Word;
 use rail_cli::{Status, rail};
-use rail_explain::{HELP_BEFORE, HELP_BEHIND, VERSION, help_line};
+use rail_explain::{HELP_BEFORE, HELP_BEHIND, KeepingShelf, VERSION, help_line};
 use rail_io::{FileShelf, GatheredSink, OutSink, Sink};
 use rail_policy::{
     FcfsPolicy, Policy, PriorityPolicy, RotatingPolicy, TimetablePolicy, deck_is_fine,
@@ -75,13 +75,13 @@ fn run(rt: &HostRuntime, words: &[Word]) -> Result<Status, AllocError> {
     if !deck_is_fine(&deck) {
         return Ok(Status::OutOfMemory);
     }
-    let mut shelf = FileShelf::new(rt);
+    let mut files = KeepingShelf::new(alloc, FileShelf::new(rt));
     let Ok(mut out) = GatheredSink::with_room(alloc, OutSink::new(rt), GATHERED) else {
         return Ok(Status::OutOfMemory);
     };
-    let status = rail(alloc, words, &mut shelf, &mut out, deck);
+    let status = rail(alloc, words, &mut files, &mut out, deck);
     let status = finish(status, &mut out);
-    explain(rt, words, status, shelf.failed());
+    explain(rt, words, status, &files);
     Ok(status)
 }
 
@@ -112,7 +112,10 @@ fn print_help(rt: &HostRuntime) -> io::Result<()> {
 fn end_of(rt: &HostRuntime, printed: io::Result<()>) -> ExitCode {
     match printed {
         Ok(()) => ExitCode::SUCCESS,
-        Err(_) => end(rt, Status::WriteFault),
+        Err(_) => {
+            let _ = explain_write_fault(rt);
+            end(rt, Status::WriteFault)
+        }
     }
 }
 

@@ -2,4 +2,6 @@
 pub mod Files
 pub mod Places
 pub mod Meanings
+pub mod Terminals
 pub mod Explanations
+pub mod KeptFiles

@@ -9,15 +9,21 @@
 //! there too. The other words may be changed freely; what may not is that a line is no longer than its clause says.
 #![tactic(auto)]
 
+mod details;
 mod expectations;
 mod files;
 mod help;
+mod kept_files;
 mod places;
 mod reasons;
 mod refusals;
+mod terminals;
 mod verdicts;
 
+pub use details::detail;
 pub use files::file_of;
 pub use help::{HELP_BEFORE, HELP_BEHIND, OTHER_FORMS, VERSION, help_line, usage, usage_with_hint};
-pub use refusals::{MOST, explained, write_refusal};
+pub use kept_files::KeepingShelf;
+pub use refusals::{MOST, explained, write_read_fault, write_refusal};
+pub use terminals::write_shown;
 pub use verdicts::law_text;

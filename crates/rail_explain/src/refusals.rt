@@ -1,8 +1,8 @@
 //! The line that explains a refusal.
 
-ghost use Rattle.std.specs.Prelude.{◌≡◌, ◌+◌, ◌≤◌, ◌++◌, length};
+ghost use Rattle.std.specs.Prelude.{◌≡◌, ◌+◌, ◌≤◌, [], ◌∷◌, ◌++◌, length};
 ghost use Rattle.std.specs.Option.{option_copied};
-ghost use Rattle.rail_explain.specs.Explanations.{explanation, file_text, refusal_line};
+ghost use Rattle.rail_explain.specs.Explanations.{explanation, file_text, read_fault_line, refusal_line};
 ghost use Rattle.rail_explain.specs.Meanings.{meaning_text};
 ghost use Rattle.rail_explain.specs.Places.{key_at};
 ghost use Rattle.rail_explain.specs.declared.refusals.TheConstants.{MOST};
@@ -12,6 +12,7 @@ ghost use Rattle.rail_text.specs.declared.line_buffer.TheConstants.{ROOM};
 use crate::expectations::{kind_text, put_range, unknown_text};
 use crate::places::{key_at, put_item, put_keys, put_place};
 use crate::reasons::reason_text;
+use crate::terminals::write_shown;
 use rail_base::{Name, Reason, Refusal};
 use rail_io::{Failed, Sink, write_whole};
 use rail_text::LineBuffer;
@@ -32,19 +33,36 @@ pub fn explained(refusal: &Refusal, name: Option<Name>) -> LineBuffer
     line
 }
 
-/// Writes the line of a refusal: the name of the file in which it lies, where it lies in one, and its explanation.
+/// Writes the line of a refusal: the name of the file in which it lies, where it lies in one, its explanation, and what the
+/// file reads there.
 pub fn write_refusal<O: Sink>(
     file: Option<&str>,
     refusal: &Refusal,
     name: Option<Name>,
+    detail: &LineBuffer,
     out: &mut O,
 ) -> Result<(), Failed>
-    ensures { WritesText O.Sink out.old out.new (refusal_line (option_copied file.entry) refusal.now name) result }
+    ensures { WritesText O.Sink out.old out.new (refusal_line (option_copied file.entry) refusal.now name detail.now) result }
 {
     write_file(file, out)?;
-    let mut line = explained(refusal, name);
-    line.put(b"\n");
-    write_whole(out, line.as_slice())
+    write_whole(out, explained(refusal, name).as_slice())?;
+    write_end(detail, out)
+}
+
+/// Writes the detail and a line feed.
+fn write_end<O: Sink>(detail: &LineBuffer, out: &mut O) -> Result<(), Failed>
+    ensures { WritesText O.Sink out.old out.new (detail.now ++ 10 ∷ []) result }
+{
+    write_whole(out, detail.as_slice())?;
+    write_whole(out, b"\n")
+}
+
+/// Writes that the file could not be read.
+pub fn write_read_fault<O: Sink>(file: &str, out: &mut O) -> Result<(), Failed>
+    ensures { WritesText O.Sink out.old out.new (read_fault_line file.now) result }
+{
+    write_file(Some(file), out)?;
+    write_whole(out, b"the file is not there, or could not be read\n")
 }
 
 /// Writes the name of the file in which a refusal lies, where it lies in one, with a colon and a space.
@@ -54,7 +72,7 @@ fn write_file<O: Sink>(file: Option<&str>, out: &mut O) -> Result<(), Failed>
     let Some(file) = file else {
         return Ok(());
     };
-    write_whole(out, file.as_bytes())?;
+    write_shown(file.as_bytes(), out)?;
     write_whole(out, b": ")
 }
 

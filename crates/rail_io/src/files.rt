@@ -7,8 +7,11 @@ use crate::sink::{Failed, Sink};
 use rail_base::Word;
 use std::alloc::Global;
 use std::fs;
-use std::io::Read;
+use std::io::{ErrorKind, Read};
 use std::rt::Files;
+
+/// How often a call of the system is made at most where a signal interrupts it each time.
+const TRIES: u32 = 64;
 
 /// The shelf over the files of the system, which tells no content. A name is a path.
 #[derive(Drop)]
@@ -59,9 +62,22 @@ impl<R: Files + Drop> FileShelf<R> {
         if most == 0 {
             return None;
         }
-        let file = self.file.as_mut()?;
-        file.read(&mut into[..most]).ok()
+        read_some(self.file.as_mut()?, &mut into[..most])
     }
+}
+
+/// Moves the next bytes of the file, and says how many: `None` where the system fails. A read that a signal interrupts is
+/// made again.
+fn read_some<F: Read>(file: &mut F, into: &mut [u8]) -> Option<usize>
+    ensures within { IfSome result (λ n. n ≤ length into.old) }
+{
+    for _ in 0..TRIES {
+        match file.read(into) {
+            Err(error) if error.kind() == ErrorKind::Interrupted => {}
+            read => return read.ok(),
+        }
+    }
+    None
 }
 
 impl<R: Files + Drop> Shelf for FileShelf<R> {
@@ -139,12 +155,28 @@ impl<R: Print + Drop> Sink for OutSink<R> {
 
     /// `Failed` where the system fails, and where it takes no byte.
     fn write(&mut self, piece: &[u8]) -> Result<usize, Failed> {
-        match self.access.write_some(piece) {
-            Ok(count) if count > 0 => Ok(count),
-            _ => {
+        match write_some(&self.access, piece) {
+            Some(count) => Ok(count),
+            None => {
                 self.faults = self.faults.saturating_add(1);
                 Err(Failed)
             }
         }
     }
+}
+
+/// Writes the next bytes of a piece, and says how many: `None` where the system fails, or takes no byte. A write that a signal
+/// interrupts is made again.
+fn write_some<R: Print>(access: &R, piece: &[u8]) -> Option<usize>
+    ensures some { IfSome result (λ n. 0 < n) }
+    ensures within { IfSome result (λ n. n ≤ length piece.now) }
+{
+    for _ in 0..TRIES {
+        match access.write_some(piece) {
+            Ok(count) if count > 0 => return Some(count),
+            Err(error) if error.kind() == ErrorKind::Interrupted => {}
+            _ => return None,
+        }
+    }
+    None
 }

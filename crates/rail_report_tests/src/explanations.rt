@@ -1,7 +1,11 @@
 //! What is said of a refusal.
 
-use rail_base::{Name, Part, Reason, Refusal, Word};
-use rail_explain::{VERSION, explained, file_of, help_line, law_text, usage_with_hint};
+use rail_base::{Name, OutOfMemory, Part, Reason, Refusal, Seq, Word};
+use rail_explain::{
+    KeepingShelf, VERSION, detail, explained, file_of, help_line, law_text, usage_with_hint,
+    write_read_fault, write_refusal,
+};
+use rail_io::{File, MemoryShelf, MemorySink, read_whole};
 use rail_words::{Form, request_of};
 use std::alloc::{AllocError, Global};
 
@@ -375,4 +379,254 @@ fn shows_how_a_form_is_typed(rt: HostRuntime) {
         VERSION == "rail 0.1.0\n",
     ];
     assert_eq!(rt; are_shown, [true; 5]);
+}
+
+/// A scene with mistakes in it.
+const WRONG: &str = "\
+version = 2
+
+[[section]]
+name = \"s1\"
+kind = \"plane\"
+lenght = 100
+joints = [\"a\", \"b\", 7]
+speed = 0
+
+[[signal]]
+name = \"a\\u001Bb\"
+joint = \"b\"
+
+[[route]]
+name = \"r1\"
+path = [\"a\", \"s1\", \"b\", \"s9\", \"c\"]
+
+[[train]]
+name = \"T1\"
+routes = [\"r1\", \"r2\"]
+";
+
+/// A text of lines, of which one is longer than what is told of it.
+const LINES: &str = "\
+# a comment
+
+00:00:10 clos s1
+xxxxxxxxxxxxxxxxxxxxxxxxxxxxxxxxxxxxxxxxxxxxxxxxxxxxxxxxxxxxxxxxxxxxxx
+";
+
+/// What is said of a file that reads so, where the refusal is of this item, at this step.
+const DETAILS: [(Reason, Part, u32, u32, &str, &str); 21] = [
+    (
+        Reason::NotToml,
+        Part::Bytes,
+        0,
+        0,
+        "a = 1\nb = [1, x]\n",
+        "; line 2, column 9: invalid value, expected a string, number, boolean, date-time, array or inline table",
+    ),
+    (Reason::NotToml, Part::Bytes, 0, 0, "a = 1\n", ""),
+    (
+        Reason::Range,
+        Part::Section,
+        1,
+        2,
+        WRONG,
+        "; it reads \"plane\"",
+    ),
+    (
+        Reason::KeyMissing,
+        Part::Section,
+        1,
+        3,
+        WRONG,
+        "; it has \"lenght\"",
+    ),
+    (
+        Reason::KeyUnknown,
+        Part::Section,
+        1,
+        0,
+        WRONG,
+        "; it has \"lenght\"",
+    ),
+    (Reason::KeyUnknown, Part::Section, 2, 0, WRONG, ""),
+    (Reason::Range, Part::Section, 1, 4, WRONG, "; it reads 0"),
+    (
+        Reason::WrongKind,
+        Part::Section,
+        1,
+        5,
+        WRONG,
+        "; it reads 7",
+    ),
+    (
+        Reason::WrongKind,
+        Part::Section,
+        1,
+        2,
+        WRONG,
+        "; it reads \"plane\"",
+    ),
+    (
+        Reason::Range,
+        Part::Route,
+        1,
+        4,
+        WRONG,
+        "; it is a list of 5",
+    ),
+    (
+        Reason::JointCrowded,
+        Part::Section,
+        1,
+        2,
+        WRONG,
+        "; it reads b",
+    ),
+    (
+        Reason::BadName,
+        Part::Signal,
+        1,
+        1,
+        WRONG,
+        "; it reads \"a\\x1bb\"",
+    ),
+    (
+        Reason::PostPlace,
+        Part::Signal,
+        1,
+        0,
+        WRONG,
+        "; it reads \"b\"",
+    ),
+    (
+        Reason::Unknown,
+        Part::Route,
+        1,
+        4,
+        WRONG,
+        "; it reads \"s9\"",
+    ),
+    (
+        Reason::RouteBroken,
+        Part::Route,
+        1,
+        2,
+        WRONG,
+        "; it reads b s9 c",
+    ),
+    (
+        Reason::Unknown,
+        Part::Train,
+        1,
+        5,
+        WRONG,
+        "; it reads \"r2\"",
+    ),
+    (
+        Reason::ItineraryBroken,
+        Part::Train,
+        1,
+        1,
+        WRONG,
+        "; it reads r1 r2",
+    ),
+    (
+        Reason::CommandForm,
+        Part::Line,
+        3,
+        0,
+        LINES,
+        "; it reads \"00:00:10 clos s1\"",
+    ),
+    (
+        Reason::CommandForm,
+        Part::Line,
+        4,
+        0,
+        LINES,
+        "; it reads \"xxxxxxxxxxxxxxxxxxxxxxxxxxxxxxxxxxxxxxxxxxxxxxxxxxxxxxxxxxxx\" ..",
+    ),
+    (
+        Reason::TimetableForm,
+        Part::Row,
+        2,
+        0,
+        LINES,
+        "; line 3 reads \"00:00:10 clos s1\"",
+    ),
+    (Reason::TooMany, Part::File, 1, 0, LINES, ""),
+];
+
+#[test]
+fn says_what_the_file_reads(rt: HostRuntime) {
+    let other = first_other_detail(rt.alloc());
+    assert!(rt; other.is_none(), "{other:?}");
+}
+
+/// The first of the details that is not told.
+fn first_other_detail(alloc: Global) -> Option<&'static str> {
+    for (reason, part, item, step, file, told) in DETAILS {
+        let refusal = Refusal {
+            reason,
+            part,
+            item,
+            step,
+        };
+        if detail(alloc, &refusal, file.as_bytes()).as_slice() != told.as_bytes() {
+            return Some(told);
+        }
+    }
+    None
+}
+
+#[test]
+fn shows_a_name_without_control_characters(rt: HostRuntime) {
+    let shown = shown_in(rt.alloc());
+    assert_eq!(rt; shown, Ok(true));
+}
+
+/// Whether a line and the name of its file, and the name of one that was not read, are written as they are to be shown.
+fn shown_in(alloc: Global) -> Result<bool, OutOfMemory> {
+    let mut out = MemorySink::with_room(alloc, 400, Vec::new(alloc))?;
+    let refusal = repeated(Part::Line);
+    let line = detail(alloc, &refusal, b"a\nb\x07\n");
+    let is_written = write_refusal(Some("x\x1b[31m"), &refusal, None, &line, &mut out).is_ok()
+        && write_read_fault("y\n", &mut out).is_ok();
+    Ok(is_written && out.bytes() == Some(SHOWN.as_bytes()))
+}
+
+/// What is shown of names and texts with control characters in them.
+const SHOWN: &str = "\
+x\\x1b[31m: line 2 gives a name, or a turn, that stands already; it reads \"b\\x07\"
+y\\x0a: the file is not there, or could not be read
+";
+
+#[test]
+fn keeps_what_was_read(rt: HostRuntime) {
+    let kept = kept_of(rt.alloc());
+    assert_eq!(rt; kept, Ok([true; 3]));
+}
+
+/// Whether a file is read as it is, is kept, and one that is not there is not.
+fn kept_of(alloc: Global) -> Result<[bool; 3], OutOfMemory> {
+    let shelf = MemoryShelf::new(one_file(alloc)?, Vec::new(alloc));
+    let mut files = KeepingShelf::new(alloc, shelf);
+    let is_read = read_whole(alloc, &mut files, "a", 100).is_ok();
+    let is_missing = read_whole(alloc, &mut files, "b", 100).is_err();
+    Ok([
+        is_read && is_missing,
+        files
+            .bytes_of("a")
+            .is_some_and(|bytes| bytes == [7; 20].as_slice()),
+        files.bytes_of("b").is_none(),
+    ])
+}
+
+/// A file of twenty bytes.
+fn one_file(alloc: Global) -> Result<Vec<File>, AllocError> {
+    let name = Word::from_string(String::from_str(alloc, "a")?);
+    let bytes = Seq::from_vec(vec![in alloc; 7; 20]?);
+    let mut files = Vec::new(alloc);
+    files.push(File { name, bytes })?;
+    Ok(files)
 }

@@ -25,7 +25,7 @@ mod scene;
 mod versions;
 
 pub use laws::the_number_of_an_item_is_told_as_it_is;
-pub use naming::item_name;
+pub use naming::{item_name, item_table};
 pub use reading::read_scene;
 pub use scene::{Scene, SceneTrain};
 pub use versions::Version;

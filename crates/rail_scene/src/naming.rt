@@ -31,8 +31,9 @@ fn name_in_root(root: &Value, part: Part, item: u32) -> Option<Name>
     name_at(item_table(root, part, item)?, NAME)
 }
 
-/// The table of an item of a root.
-fn item_table(root: &Value, part: Part, item: u32) -> Option<&Value>
+/// The table of an item of a root, by the number of the item, which counts from 1. `None` where the part is none of items,
+/// or has fewer.
+pub fn item_table(root: &Value, part: Part, item: u32) -> Option<&Value>
     ensures { option_map (λ v. view v.now) result ≡ item_table part item (view root.now) }
 {
     let list = list_in(part)?;
