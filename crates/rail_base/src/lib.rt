@@ -1,5 +1,5 @@
-//! The ground layer: numbers, names, words, sequences, times as text, the lines of a history,
-//! refusals, limits, and the plain data of a plant and of commands.
+//! The ground layer: numbers, names, words, sequences, tables that never grow, times as text, the lines of a
+//! history, refusals, limits, and the plain data of a plant and of commands.
 //!
 //! It stands on no other crate of this repository. What the definitions of a lawful run speak of
 //! is declared here, so a change of a public type is a change of every layer above; a body may be
@@ -17,6 +17,7 @@ mod orders;
 mod plant;
 mod refusals;
 mod sequence;
+mod tables;
 mod text;
 
 pub use clock::{read_time, write_time};
@@ -32,4 +33,5 @@ pub use orders::{Command, Order, PolicyKind};
 pub use plant::{Call, MoveRow, SectionRow, Tables, TrainKind, TrainRow, TurnRow};
 pub use refusals::{Fault, OutOfMemory, Part, Reason, Refusal};
 pub use sequence::Seq;
+pub use tables::{add_copies, add_rows, copies};
 pub use text::{Name, Word};

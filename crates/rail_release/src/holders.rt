@@ -1,6 +1,6 @@
 ghost use Rattle.std.specs.Prelude.{◌≡◌, ℕ, ◌<◌, length, get_or, set, replicate, IfOk, IsSome, Some, None};
 
-use rail_base::{OutOfMemory, SectionNo, TrainNo};
+use rail_base::{OutOfMemory, SectionNo, TrainNo, copies};
 use std::alloc::Global;
 use std::marker::Model;
 
@@ -17,11 +17,13 @@ impl Drop for Holders {
 }
 
 impl Model for Holders {
-    ghost use Rattle.std.specs.Prelude.{List, Option, ℕ};
+    ghost use Rattle.std.specs.Prelude.{◌≡◌, List, Option, length, vec_capacity, ℕ};
 
     ghost Value = { List (Option ℕ) };
 
     ghost view = { λ holders. holders.trains.items };
+
+    ghost invariant = { λ holders. vec_capacity holders.trains ≡ length holders.trains.items };
 }
 
 impl Holders {
@@ -29,7 +31,8 @@ impl Holders {
     pub fn new(alloc: Global, sections: u16) -> Result<Holders, OutOfMemory>
         ensures { IfOk result (λ holders. holders ≡ replicate sections None) }
     {
-        let trains = vec![in alloc; None; usize::from(sections)]?;
+        let sections = usize::from(sections);
+        let trains = copies(alloc, None, sections, sections)?;
         Ok(Holders { trains })
     }
 

@@ -168,7 +168,7 @@ has_slot next kept chains spare room room_items all some =
     record {
       heads = omega (arith, sound.heads);
       items = sound.items;
-      slot = slot_in next (walk (length next) next (Some 0)) first.rest (lists_of next 1 chains) spare room room_items (length kept) sound.linked first.is first.links sound.items some all.links_fit all.items_fit;
+      slot = slot_in next (walk (length next) next (Some 0)) first.rest (lists_of next 1 chains) spare room room_items (length kept) sound.linked first.is first.links sound.items some (omega (arith, all.links_fit)) (omega (arith, all.items_fit));
     }
 
 -- a slot with an item that stands nowhere, in a sound room

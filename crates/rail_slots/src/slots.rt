@@ -3,7 +3,7 @@ ghost use Rattle.rail_slots.specs.Slots.{Stands, StandsAt, first_slot, first_ite
 ghost use Rattle.rail_slots.specs.Links.{HasSlot, IsNewSlot};
 
 use crate::links::{Link, free_behind, put_behind, take_behind};
-use rail_base::OutOfMemory;
+use rail_base::{OutOfMemory, copies};
 use std::alloc::Global;
 use std::marker::Model;
 
@@ -35,24 +35,6 @@ impl<T> Model for Slots<T> {
 
     ghost invariant = { λ slots. IsReserved slots.next.items slots.items.items slots.chains slots.spare
         (vec_capacity slots.next) (vec_capacity slots.items) };
-}
-
-/// So many copies of a value, in room for so many values in all.
-fn copies<T: Copy>(
-    alloc: Global,
-    value: T,
-    count: usize,
-    room: usize,
-) -> Result<Vec<T>, OutOfMemory>
-    requires { count ≤ room }
-    ensures items { IfOk result (λ made. made.items ≡ replicate count value) }
-    ensures room { IfOk result (λ made. vec_capacity made ≡ room) }
-{
-    let mut made = Vec::with_capacity(alloc, room)?;
-    for _copy in 0..count {
-        made.push_reserved(value);
-    }
-    Ok(made)
 }
 
 /// Puts an item into a slot that was never used. The slot stands in no chain then.

@@ -7,7 +7,7 @@ empty : (g : _) (c : In_ok-copies-2 g) → Used c.in_ok-copies.field-0.items c.i
 empty g c =
     let heads : c.in-Some.heads ≡ suc c.args.chains = omega (arith, c.in-Some.ensures.1) in
     empty_is c.args.chains c.args.room c.in_ok-copies.field-0.items c.in_ok-copies-2.field-0.items
-    (c.in_ok-copies.ensures.items ∙ ap (λ o. replicate c.in-Some.heads o) c.none.ensures ∙ ap (λ n. replicate n None) heads) (c.in_ok-copies-2.ensures.items ∙ ap (λ n. replicate n None) heads)
+    (c.in_ok-copies.ensures.rows ∙ ap (λ o. replicate c.in-Some.heads o) c.none.ensures ∙ ap (λ n. replicate n None) heads) (c.in_ok-copies-2.ensures.rows ∙ ap (λ n. replicate n None) heads)
 
 pub invariant_of-result : goal.invariant_of-result
 invariant_of-result g c =
