@@ -33,5 +33,5 @@ pub use orders::{Command, Order, PolicyKind};
 pub use plant::{Call, MoveRow, SectionRow, Tables, TrainKind, TrainRow, TurnRow};
 pub use refusals::{Fault, OutOfMemory, Part, Reason, Refusal};
 pub use sequence::Seq;
-pub use tables::{add_copies, add_rows, copies};
+pub use tables::{add_copies, add_rows, copies, replace_rows};
 pub use text::{Name, Word};

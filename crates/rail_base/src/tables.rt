@@ -41,3 +41,15 @@ pub fn add_rows<T: Copy>(table: &mut Vec<T>, rows: &[T])
         table.push_reserved(*row);
     }
 }
+
+/// The rows are then these, for which there is room. It takes no memory.
+pub fn replace_rows<T: Copy + Drop>(table: &mut Vec<T>, rows: &[T])
+    requires { length rows.now ≤ vec_capacity table.old }
+    ensures rows { table.new.items ≡ rows.now }
+    ensures room { vec_capacity table.new ≡ vec_capacity table.old }
+{
+    let common = table.len().min(rows.len());
+    table.truncate(common);
+    table.copy_from_slice(&rows[..common]);
+    add_rows(table, &rows[common..]);
+}

@@ -1,6 +1,6 @@
 //! Which trains would hold each section, as far as it takes to find two of one section.
 
-ghost use Rattle.std.specs.Prelude.{◌≡◌, ℕ, ◌<◌, ◌≤◌, map, length, get_or, IfOk, IfErr, IsTrue, slice_index};
+ghost use Rattle.std.specs.Prelude.{◌≡◌, ℕ, ◌<◌, ◌≤◌, map, length, get_or, IfOk, IfErr, IsTrue, slice_index, vec_capacity};
 ghost use Rattle.rail_rules.specs.Numbers.{is_in};
 ghost use Rattle.rail_place.specs.Tables.{IsTable, moves_in};
 ghost use Rattle.rail_place.specs.Holdings.{IsFirstShared, IsShared, TellsBelow, owner_in, taken_up, with_train};
@@ -76,10 +76,11 @@ fn take_up(holdings: &mut Vec<Holding>, sections: &[SectionNo], train: TrainNo)
 pub fn owners_of(alloc: Global, holdings: &[Holding]) -> Result<Vec<Option<TrainNo>>, PlacesFault>
     requires { length holdings.now ≡ SECTIONS }
     ensures owners { IfOk result (λ owners. owners.items ≡ map owner_in holdings.now) }
+    ensures room { IfOk result (λ owners. vec_capacity owners ≡ SECTIONS) }
     ensures single { IfOk result (λ _. (x : ℕ) → x < length holdings.now → IsShared (get_or holdings.now x Holding.Free) → ⊥) }
     ensures fault { IfErr result (IsFirstShared holdings.now) }
 {
-    let mut owners = Vec::new(alloc);
+    let mut owners = Vec::with_capacity(alloc, SECTIONS)?;
     for (number, holding) in holdings.iter().enumerate() {
         let owner = match *holding {
             Holding::Free => None,
@@ -92,7 +93,7 @@ pub fn owners_of(alloc: Global, holdings: &[Holding]) -> Result<Vec<Option<Train
                 });
             }
         };
-        owners.push(owner).map_err(AllocError::from)?;
+        owners.push_reserved(owner);
     }
     Ok(owners)
 }

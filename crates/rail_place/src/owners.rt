@@ -1,24 +1,17 @@
 //! The table from each section to the train that holds it.
 
-ghost use Rattle.std.specs.Prelude.{◌≡◌, ℕ, ◌<◌, length, replicate, None, IsTrue, IfOk};
+ghost use Rattle.std.specs.Prelude.{◌≡◌, ℕ, ◌<◌, length, None, IsTrue, vec_capacity};
 ghost use Rattle.rail_rules.specs.Numbers.{is_in};
 ghost use Rattle.rail_place.specs.Owners.{first_owned_in, given};
 
 use crate::barring::Barred;
 use rail_base::{SectionNo, TrainNo};
-use std::alloc::{AllocError, Global};
-
-/// The table of so many sections in which none is taken.
-pub fn no_owners(alloc: Global, sections: usize) -> Result<Vec<Option<TrainNo>>, AllocError>
-    ensures { IfOk result (λ owners. owners.items ≡ replicate sections None) }
-{
-    vec![in alloc; None; sections]
-}
 
 /// Gives each of the sections to the train.
 pub fn occupy(owners: &mut Vec<Option<TrainNo>>, sections: &[SectionNo], train: TrainNo)
     requires { (x : ℕ) → IsTrue (is_in x sections.now) → x < length owners.old.items }
-    ensures { owners.new.items ≡ given owners.old.items sections.now (Some train) }
+    ensures owners { owners.new.items ≡ given owners.old.items sections.now (Some train) }
+    ensures room { vec_capacity owners.new ≡ vec_capacity owners.old }
 {
     for section in sections {
         owners[usize::from(section.0)] = Some(train);
@@ -28,7 +21,8 @@ pub fn occupy(owners: &mut Vec<Option<TrainNo>>, sections: &[SectionNo], train: 
 /// Takes each of the sections from its owner.
 pub fn release(owners: &mut Vec<Option<TrainNo>>, sections: &[SectionNo])
     requires { (x : ℕ) → IsTrue (is_in x sections.now) → x < length owners.old.items }
-    ensures { owners.new.items ≡ given owners.old.items sections.now None }
+    ensures owners { owners.new.items ≡ given owners.old.items sections.now None }
+    ensures room { vec_capacity owners.new ≡ vec_capacity owners.old }
 {
     for section in sections {
         owners[usize::from(section.0)] = None;

@@ -10,9 +10,9 @@ ghost use Rattle.rail_place.specs.Overlaps.{IsFault};
 use crate::barring::{Barred, PlacesFault};
 use crate::holdings::{holdings_of, owners_of};
 use crate::moves::Moves;
-use crate::owners::{first_owned, no_owners, occupy, release};
+use crate::owners::{first_owned, occupy, release};
 use rail_base::limits::{SECTIONS, TRAINS};
-use rail_base::{OutOfMemory, SectionNo, TrainNo};
+use rail_base::{OutOfMemory, SectionNo, TrainNo, add_rows, copies, replace_rows};
 use std::alloc::Global;
 use std::marker::Model;
 
@@ -63,7 +63,7 @@ impl Places {
         let holdings = holdings_of(alloc, moves, positions)?;
         let owners = owners_of(alloc, &holdings)?;
         let mut room = Vec::with_capacity(alloc, TRAINS)?;
-        room.extend_from_slice(positions)?;
+        add_rows(&mut room, positions);
         Ok(Places {
             positions: room,
             owners,
@@ -77,11 +77,9 @@ impl Places {
         ensures positions { IfOk result (λ places. places.positions ≡ replicate {A = ℕ} (length moves.now) 0) }
         ensures played { IfOk result (λ places. places.played ≡ 0) }
     {
-        let mut positions = Vec::with_capacity(alloc, TRAINS)?;
-        positions.resize(usize::from(moves.trains()), 0)?;
         Ok(Places {
-            positions,
-            owners: no_owners(alloc, SECTIONS)?,
+            positions: copies(alloc, 0, usize::from(moves.trains()), TRAINS)?,
+            owners: copies(alloc, None, SECTIONS, SECTIONS)?,
             played: 0,
         })
     }
@@ -197,9 +195,7 @@ impl Places {
         ensures owners { self.new.owners ≡ other.now.owners }
         ensures played { self.new.played ≡ self.old.played }
     {
-        self.positions.clear();
-        let copied = self.positions.extend_from_slice(&other.positions);
-        prove!(copied.is_ok());
+        replace_rows(&mut self.positions, &other.positions);
         self.owners.copy_from_slice(&other.owners);
     }
 }

@@ -103,7 +103,7 @@ pub struct Counts {
 }
 
 impl Model for Counts {
-    ghost use Rattle.std.specs.Prelude.{◌≡◌, length};
+    ghost use Rattle.std.specs.Prelude.{◌≡◌, length, vec_capacity};
     ghost use Rattle.rail_sets.specs.Counts.{Columns};
     ghost use Rattle.rail_sets.specs.declared.sets.TheConstants.{WORDS};
 
@@ -111,7 +111,7 @@ impl Model for Counts {
 
     ghost view = { λ counts. counts.columns.items };
 
-    ghost invariant = { λ counts. length counts.columns.items ≡ WORDS };
+    ghost invariant = { λ counts. (length counts.columns.items ≡ WORDS) × (vec_capacity counts.columns ≡ WORDS) };
 }
 
 impl Counts {

@@ -1,9 +1,10 @@
-use Rattle.std.proofs.Common.{◌≡◌, length, drop, None}
+use Rattle.std.proofs.Common.{◌≡◌, length, drop, vec_capacity, None}
 use Rattle.rail_place.specs.Owners.{given}
 use Rattle.rail_place.proofs.owners.release.Given as goal
 
 abbrev pub invariant-loop-section : goal.invariant-loop-section
 invariant-loop-section l = record {
   same_length : length l.owners.items ≡ length l.initial.owners.items;
+  room : vec_capacity l.owners ≡ vec_capacity l.initial.owners;
   rest : given l.owners.items (drop l.section-index l.sections) None ≡ given l.initial.owners.items l.sections None;
 }

@@ -12,7 +12,7 @@ use Rattle.rail_place.proofs.places.Places.advance.Goals as goal
 
 pub occupy-requires : goal.occupy-requires
 occupy-requires c =
-    let room = room_freed c.self.inside.owners.items c.release.new.owners.items c.stand.result.now c.release.ensures (ap (λ (s : State). length s.owners) c.self.view_is ∙ c.requires.made.room) in
+    let room = room_freed c.self.inside.owners.items c.release.new.owners.items c.stand.result.now c.release.ensures.owners (ap (λ (s : State). length s.owners) c.self.view_is ∙ c.requires.made.room) in
     λ x is. omega (arith, room, c.stand-2.ensures.in_range x is)
 
 pub returns-clause-made : goal.returns-clause-made
@@ -33,17 +33,18 @@ returns-clause-made c =
     (subst P (sym next) (λ u ne. legal_apart plan s.positions t u made.moves.valid c.requires.train legal))
     (ap (λ k. set s.positions k (c.index-place.result.now + 1)) (c.from-2.ensures ∙ c.train-2.view_is))
     (c.stand.ensures.sections ∙ ap (stand plan t) place)
-    c.release.ensures
+    c.release.ensures.owners
     c.stand-2.ensures.sections
-    c.occupy.ensures
+    c.occupy.ensures.owners
 
 pub invariant_of-self : goal.invariant_of-self
 invariant_of-self c = record {
   room = c.self.invariant.room;
   few = omega (arith, length-set c.self.inside.positions.items c.from-2.result (c.index-place.result.now + 1), c.self.invariant.few);
   sections =
-      ap length c.occupy.ensures ∙ length-given c.release.new.owners.items c.stand-2.result.now (Some c.args.train)
-      ∙ ap length c.release.ensures ∙ length-given c.self.inside.owners.items c.stand.result.now None
+      ap length c.occupy.ensures.owners ∙ length-given c.release.new.owners.items c.stand-2.result.now (Some c.args.train)
+      ∙ ap length c.release.ensures.owners ∙ length-given c.self.inside.owners.items c.stand.result.now None
       ∙ c.self.invariant.sections;
+  full = c.occupy.ensures.room ∙ c.release.ensures.room ∙ c.self.invariant.full;
   counted = c.saturating_add-self-inside.type_inv;
 }

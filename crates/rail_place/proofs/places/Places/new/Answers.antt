@@ -21,9 +21,9 @@ pub returns-clause-made : goal.returns-clause-made
 returns-clause-made c =
     let table = c.args.moves.now in
     let hs = c.in_ok-holdings.holdings.items in
-    let own : State = record { positions = c.extend_from_slice.new.self.items; owners = c.in_ok-owners.owners.items; played = 0 } in
+    let own : State = record { positions = c.add_rows.new.table.items; owners = c.in_ok-owners.owners.items; played = 0 } in
     let given : State = record { positions = c.args.positions.now; owners = c.in_ok-owners.owners.items; played = 0 } in
-    let copied : c.extend_from_slice.new.self.items ≡ c.args.positions.now = c.in_ok-extend_from_slice.ensures.items ∙ ap (λ xs. xs ++ c.args.positions.now) c.in_ok-room.ensures.items in
+    let copied : c.add_rows.new.table.items ≡ c.args.positions.now = c.add_rows.ensures.rows ∙ ap (λ xs. xs ++ c.args.positions.now) c.in_ok-room.ensures.items in
     let same : own ≡ given = λ i. record { positions = copied i; owners = c.in_ok-owners.owners.items; played = 0 } in
     let P : List Holding → Type 0 = λ h. (x : ℕ) → x < length h → IsShared (get_or h x Free) → ⊥ in
     made_as table own given same

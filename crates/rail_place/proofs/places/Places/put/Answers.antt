@@ -22,7 +22,7 @@ stand-requires-clause-last c =
 
 pub occupy-requires : goal.occupy-requires
 occupy-requires c =
-    let room = room_freed c.self.inside.owners.items c.release.new.owners.items c.stand.result.now c.release.ensures (ap (λ (s : State). length s.owners) c.self.view_is ∙ c.requires.made.room) in
+    let room = room_freed c.self.inside.owners.items c.release.new.owners.items c.stand.result.now c.release.ensures.owners (ap (λ (s : State). length s.owners) c.self.view_is ∙ c.requires.made.room) in
     λ x is. omega (arith, room, c.stand-2.ensures.in_range x is)
 
 pub returns-clause-made : goal.returns-clause-made
@@ -43,17 +43,18 @@ returns-clause-made c =
     (subst P (sym same) c.requires.free)
     (ap (λ k. set s.positions k c.args.place) (c.from-2.ensures ∙ c.train-2.view_is))
     (c.stand.ensures.sections ∙ ap (stand plan t) place)
-    c.release.ensures
+    c.release.ensures.owners
     c.stand-2.ensures.sections
-    c.occupy.ensures
+    c.occupy.ensures.owners
 
 pub invariant_of-self : goal.invariant_of-self
 invariant_of-self c = record {
   room = c.self.invariant.room;
   few = omega (arith, length-set c.self.inside.positions.items c.from-2.result c.args.place, c.self.invariant.few);
   sections =
-      ap length c.occupy.ensures ∙ length-given c.release.new.owners.items c.stand-2.result.now (Some c.args.train)
-      ∙ ap length c.release.ensures ∙ length-given c.self.inside.owners.items c.stand.result.now None
+      ap length c.occupy.ensures.owners ∙ length-given c.release.new.owners.items c.stand-2.result.now (Some c.args.train)
+      ∙ ap length c.release.ensures.owners ∙ length-given c.self.inside.owners.items c.stand.result.now None
       ∙ c.self.invariant.sections;
+  full = c.occupy.ensures.room ∙ c.release.ensures.room ∙ c.self.invariant.full;
   counted = c.self.invariant.counted;
 }

@@ -9,7 +9,7 @@ pub returns-then-word-many-ne0-clause-more : goal.returns-then-word-many-ne0-cla
 returns-then-word-many-ne0-clause-more c = λ _.
     let n = c.loop-index.index in
     more_at c.args.self.now c.args.set.now n c.many.result c.index.result.now c.many.ensures
-    (c.index.ensures ∙ get_or_default c.self.inside.columns.items n c.index.result.now [] (omega (arith, c.loop-index-test.true, c.requires, c.self.invariant)) ∙ ap (λ columns. get_or columns n []) c.self.view_is)
+    (c.index.ensures ∙ get_or_default c.self.inside.columns.items n c.index.result.now [] (omega (arith, c.loop-index-test.true, c.requires, c.self.invariant.0)) ∙ ap (λ columns. get_or columns n []) c.self.view_is)
     (search rules) c.if-word-many-ne0.true
 
 pub loop-index-preserved : goal.loop-index-preserved
@@ -19,7 +19,7 @@ loop-index-preserved c = λ x low is.
     (λ before. c.loop-index.invariant x (omega (arith, before)) is)
     (λ here.
     once_at c.args.self.now c.args.set.now n c.many.result c.index.result.now c.many.ensures
-    (c.index.ensures ∙ get_or_default c.self.inside.columns.items n c.index.result.now [] (omega (arith, c.loop-index-test.true, c.requires, c.self.invariant)) ∙ ap (λ columns. get_or columns n []) c.self.view_is)
+    (c.index.ensures ∙ get_or_default c.self.inside.columns.items n c.index.result.now [] (omega (arith, c.loop-index-test.true, c.requires, c.self.invariant.0)) ∙ ap (λ columns. get_or columns n []) c.self.view_is)
     c.if-word-many-ne0.false x (omega (arith, here, low)) is)
     (cases_lt (x / 64) n)
 

@@ -1,5 +1,10 @@
+use Rattle.std.proofs.Common.{◌≡◌, vec_capacity}
+use Rattle.rail_sets.specs.declared.sets.TheConstants.{WORDS}
 use Rattle.rail_sets.proofs.Digits.{IsUp}
 use Rattle.rail_sets.proofs.counts.Counts.count_up.Given as goal
 
 abbrev pub invariant-loop-index : goal.invariant-loop-index
-invariant-loop-index l = IsUp l.fn.self l.self-inside.columns.items l.set l.other l.index
+invariant-loop-index l = record {
+  kept : IsUp l.fn.self l.self-inside.columns.items l.set l.other l.index;
+  room : vec_capacity l.self-inside.columns ≡ WORDS;
+}

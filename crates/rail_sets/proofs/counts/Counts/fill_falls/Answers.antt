@@ -10,5 +10,5 @@ loop-index-preserved c =
     (omega (arith, c.loop-index-test.true, c.requires.fell, c.loop-index.invariant.fell.long))
     (omega (arith, c.loop-index-test.true, c.requires.shared, c.loop-index.invariant.shared.long))
     c.many.ensures c.twice.ensures
-    (c.index-column.ensures ∙ get_or_default c.self.inside.columns.items n c.index-column.result.now [] (omega (arith, c.loop-index-test.true, c.requires.from, c.self.invariant)) ∙ ap (λ columns. get_or columns n []) c.self.view_is)
+    (c.index-column.ensures ∙ get_or_default c.self.inside.columns.items n c.index-column.result.now [] (omega (arith, c.loop-index-test.true, c.requires.from, c.self.invariant.0)) ∙ ap (λ columns. get_or columns n []) c.self.view_is)
     (search rules) (search rules) c.loop-index.invariant

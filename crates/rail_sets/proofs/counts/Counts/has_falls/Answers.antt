@@ -11,7 +11,7 @@ loop-index-preserved c = λ x low.
     (λ before. c.loop-index.invariant x (omega (arith, before)))
     (λ here.
     no_falls_at c.args.self.now c.args.from.now c.args.to.now n c.twice.result c.index.result.now c.twice.ensures
-    (c.index.ensures ∙ get_or_default c.self.inside.columns.items n c.index.result.now [] (omega (arith, c.loop-index-test.true, c.requires.from, c.self.invariant)) ∙ ap (λ columns. get_or columns n []) c.self.view_is)
+    (c.index.ensures ∙ get_or_default c.self.inside.columns.items n c.index.result.now [] (omega (arith, c.loop-index-test.true, c.requires.from, c.self.invariant.0)) ∙ ap (λ columns. get_or columns n []) c.self.view_is)
     (search rules) c.if-word-to-ne0.false x (omega (arith, here, low)))
     (cases_lt (x / 64) n)
 

@@ -7,5 +7,5 @@ abbrev pub invariant-loop-column : goal.invariant-loop-column
 invariant-loop-column l = record {
   long : length l.columns.items ≡ l._column;
   none : (k bit : ℕ) → k < l._column → bit < 64 → column (get_or l.columns.items k []) bit ≡ 0;
-  room : WORDS ≤ vec_capacity l.columns;
+  room : vec_capacity l.columns ≡ WORDS;
 }
