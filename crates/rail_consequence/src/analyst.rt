@@ -1,6 +1,6 @@
 //! The analyst, and the worksheet on which it searches.
 
-ghost use Rattle.std.specs.Prelude.{◌≡◌, ℕ, ◌+◌, ◌-◌, ◌<◌, ◌≤◌, ◌≢◌, ◌↔◌, [], ◌++◌, List, None, false, get_or, length, take, drop, set, IsTrue, IsNone, IfOk, IfSome, is_some, replicate, vec_capacity, vec_len, nat_eq};
+ghost use Rattle.std.specs.Prelude.{◌≡◌, ℕ, ◌+◌, ◌-◌, ◌<◌, ◌≤◌, ◌≢◌, ◌↔◌, [], ◌++◌, List, None, false, get_or, length, take, drop, set, IsTrue, IsNone, IfOk, IfSome, is_some, nat_eq};
 ghost use Rattle.std.specs.List.{suffix_len};
 ghost use Rattle.rail_rules.specs.Analysis.{Finds, is_leg, moves_left};
 ghost use Rattle.rail_rules.specs.Places.{completes, is_inside, nobody_inside, place_of};
@@ -22,7 +22,7 @@ use crate::tally::{Tally, stands_inside};
 use crate::train_list::TrainList;
 use crate::width::{All, Four, One, Two, Width};
 use rail_base::limits::LIST_TRAINS;
-use rail_base::{OutOfMemory, TrainNo};
+use rail_base::{OutOfMemory, TrainNo, add_copies};
 use rail_place::{Moves, Places};
 use rail_sets::{Counts, WORDS, join, replace};
 use std::alloc::Global;
@@ -78,7 +78,7 @@ struct Worksheet {
 }
 
 impl Model for Worksheet {
-    ghost use Rattle.std.specs.Prelude.{◌≤◌, vec_capacity};
+    ghost use Rattle.std.specs.Prelude.{◌≡◌, vec_capacity};
     ghost use Rattle.rail_base.specs.declared.limits.TheConstants.{LIST_TRAINS};
     ghost use Rattle.rail_consequence.specs.Workspace.{Work};
 
@@ -86,7 +86,7 @@ impl Model for Worksheet {
 
     ghost view = { λ sheet. record { rows = sheet.rows; places = sheet.places; taken = sheet.taken; needs = sheet.needs; list = sheet.list.items } };
 
-    ghost invariant = { λ sheet. LIST_TRAINS ≤ vec_capacity sheet.list };
+    ghost invariant = { λ sheet. vec_capacity sheet.list ≡ LIST_TRAINS };
 }
 
 impl Analyst {
@@ -202,15 +202,6 @@ impl Analyst {
         self.sheet
             .search::<W>(moves, inside, &mut notes, &mut ahead, depth)
     }
-}
-
-/// Adds the train so many times at the end.
-fn push_times(list: &mut Vec<TrainNo>, train: TrainNo, count: u16)
-    requires { vec_len list.old + count ≤ vec_capacity list.old }
-    ensures items { list.new.items ≡ list.old.items ++ replicate count train }
-    ensures room { vec_capacity list.old ≤ vec_capacity list.new }
-{
-    list.resize(list.len() + usize::from(count), train).unwrap();
 }
 
 /// How often the train stands at the end of the list without another between.
@@ -345,7 +336,7 @@ impl Worksheet {
     {
         let count = place - self.places.position(train);
         self.put::<W>(moves, train, place);
-        push_times(&mut self.list, train, count);
+        add_copies(&mut self.list, train, usize::from(count));
     }
 
     /// Takes the moves back that were made since the list had this length.

@@ -34,12 +34,14 @@ struct Row {
 }
 
 impl Model for Row {
-    ghost use Rattle.std.specs.Prelude.{List};
+    ghost use Rattle.std.specs.Prelude.{◌≡◌, List, length, vec_capacity};
     ghost use Rattle.rail_consequence.specs.declared.rows.PlaceSets.{PlaceSets};
 
     ghost Value = { List PlaceSets };
 
     ghost view = { λ row. row.places.items };
+
+    ghost invariant = { λ row. vec_capacity row.places ≡ length row.places.items };
 }
 
 /// The sets of all trains, and the words that such a set takes.
@@ -59,11 +61,14 @@ impl Drop for Rows {
 }
 
 impl Model for Rows {
+    ghost use Rattle.std.specs.Prelude.{◌≡◌, length, vec_capacity};
     ghost use Rattle.rail_consequence.specs.Needs.{SetRows};
 
     ghost Value = { SetRows };
 
     ghost view = { λ rows. record { width = rows.width; rows = rows.rows.items } };
+
+    ghost invariant = { λ rows. vec_capacity rows.rows ≡ length rows.rows.items };
 }
 
 impl Rows {

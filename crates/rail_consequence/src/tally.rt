@@ -14,7 +14,7 @@ use crate::notes::Notes;
 use crate::rows::Rows;
 use crate::train_list::TrainList;
 use crate::width::Width;
-use rail_base::{OutOfMemory, TrainNo};
+use rail_base::{OutOfMemory, TrainNo, copies};
 use rail_place::{Moves, Places};
 use rail_sets::Counts;
 use std::alloc::Global;
@@ -32,11 +32,14 @@ pub struct Tally {
 }
 
 impl Model for Tally {
+    ghost use Rattle.std.specs.Prelude.{◌≡◌, length, vec_capacity};
     ghost use Rattle.rail_consequence.specs.Needs.{Placed};
 
     ghost Value = { Placed };
 
     ghost view = { λ tally. record { positions = tally.positions.items; counts = tally.needs } };
+
+    ghost invariant = { λ tally. vec_capacity tally.positions ≡ length tally.positions.items };
 }
 
 impl Tally {
@@ -45,8 +48,9 @@ impl Tally {
         ensures kept { IfOk result (IsTallyFor (moves_in moves.now)) }
         ensures outside { IfOk result (λ tally. (t : ℕ) → place_of tally.positions t ≡ 0) }
     {
+        let trains = usize::from(moves.trains());
         Ok(Tally {
-            positions: vec![in alloc; 0u16; usize::from(moves.trains())]?,
+            positions: copies(alloc, 0, trains, trains)?,
             needs: Counts::new(alloc)?,
         })
     }

@@ -15,7 +15,7 @@ pub struct TrainList {
 }
 
 impl Model for TrainList {
-    ghost use Rattle.std.specs.Prelude.{ℕ, List, ◌<◌, ◌≤◌, vec_capacity};
+    ghost use Rattle.std.specs.Prelude.{◌≡◌, ℕ, List, ◌<◌, vec_capacity};
     ghost use Rattle.std.specs.List.{All};
     ghost use Rattle.std.specs.List.Sorted.{IsStrictlyIncreasing};
     ghost use Rattle.rail_base.specs.declared.limits.TheConstants.{TRAINS};
@@ -24,7 +24,7 @@ impl Model for TrainList {
 
     ghost view = { λ list. list.trains.items };
 
-    ghost invariant = { λ list. IsStrictlyIncreasing list.trains.items × All (λ t. t < TRAINS) list.trains.items × (TRAINS ≤ vec_capacity list.trains) };
+    ghost invariant = { λ list. IsStrictlyIncreasing list.trains.items × All (λ t. t < TRAINS) list.trains.items × (vec_capacity list.trains ≡ TRAINS) };
 }
 
 impl TrainList {

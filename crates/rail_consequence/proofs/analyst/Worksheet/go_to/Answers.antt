@@ -28,8 +28,8 @@ put-requires-clause-few g c =
     let fewer = moves_left_at plan s t c.args.place (c.args.place - place_of s t) (inside_listed plan s t goes.inside) (omega (arith, goes.ahead)) goes.within in
     omega (arith, c.requires.ready.few, fewer)
 
-pub push_times-requires : goal.push_times-requires
-push_times-requires g c =
+pub add_copies-requires : goal.add_copies-requires
+add_copies-requires g c =
     let plan : Moves = moves_in c.args.moves.now in
     let s = c.args.self.now.places.positions in
     let t = c.args.train in
@@ -51,7 +51,7 @@ returns-clause-ready g c =
     let w = c.put.new.self in
     let long : length (w.list ++ replicate k t) ≡ length c.args.self.now.list + k = length-append w.list (replicate k t) ∙ omega (arith, ap length c.put.ensures.list, length-replicate {A = ℕ} k t) in
     let own : Work = record { rows = c.self-2.inside.rows; places = c.self-2.inside.places; taken = c.self-2.inside.taken; needs = c.self-2.inside.needs; list = c.self-2.inside.list.items } in
-    let items : c.push_times.new.list.items ≡ w.list ++ replicate k t = c.push_times.ensures.items ∙ ap (λ (v : Work). v.list ++ replicate k t) c.self-2.view_is in
+    let items : c.add_copies.new.table.items ≡ w.list ++ replicate k t = c.add_copies.ensures.rows ∙ ap (λ n. c.self-2.inside.list.items ++ replicate {A = ℕ} n t) c.from.ensures ∙ ap (λ (v : Work). v.list ++ replicate k t) c.self-2.view_is in
     let own_ready = ready_as table own w c.self-2.view_is c.put.ensures.ready in
     record {
       rows = own_ready.rows;
@@ -74,6 +74,6 @@ returns-clause-moves g c =
     let P : List ℕ → Type 0 = λ q. IsPlayed plan s (replicate k t) q in
     record {
       more = replicate k t;
-      list = c.push_times.ensures.items ∙ ap (λ (w : Work). w.list ++ replicate k t) c.self-2.view_is ∙ ap (λ xs. xs ++ replicate k t) c.put.ensures.list;
+      list = c.add_copies.ensures.rows ∙ ap (λ n. c.self-2.inside.list.items ++ replicate {A = ℕ} n t) c.from.ensures ∙ ap (λ (w : Work). w.list ++ replicate k t) c.self-2.view_is ∙ ap (λ xs. xs ++ replicate k t) c.put.ensures.list;
       played = subst P (sym there) (leg_played plan s t c.args.place k c.requires.leg (omega (arith, at, goes.ahead)));
     }

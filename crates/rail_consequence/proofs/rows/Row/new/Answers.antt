@@ -15,7 +15,7 @@ loop-back-init c =
     record {
       row = record { long = ap length c.in_ok-places.ensures.items; told = λ i lt. absurd (omega (arith, lt)) };
       later = λ x. none_in_zeros 8 x ∙ sym (needs_past plan t (c.places-last.result + 1 - 0) x (omega (arith, c.places-last.ensures)));
-      room = omega (arith, c.in_ok-places.ensures.capacity);
+      room = omega (arith, c.in_ok-places.ensures.exact);
     }
 
 pub loop-back-preserved : goal.loop-back-preserved

@@ -1,4 +1,4 @@
-use Rattle.std.proofs.Common.{◌≤◌, ◌+◌, ◌-◌, vec_capacity}
+use Rattle.std.proofs.Common.{◌≡◌, ◌+◌, ◌-◌, vec_capacity}
 use Rattle.rail_place.specs.Tables.{moves_in}
 use Rattle.rail_consequence.specs.Needs.{needs_from}
 use Rattle.rail_consequence.specs.Needs.{IsSet}
@@ -9,5 +9,5 @@ abbrev pub invariant-loop-back : goal.invariant-loop-back
 invariant-loop-back l = record {
   row : IsRowBack (moves_in l.moves) l.train l.back l.places.items;
   later : IsSet l.later (needs_from (moves_in l.moves) l.train (l.last + 1 - l.back));
-  room : l.last + 1 ≤ vec_capacity l.places;
+  room : vec_capacity l.places ≡ l.last + 1;
 }

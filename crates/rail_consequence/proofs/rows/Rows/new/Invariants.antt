@@ -1,4 +1,4 @@
-use Rattle.std.proofs.Common.{◌≤◌, length, vec_capacity}
+use Rattle.std.proofs.Common.{◌≡◌, length, vec_capacity}
 use Rattle.rail_place.specs.Tables.{moves_in}
 use Rattle.rail_consequence.specs.Needs.{AreRows}
 use Rattle.rail_consequence.proofs.rows.Rows.new.Given as goal
@@ -6,5 +6,5 @@ use Rattle.rail_consequence.proofs.rows.Rows.new.Given as goal
 abbrev pub invariant-loop-number : goal.invariant-loop-number
 invariant-loop-number l = record {
   rows : AreRows (moves_in l.moves) l.number (record { width = l.width; rows = l.rows.items });
-  room : length l.moves ≤ vec_capacity l.rows;
+  room : vec_capacity l.rows ≡ length l.moves;
 }

@@ -13,14 +13,14 @@ all_outside xs n t zeros = ap (λ ys. get_or ys t 0) zeros ∙ zeros_at n t
 pub returns-clause-kept : goal.returns-clause-kept
 returns-clause-kept c =
     let plan : Moves = moves_in c.args.moves.now in
-    let n : ℕ = c.from.result in
-    let zeros : c.in_ok-vec.field-0.items ≡ replicate n 0 = c.in_ok-vec.ensures.items_if_clones_equal (λ y same. same) in
-    let outside : (t : ℕ) → place_of c.in_ok-vec.field-0.items t ≡ 0 = λ t. all_outside c.in_ok-vec.field-0.items n t zeros in
+    let n : ℕ = c.from-trains.result in
+    let zeros : c.in_ok-copies.field-0.items ≡ replicate n 0 = c.in_ok-copies.ensures.rows in
+    let outside : (t : ℕ) → place_of c.in_ok-copies.field-0.items t ≡ 0 = λ t. all_outside c.in_ok-copies.field-0.items n t zeros in
     record {
-      long = ap length zeros ∙ length-replicate {A = ℕ} n 0 ∙ omega (arith, c.from.ensures, c.trains.ensures.count);
+      long = ap length zeros ∙ length-replicate {A = ℕ} n 0 ∙ omega (arith, c.from-trains.ensures, c.trains.ensures.count);
       within = λ t lt. omega (arith, outside t);
-      counted = counted_none plan c.in_ok-vec.field-0.items c.in_ok-new.field-0 outside c.in_ok-new.ensures;
+      counted = counted_none plan c.in_ok-copies.field-0.items c.in_ok-new.field-0 outside c.in_ok-new.ensures;
     }
 
 pub returns-clause-outside : goal.returns-clause-outside
-returns-clause-outside c = λ t. all_outside c.in_ok-vec.field-0.items c.from.result t (c.in_ok-vec.ensures.items_if_clones_equal (λ y same. same))
+returns-clause-outside c = λ t. all_outside c.in_ok-copies.field-0.items c.from-trains.result t c.in_ok-copies.ensures.rows

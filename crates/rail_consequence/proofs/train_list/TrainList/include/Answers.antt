@@ -42,9 +42,10 @@ invariant_of-self c =
     let p = c.position_in-position.result in
     let position = position_here (goal.at.invariant_of-self c).After-insert in
     let items = rw c.unwrap.ensures at c.insert.ensures.items in
-    let P : List ℕ → Type 0 = λ ys. IsStrictlyIncreasing ys × All (λ u. u < TRAINS) ys × (TRAINS ≤ vec_capacity c.insert.new.self) in
+    let P : List ℕ → Type 0 = λ ys. IsStrictlyIncreasing ys × All (λ u. u < TRAINS) ys × (vec_capacity c.insert.new.self ≡ TRAINS) in
+    let room = room_for_one xs t p position TRAINS c.requires c.self.invariant.0 c.self.invariant.1 in
     subst P (sym items)
-    (rising_insert xs t p position c.self.invariant.0, below_insert xs t p position TRAINS c.requires c.self.invariant.1, omega (arith, c.insert.ensures.capacity, c.self.invariant.2))
+    (rising_insert xs t p position c.self.invariant.0, below_insert xs t p position TRAINS c.requires c.self.invariant.1, (c.insert.ensures.in_place (omega (arith, room, c.self.invariant.2))).1.0 ∙ c.self.invariant.2)
 
 pub returns-then-position-len : goal.returns-then-position-len
 returns-then-position-len c = λ u.
