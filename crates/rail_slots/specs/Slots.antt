@@ -2,17 +2,19 @@
 use Rattle.std.specs.Prelude.{◌≡◌, ℕ, suc, ◌+◌, ◌<◌, eqb, cond, List, [], ◌∷◌, ◌++◌, length, get_or, Option, Some, None, refl}
 use Rattle.std.specs.Coded.{Coded, code_by, coded×, coded_ℕ, coded_list}
 
--- the chains, each the list of its slots with their items, how many more items there is room for, and how many steps were made
+-- the chains, each the list of its slots with their items, how many more items there is room for, how many steps were made, and
+-- for how many cells memory was taken
 pub record Room (T : Type 0) : Type 0 where
   pub chains : List (List (ℕ × T))
   pub spare : ℕ
   pub walked : ℕ
+  pub room : ℕ
 
--- a room is stored as its chains and its two numbers
+-- a room is stored as its chains and its three numbers
 abbrev pub room_code : {T : Type 0} → Coded T → Coded (Room T)
 room_code {T} code =
-    code_by (List (List (ℕ × T)) × (ℕ × ℕ)) (coded× (coded_list (coded_list (coded× coded_ℕ code))) (coded× coded_ℕ coded_ℕ))
-    (λ r. (r.chains, (r.spare, r.walked))) (λ p. record { chains = p.0; spare = p.1.0; walked = p.1.1 }) (λ _. refl)
+    code_by (List (List (ℕ × T)) × (ℕ × (ℕ × ℕ))) (coded× (coded_list (coded_list (coded× coded_ℕ code))) (coded× coded_ℕ (coded× coded_ℕ coded_ℕ)))
+    (λ r. (r.chains, (r.spare, (r.walked, r.room)))) (λ p. record { chains = p.0; spare = p.1.0; walked = p.1.1.0; room = p.1.1.1 }) (λ _. refl)
 
 -- the slot stands in the chain, between the slots before it and the rest
 pub record StandsAt {T : Type 0} (chains : List (List (ℕ × T))) (slot chain : ℕ) (before : List (ℕ × T)) (item : T) (rest : List (ℕ × T)) : Type 0 where

@@ -31,7 +31,7 @@ impl<T> Model for Slots<T> {
     ghost use Rattle.rail_slots.specs.Links.{lists_of, held, IsReserved};
     ghost use Rattle.std.specs.Prelude.{map, vec_capacity};
 
-    ghost view = { λ slots. record { chains = map (held slots.items.items) (lists_of slots.next.items 1 slots.chains); spare = slots.spare; walked = slots.walked } };
+    ghost view = { λ slots. record { chains = map (held slots.items.items) (lists_of slots.next.items 1 slots.chains); spare = slots.spare; walked = slots.walked; room = vec_capacity slots.next } };
 
     ghost invariant = { λ slots. IsReserved slots.next.items slots.items.items slots.chains slots.spare
         (vec_capacity slots.next) (vec_capacity slots.items) };
@@ -80,6 +80,7 @@ impl<T: Copy> Slots<T> {
         ensures chains { IfOk result (λ slots. slots.chains ≡ replicate chains []) }
         ensures spare { IfOk result (λ slots. slots.spare ≡ room) }
         ensures walked { IfOk result (λ slots. slots.walked ≡ 0) }
+        ensures room { IfOk result (λ slots. slots.room ≡ chains + 1 + room) }
     {
         let Some(heads) = chains.checked_add(1) else {
             return Err(OutOfMemory);
@@ -139,6 +140,7 @@ impl<T: Copy> Slots<T> {
         ensures chains { self.new.chains ≡ self.old.chains }
         ensures spare { self.new.spare ≡ self.old.spare }
         ensures walked { self.new.walked ≡ min (self.old.walked + 1) (2 ^ 64 - 1) }
+        ensures room { self.new.room ≡ self.old.room }
         ensures nearer { IfSome result (λ after. left_from self.new.chains after + 1 ≡ left_from self.old.chains slot) }
     {
         self.walked = counted(self.walked);
@@ -153,6 +155,7 @@ impl<T: Copy> Slots<T> {
         ensures unused { Stands self.old.chains result → ⊥ }
         ensures spare { self.new.spare + 1 ≡ self.old.spare }
         ensures walked { self.new.walked ≡ self.old.walked }
+        ensures room { self.new.room ≡ self.old.room }
     {
         let slot = new_slot(&mut self.next, &mut self.items, item);
         put_behind(&mut self.next, chain + 1, slot);
@@ -169,6 +172,7 @@ impl<T: Copy> Slots<T> {
         ensures unused { Stands self.old.chains result → ⊥ }
         ensures spare { self.new.spare + 1 ≡ self.old.spare }
         ensures walked { self.new.walked ≡ self.old.walked }
+        ensures room { self.new.room ≡ self.old.room }
     {
         let new = new_slot(&mut self.next, &mut self.items, item);
         put_behind(&mut self.next, slot, new);
@@ -184,6 +188,7 @@ impl<T: Copy> Slots<T> {
         ensures chains { self.new.chains ≡ set self.old.chains chain (behind_first (get_or self.old.chains chain [])) }
         ensures spare { MatchOption result (self.new.spare ≡ self.old.spare) (λ _. self.new.spare ≡ self.old.spare + 1) }
         ensures walked { self.new.walked ≡ min (self.old.walked + 1) (2 ^ 64 - 1) }
+        ensures room { self.new.room ≡ self.old.room }
     {
         self.walked = counted(self.walked);
         let Some(slot) = self.next[chain + 1].cell() else {
@@ -202,6 +207,7 @@ impl<T: Copy> Slots<T> {
             → self.new.chains ≡ set self.old.chains chain (before ++ (slot, item) ∷ behind_first rest) }
         ensures spare { MatchOption result (self.new.spare ≡ self.old.spare) (λ _. self.new.spare ≡ self.old.spare + 1) }
         ensures walked { self.new.walked ≡ min (self.old.walked + 1) (2 ^ 64 - 1) }
+        ensures room { self.new.room ≡ self.old.room }
         ensures fewer { IfSome result (λ _. left_from self.new.chains slot + 1 ≡ left_from self.old.chains slot) }
     {
         self.walked = counted(self.walked);
