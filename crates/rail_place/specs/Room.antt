@@ -1,5 +1,4 @@
--- The room that places keep: for any number of trains within the limits and for all sections, and no more. So no call takes
--- memory.
+-- The room that places keep: for any number of trains within the limits and for all sections, and no more.
 use Rattle.std.specs.Prelude.{◌≡◌, ℕ, ◌<◌, ◌≤◌, ◌^◌, Option, length, vec_capacity}
 use Rattle.std.specs.Global.{Vec}
 use Rattle.rail_base.specs.declared.limits.TheConstants.{SECTIONS, TRAINS}

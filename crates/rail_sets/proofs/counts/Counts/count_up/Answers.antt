@@ -21,15 +21,15 @@ loop-index-preserved c =
     let within : c.loop-index.index < length c.loop-index.self-inside.columns.items = omega (arith, c.loop-index-test.true, c.requires.set, c.loop-index.invariant.kept.long, c.self.invariant.0, ap length c.self.view_is) in
     record {
       kept =
-        elim c.if-more-ne0.branch [
-          | then-more-ne0 w ↦
-              subst (λ inside. IsUp c.args.self.now inside.columns.items c.args.set.now c.args.other.now (c.loop-index.index + 1)) (sym w.self-inside-is)
-              (up_more c.args.self.now c.loop-index.self-inside.columns.items c.args.set.now c.args.other.now c.loop-index.index word w.count_up.new.self within (search rules) refl c.loop-index.invariant.kept
-              (λ bit low. w.count_up.ensures bit low ∙ ap (λ col. column col bit + bit_at word bit) (w.index_mut.ensures.value ∙ get_or_default c.loop-index.self-inside.columns.items c.loop-index.index w.index_mut.result.now [] within)))
-          | else-more-ne0 w ↦
-              subst (λ inside. IsUp c.args.self.now inside.columns.items c.args.set.now c.args.other.now (c.loop-index.index + 1)) (sym w.self-inside-is)
-              (up_same c.args.self.now c.loop-index.self-inside.columns.items c.args.set.now c.args.other.now c.loop-index.index word [] within (search rules) refl c.loop-index.invariant.kept w.if-more-ne0.false)
-        ];
+          elim c.if-more-ne0.branch [
+            | then-more-ne0 w ↦
+                subst (λ inside. IsUp c.args.self.now inside.columns.items c.args.set.now c.args.other.now (c.loop-index.index + 1)) (sym w.self-inside-is)
+                (up_more c.args.self.now c.loop-index.self-inside.columns.items c.args.set.now c.args.other.now c.loop-index.index word w.count_up.new.self within (search rules) refl c.loop-index.invariant.kept
+                (λ bit low. w.count_up.ensures bit low ∙ ap (λ col. column col bit + bit_at word bit) (w.index_mut.ensures.value ∙ get_or_default c.loop-index.self-inside.columns.items c.loop-index.index w.index_mut.result.now [] within)))
+            | else-more-ne0 w ↦
+                subst (λ inside. IsUp c.args.self.now inside.columns.items c.args.set.now c.args.other.now (c.loop-index.index + 1)) (sym w.self-inside-is)
+                (up_same c.args.self.now c.loop-index.self-inside.columns.items c.args.set.now c.args.other.now c.loop-index.index word [] within (search rules) refl c.loop-index.invariant.kept w.if-more-ne0.false)
+          ];
       room = elim c.if-more-ne0.branch [
         | then-more-ne0 w ↦ ap (λ inside. vec_capacity inside.columns) w.self-inside-is ∙ c.loop-index.invariant.room
         | else-more-ne0 w ↦ ap (λ inside. vec_capacity inside.columns) w.self-inside-is ∙ c.loop-index.invariant.room

@@ -1,4 +1,4 @@
-use Rattle.std.proofs.Common.{◌≡◌, ℕ, ◌<◌, ◌≤◌, [], length, get_or, vec_capacity}
+use Rattle.std.proofs.Common.{◌≡◌, ℕ, ◌<◌, [], length, get_or, vec_capacity}
 use Rattle.rail_sets.specs.Counts.{column}
 use Rattle.rail_sets.specs.declared.sets.TheConstants.{WORDS}
 use Rattle.rail_sets.proofs.counts.Counts.new.Given as goal
