@@ -12,20 +12,21 @@ use Rattle.rail_rules.specs.Plant.{Plant, train, trains}
 use Rattle.rail_rules.specs.Orders.{in_force, is_cancelled, is_closed, is_in_deck, is_stopped, priority_of}
 
 -- which sections are closed, which trains are stopped and cancelled, the priority of each train, the names of the
--- policies that are left, and of the one in force
+-- policies that are left, for how many names memory was taken, and the name of the policy in force
 pub record Told : Type 0 where
   pub closed : List Bool
   pub stopped : List Bool
   pub cancelled : List Bool
   pub priorities : List ℕ
   pub deck : List (List ℕ)
+  pub room : ℕ
   pub force : List ℕ
 
 -- the trains' own priorities
 abbrev pub first_priorities : Plant → List ℕ
 first_priorities plant = map (λ (row : TrainRow). row.priority) plant.tables.trains
 
--- before any order
+-- before any order, with memory for the names of the deck and for no more
 abbrev pub first_tables : Plant → List (List ℕ) → ℕ → Told
 first_tables plant deck force = record {
   closed = replicate (length plant.tables.sections) false;
@@ -33,6 +34,7 @@ first_tables plant deck force = record {
   cancelled = replicate (trains plant) false;
   priorities = first_priorities plant;
   deck = deck;
+  room = length deck;
   force = get_or deck force [];
 }
 

@@ -1,9 +1,9 @@
-ghost use Rattle.std.specs.Prelude.{◌≡◌, ◌<◌, false, get_or, length, not, set, IfOk};
+ghost use Rattle.std.specs.Prelude.{◌≡◌, ◌<◌, false, get_or, length, not, set, vec_capacity, IfOk};
 ghost use Rattle.std.specs.List.{filter};
 ghost use Rattle.rail_base.specs.NameForms.{same_name};
 ghost use Rattle.rail_orders.specs.OrderTables.{closed_in, first_priorities, first_tables, has_policy, stop_in, takes_effect_in, told_after};
 
-use rail_base::{Cause, Name, Order, OutOfMemory, SectionNo, TrainNo};
+use rail_base::{Cause, Name, Order, OutOfMemory, SectionNo, TrainNo, add_rows, copies};
 use rail_plan::Plant;
 use std::alloc::Global;
 use std::marker::Model;
@@ -35,6 +35,7 @@ impl Drop for ToldOrders {
 }
 
 impl Model for ToldOrders {
+    ghost use Rattle.std.specs.Prelude.{◌≡◌, length, vec_capacity};
     ghost use Rattle.rail_orders.specs.OrderTables.{Told};
 
     ghost Value = { Told };
@@ -45,8 +46,14 @@ impl Model for ToldOrders {
       cancelled = orders.cancelled.items;
       priorities = orders.priorities.items;
       deck = orders.deck.items;
+      room = vec_capacity orders.deck;
       force = orders.force;
     } };
+
+    ghost invariant = { λ orders. (vec_capacity orders.closed ≡ length orders.closed.items)
+        × (vec_capacity orders.stopped ≡ length orders.stopped.items)
+        × (vec_capacity orders.cancelled ≡ length orders.cancelled.items)
+        × (vec_capacity orders.priorities ≡ length orders.priorities.items) };
 }
 
 impl ToldOrders {
@@ -64,11 +71,11 @@ impl ToldOrders {
         let sections = plant.names().sections.len();
         let trains = usize::from(plant.moves().trains());
         Ok(ToldOrders {
-            closed: vec![in alloc; false; sections]?,
-            stopped: vec![in alloc; false; trains]?,
-            cancelled: vec![in alloc; false; trains]?,
+            closed: copies(alloc, false, sections, sections)?,
+            stopped: copies(alloc, false, trains, trains)?,
+            cancelled: copies(alloc, false, trains, trains)?,
             priorities: priorities_of(alloc, plant)?,
-            deck: Vec::from_slice(alloc, deck)?,
+            deck: names_of(alloc, deck)?,
             force: deck[force],
         })
     }
@@ -159,7 +166,8 @@ impl ToldOrders {
 
 /// The trains' own priorities.
 fn priorities_of(alloc: Global, plant: &Plant) -> Result<Vec<u8>, OutOfMemory>
-    ensures { IfOk result (λ priorities. priorities.items ≡ first_priorities plant.now) }
+    ensures items { IfOk result (λ priorities. priorities.items ≡ first_priorities plant.now) }
+    ensures room { IfOk result (λ priorities. vec_capacity priorities ≡ length priorities.items) }
 {
     let trains = plant.moves().trains();
     let mut priorities = Vec::with_capacity(alloc, usize::from(trains))?;
@@ -167,6 +175,16 @@ fn priorities_of(alloc: Global, plant: &Plant) -> Result<Vec<u8>, OutOfMemory>
         priorities.push_reserved(plant.train(TrainNo(number)).priority);
     }
     Ok(priorities)
+}
+
+/// The names of the deck, in memory for no more of them.
+fn names_of(alloc: Global, deck: &[Name]) -> Result<Vec<Name>, OutOfMemory>
+    ensures items { IfOk result (λ names. names.items ≡ deck.now) }
+    ensures room { IfOk result (λ names. vec_capacity names ≡ length deck.now) }
+{
+    let mut names = Vec::with_capacity(alloc, deck.len())?;
+    add_rows(&mut names, deck);
+    Ok(names)
 }
 
 /// Whether the flag of this number is there and set.
@@ -187,7 +205,8 @@ fn set_at<T: Copy + Drop>(items: &mut [T], number: usize, item: T)
 
 /// Takes the policies of this name out of the deck.
 fn take_out(deck: &mut Vec<Name>, name: Name)
-    ensures { deck.new.items ≡ filter (λ other. not (same_name name other)) deck.old.items }
+    ensures items { deck.new.items ≡ filter (λ other. not (same_name name other)) deck.old.items }
+    ensures room { vec_capacity deck.new ≡ vec_capacity deck.old }
 {
     deck.retain(|other| name != *other);
 }
