@@ -1,5 +1,5 @@
 -- The kept list and its room.
-use Rattle.std.specs.Prelude.{ℕ, suc, ◌-◌, ◌==◌, Bool, true, ◌&&◌, cond, ◌≤◌, List, [], ◌∷◌, ◌++◌, length, replicate}
+use Rattle.std.specs.Prelude.{◌≡◌, ℕ, suc, ◌-◌, ◌==◌, Bool, true, ◌&&◌, cond, ◌≤◌, List, [], ◌∷◌, ◌++◌, length, replicate}
 use Rattle.rail_rules.specs.Numbers.{sum_below, are_apart}
 use Rattle.rail_rules.specs.Moves.{Moves}
 use Rattle.rail_place.specs.Tables.{moves_in, MoveLists}
@@ -31,7 +31,7 @@ is_free_before plan t sections (u ∷ rest) =
     let later = is_free_before plan t sections rest in
     cond (u == t) true (are_apart sections (plan.claim u (plan.moves u - suc (times u rest))) && later)
 
--- the list begins at the front, and the memory that was taken has room for so many entries
+-- the list begins at the front, and memory was taken for so many entries and for no more
 pub record IsKeptIn (trains : List ℕ) (front room taken : ℕ) : Type 0 where
   pub within : front ≤ length trains
-  pub fits : room ≤ taken
+  pub full : taken ≡ room

@@ -1,6 +1,6 @@
 //! The entries of a kept list.
 
-ghost use Rattle.std.specs.Prelude.{◌≡◌, ℕ, ◌+◌, ◌-◌, ◌<◌, ◌≤◌, ◌++◌, drop, length, replicate, IsTrue, IfSome, is_some, not, vec_len, vec_capacity};
+ghost use Rattle.std.specs.Prelude.{◌≡◌, ℕ, ◌+◌, ◌-◌, ◌<◌, ◌≤◌, drop, length, IsTrue, IfSome, is_some, not, vec_len, vec_capacity};
 ghost use Rattle.std.specs.List.{All, remove};
 ghost use Rattle.rail_base.specs.declared.limits.TheConstants.{SECTIONS};
 ghost use Rattle.rail_rules.specs.Numbers.{are_apart, is_in};
@@ -105,15 +105,4 @@ pub fn make_room(trains: &mut Vec<TrainNo>, front: usize, count: u16) -> usize
     trains.copy_within(front.., 0);
     trains.truncate(left);
     0
-}
-
-/// Adds so many entries of the train at the end.
-pub fn add_times(trains: &mut Vec<TrainNo>, train: TrainNo, count: u16)
-    requires { vec_len trains.old + count ≤ vec_capacity trains.old }
-    ensures items { trains.new.items ≡ trains.old.items ++ replicate count train }
-    ensures room { vec_capacity trains.new ≡ vec_capacity trains.old }
-{
-    for _ in 0..count {
-        trains.push_reserved(train);
-    }
 }

@@ -6,8 +6,8 @@ ghost use Rattle.rail_rules.specs.Numbers.{sum_below};
 ghost use Rattle.rail_place.specs.Tables.{moves_in};
 ghost use Rattle.rail_list.specs.KeptLists.{HasRoomFor};
 
-use crate::entries::{add_times, close_gap, make_room};
-use rail_base::{OutOfMemory, TrainNo};
+use crate::entries::{close_gap, make_room};
+use rail_base::{OutOfMemory, TrainNo, add_copies, replace_rows};
 use rail_place::Moves;
 use std::alloc::Global;
 use std::marker::Model;
@@ -118,7 +118,7 @@ impl KeptList {
         ensures looked { self.new.looked ≡ self.old.looked }
     {
         self.front = make_room(&mut self.trains, self.front, count);
-        add_times(&mut self.trains, train, count);
+        add_copies(&mut self.trains, train, usize::from(count));
     }
 
     /// The list is then this one.
@@ -128,8 +128,7 @@ impl KeptList {
         ensures room { self.new.room ≡ self.old.room }
         ensures looked { self.new.looked ≡ self.old.looked }
     {
-        self.trains.clear();
-        self.trains.extend_from_slice(list).unwrap();
+        replace_rows(&mut self.trains, list);
         self.front = 0;
     }
 
