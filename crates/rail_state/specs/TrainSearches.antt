@@ -46,9 +46,10 @@ pub record HaveNobody (sets : TrainSets) : Type 0 where
 abbrev pub AreBlockedAt : List TrainState → List TrainSet → Type 0
 AreBlockedAt states blocked = (t x : ℕ) → is_blocked_at x (state_of states t).known ≡ true → has_train (set_at blocked x) t ≡ true
 
--- the sets and the table are those of these trains
-pub record AreKept (states : List TrainState) (those : TrainSets) (table : List TrainSet) : Type 0 where
+-- the sets and the table are those of these trains, for which memory was taken, and for no more
+pub record AreKept (states : List TrainState) (those : TrainSets) (table : List TrainSet) (taken : ℕ) : Type 0 where
   pub few : length states ≤ TRAINS
+  pub full : taken ≡ length states
   pub sets : AreSetsOf states those
   pub blocked : AreBlockedAt states table
 

@@ -6,7 +6,7 @@ ghost use Rattle.rail_base.specs.declared.limits.TheConstants.{SECTIONS, TRAINS}
 ghost use Rattle.rail_state.specs.TrainSets.{has_train, set_at, size_of};
 
 use rail_base::limits::{SECTIONS, TRAINS};
-use rail_base::{SectionNo, TrainNo};
+use rail_base::{SectionNo, TrainNo, copies};
 use std::alloc::{AllocError, Global};
 use std::marker::Model;
 
@@ -106,7 +106,7 @@ pub(crate) struct BlockedAt {
 }
 
 impl Model for BlockedAt {
-    ghost use Rattle.std.specs.Prelude.{◌≡◌, List, length};
+    ghost use Rattle.std.specs.Prelude.{◌≡◌, List, length, vec_capacity};
     ghost use Rattle.rail_base.specs.declared.limits.TheConstants.{SECTIONS};
     ghost use Rattle.rail_state.specs.declared.train_set.TrainSet.{TrainSet};
 
@@ -114,7 +114,7 @@ impl Model for BlockedAt {
 
     ghost view = { λ blocked. blocked.sets.items };
 
-    ghost invariant = { λ blocked. length blocked.sets.items ≡ SECTIONS };
+    ghost invariant = { λ blocked. (length blocked.sets.items ≡ SECTIONS) × (vec_capacity blocked.sets ≡ SECTIONS) };
 }
 
 impl BlockedAt {
@@ -123,7 +123,7 @@ impl BlockedAt {
         ensures { IfOk result (λ blocked. (x t : ℕ) → has_train (set_at blocked x) t ≡ false) }
     {
         Ok(BlockedAt {
-            sets: vec![in alloc; TrainSet::none(); SECTIONS]?,
+            sets: copies(alloc, TrainSet::none(), SECTIONS, SECTIONS)?,
         })
     }
 

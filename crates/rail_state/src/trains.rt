@@ -43,7 +43,7 @@ impl Drop for TrainStates {
 }
 
 impl Model for TrainStates {
-    ghost use Rattle.std.specs.Prelude.{List};
+    ghost use Rattle.std.specs.Prelude.{List, vec_capacity};
     ghost use Rattle.rail_state.specs.declared.train.TrainState.{TrainState};
     ghost use Rattle.rail_state.specs.TrainSearches.{AreKept};
 
@@ -51,7 +51,7 @@ impl Model for TrainStates {
 
     ghost view = { λ states. states.rows.items };
 
-    ghost invariant = { λ states. AreKept states.rows.items states.sets states.blocked };
+    ghost invariant = { λ states. AreKept states.rows.items states.sets states.blocked (vec_capacity states.rows) };
 }
 
 impl TrainStates {

@@ -2,4 +2,4 @@ use Rattle.rail_state.proofs.TrainSetLemmas.{none_blocked}
 use Rattle.rail_state.proofs.train_set.BlockedAt.new.Goals as goal
 
 pub returns : goal.returns
-returns c = none_blocked c.in_ok-vec.field-0.items 512 c.none.result c.none.ensures (c.in_ok-vec.ensures.items_if_clones_equal (λ y same. same))
+returns c = none_blocked c.in_ok-copies.field-0.items 512 c.none.result c.none.ensures c.in_ok-copies.ensures.rows

@@ -60,6 +60,7 @@ invariant_of-self c =
     let unknown : train_state.known ≡ None = ap (λ (r : TrainState). r.known) c.admit.ensures in
     rw (new_rows c) (record {
       few = omega (arith, c.self.invariant.few, long c, length-set mid i train_state);
+      full = omega (arith, c.self.invariant.full, long c, length-set mid i train_state);
       sets = subst (λ (k : ℕ). AreSetsOf (set mid k train_state) c.note.new.self) here (c.note.ensures mid (omega (arith, within, here)) c.note_taking_each.ensures.sets);
       blocked = blocked_at mid c.self.inside.blocked i train_state within (inr unknown)
           (blocked_still old mid c.self.inside.blocked (knows_each (after_taking plant holders) old mid (knows_taken plant holders) (noted c)) c.self.invariant.blocked);

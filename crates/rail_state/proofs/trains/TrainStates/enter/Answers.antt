@@ -16,6 +16,7 @@ invariant_of-self c =
     let new : TrainState = record train_state { head = c.head_behind-train_state.result } in
     record {
       few = omega (arith, c.self.invariant.few, length-set old t new);
+      full = omega (arith, c.self.invariant.full, length-set old t new);
       sets = same_sets old c.self.inside.sets t new within (ap is_waiting read) (ap is_untried read) (ap lacks_hold_line read) (ap is_changeable read) c.self.invariant.sets;
       blocked = blocked_at old c.self.inside.blocked t new within (inl (ap (λ (r : TrainState). r.known) read)) c.self.invariant.blocked;
     }

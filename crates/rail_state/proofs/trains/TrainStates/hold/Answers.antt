@@ -17,6 +17,7 @@ invariant_of-self c =
     let known : train_state.known ≡ (state_of old i).known = ap (λ (r : TrainState). r.known) (c.hold-arrival.ensures.train_state ∙ ap after_hold_line before) in
     record {
       few = omega (arith, c.self.invariant.few, length-set old i train_state);
+      full = omega (arith, c.self.invariant.full, length-set old i train_state);
       sets = subst (λ (k : ℕ). AreSetsOf (set old k train_state) c.note.new.self) here (c.note.ensures old (omega (arith, within, here)) c.self.invariant.sets);
       blocked = blocked_at old c.self.inside.blocked i train_state within (inl known) c.self.invariant.blocked;
     }

@@ -19,6 +19,7 @@ pub invariant_of-self : goal.invariant_of-self
 invariant_of-self c =
     rw (new_rows c) (record {
       few = omega (arith, c.self.invariant.few, c.look_at_each.ensures.length, ap length c.deref_mut.ensures.value);
+      full = omega (arith, c.self.invariant.full, c.look_at_each.ensures.length, ap length c.deref_mut.ensures.value);
       sets = c.look_at_each.ensures.sets;
       blocked = c.look_at_each.ensures.blocked (subst (λ (rows : List TrainState). AreBlockedAt rows c.self.inside.blocked) (sym c.deref_mut.ensures.value) c.self.invariant.blocked);
     })

@@ -25,6 +25,7 @@ pub invariant_of-self : goal.invariant_of-self
 invariant_of-self c =
     rw (new_rows c) (record {
       few = omega (arith, c.self.invariant.few, c.look_again_at_each.ensures.length, ap length c.deref_mut.ensures.value);
+      full = omega (arith, c.self.invariant.full, c.look_again_at_each.ensures.length, ap length c.deref_mut.ensures.value);
       sets = c.look_again_at_each.ensures.sets;
       blocked = blocked_again c.args.section c.self.inside.rows.items c.look_again_at_each.new.rows c.self.inside.blocked c.take-blocked.new.self (each c) c.take-blocked.ensures.others c.self.invariant.blocked;
     })

@@ -16,6 +16,7 @@ invariant_of-self c =
     let read : c.index_mut-train_state.result.now ≡ state_of old i = train_read old i c.index_mut-train_state.result.now within c.index_mut-train_state.ensures.value in
     record {
       few = omega (arith, c.self.invariant.few, length-set old i train_state);
+      full = omega (arith, c.self.invariant.full, length-set old i train_state);
       sets = subst (λ (k : ℕ). AreSetsOf (set old k train_state) c.note.new.self) here (c.note.ensures old (omega (arith, within, here)) c.self.invariant.sets);
       blocked = blocked_at old c.self.inside.blocked i train_state within (inl (ap (λ (r : TrainState). r.known) read)) c.self.invariant.blocked;
     }

@@ -21,6 +21,7 @@ invariant_of-result c =
     (cases_lt t n) in
     rw c.loop-number.invariant.rows (record {
       few = omega (arith, length-listed (outside c.args.plant.now) n, c.trains-trains.ensures.table.few);
+      full = omega (arith, length-listed (outside c.args.plant.now) n, c.loop-number.invariant.room, c.loop-number-test.false);
       sets = no_sets states c.none.result c.none.ensures (outside_all is_waiting refl (λ t. refl)) (outside_all is_untried refl (λ t. refl)) (outside_all lacks_hold_line refl (λ t. refl))
           (outside_all is_changeable refl (λ t. refl));
       blocked = λ t x is. absurd (false≢true (sym (outside_all (λ train_state. is_blocked_at x train_state.known) refl (λ t. refl) t) ∙ is));

@@ -15,6 +15,7 @@ invariant_of-self c =
     let within : i < length old = omega (arith, ap length c.self.view_is) in
     record {
       few = omega (arith, c.self.invariant.few, length-set old i train_state);
+      full = omega (arith, c.self.invariant.full, length-set old i train_state);
       sets = subst (λ (k : ℕ). AreSetsOf (set old k train_state) c.note.new.self) here (c.note.ensures old (omega (arith, within, here)) c.self.invariant.sets);
       blocked = blocked_unless old c.self.inside.blocked i train_state within (λ x. refl) c.self.invariant.blocked;
     }

@@ -26,6 +26,7 @@ invariant_of-self c =
     let new = c.tell_each.new.rows in
     rw (new_rows c) (record {
       few = omega (arith, c.self.invariant.few, c.tell_each.ensures.length, ap length c.deref_mut.ensures.value);
+      full = omega (arith, c.self.invariant.full, c.tell_each.ensures.length, ap length c.deref_mut.ensures.value);
       sets = c.tell_each.ensures.sets;
       blocked = blocked_still old new c.self.inside.blocked (knows_each (state_told c.args.plant.now orders) old new (knows_told c.args.plant.now orders) (told c)) c.self.invariant.blocked;
     })
