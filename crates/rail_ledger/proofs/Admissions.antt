@@ -355,7 +355,7 @@ module _ (front : Front) (ledger : Ledger) (at : IsAt front ledger) (going : led
           };
           keeps = record { is_list = has.list_is ∙ sym (kept_is (dispatch_in ledger.input) ledger.input.plant front ledger.state at.rep still next_one.0 t next_one.1 note new_list may_keep_it); room = has.list_room };
           queue_room = room ∙ at.queue_room;
-          list_room = λ open_still. at.list_room still;
+          list_room = at.list_room;
           list_empty = λ open_still. at.list_empty still;
           analyst = at.analyst;
         })

@@ -133,7 +133,7 @@ module _ (front : Front) (ledger : Ledger) (at : IsAt front ledger) (going : led
         placed = places_stay ledger.input.plant line front ledger.places refl at.placed;
         keeps = kept_stays ledger.input.plant line front ledger.kept refl at.keeps;
         queue_room = omega (arith, at.queue_room, ap length first, spare);
-        list_room = λ open_still. at.list_room still;
+        list_room = at.list_room;
         list_empty = λ open_still. at.list_empty still;
         analyst = at.analyst;
       }))
@@ -168,7 +168,7 @@ module _ (front : Front) (ledger : Ledger) (at : IsAt front ledger) (going : led
         placed = places_stay ledger.input.plant line front ledger.places refl at.placed;
         keeps = kept_stays ledger.input.plant line front ledger.kept refl at.keeps;
         queue_room = omega (arith, at.queue_room, ap length first, spare, has.room);
-        list_room = λ open_still. at.list_room still;
+        list_room = at.list_room;
         list_empty = λ open_still. at.list_empty still;
         analyst = at.analyst;
       }))

@@ -1,5 +1,5 @@
 -- The next event happens, or the ledger ends.
-use Rattle.std.proofs.Common.{◌≡◌, ℕ, ◌+◌, true, false, not, ◌||◌, List, [], ◌∷◌, get_or, length, Some, refl, sym, ap, ◌∙◌, subst, ◌⊎◌, inl, inr, ⊎_elim, arith}
+use Rattle.std.proofs.Common.{◌≡◌, ℕ, ◌+◌, true, false, not, ◌||◌, List, [], ◌∷◌, get_or, length, vec_capacity, Some, refl, sym, ap, ◌∙◌, subst, ◌⊎◌, inl, inr, ⊎_elim, arith}
 use Rattle.std.specs.List.{filter, list_any}
 use Rattle.std.specs.Option.{option_map_or}
 use Rattle.std.specs.Global.{Vec}
@@ -122,7 +122,7 @@ module _ (front : Front) (ledger : Ledger) (at : IsAt front ledger) (going : led
         placed = places_stay ledger.input.plant line front ledger.places idle_now at.placed;
         keeps = kept_stays ledger.input.plant line front ledger.kept idle_now at.keeps;
         queue_room = omega (arith, at.queue_room, ap length first, ap length events, spare);
-        list_room = λ open_still. at.list_room still;
+        list_room = at.list_room;
         list_empty = λ open_still. at.list_empty still;
         analyst = at.analyst;
       }
@@ -151,9 +151,9 @@ end_next ledger going settled empty list is = record {
 
 -- the end line names the trains that are left
 pub ended_at : (front : Front) (ledger : Ledger) → IsAt front ledger → ledger.state.has_ended ≡ false → ledger.state.is_settled ≡ true → ledger.state.queue.events ≡ []
-    → (remaining : Vec ℕ) → remaining.items ≡ left_in ledger
+    → (remaining : Vec ℕ) → vec_capacity remaining ≡ vec_capacity ledger.remaining → remaining.items ≡ left_in ledger
     → IsAt (record { entry = at_time ledger.state.instant End; trains = remaining.items } ∷ front) (record ledger { remaining = remaining; listed = listed.Remaining; state = record ledger.state { has_ended = true } })
-ended_at front ledger at going settled empty remaining is =
+ended_at front ledger at going settled empty remaining room is =
     let still : has_ended front ≡ false = sym at.rep.ended ∙ going in
     let left : remaining.items ≡ left_of (dispatch_in ledger.input) ledger.input.plant front ledger.state.trains = is ∙ left_is front ledger at in
     let after : RunState = record ledger.state { has_ended = true } in
@@ -166,7 +166,7 @@ ended_at front ledger at going settled empty remaining is =
       placed = places_stay ledger.input.plant line front ledger.places refl at.placed;
       keeps = kept_stays ledger.input.plant line front ledger.kept refl at.keeps;
       queue_room = at.queue_room;
-      list_room = λ open_still. absurd (false≢true (sym open_still));
+      list_room = room ∙ at.list_room;
       list_empty = λ open_still. absurd (false≢true (sym open_still));
       analyst = at.analyst;
     }

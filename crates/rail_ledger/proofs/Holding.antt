@@ -50,7 +50,7 @@ held_at front ledger at going deciding known t in_list lacks first why is after 
       placed = places_stay ledger.input.plant line front ledger.places refl at.placed;
       keeps = kept_stays ledger.input.plant line front ledger.kept refl at.keeps;
       queue_room = room ∙ at.queue_room;
-      list_room = λ open_still. at.list_room still;
+      list_room = at.list_room;
       list_empty = λ open_still. at.list_empty still;
       analyst = at.analyst;
     })

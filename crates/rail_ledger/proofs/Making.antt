@@ -126,7 +126,7 @@ module _ (front : Front) (ledger : Ledger) (at : IsAt front ledger) (going : led
     };
     keeps = record { is_list = is_list ∙ sym (kept_is (dispatch_in ledger.input) ledger.input.plant front ledger.state at.rep still deciding t next note list noted); room = has.list_room };
     queue_room = room ∙ at.queue_room;
-    list_room = λ open_still. at.list_room still;
+    list_room = at.list_room;
     list_empty = λ open_still. at.list_empty still;
     analyst = has.analyst;
   }

@@ -34,7 +34,7 @@ pub record IsNew (ledger : Ledger) (table : List MoveLists) : Type 0 where
   pub list_fits : HasRoomFor table ledger.kept
   pub begins : IsBeginning (dispatch_in ledger.input) ledger.input.plant ledger.state
   pub queue_room : length ledger.state.queue.events + ledger.state.queue.spare ≡ most_due ledger.input.plant (length ledger.input.commands.items) + MOVE_EVENTS
-  pub remaining_room : TRAINS ≤ vec_capacity ledger.remaining
+  pub remaining_room : vec_capacity ledger.remaining ≡ TRAINS
   pub remaining : ledger.remaining.items ≡ []
   pub analyst : IsAnalystFor (moves_in table) ledger.analyst
 
@@ -59,7 +59,7 @@ new_stands ledger table new = record {
     room = subst (λ (plan : Moves). sum_below plan.moves plan.trains ≤ ledger.kept.room) new.same new.list_fits;
   };
   queue_room = new.queue_room;
-  list_room = λ going. new.remaining_room;
+  list_room = new.remaining_room;
   list_empty = λ going. new.remaining;
   analyst = subst (λ (plan : Moves). IsAnalystFor plan ledger.analyst) new.same new.analyst;
 }

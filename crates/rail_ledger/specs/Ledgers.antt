@@ -60,7 +60,7 @@ pub record IsAt (front : Front) (ledger : Ledger) : Type 0 where
   pub placed : ArePlaces ledger.input.plant front ledger.places
   pub keeps : IsKept ledger.input.plant front ledger.kept
   pub queue_room : length ledger.state.queue.events + ledger.state.queue.spare ≡ most_due ledger.input.plant (length ledger.input.commands.items) + MOVE_EVENTS
-  pub list_room : has_ended front ≡ false → TRAINS ≤ vec_capacity ledger.remaining
+  pub list_room : vec_capacity ledger.remaining ≡ TRAINS
   pub list_empty : has_ended front ≡ false → ledger.remaining.items ≡ []
   pub analyst : IsAnalystFor (moves_of ledger.input.plant) ledger.analyst
 

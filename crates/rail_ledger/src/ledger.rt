@@ -455,7 +455,7 @@ fn lists_of(alloc: Global, moves: &Moves) -> Result<Lists, OutOfMemory>
     ensures kept { IfOk result (λ lists. lists.kept.trains ≡ []) }
     ensures room { IfOk result (λ lists. HasRoomFor moves.now lists.kept) }
     ensures remaining { IfOk result (λ lists. lists.remaining.items ≡ []) }
-    ensures capacity { IfOk result (λ lists. TRAINS ≤ vec_capacity lists.remaining) }
+    ensures capacity { IfOk result (λ lists. vec_capacity lists.remaining ≡ TRAINS) }
 {
     let (kept, reader) = KeptList::new(alloc, moves)?;
     let remaining = Vec::with_capacity(alloc, TRAINS)?;

@@ -17,7 +17,7 @@ returns-clause-unchanged c = λ front at. record {
   placed = at.placed;
   keeps = at.keeps;
   queue_room = at.queue_room;
-  list_room = λ still. omega (arith, at.list_room still, c.list_remaining.ensures.room, c.clear.ensures.capacity);
+  list_room = c.clear.ensures.capacity ∙ c.list_remaining.ensures.room ∙ at.list_room;
   list_empty = λ still. c.clear.ensures.items;
   analyst = at.analyst;
 }
