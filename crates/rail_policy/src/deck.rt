@@ -1,4 +1,4 @@
-ghost use Rattle.std.specs.Prelude.{◌≡◌, ◌+◌, ◌<◌, true, length, map, set, vec_len, IfOk};
+ghost use Rattle.std.specs.Prelude.{◌≡◌, ◌+◌, ◌<◌, true, length, map, set, vec_capacity, vec_len, IfOk};
 ghost use Rattle.std.specs.List.{list_any, remove};
 ghost use Rattle.rail_policy.specs.Choices.{MayChoose};
 ghost use Rattle.rail_policy.specs.Seats.{are_marks_small, asked, noted, have_distinct_names, is_fine_deck, is_named, names_of, index_of, seat_at};
@@ -109,6 +109,7 @@ pub(crate) fn drop_at<P: Policy>(deck: &mut Vec<P>, index: usize)
     requires { index < vec_len deck.old }
     ensures seats { map P.seat deck.new.items ≡ remove (map P.seat deck.old.items) index }
     ensures len { vec_len deck.new + 1 ≡ vec_len deck.old }
+    ensures room { vec_capacity deck.new ≡ vec_capacity deck.old }
 {
     deck.remove(index);
 }

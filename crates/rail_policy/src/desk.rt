@@ -1,4 +1,4 @@
-ghost use Rattle.std.specs.Prelude.{◌≡◌, ◌≢◌, ◌<◌, ◌↔◌, IfOk, IfSome, Some, None, IsErr, IsErrOf, IsTrue, OnOk, OnErr, length, map, vec_len};
+ghost use Rattle.std.specs.Prelude.{◌≡◌, ◌≢◌, ◌<◌, ◌↔◌, IfOk, IfSome, Some, None, IsErr, IsErrOf, IsTrue, OnOk, OnErr, length, map, vec_capacity, vec_len};
 ghost use Rattle.rail_policy.specs.Choices.{HasLeastKey, MayChoose};
 ghost use Rattle.rail_policy.specs.Desks.{Drops, PutsInForce, after_answer, after_note, after_turn, seat_in_force, within, without};
 ghost use Rattle.rail_policy.specs.Seats.{is_fine_deck, names_of, index_of, seat_at};
@@ -116,6 +116,7 @@ impl Desk {
         ensures in_force { OnOk result ((seat_in_force (⟦<Desk as Seen>⟧.table self.new)).name ≡ name) }
         ensures refused { OnErr result (self.new ≡ self.old) }
         ensures unchanged { let table = ⟦<Desk as Seen>⟧.table in OnErr result (table self.new ≡ table self.old) }
+        ensures room { vec_capacity self.new.deck ≡ vec_capacity self.old.deck }
     {
         let Some(index) = self.index_of(name) else {
             return Err(UnknownName);
@@ -133,6 +134,7 @@ impl Desk {
         ensures same_in_force { let table = ⟦<Desk as Seen>⟧.table in seat_in_force (table self.new) ≡ seat_in_force (table self.old) }
         ensures refused { OnErr result (self.new ≡ self.old) }
         ensures unchanged { let table = ⟦<Desk as Seen>⟧.table in OnErr result (table self.new ≡ table self.old) }
+        ensures room { vec_capacity self.new.deck ≡ vec_capacity self.old.deck }
     {
         let Some(index) = self.index_of(name) else {
             return Err(Retire::Unknown);
@@ -156,7 +158,8 @@ impl Desk {
     fn drop_at(&mut self, index: usize)
         requires index { index < length (⟦<Desk as Seen>⟧.table self.old).seats }
         requires not_in_force { index ≢ (⟦<Desk as Seen>⟧.table self.old).force }
-        ensures { let table = ⟦<Desk as Seen>⟧.table in table self.new ≡ without (table self.old) index }
+        ensures table { let table = ⟦<Desk as Seen>⟧.table in table self.new ≡ without (table self.old) index }
+        ensures room { vec_capacity self.new.deck ≡ vec_capacity self.old.deck }
     {
         deck::drop_at(&mut self.deck, index);
         if index < self.force {
@@ -174,6 +177,7 @@ impl Desk {
         ensures choice { let table = ⟦<Desk as Seen>⟧.table in let seat = seat_in_force (table self.old) in
             MayChoose seat.kind seat.mark offers.now (seat_in_force (table self.new)).answered }
         ensures least { let seat = seat_in_force (⟦<Desk as Seen>⟧.table self.old) in HasLeastKey seat.kind seat.mark offers.now result }
+        ensures room { vec_capacity self.new.deck ≡ vec_capacity self.old.deck }
     {
         let answer = self.ask(offers);
         let chosen = if answer < offers.len() { answer } else { 0 };
@@ -189,13 +193,15 @@ impl Desk {
         requires { 0 < length offers.now }
         ensures table { let table = ⟦<Desk as Seen>⟧.table in table self.new ≡ after_answer (table self.old) result }
         ensures choice { let seat = seat_in_force (⟦<Desk as Seen>⟧.table self.old) in MayChoose seat.kind seat.mark offers.now result }
+        ensures room { vec_capacity self.new.deck ≡ vec_capacity self.old.deck }
     {
         deck::ask(&mut self.deck, self.force, offers)
     }
 
     /// Tells the policy in force which train was admitted.
     pub fn noted(&mut self, admitted: TrainNo)
-        ensures { let table = ⟦<Desk as Seen>⟧.table in table self.new ≡ after_note (table self.old) admitted }
+        ensures table { let table = ⟦<Desk as Seen>⟧.table in table self.new ≡ after_note (table self.old) admitted }
+        ensures room { vec_capacity self.new.deck ≡ vec_capacity self.old.deck }
     {
         deck::note_admission(&mut self.deck, self.force, admitted);
     }
