@@ -35,9 +35,9 @@ pub record StandsFor (seats : List Seat) (front : Front) (ledger : Ledger) (tabl
   pub run : IsOfRun seats ledger.input front table
   pub list : list_in ledger ≡ list_of front
 
--- what the engine keeps stands for some front, there is room to offer every train, and once a round is over each train that
+-- what the engine keeps stands for some front, there is room to offer every train and no more, and once a round is over each train that
 -- waits has a known cause
 pub record IsRunning (ledger : Ledger) (round : Round) : Type 0 where
   pub somewhere : IsSomewhere ledger
-  pub room : TRAINS ≤ vec_capacity round.offers
+  pub room : vec_capacity round.offers ≡ TRAINS
   pub over : round.is_over ≡ true → AreAllKnown ledger.input.plant ledger.state.trains

@@ -36,7 +36,7 @@ pub returns-clause-run : goal.returns-clause-run
 returns-clause-run g c = λ _.
     admission_followed c.args.ledger.now c.lets_go_first.new.ledger c.admit_as.new.ledger _ _ _ c.args.at c.args.train c.args.place c.args.note c.args.list.now
     c.lets_go_first.ensures.alike.input c.admit_as.ensures.input c.lets_go_first.ensures.at (c.lets_go_first.ensures.first c.if-not-lets_go_first.false)
-    c.lets_go_first.ensures.desk c.noted.ensures (c.admit_as.ensures.taken c.if-not-admit_as.false)
+    c.lets_go_first.ensures.desk c.noted.ensures.table (c.admit_as.ensures.taken c.if-not-admit_as.false)
 
 pub returns-clause-listed : goal.returns-clause-listed
 returns-clause-listed g c = λ _.

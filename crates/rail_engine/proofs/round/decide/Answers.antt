@@ -22,7 +22,7 @@ returns-in-Some-clause-run g c =
     let inv = c.loop-round.invariant in
     admitted_on c.args.ledger.now c.loop-round.ledger c.attempt.new.ledger _ _ _ _ c.loop-round.round.offers.items c.pick-train.new.offers.items c.pick-train.result c.in-Some.entry
     inv.input c.in-Some.ensures.input inv.at (λ front at. deciding_at front c.loop-round.ledger at inv.going inv.unsettled inv.none_due inv.sorted) inv.desk inv.offers c.pick-train.ensures.picked
-    (c.pick-train.ensures.desk c.loop-round.ledger) c.noted.ensures c.in-Some.ensures.run c.in-Some.ensures.entry
+    (c.pick-train.ensures.desk c.loop-round.ledger) c.noted.ensures.table c.in-Some.ensures.run c.in-Some.ensures.entry
 
 pub returns-in-Some-clause-line : goal.returns-in-Some-clause-line
 returns-in-Some-clause-line g c = λ front at. c.in-Some.ensures.line front (c.loop-round.invariant.at front at)
@@ -32,7 +32,7 @@ returns-in-Some-clause-asked g c =
     let inv = c.loop-round.invariant in
     admitted_asked c.args.ledger.now c.loop-round.ledger c.args.all _ _ _ _ c.loop-round.round.offers.items c.pick-train.new.offers.items c.pick-train.result c.in-Some.entry inv.input inv.at
     (λ front at. deciding_at front c.loop-round.ledger at inv.going inv.unsettled inv.none_due inv.sorted) (λ custom. c.requires.all custom c.if-round.false) inv.offers inv.turns
-    c.pick-train.ensures.turn c.noted.ensures c.in-Some.ensures.entry
+    c.pick-train.ensures.turn c.noted.ensures.table c.in-Some.ensures.entry
 
 pub returns-in-Some-clause-told : goal.returns-in-Some-clause-told
 returns-in-Some-clause-told g c =
