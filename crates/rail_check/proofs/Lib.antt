@@ -1,4 +1,5 @@
 -- The lemmas of this crate; those for the crates above stand in CallerLemmas.
 pub mod CallerLemmas
 mod SoFar
+mod TakenLines
 mod Printed

@@ -9,7 +9,7 @@ ghost use Rattle.rail_rules.specs.Accepted.{is_accepted_input};
 ghost use Rattle.rail_rules.specs.Fronts.{is_hold};
 
 use rail_base::{OutOfMemory, What};
-use rail_history::{History, cut_list};
+use rail_history::History;
 use rail_ledger::{Ledger, RunInput};
 use std::alloc::Global;
 
@@ -48,16 +48,13 @@ pub fn check(alloc: Global, input: RunInput, history: &History) -> Result<Verdic
     ensures verdict { IfOk result (λ answer. judged_in answer ≡ verdict (input_in input) (lines_of history.now)) }
 {
     let mut ledger = Ledger::begin(alloc, input)?;
-    let mut lists = history.lists.as_slice();
     let mut after_hold = false;
     let mut line = 0;
-    for entry in &history.entries {
+    for (entry, trains) in history.lines() {
         line += 1;
-        let (trains, others) = cut_list(&entry.what, lists);
-        if let Some(law) = ledger.take(*entry, trains, after_hold) {
+        if let Some(law) = ledger.take(entry, trains, after_hold) {
             return Ok(Verdict::No { line, law });
         }
-        lists = others;
         after_hold = is_hold(&entry.what);
     }
     match ledger.judge_end() {

@@ -2,5 +2,8 @@
 
 -- Lawful: the lines of a lawful front are lines of a history file.
 pub use Rattle.rail_history.proofs.Lawful.{lawful_lines}
--- OneHistory: the bytes of a history stand for its lines alone; of other bytes one line is the first that is none.
-pub use Rattle.rail_history.proofs.OneHistory.{no_history, one_history, one_wrong}
+-- OneHistory: the bytes of a history stand for its lines alone; of other bytes one line is the first that is none, and its
+-- number is not above their count.
+pub use Rattle.rail_history.proofs.OneHistory.{no_history, one_history, one_wrong, wrong_within}
+-- Histories: an entry is a line.
+pub use Rattle.rail_history.proofs.Histories.{length-lines_in}

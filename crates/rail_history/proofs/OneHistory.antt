@@ -1,5 +1,5 @@
 -- The text of a history stands for one history, and has one first line that is none.
-use Rattle.std.proofs.Common.{◌≡◌, ℕ, zero, suc, ◌+◌, ◌<◌, ◌≤◌, ◌⊎◌, inl, inr, ⊎_elim, true, false, ◌&&◌, cond, List, [], ◌∷◌, ◌++◌, drop, get_or, length, refl, sym, ap, ◌∙◌, subst, arith, append_assoc, length-append}
+use Rattle.std.proofs.Common.{◌≡◌, ◌≢◌, ℕ, zero, suc, ◌+◌, ◌<◌, ◌≤◌, ◌⊎◌, inl, inr, ⊎_elim, true, false, ◌&&◌, cond, List, [], ◌∷◌, ◌++◌, drop, get_or, length, refl, sym, ap, ◌∙◌, subst, arith, append_assoc, length-append}
 use Rattle.std.specs.List.{list_all, list_any}
 use Rattle.std.specs.Prelude.{reverse}
 use Rattle.std.proofs.lemmas.Bool.{and_parts, and_from, false≢true, or_parts}
@@ -180,3 +180,30 @@ no_third_behind plant bytes no_lines no_wrong (suc n) before (b ∷ rest) are wh
 pub no_third : (plant : Plant) (bytes : List ℕ) → ((lines : List Line) → IsHistory plant bytes lines → ⊥) → ((number : ℕ) → IsFirstWrong plant bytes number → ⊥) → ⊥
 no_third plant bytes no_lines no_wrong =
     no_third_behind plant bytes no_lines no_wrong (length bytes) [] bytes (record { each = refl; few_fresh = omega arith }) refl (omega arith)
+
+-- lines have no fewer bytes than there are lines
+lines_within : (plant : Plant) (lines : List Line) → length lines ≤ length (lines_text plant lines)
+lines_within plant [] = omega arith
+lines_within plant (z ∷ zs) =
+    omega (
+      arith,
+      ap (length {A = ℕ}) (lines_cons plant z zs),
+      shorter plant z (line_text plant z ++ lines_text plant zs) (lines_text plant zs) refl,
+      lines_within plant zs,
+    )
+
+-- the number of the first line that is none is not above the count of bytes
+pub wrong_within : (plant : Plant) (bytes : List ℕ) (number : ℕ) → IsFirstWrong plant bytes number → number ≤ length bytes
+wrong_within plant bytes number wrong =
+    omega (
+      arith,
+      wrong.counted,
+      lines_within plant wrong.before,
+      ap (length {A = ℕ}) wrong.whole,
+      length-append (lines_text plant wrong.before) wrong.rest,
+      long wrong.rest wrong.some,
+    )
+  where
+    long : (rest : List ℕ) → rest ≢ [] → 0 < length rest
+    long [] some = absurd (some refl)
+    long (b ∷ rest) some = omega arith

@@ -4,4 +4,5 @@ pub mod Pieces
 -- Lines of a history that are read.
 pub mod HistoryLines
 pub mod LineReads
+pub mod LinesLeft
 pub mod ReadWords

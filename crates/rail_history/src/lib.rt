@@ -13,6 +13,7 @@ mod cutting;
 mod files;
 mod history_lines;
 mod laws;
+mod lines;
 mod lists;
 mod read_line;
 mod read_time;
@@ -30,7 +31,7 @@ pub use laws::{
     a_file_with_a_wrong_line_is_no_history, a_history_file_has_one_history,
     a_lawful_history_may_stand_in_a_file,
 };
-pub use lists::cut_list;
+pub use lines::Lines;
 pub use read_what::likely_what;
 pub use read_words::{Reason, Verb};
 pub use writing::write_entry;

@@ -7,7 +7,10 @@ use rail_base::{Note, Seq, TrainNo, What};
 
 /// The trains beside the next line, of which the entry says this, and the lists of the lines behind it. `lists` has those of
 /// the lines from this one on that have some.
-pub fn cut_list<'a>(what: &What, lists: &'a [Seq<TrainNo>]) -> (&'a [TrainNo], &'a [Seq<TrainNo>])
+pub(crate) fn cut_list<'a>(
+    what: &What,
+    lists: &'a [Seq<TrainNo>],
+) -> (&'a [TrainNo], &'a [Seq<TrainNo>])
     ensures list { result.0.now ≡ cond (does_list what.now) (get_or lists.now 0 []) [] }
     ensures others { result.1.now ≡ cond (does_list what.now) (drop 1 lists.now) lists.now }
 {
