@@ -1,0 +1,4 @@
+-- What the contracts of this crate, and of the crates above it, speak of.
+pub mod RunLines
+pub mod Snapshots
+pub mod WrittenLines
