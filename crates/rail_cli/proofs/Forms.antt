@@ -3,7 +3,7 @@ use Rattle.std.proofs.Common.{List, None, Option, Some, [], ℕ, ◌∙◌, ◌�
 use Rattle.std.proofs.lemmas.Fmt.{decimal_injective}
 use Rattle.std.proofs.lemmas.Option.{none-some, same_Some}
 use Rattle.rail_base.specs.Clock.{IsLenientTime}
-use Rattle.rail_words.specs.Forms.{ArePaths, IsAsked, IsNumber, IsOneNumber, IsStudy, Paths, Scenario, SceneAnd, Spells, Study, Values, files_in, files_of, form_in, values_in}
+use Rattle.rail_words.specs.Forms.{ArePaths, IsAsked, IsNumber, IsOneNumber, IsSaving, IsStudy, Paths, Saving, Scenario, SceneAnd, Spells, Study, Values, files_in, files_of, form_in, values_in}
 use Rattle.rail_words.specs.declared.forms.Request.{Request}
 use Rattle.rail_words.specs.declared.forms.Request.TheVariants as request
 use Rattle.rail_words.specs.declared.forms.Form.{Form}
@@ -12,15 +12,17 @@ use Rattle.rail_base.specs.declared.intervals.Interval.{Interval}
 use Rattle.rail_base.specs.declared.refusals.Refusal.{Refusal}
 use Rattle.rail_policy.specs.Seats.{DeskSeat}
 use Rattle.rail_capacity.specs.declared.compression.Window.{Window}
+use Rattle.rail_rules.specs.Numbers.{or_else}
 use Rattle.rail_rules.specs.Orders.{Input}
 use Rattle.rail_rules.specs.RunHistories.{Seat}
 use Rattle.rail_forms.specs.declared.status.Status.{Status}
 use Rattle.rail_forms.specs.declared.status.Status.TheVariants.{CheckedNo, Done, OutOfMemory, ReadFault, Refused, Usage, WriteFault}
 use Rattle.rail_forms.specs.Answers.{IsAnswer, Told}
-use Rattle.rail_forms.specs.Checks.{AnswersCheck, done_with}
+use Rattle.rail_forms.specs.Checks.{done_with}
 use Rattle.rail_forms.specs.Insertions.{IsNoPathAmong, IsPathsAnswer, IsRefusedRun}
+use Rattle.rail_forms.specs.Pasts.{AnswersCheck, AnswersResume}
 use Rattle.rail_forms.specs.Scenarios.{AnswersScenario}
-use Rattle.rail_cli.specs.Forms.{AnswersForm, AnswersRequest, AreRefusedAlone, IsAcceptedCheck, IsAcceptedInput, IsAcceptedScenario, IsBounded, IsDone, IsNoPath, IsRefusedAlone}
+use Rattle.rail_cli.specs.Forms.{AnswersForm, AnswersRequest, AreRefusedAlone, IsAcceptedCheck, IsAcceptedInput, IsAcceptedResume, IsAcceptedScenario, IsBounded, IsDone, IsNoPath, IsRefusedAlone}
 
 -- a text is that of one time
 abbrev TellsOneTime : Type 0
@@ -65,6 +67,18 @@ same_paths paths other (train ∷ from ∷ to ∷ count ∷ words) one h g = λ 
   scenario = same_Some paths.scenario other.scenario (sym h.4 ∙ g.4) i;
 }
 
+-- they ask for the same lines
+same_saving : (saving other : Saving) (words : List (List ℕ)) → IsSaving saving words → IsSaving other words → saving ≡ other
+same_saving saving other [] h g = absurd h
+same_saving saving other (count ∷ []) h g = absurd h
+same_saving saving other (count ∷ scene ∷ []) h g = absurd h
+same_saving saving other (count ∷ scene ∷ timetable ∷ []) h g = absurd h
+same_saving saving other (count ∷ scene ∷ timetable ∷ commands ∷ []) h g = λ i. record {
+  count = decimal_injective saving.count other.count h.0.fits g.0.fits (sym h.0.spelled ∙ g.0.spelled) i;
+  scenario = (h.1 ∙ sym g.1) i;
+}
+same_saving saving other (count ∷ scene ∷ timetable ∷ commands ∷ more ∷ words) h g = absurd h
+
 one_value : (form : Form) (values others : Values form) (words : List (List ℕ)) → TellsOneTime → Spells form values words → Spells form others words → values ≡ others
 one_value form.Run values others words one h g = same_Some values others (sym h ∙ g)
 one_value form.Infra values others words one h g = ap (λ (ws : List (List ℕ)). get_or ws 0 []) (sym h ∙ g)
@@ -81,6 +95,8 @@ one_value form.Reroute values others words one h g = λ i. record {
   list = ap (λ (ws : List (List ℕ)). get_or ws 1 []) (sym h ∙ g) i;
   proposals = ap (λ (ws : List (List ℕ)). get_or ws 2 []) (sym h ∙ g) i;
 }
+one_value form.Save values others words one h g = same_saving values others words h g
+one_value form.Resume values others words one h g = same_Some values others (sym h ∙ g)
 one_value form.Scene values others words one h g = one_number values others words h g
 one_value form.Gen values others words one h g = one_number values others words h g
 
@@ -112,6 +128,8 @@ request_answered (request.Insert paths) deck told before now status h = h
 request_answered (request.Edit scene edits) deck told before now status h = h
 request_answered (request.Migrate scene) deck told before now status h = h
 request_answered (request.Reroute scene list proposals) deck told before now status h = h
+request_answered (request.Save count scenario) deck told before now status h = h
+request_answered (request.Resume scenario snapshot) deck told before now status h = h
 request_answered (request.Scene number) deck told before now status h = h
 request_answered (request.Gen number) deck told before now status h = h
 
@@ -134,6 +152,8 @@ request_bounded (request.Capacity line from to scenario) (verb ∷ words) is = t
 request_bounded (request.Edit scene edits) (verb ∷ words) is = tt
 request_bounded (request.Migrate scene) (verb ∷ words) is = tt
 request_bounded (request.Reroute scene list proposals) (verb ∷ words) is = tt
+request_bounded (request.Save count scenario) (verb ∷ words) is = tt
+request_bounded (request.Resume scenario snapshot) (verb ∷ words) is = tt
 request_bounded (request.Scene number) (verb ∷ words) is = tt
 request_bounded (request.Gen number) (verb ∷ words) is = tt
 
@@ -149,6 +169,8 @@ request_files (request.Insert paths) = refl
 request_files (request.Edit scene edits) = refl
 request_files (request.Migrate scene) = refl
 request_files (request.Reroute scene list proposals) = refl
+request_files (request.Save count scenario) = refl
+request_files (request.Resume scenario snapshot) = refl
 request_files (request.Scene number) = refl
 request_files (request.Gen number) = refl
 
@@ -164,6 +186,8 @@ request_alone (request.Insert paths) h = h
 request_alone (request.Edit scene edits) h = h
 request_alone (request.Migrate scene) h = h
 request_alone (request.Reroute scene list proposals) h = h
+request_alone (request.Save count scenario) h = h
+request_alone (request.Resume scenario snapshot) h = h
 request_alone (request.Scene number) h = h
 request_alone (request.Gen number) h = h
 
@@ -184,6 +208,17 @@ complete_scenario : (refusal : Option Refusal → Input → Option Refusal) (who
     → (status ≡ ReadFault → ⊥) → (status ≡ WriteFault → ⊥) → (status ≡ Done) ⊎ (status ≡ OutOfMemory)
 complete_scenario refusal whole part scenario deck told status answer ok read write =
     complete_answer _ _ _ status (answer.all ok.bytes ok.calls ok.orders ok.scene_told ok.calls_told ok.orders_told) ok.fine read write
+
+-- a run whose snapshot is accepted is resumed, unless a call failed or memory is wanting
+complete_resume : (scenario : Scenario) (snapshot : List ℕ) (deck : List DeskSeat) (told : Told) (before now : Option (List ℕ)) (status : Status)
+    → AnswersResume scenario snapshot deck told before now status → IsAcceptedResume scenario snapshot deck told
+    → (status ≡ ReadFault → ⊥) → (status ≡ WriteFault → ⊥) → (status ≡ Done) ⊎ (status ≡ OutOfMemory)
+complete_resume scenario snapshot deck told before now status answer ok read write =
+    let all = answer.all ok.bytes ok.calls ok.orders ok.text ok.scene_told ok.calls_told ok.orders_told ok.snapshot_told in
+    complete_answer _ _ _ status (all.read ok.lines ok.spelled) (none_both ok.fine ok.of_run) read write
+  where
+    none_both : {first later : Option Refusal} → first ≡ None → later ≡ None → or_else first later ≡ None
+    none_both {first} {later} first_none later_none = ap (λ (o : Option Refusal). or_else o later) first_none ∙ later_none
 
 -- a check whose input is accepted is done, unless a call failed or memory is wanting
 pub complete_check : (scenario : Scenario) (history : List ℕ) (deck : List DeskSeat) (told : Told) (before now : Option (List ℕ)) (status : Status)
@@ -247,8 +282,8 @@ complete_form form.Run scenario deck told before now status answer ok read write
 complete_form form.Infra scene deck told before now status answer ok read write = complete_answer _ _ _ status (answer ok.0 ok.1) ok.2 read write
 complete_form form.Play files deck told before now status answer ok read write =
     complete_answer _ _ _ status (answer.both ok.bytes ok.others ok.scene_told ok.others_told) ok.fine read write
-complete_form form.Check checked deck told before now status answer ok read write =
-    complete_check checked.scenario checked.history deck told before now status answer ok read write
+complete_form form.Check files deck told before now status answer ok read write =
+    complete_check files.scenario files.other deck told before now status answer ok read write
 complete_form form.Stairs scenario deck told before now status answer ok read write = complete_scenario _ _ _ scenario deck told status answer ok read write
 complete_form form.Report scenario deck told before now status answer ok read write = complete_scenario _ _ _ scenario deck told status answer ok read write
 complete_form form.Capacity study deck told before now status answer ok read write =
@@ -261,5 +296,8 @@ complete_form form.Edit files deck told before now status answer ok read write =
 complete_form form.Migrate scene deck told before now status answer ok read write = complete_answer _ _ _ status (answer ok.0 ok.1) ok.2 read write
 complete_form form.Reroute files deck told before now status answer ok read write =
     complete_answer _ _ _ status (answer.all ok.bytes ok.places ok.lines ok.scene_told ok.places_told ok.lines_told) ok.fine read write
+complete_form form.Save saving deck told before now status answer ok read write = complete_scenario _ _ _ saving.scenario deck told status answer ok read write
+complete_form form.Resume files deck told before now status answer ok read write =
+    complete_resume files.scenario files.other deck told before now status answer ok read write
 complete_form form.Scene number deck told before now status answer ok read write = complete_answer _ _ _ status answer refl read write
 complete_form form.Gen number deck told before now status answer ok read write = complete_answer _ _ _ status answer refl read write

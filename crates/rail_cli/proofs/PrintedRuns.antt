@@ -1,10 +1,12 @@
--- What `run` printed is answered yes by `check`.
+-- What `run` printed is answered yes by `check`, and what `save` printed is resumed.
 use Rattle.std.proofs.Common.{◌≡◌, ℕ, ◌≤◌, ◌++◌, Bool, true, false, List, length, Option, Some, None, refl, sym, ap, ◌∙◌, subst}
 use Rattle.std.specs.Prelude.{codes, reverse}
+use Rattle.std.specs.Option.{option_map}
 use Rattle.std.proofs.lemmas.Bool.{false≢true}
 use Rattle.std.proofs.lemmas.List.{append_cancel_left}
 use Rattle.std.proofs.lemmas.Option.{none-some, same_Some}
 use Rattle.rail_base.specs.Limits.{most, HistoryBytes}
+use Rattle.rail_base.specs.declared.refusals.Reason.TheVariants.{SnapshotOther}
 use Rattle.rail_base.specs.declared.refusals.Refusal.{Refusal}
 use Rattle.rail_check.proofs.CallerLemmas.{printed}
 use Rattle.rail_history.specs.HistoryLines.{IsHistory}
@@ -17,10 +19,14 @@ use Rattle.rail_rules.specs.Fronts.{Front, Line}
 use Rattle.rail_rules.specs.Numbers.{or_else}
 use Rattle.rail_rules.specs.Orders.{Input}
 use Rattle.rail_rules.specs.Texts.{text}
+use Rattle.rail_save.specs.Snapshots.{IsSnapshot, refusal_at, snapshot}
+use Rattle.rail_save.proofs.CallerLemmas.{saved_resumed}
 use Rattle.rail_forms.specs.declared.status.Status.{Status}
 use Rattle.rail_forms.specs.declared.status.Status.TheVariants.{Done, Usage, Refused, ReadFault, WriteFault, OutOfMemory, CheckedNo}
 use Rattle.rail_forms.specs.Answers.{IsAnswer, Told}
-use Rattle.rail_forms.specs.Checks.{AnswersCheck, IsJudged, check_refusal, done_with, status_judged, verdict_text}
+use Rattle.rail_forms.specs.Checks.{IsJudged, done_with, status_judged, verdict_text}
+use Rattle.rail_forms.specs.Pasts.{AnswersCheck, AnswersResume, past_refusal}
+use Rattle.rail_forms.specs.Snapshots.{AnswersSave, ResumesInput, ResumesInputInPart, lines_refusal}
 use Rattle.rail_words.specs.Forms.{Scenario}
 use Rattle.rail_words.specs.declared.files.Role.TheVariants as role
 use Rattle.rail_forms.specs.Files.{told_of, too_large, too_large_if_any}
@@ -70,7 +76,33 @@ checked_with_yes scenario deck told bytes calls orders scene_told calls_told ord
     let both = printed input run.1.run.accepted (handed_in deck) front run.1.run.is_run.history in
     let spelled : IsHistory input.plant added lines = subst (λ (bytes : List ℕ). IsHistory input.plant bytes lines) text_is both.0 in
     let answer = (checked.all bytes calls orders added scene_told calls_told orders_told history_told).read lines spelled in
-    let none : check_refusal bytes calls orders added deck ≡ None =
+    let none : past_refusal role.History bytes calls orders added deck ≡ None =
     none_between (too_large role.Scene bytes) (too_large_if_any role.Timetable calls) (too_large_if_any role.Commands orders) (too_large role.History added) (input_refusal bytes calls orders (names_of deck)) run.0 (short_enough role.History added short) in
     answered_yes input lines out now both.1 end
     (subst (λ (first : Option Refusal). IsAnswer first (IsJudged input lines out now end) (AddsPrefix out now (verdict_text (verdict input lines))) (done_with end)) none answer)
+
+pub saved_resumed_by_forms : (scenario : Scenario) (deck : List DeskSeat) (told : Told) (bytes : List ℕ) (calls orders : Option (List ℕ))
+    → told scenario.scene ≡ Some bytes → told_of told scenario.timetable ≡ Some calls
+    → told_of told scenario.commands ≡ Some orders
+    → (count : ℕ) (before saved : List ℕ) → AnswersSave count scenario deck told (Some before) (Some (before ++ saved)) Done
+    → (file : List ℕ) → told file ≡ Some saved → length saved ≤ most HistoryBytes
+    → (out now : Option (List ℕ)) (end : Status)
+    → AnswersResume scenario file deck told out now end
+    → let input = input_in bytes calls orders (names_of deck) in
+    (lines : List Line) × IsSnapshot input.plant saved lines
+    × IsAnswer None (ResumesInput lines input (handed_in deck) out now) (ResumesInputInPart lines input (handed_in deck) out now) end
+saved_resumed_by_forms scenario deck told bytes calls orders scene_told calls_told orders_told count before saved was_saved file file_told short out now end resumed =
+    let input : Input = input_in bytes calls orders (names_of deck) in
+    let run = was_saved.all bytes calls orders scene_told calls_told orders_told in
+    let front : Front = run.1.front in
+    let lines : List Line = reverse front in
+    let text_is : snapshot input.plant front ≡ saved =
+    append_cancel_left before (snapshot input.plant front) saved (same_Some (before ++ snapshot input.plant front) (before ++ saved) (run.1.adds.appended (before ++ saved) refl)) in
+    let both = saved_resumed input run.1.run.part.accepted (handed_in deck) front run.1.run.part.run in
+    let spelled : IsSnapshot input.plant saved lines = subst (λ (bytes : List ℕ). IsSnapshot input.plant bytes lines) text_is both.0 in
+    let answer = (resumed.all bytes calls orders saved scene_told calls_told orders_told file_told).read lines spelled in
+    let none : past_refusal role.Snapshot bytes calls orders saved deck ≡ None =
+    none_between (too_large role.Scene bytes) (too_large_if_any role.Timetable calls) (too_large_if_any role.Commands orders) (too_large role.Snapshot saved) (input_refusal bytes calls orders (names_of deck)) run.0 (short_enough role.Snapshot saved short) in
+    let all : or_else (past_refusal role.Snapshot bytes calls orders saved deck) (lines_refusal input (handed_in deck) lines) ≡ None =
+    ap (λ (o : Option Refusal). or_else o (lines_refusal input (handed_in deck) lines)) none ∙ ap (option_map (refusal_at SnapshotOther)) both.1 in
+    (lines, spelled, subst (λ (first : Option Refusal). IsAnswer first (ResumesInput lines input (handed_in deck) out now) (ResumesInputInPart lines input (handed_in deck) out now) end) all answer)

@@ -1,7 +1,7 @@
 -- What is answered to what the words of each form spell, and when a command is done.
 use Rattle.std.specs.Prelude.{List, None, Option, Some, ℕ, ◌<◌, ◌≤◌, ◌^◌, ◌≡◌, ◌⊎◌}
 use Rattle.rail_capacity.specs.declared.compression.Window.{Window}
-use Rattle.rail_policy.specs.Seats.{DeskSeat, names_of}
+use Rattle.rail_policy.specs.Seats.{DeskSeat, handed_in, names_of}
 use Rattle.rail_words.specs.Forms.{Scenario, SceneAnd, SceneAndTwo, Study, Values, paths_in, scenario_in}
 use Rattle.rail_words.specs.declared.forms.Request.{Request}
 use Rattle.rail_words.specs.declared.forms.Request.TheVariants as request
@@ -10,16 +10,18 @@ use Rattle.rail_words.specs.declared.forms.Form.TheVariants as form
 use Rattle.rail_forms.specs.declared.status.Status.{Status}
 use Rattle.rail_forms.specs.Answers.{Told}
 use Rattle.rail_forms.specs.Capacity.{AnswersCapacity, IsEmptyStudy, study_refusal, with_line}
-use Rattle.rail_forms.specs.Checks.{AnswersCheck, check_refusal, done_with}
+use Rattle.rail_forms.specs.Checks.{done_with}
 use Rattle.rail_forms.specs.Edits.{AnswersEdit}
 use Rattle.rail_forms.specs.Infra.{AnswersInfra}
 use Rattle.rail_forms.specs.Migration.{AnswersMigrate}
 use Rattle.rail_forms.specs.Insertions.{AnswersInsertion, no_place, no_stairway, with_train}
+use Rattle.rail_forms.specs.Pasts.{AnswersCheck, AnswersResume, past_refusal}
 use Rattle.rail_forms.specs.Plays.{AnswersPlay, play_refusal}
 use Rattle.rail_forms.specs.Reports.{AnswersReport}
 use Rattle.rail_forms.specs.Reroutes.{AnswersReroute, reroute_refusal}
 use Rattle.rail_forms.specs.Runs.{AnswersRun}
 use Rattle.rail_forms.specs.SceneTexts.{AnswersScene}
+use Rattle.rail_forms.specs.Snapshots.{AnswersSave, lines_refusal}
 use Rattle.rail_forms.specs.Stairs.{AnswersStairs}
 use Rattle.rail_forms.specs.Summaries.{AnswersGen}
 use Rattle.rail_base.specs.declared.refusals.Refusal.{Refusal}
@@ -32,6 +34,7 @@ use Rattle.rail_io.specs.declared.sink.Sink.{Ghosts as SinkGhosts}
 use Rattle.rail_rules.specs.Fronts.{Line}
 use Rattle.rail_rules.specs.Numbers.{or_else}
 use Rattle.rail_rules.specs.Orders.{Input}
+use Rattle.rail_save.specs.Snapshots.{IsSnapshot}
 use Rattle.rail_words.specs.declared.files.Role.{Role}
 use Rattle.rail_words.specs.declared.files.Role.TheVariants as role
 use Rattle.rail_forms.specs.declared.status.Status.TheVariants.{Done, OutOfMemory, Refused}
@@ -47,7 +50,7 @@ abbrev pub AnswersForm : (form : Form) → Values form → List DeskSeat → Tol
 AnswersForm form.Run scenario deck told before now status = AnswersRun scenario deck told before now status
 AnswersForm form.Infra scene deck told before now status = AnswersInfra scene told before now status
 AnswersForm form.Play files deck told before now status = AnswersPlay files.scene files.other told before now status
-AnswersForm form.Check checked deck told before now status = AnswersCheck checked.scenario checked.history deck told before now status
+AnswersForm form.Check files deck told before now status = AnswersCheck files.scenario files.other deck told before now status
 AnswersForm form.Stairs scenario deck told before now status = AnswersStairs scenario deck told before now status
 AnswersForm form.Report scenario deck told before now status = AnswersReport scenario deck told before now status
 AnswersForm form.Capacity study deck told before now status =
@@ -56,6 +59,8 @@ AnswersForm form.Insert paths deck told before now status = AnswersInsertion pat
 AnswersForm form.Edit files deck told before now status = AnswersEdit files.scene files.other told before now status
 AnswersForm form.Migrate scene deck told before now status = AnswersMigrate scene told before now status
 AnswersForm form.Reroute files deck told before now status = AnswersReroute files.scene files.list files.proposals told before now status
+AnswersForm form.Save saving deck told before now status = AnswersSave saving.count saving.scenario deck told before now status
+AnswersForm form.Resume files deck told before now status = AnswersResume files.scenario files.other deck told before now status
 AnswersForm form.Scene number deck told before now status = AnswersScene number before now status
 AnswersForm form.Gen number deck told before now status = AnswersGen number deck before now status
 
@@ -75,6 +80,9 @@ AnswersRequest (request.Edit scene edits) deck told before now status = AnswersE
 AnswersRequest (request.Migrate scene) deck told before now status = AnswersMigrate scene.now told before now status
 AnswersRequest (request.Reroute scene list proposals) deck told before now status =
     AnswersReroute scene.now list.now proposals.now told before now status
+AnswersRequest (request.Save count scenario) deck told before now status = AnswersSave count (scenario_in scenario) deck told before now status
+AnswersRequest (request.Resume scenario snapshot) deck told before now status =
+    AnswersResume (scenario_in scenario) snapshot.now deck told before now status
 AnswersRequest (request.Scene number) deck told before now status = AnswersScene number before now status
 AnswersRequest (request.Gen number) deck told before now status = AnswersGen number deck before now status
 
@@ -91,6 +99,8 @@ IsRefusedAlone (request.Report scenario) = ⊥
 IsRefusedAlone (request.Edit scene edits) = ⊥
 IsRefusedAlone (request.Migrate scene) = ⊥
 IsRefusedAlone (request.Reroute scene list proposals) = ⊥
+IsRefusedAlone (request.Save count scenario) = ⊥
+IsRefusedAlone (request.Resume scenario snapshot) = ⊥
 IsRefusedAlone (request.Scene number) = ⊥
 IsRefusedAlone (request.Gen number) = ⊥
 
@@ -107,6 +117,8 @@ AreRefusedAlone form.Report values = ⊥
 AreRefusedAlone form.Edit values = ⊥
 AreRefusedAlone form.Migrate values = ⊥
 AreRefusedAlone form.Reroute values = ⊥
+AreRefusedAlone form.Save values = ⊥
+AreRefusedAlone form.Resume values = ⊥
 AreRefusedAlone form.Scene values = ⊥
 AreRefusedAlone form.Gen values = ⊥
 
@@ -138,8 +150,23 @@ pub record IsAcceptedCheck (scenario : Scenario) (history : List ℕ) (deck : Li
   pub calls_told : told_of told scenario.timetable ≡ Some calls
   pub orders_told : told_of told scenario.commands ≡ Some orders
   pub history_told : told history ≡ Some text
-  pub fine : check_refusal bytes calls orders text deck ≡ None
+  pub fine : past_refusal role.History bytes calls orders text deck ≡ None
   pub spelled : IsHistory (input_in bytes calls orders (names_of deck)).plant text lines
+
+-- the bytes of the files of a resumed run are told, the snapshot's are those of lines of a run, and nothing is refused
+pub record IsAcceptedResume (scenario : Scenario) (snapshot : List ℕ) (deck : List DeskSeat) (told : Told) : Type 0 where
+  pub bytes : List ℕ
+  pub calls : Option (List ℕ)
+  pub orders : Option (List ℕ)
+  pub text : List ℕ
+  pub lines : List Line
+  pub scene_told : told scenario.scene ≡ Some bytes
+  pub calls_told : told_of told scenario.timetable ≡ Some calls
+  pub orders_told : told_of told scenario.commands ≡ Some orders
+  pub snapshot_told : told snapshot ≡ Some text
+  pub fine : past_refusal role.Snapshot bytes calls orders text deck ≡ None
+  pub spelled : IsSnapshot (input_in bytes calls orders (names_of deck)).plant text lines
+  pub of_run : lines_refusal (input_in bytes calls orders (names_of deck)) (handed_in deck) lines ≡ None
 
 -- the bytes of a scene and of a second file, which has this role, are told, and nothing is refused
 pub record AreAccepted (second : Role) (later : List ℕ → List ℕ → Option Refusal) (files : SceneAnd) (told : Told) : Type 0 where
@@ -166,7 +193,7 @@ IsAcceptedInput form.Run scenario deck told = IsAcceptedScenario nothing_else de
 IsAcceptedInput form.Infra scene deck told = (bytes : List ℕ) × (told scene ≡ Some bytes)
     × (or_else (too_large role.Scene bytes) (plant_refusal bytes) ≡ None)
 IsAcceptedInput form.Play files deck told = AreAccepted role.List play_refusal files told
-IsAcceptedInput form.Check checked deck told = IsAcceptedCheck checked.scenario checked.history deck told
+IsAcceptedInput form.Check files deck told = IsAcceptedCheck files.scenario files.other deck told
 IsAcceptedInput form.Stairs scenario deck told = IsAcceptedScenario nothing_else deck told scenario
 IsAcceptedInput form.Report scenario deck told = IsAcceptedScenario nothing_else deck told scenario
 IsAcceptedInput form.Capacity study deck told = (study_refusal study.line (window_of study) ≡ None)
@@ -177,6 +204,8 @@ IsAcceptedInput form.Edit files deck told = AreAccepted role.Edits edited_scene_
 IsAcceptedInput form.Migrate scene deck told = (bytes : List ℕ) × (told scene ≡ Some bytes)
     × (or_else (too_large role.Scene bytes) (plant_refusal bytes) ≡ None)
 IsAcceptedInput form.Reroute files deck told = AreAcceptedProposals files told
+IsAcceptedInput form.Save saving deck told = IsAcceptedScenario nothing_else deck told saving.scenario
+IsAcceptedInput form.Resume files deck told = IsAcceptedResume files.scenario files.other deck told
 IsAcceptedInput form.Scene number deck told = Unit {0}
 IsAcceptedInput form.Gen number deck told = Unit {0}
 

@@ -10,6 +10,6 @@
 mod laws;
 mod top;
 
-pub use laws::a_printed_run_is_checked_with_yes;
+pub use laws::{a_printed_run_is_checked_with_yes, a_saved_run_is_resumed};
 pub use rail_forms::Status;
 pub use top::rail;

@@ -10,9 +10,10 @@ ghost use Rattle.rail_cli.specs.Forms.{AnswersForm, AnswersRequest, AreRefusedAl
 
 use rail_base::{Word, a_text_stands_for_one_time};
 use rail_capacity::Window;
+use rail_forms::past::Past;
 use rail_forms::scenario::Purpose;
 use rail_forms::{
-    Status, capacity, check, edit, infra, insertion, migrate, play, reroute, scenario, scene,
+    Status, capacity, edit, infra, insertion, migrate, past, play, reroute, scenario, scene,
     summary,
 };
 use rail_io::{Shelf, Sink};
@@ -33,6 +34,11 @@ use std::alloc::Global;
 /// commands and any policies, whatever these answer.
 ///
 /// The policies of the deck are those that the scene and the commands may name, 1 to 16 with distinct names.
+///
+/// What `save` promises is `SavesInput` in `specs/Snapshots.antt` there, and what `resume` promises is `ResumesInput`: `save`
+/// that ends `Done` has added a snapshot of so many lines of a run, or of all where it has fewer; `resume` that ends `Done`
+/// has added lines which, behind those of the snapshot, are a run to its end. It does not promise that a policy of a kind
+/// of its own goes on as it would have gone, since of what such a policy keeps nothing stands in a snapshot.
 ///
 /// What a check promises is `IsJudged` in `specs/Checks.antt` there: where nothing is refused and the history file is
 /// the text of lines, `check` adds `yes` and ends `Done` exactly where these are a history that is lawful to its end;
@@ -115,7 +121,7 @@ fn answer<S: Shelf, O: Sink>(
         Request::Infra { scene } => infra::answer(alloc, scene, shelf, out),
         Request::Play { scene, list } => play::answer(alloc, scene, list, shelf, out),
         Request::Check { scenario, history } => {
-            check::answer(alloc, scenario, history, shelf, out, &deck)
+            past::answer(alloc, Past::History, scenario, history, shelf, out, deck)
         }
         Request::Edit { scene, edits } => edit::answer(alloc, scene, edits, shelf, out),
         Request::Reroute {
@@ -123,6 +129,19 @@ fn answer<S: Shelf, O: Sink>(
             list,
             proposals,
         } => reroute::answer(alloc, scene, list, proposals, shelf, out),
+        Request::Save { count, scenario } => {
+            scenario::answer(
+                alloc,
+                &Purpose::Snapshot(*count),
+                scenario,
+                shelf,
+                out,
+                deck,
+            )
+        }
+        Request::Resume { scenario, snapshot } => {
+            past::answer(alloc, Past::Snapshot, scenario, snapshot, shelf, out, deck)
+        }
         Request::Migrate { scene } => migrate::answer(alloc, scene, shelf, out),
         Request::Scene { number } => scene::answer(alloc, *number, out),
         Request::Gen { number } => summary::answer(alloc, *number, out, deck),

@@ -3,14 +3,14 @@ use Rattle.std.specs.Prelude.{ℕ, ◌==◌, cond, Option, Some, None}
 use Rattle.rail_base.specs.declared.refusals.Part.{Part}
 use Rattle.rail_base.specs.declared.refusals.Part.TheVariants as part
 use Rattle.rail_base.specs.declared.refusals.Reason.{Reason}
-use Rattle.rail_base.specs.declared.refusals.Reason.TheVariants.{HistoryForm, RerouteForm, RerouteName}
+use Rattle.rail_base.specs.declared.refusals.Reason.TheVariants.{HistoryForm, RerouteForm, RerouteName, SnapshotForm, SnapshotOther}
 use Rattle.rail_base.specs.declared.refusals.Refusal.{Refusal}
 use Rattle.rail_words.specs.declared.files.Role.{Role}
 use Rattle.rail_words.specs.declared.files.Role.TheVariants as role
 use Rattle.rail_words.specs.declared.forms.Form.{Form}
-use Rattle.rail_words.specs.declared.forms.Form.TheVariants.{Check, Edit, Play, Reroute}
+use Rattle.rail_words.specs.declared.forms.Form.TheVariants.{Check, Edit, Play, Reroute, Resume}
 
--- the role of the file of lines: a list, edits, proposals, a history or commands
+-- the role of the file of lines: a list, edits, proposals, a history, a snapshot or commands
 abbrev pub role_of_lines : Form → Reason → Role
 role_of_lines Check HistoryForm = role.History
 role_of_lines Play reason = role.List
@@ -18,6 +18,8 @@ role_of_lines Edit reason = role.Edits
 role_of_lines Reroute RerouteForm = role.Proposals
 role_of_lines Reroute RerouteName = role.Proposals
 role_of_lines Reroute reason = role.List
+role_of_lines Resume SnapshotForm = role.Snapshot
+role_of_lines Resume SnapshotOther = role.Snapshot
 role_of_lines form reason = role.Commands
 
 -- the role of the second file
@@ -32,13 +34,18 @@ abbrev pub third_role : Form → Role
 third_role Reroute = role.Proposals
 third_role form = role.Commands
 
+-- the role of the fourth file
+abbrev pub fourth_role : Form → Role
+fourth_role Resume = role.Snapshot
+fourth_role form = role.History
+
 -- the role of the file of this number, among the file words of a form
 abbrev pub role_at : Form → ℕ → Option Role
 role_at form number =
     cond (number == 1) (Some role.Scene)
     (cond (number == 2) (Some (second_role form))
     (cond (number == 3) (Some (third_role form))
-    (cond (number == 4) (Some role.History) None)))
+    (cond (number == 4) (Some (fourth_role form)) None)))
 
 -- the role of the file in which the refusal lies; a refusal of a word lies in none
 abbrev pub role_of : Form → Refusal → Part → Option Role

@@ -38,7 +38,7 @@ post_place _ = codes " does not stand as it has to"
 
 -- how many there may be
 abbrev pub too_many : Part → List ℕ
-too_many part.File = codes " is larger than a file may be: 1,048,576 bytes, and a history 16,777,216"
+too_many part.File = codes " is larger than a file may be: 1,048,576 bytes, and a history or a snapshot 16,777,216"
 too_many part.Section = codes " is one too many: there may be 512 sections"
 too_many part.Portal = codes " is one too many: there may be 512 portals, signals and boards together"
 too_many part.Signal = codes " is one too many: there may be 512 portals, signals and boards together"
@@ -49,6 +49,12 @@ too_many part.Kind = codes " is one too many: there may be 128 kinds"
 too_many part.Train = codes " is one too many: there may be 256 trains"
 too_many part.Line = codes " is one too many: there may be 1,024 commands, 4,096 edits kept, and 32,768 trains in a list"
 too_many _ = codes " is more than there may be"
+
+-- what a line of a snapshot has to be; the first one tells that it is one
+abbrev pub snapshot_form : ℕ → List ℕ
+snapshot_form item =
+    cond (item == 1) (codes " must be rail-snapshot 1, with which a snapshot begins")
+    (codes " is no line of a history, or has no line feed at its end")
 
 -- which word asks for paths that are not there: the train whose path is copied, or the time from which on they are wanted
 abbrev pub no_path : ℕ → List ℕ
@@ -91,8 +97,8 @@ reason_text NothingToRedo refusal = codes " has no undone edit left to make agai
 reason_text ListForm refusal = codes " must be at TRAIN PLACE, or behind all of these move TRAIN"
 reason_text ListName refusal = codes " names a train that is not in the scene"
 reason_text ListPlaces refusal = codes ": two trains would stand on one section at these places"
-reason_text SnapshotForm refusal = codes " is no line of a snapshot"
-reason_text SnapshotOther refusal = codes " is of a run of another scene, timetable or command file"
+reason_text SnapshotForm refusal = snapshot_form refusal.item
+reason_text SnapshotOther refusal = codes " is no line that a run of this scene, timetable and commands could have there"
 reason_text NoPath refusal = no_path refusal.item
 reason_text RerouteForm refusal = codes " does not say how a train is rerouted"
 reason_text RerouteName refusal = codes " names a train or a route that is not in the scene"

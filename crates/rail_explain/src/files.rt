@@ -42,6 +42,7 @@ fn role_of_lines(form: Form, reason: Reason) -> Role
         (Form::Edit, _) => Role::Edits,
         (Form::Reroute, Reason::RerouteForm | Reason::RerouteName) => Role::Proposals,
         (Form::Reroute, _) => Role::List,
+        (Form::Resume, Reason::SnapshotForm | Reason::SnapshotOther) => Role::Snapshot,
         _ => Role::Commands,
     }
 }
@@ -57,6 +58,7 @@ fn role_at(form: Form, number: u32) -> Option<Role>
         (_, 2) => Some(Role::Timetable),
         (Form::Reroute, 3) => Some(Role::Proposals),
         (_, 3) => Some(Role::Commands),
+        (Form::Resume, 4) => Some(Role::Snapshot),
         (_, 4) => Some(Role::History),
         _ => None,
     }

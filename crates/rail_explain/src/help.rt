@@ -16,10 +16,10 @@ rail simulates the operation of railway lines and stations; that it keeps its ru
 pub const HELP_BEHIND: &str = "    rail --help                              this text
     rail --version                           the version
 
-SCENE is a TOML file, TIMETABLE a CSV file, COMMANDS, LIST, HISTORY and EDITS are files of lines. A `-` for TIMETABLE
-or COMMANDS stands for no file. LINE has names of sections with commas between them, TRAIN is the name of a train; FROM
-and TO are times, COUNT is a number from 1 to 128. The policies are `priority`, `timetable`, `fcfs` and `rotating`; a
-scene that names none is run by `fcfs`.
+SCENE is a TOML file, TIMETABLE a CSV file; COMMANDS, LIST, PROPOSALS, HISTORY, SNAPSHOT and EDITS are files of lines. A
+`-` for TIMETABLE or COMMANDS stands for no file. LINE has names of sections with commas between them, TRAIN is the name of
+a train; FROM and TO are times, COUNT is a number, for `insert` from 1 to 128. The policies are `priority`, `timetable`,
+`fcfs` and `rotating`; a scene that names none is run by `fcfs`.
 
 Exit status: 0 done, 1 words not in the table, 2 input refused, 3 read fault, 4 write fault, 5 out of
 memory, 6 a history that is not lawful to its end, 7 words that are no text. The status text is the last line on

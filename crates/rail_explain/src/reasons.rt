@@ -1,7 +1,7 @@
 //! What a reason means where no key is told with it.
 
 ghost use Rattle.std.specs.Prelude.{◌≡◌, ◌≤◌, length};
-ghost use Rattle.rail_explain.specs.Meanings.{no_path, post_place, reason_text, repeated, too_many, unknown_item};
+ghost use Rattle.rail_explain.specs.Meanings.{no_path, post_place, reason_text, repeated, snapshot_form, too_many, unknown_item};
 
 use rail_base::limits::{
     COMMANDS, EDITS, FILE_BYTES, HISTORY_BYTES, KINDS, LIST_TRAINS, NAME_BYTES, POSTS, ROUTES,
@@ -76,8 +76,10 @@ pub fn reason_text(refusal: &Refusal) -> &'static [u8]
         Reason::ListForm => b" must be at TRAIN PLACE, or behind all of these move TRAIN",
         Reason::ListName => b" names a train that is not in the scene",
         Reason::ListPlaces => b": two trains would stand on one section at these places",
-        Reason::SnapshotForm => b" is no line of a snapshot",
-        Reason::SnapshotOther => b" is of a run of another scene, timetable or command file",
+        Reason::SnapshotForm => snapshot_form(refusal.item),
+        Reason::SnapshotOther => {
+            b" is no line that a run of this scene, timetable and commands could have there"
+        }
         Reason::NoPath => no_path(refusal.item),
         Reason::RerouteForm => b" does not say how a train is rerouted",
         Reason::RerouteName => b" names a train or a route that is not in the scene",
@@ -136,7 +138,9 @@ fn too_many(part: Part) -> &'static [u8]
     ensures short { length result.now ≤ 140 }
 {
     match part {
-        Part::File => b" is larger than a file may be: 1,048,576 bytes, and a history 16,777,216",
+        Part::File => {
+            b" is larger than a file may be: 1,048,576 bytes, and a history or a snapshot 16,777,216"
+        }
         Part::Section => b" is one too many: there may be 512 sections",
         Part::Portal | Part::Signal | Part::Board => {
             b" is one too many: there may be 512 portals, signals and boards together"
@@ -148,6 +152,17 @@ fn too_many(part: Part) -> &'static [u8]
         Part::Line =>
             b" is one too many: there may be 1,024 commands, 4,096 edits kept, and 32,768 trains in a list",
         _ => b" is more than there may be",
+    }
+}
+
+/// What a line of a snapshot has to be; the first one tells that it is one.
+fn snapshot_form(item: u32) -> &'static [u8]
+    ensures text { result.now ≡ snapshot_form item }
+    ensures short { length result.now ≤ 140 }
+{
+    match item {
+        1 => b" must be rail-snapshot 1, with which a snapshot begins",
+        _ => b" is no line of a history, or has no line feed at its end",
     }
 }
 

@@ -14,6 +14,8 @@ mod Reroutings
 mod ThreeFiles
 mod TwoFiles
 mod CheckAnswers
+mod SnapshotAnswers
+mod PastAnswers
 mod Parts
 mod Reading
 mod ScenarioAnswers

@@ -69,10 +69,10 @@ list_first first later WriteFault answer = absurd answer
 list_first first later OutOfMemory answer = tt
 list_first first later (CheckedNo line law) answer = absurd answer
 
--- what holds of the status that an error ends with
-pub if_err : {A : Type 0} (end : Result A Status) (status : Status) (P : Status → Type 0) → IsErrAnd end (λ other. other ≡ status) → P status → IfErr end P
-if_err (Ok value) status P is holds = absurd is
-if_err (Err other) status P is holds = subst P (sym is) holds
+-- what holds of the error that a call ends with
+pub if_err : {A E : Type 0} (end : Result A E) (why : E) (P : E → Type 0) → IsErrAnd end (λ other. other ≡ why) → P why → IfErr end P
+if_err (Ok value) why P is holds = absurd is
+if_err (Err other) why P is holds = subst P (sym is) holds
 
 -- a command whose list is refused is answered so
 pub list_answers : (first told : Option Refusal) (whole part : Type 0) (end status : Status) → end ≡ status → told ≡ first → IsListAnswer told status → IsAnswer first whole part end

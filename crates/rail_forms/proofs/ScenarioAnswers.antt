@@ -25,7 +25,7 @@ use Rattle.rail_forms.specs.declared.status.Status.{Status}
 use Rattle.rail_forms.specs.declared.status.Status.TheVariants.{Refused}
 use Rattle.rail_forms.specs.Answers.{Decides, IsAnswer, Told, status_of}
 use Rattle.rail_forms.specs.declared.scenario.Purpose.{Purpose}
-use Rattle.rail_forms.specs.declared.scenario.Purpose.TheVariants.{Capacity, History, Insertion, Report, Stairs}
+use Rattle.rail_forms.specs.declared.scenario.Purpose.TheVariants.{Capacity, History, Insertion, Report, Snapshot, Stairs}
 use Rattle.rail_words.specs.Files.{File, file_as}
 use Rattle.rail_words.specs.Forms.{Scenario}
 use Rattle.rail_words.specs.declared.files.Role.{Role}
@@ -102,12 +102,13 @@ or_else_none (Some refusal) = refl
 pub refusal_split : (purpose : Purpose) (status : Status) (first : Option Refusal) (input : Input)
     → refusal_of purpose status first input ≡ or_else first (late_refusal purpose status input)
 refusal_split History status first input = sym (or_else_none first)
+refusal_split (Snapshot count) status first input = sym (or_else_none first)
 refusal_split Stairs status first input = sym (or_else_none first)
 refusal_split Report status first input = sym (or_else_none first)
 refusal_split (Capacity study) status first input = refl
 refusal_split (Insertion demand) status first input = refl
 
-or_else_more : (a b c : Option Refusal) → or_else (or_else a b) c ≡ or_else a (or_else b c)
+pub or_else_more : (a b c : Option Refusal) → or_else (or_else a b) c ≡ or_else a (or_else b c)
 or_else_more None b c = refl
 or_else_more (Some refusal) b c = refl
 

@@ -1,23 +1,18 @@
 -- The form `check`: the verdict on a history of a scene.
-use Rattle.std.specs.Prelude.{◌≡◌, ◌≢◌, ℕ, IsTrue, List, [], ◌∷◌, ◌++◌, Option, Some, codes, decimal}
+use Rattle.std.specs.Prelude.{◌≡◌, ℕ, IsTrue, List, [], ◌∷◌, ◌++◌, Option, Some, codes, decimal}
 use Rattle.rail_base.specs.declared.refusals.Refusal.{Refusal}
 use Rattle.rail_history.specs.HistoryLines.{IsFirstWrong, IsHistory, refusal_at}
-use Rattle.rail_input.specs.Inputs.{input_in, input_refusal, plant_refusal}
 use Rattle.rail_io.specs.Writes.{Adds, AddsPrefix}
 use Rattle.rail_judging.specs.Verdicts.{IsBrokenAt, Verdict, behind as front_of, verdict}
 use Rattle.rail_judging.specs.Verdicts.Verdict.{yes, no}
-use Rattle.rail_policy.specs.Seats.{DeskSeat, names_of}
 use Rattle.rail_rules.specs.Fronts.{Line}
 use Rattle.rail_rules.specs.Lawful.{is_complete}
 use Rattle.rail_rules.specs.Numbers.{or_else}
 use Rattle.rail_rules.specs.Orders.{Input}
 use Rattle.rail_rules.specs.Texts.{behind}
-use Rattle.rail_words.specs.Forms.{Scenario}
-use Rattle.rail_words.specs.declared.files.Role.TheVariants as role
 use Rattle.rail_forms.specs.declared.status.Status.{Status}
-use Rattle.rail_forms.specs.declared.status.Status.TheVariants.{CheckedNo, Done, Refused}
-use Rattle.rail_forms.specs.Answers.{Decides, IsAnswer, Told}
-use Rattle.rail_forms.specs.Files.{told_of, too_large, too_large_if_any, too_many_bytes}
+use Rattle.rail_forms.specs.declared.status.Status.TheVariants.{CheckedNo, Done}
+use Rattle.rail_forms.specs.Answers.{Decides, IsAnswer}
 
 -- the words for a verdict
 abbrev pub verdict_words : Verdict → List ℕ
@@ -58,27 +53,3 @@ pub record AnswersHistory (first : Option Refusal) (input : Input) (text : List 
   pub wrong : (number : ℕ) → IsFirstWrong input.plant text number → IsAnswer (or_else first (Some (refusal_at number))) ⊥ ⊥ (done_with status)
   -- whatever the history is
   pub of_first : Decides first status
-
--- why a check is refused whose files hold this, with this deck, whatever the lines of the history are: for the size of each
--- file in turn, and then for what the others spell
-abbrev pub check_refusal : List ℕ → Option (List ℕ) → Option (List ℕ) → List ℕ → List DeskSeat → Option Refusal
-check_refusal scene timetable commands history deck =
-    or_else (too_large role.Scene scene)
-    (or_else (too_large_if_any role.Timetable timetable)
-    (or_else (too_large_if_any role.Commands commands)
-    (or_else (too_large role.History history)
-    (input_refusal scene timetable commands (names_of deck)))))
-
--- the verdict on the history for the scenario, with this deck
-pub record AnswersCheck (scenario : Scenario) (history : List ℕ) (deck : List DeskSeat) (told : Told) (before now : Option (List ℕ))
-    (status : Status) : Type 0 where
-  -- where the bytes of all files are told
-  pub all : (bytes : List ℕ) (calls orders : Option (List ℕ)) (text : List ℕ) → told scenario.scene ≡ Some bytes
-      → told_of told scenario.timetable ≡ Some calls → told_of told scenario.commands ≡ Some orders → told history ≡ Some text
-      → AnswersHistory (check_refusal bytes calls orders text deck) (input_in bytes calls orders (names_of deck)) text before now status
-  -- where those of the scene are told, whatever the other files are: the size of the scene's file, and behind the sizes of
-  -- the others the refusals of the scene
-  pub of_size : (bytes : List ℕ) → told scenario.scene ≡ Some bytes → Decides (too_large role.Scene bytes) status
-  pub of_scene : (bytes : List ℕ) → told scenario.scene ≡ Some bytes
-      → status ≢ Refused (too_many_bytes role.Timetable) → status ≢ Refused (too_many_bytes role.Commands) → status ≢ Refused (too_many_bytes role.History)
-      → Decides (or_else (too_large role.Scene bytes) (plant_refusal bytes)) status

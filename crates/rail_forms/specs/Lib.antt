@@ -19,6 +19,8 @@ pub mod TwoFiles
 pub mod Plays
 pub mod Reroutes
 pub mod Checks
+pub mod Snapshots
+pub mod Pasts
 pub mod SceneTexts
 pub mod Summaries
 pub mod Edits

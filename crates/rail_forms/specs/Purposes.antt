@@ -8,7 +8,7 @@ use Rattle.rail_rules.specs.Numbers.{or_else}
 use Rattle.rail_rules.specs.Orders.{Input}
 use Rattle.rail_rules.specs.RunHistories.{Seat}
 use Rattle.rail_forms.specs.declared.scenario.Purpose.{Purpose}
-use Rattle.rail_forms.specs.declared.scenario.Purpose.TheVariants.{Capacity, History, Insertion, Report, Stairs}
+use Rattle.rail_forms.specs.declared.scenario.Purpose.TheVariants.{Capacity, History, Insertion, Report, Snapshot, Stairs}
 use Rattle.rail_forms.specs.declared.status.Status.{Status}
 use Rattle.rail_forms.specs.declared.status.Status.TheVariants.{Refused}
 use Rattle.rail_forms.specs.Answers.{IsAnswer, Told}
@@ -17,6 +17,7 @@ use Rattle.rail_forms.specs.Insertions.{IsInsertionText, IsRefusedRun, refused_w
 use Rattle.rail_forms.specs.NotedRuns.{ReportsRun}
 use Rattle.rail_forms.specs.Reports.{IsReportText}
 use Rattle.rail_forms.specs.Runs.{RunsInput, RunsInputInPart}
+use Rattle.rail_forms.specs.Snapshots.{SavesInput, SavesInputInPart}
 use Rattle.rail_words.specs.Forms.{Scenario}
 use Rattle.rail_forms.specs.Files.{told_of}
 use Rattle.rail_forms.specs.Scenarios.{AnswersScenario, nothing_else, scenario_refusal}
@@ -26,6 +27,7 @@ use Rattle.rail_forms.specs.Stairs.{IsStairsText}
 -- what its run refuses
 abbrev pub refusal_of : Purpose → Status → Option Refusal → Input → Option Refusal
 refusal_of History status = nothing_else
+refusal_of (Snapshot count) status = nothing_else
 refusal_of Stairs status = nothing_else
 refusal_of Report status = nothing_else
 refusal_of (Capacity study) status = with_line study.line.now
@@ -50,6 +52,7 @@ IsRefusedIfAny purpose status input seats = (refusal : Refusal) → status ≡ R
 -- what is added of a run
 abbrev pub whole_of : Purpose → Option (List ℕ) → Option (List ℕ) → Input → List Seat → Type 0
 whole_of History before now = λ input seats. RunsInput input seats before now
+whole_of (Snapshot count) before now = λ input seats. SavesInput count input seats before now
 whole_of Stairs before now = λ input seats. ReportsRun IsStairsText input seats (Adds before now)
 whole_of Report before now = λ input seats. ReportsRun IsReportText input seats (Adds before now)
 whole_of (Capacity study) before now = λ input seats. ReportsRun (IsCapacityText study.line.now study.window) input seats (Adds before now)
@@ -59,6 +62,7 @@ whole_of (Insertion demand) before now =
 -- what is added of it where a write fails
 abbrev pub part_of : Purpose → Option (List ℕ) → Option (List ℕ) → Input → List Seat → Type 0
 part_of History before now = λ input seats. RunsInputInPart input seats before now
+part_of (Snapshot count) before now = λ input seats. SavesInputInPart count input seats before now
 part_of Stairs before now = λ input seats. ReportsRun IsStairsText input seats (AddsPrefix before now)
 part_of Report before now = λ input seats. ReportsRun IsReportText input seats (AddsPrefix before now)
 part_of (Capacity study) before now = λ input seats. ReportsRun (IsCapacityText study.line.now study.window) input seats (AddsPrefix before now)

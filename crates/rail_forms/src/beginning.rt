@@ -1,20 +1,29 @@
 //! An engine that has just begun, and the loop that follows its run to the end.
 
-ghost use Rattle.std.specs.Prelude.{◌≡◌, ◌≤◌, ◌*◌, ◌+◌, [], IfOk, IsTrue, OnOk, OnErr, true};
+ghost use Rattle.std.specs.Prelude.{◌≡◌, ◌-◌, ◌<◌, ◌≤◌, ◌*◌, ◌+◌, ◌^◌, [], IfErr, IfOk, IfSome, IsTrue, None, OnOk, OnErr, false, length, map, option_copied, true};
+ghost use Rattle.rail_base.specs.Refusals.{AnswersFirst};
 ghost use Rattle.rail_base.specs.declared.limits.TheConstants.{COMMANDS};
 ghost use Rattle.rail_engine.specs.Starts.{run_input};
+ghost use Rattle.rail_input.specs.Inputs.{input_in as input_spelled, input_refusal, refuses_file};
 ghost use Rattle.rail_laws_end.specs.Forks.{are_marks};
 ghost use Rattle.rail_policy.specs.Desks.{run_seats};
+ghost use Rattle.rail_policy.specs.Seats.{handed_in, is_fine_deck, names_of};
 ghost use Rattle.rail_rules.specs.Accepted.{is_accepted_input};
 ghost use Rattle.rail_rules.specs.Plant.{bound, trains};
 ghost use Rattle.rail_forms.specs.BegunRuns.{HasBegun, input_of, seats_of};
 ghost use Rattle.rail_forms.specs.NotedRuns.{IsCutRun, IsNotedRun};
+ghost use Rattle.rail_forms.specs.Snapshots.{SavesInput, SavesInputInPart};
+ghost use Rattle.rail_io.specs.FaultCounts.{Rose};
+ghost use Rattle.rail_save.specs.Snapshots.{IsRefusedSnapshot, IsResumed};
 
 use crate::notes::Notes;
-use rail_base::{Command, OutOfMemory};
+use rail_base::{Command, Fault, OutOfMemory};
 use rail_engine::Engine;
+use rail_input::{ReadInput, read_input};
+use rail_io::{Failed, Sink};
 use rail_plan::Plant;
-use rail_policy::{Desk, Seen};
+use rail_policy::{Desk, Policy, Seen, names_of, read_marks};
+use rail_save::{resume, save};
 use std::alloc::Global;
 
 /// The engine of a run before its first line.
@@ -64,6 +73,34 @@ impl Begun {
         self.engine.commands()
     }
 
+    /// Writes the snapshot of the run after so many lines, or after its end line where it has fewer. It takes no memory.
+    pub fn save<O: Sink>(self, count: u64, out: &mut O) -> Result<(), Failed>
+        requires begun { HasBegun ⟦<Desk as Seen>⟧.table self }
+        ensures adds { OnOk result (SavesInput count (input_of self) (seats_of ⟦<Desk as Seen>⟧.table self)
+            (O.written out.old) (O.written out.new)) }
+        ensures failed_adds_prefix { OnErr result (SavesInputInPart count (input_of self) (seats_of ⟦<Desk as Seen>⟧.table self)
+            (O.written out.old) (O.written out.new)) }
+        ensures failed_rose { OnErr result (Rose (O.faults out.old) (O.faults out.new)) }
+        ensures faults_never_fall { O.faults out.old ≤ O.faults out.new }
+    {
+        let Begun { mut engine } = self;
+        save(&mut engine, count, out)
+    }
+
+    /// The engine behind the lines of the snapshot; a snapshot that is none of this run is refused.
+    pub fn resume(self, alloc: Global, snapshot: &[u8]) -> Result<Engine, Fault>
+        requires begun { HasBegun ⟦<Desk as Seen>⟧.table self }
+        requires short { length snapshot.now < 2 ^ 32 - 1 }
+        ensures input { IfOk result (λ engine. engine.core.input ≡ self.engine.core.input) }
+        ensures resumed { let table = ⟦<Desk as Seen>⟧.table in
+            IfOk result (λ engine. IsResumed (seats_of table self) snapshot.now engine.core (table engine.desk)) }
+        ensures refused { let table = ⟦<Desk as Seen>⟧.table in
+            IfErr result (IsRefusedSnapshot (input_of self) (seats_of table self) snapshot.now) }
+    {
+        let Begun { engine } = self;
+        resume(alloc, engine, snapshot)
+    }
+
     /// Notes the lines of the run one by one, until the history has ended or one cannot be noted. It takes no memory. The
     /// engine comes back for its plant.
     pub fn follow_to_end<N: Notes>(self, notes: &mut N) -> Result<Engine, N::Fault>
@@ -86,10 +123,47 @@ impl Begun {
     }
 }
 
+/// Begins the run of what the files of a scenario spell, where the first policy in force is the one that the scene names.
+/// All memory that the run takes is taken here.
+pub fn begin(
+    alloc: Global,
+    scene: &[u8],
+    timetable: Option<&[u8]>,
+    commands: Option<&[u8]>,
+    deck: Vec<Box<dyn Policy>>,
+) -> Result<Begun, Fault>
+    requires fine { IsTrue (is_fine_deck (map ⟦<Box<dyn Policy> as Policy>⟧.seat deck.items)) }
+    requires short_timetable { IfSome timetable (λ bytes. length bytes.now < 2 ^ 32 - 1) }
+    requires short_commands { IfSome commands (λ bytes. length bytes.now < 2 ^ 32 - 1) }
+    ensures accepted { OnOk result (input_refusal scene.now (option_copied timetable.entry) (option_copied commands.entry)
+        (names_of (map ⟦<Box<dyn Policy> as Policy>⟧.seat deck.items)) ≡ None) }
+    ensures begun { IfOk result (HasBegun ⟦<Desk as Seen>⟧.table) }
+    ensures input { IfOk result (λ begun. input_of begun
+        ≡ input_spelled scene.now (option_copied timetable.entry) (option_copied commands.entry)
+        (names_of (map ⟦<Box<dyn Policy> as Policy>⟧.seat deck.items))) }
+    ensures seats { IfOk result (λ begun. seats_of ⟦<Desk as Seen>⟧.table begun
+        ≡ handed_in (map ⟦<Box<dyn Policy> as Policy>⟧.seat deck.items)) }
+    ensures refused { IfErr result (AnswersFirst
+        (input_refusal scene.now (option_copied timetable.entry) (option_copied commands.entry)
+        (names_of (map ⟦<Box<dyn Policy> as Policy>⟧.seat deck.items)))) }
+    ensures of_bytes { IfErr result (λ fault. refuses_file fault ≡ false) }
+{
+    let names = names_of(alloc, &deck)?;
+    read_marks(&deck);
+    let ReadInput {
+        plant,
+        commands,
+        force,
+    } = read_input(alloc, scene, timetable, commands, &names)?;
+    let desk = Desk::new(deck, force);
+    let begun = Begun::new(alloc, plant, commands, desk)?;
+    Ok(begun)
+}
+
 /// How often an engine of the plant, with so many commands, can be asked for a line at most. A history has
 /// as many lines as the bound says, and as many hold lines of each train, at most; and once more the answer
 /// is that it has ended.
-fn most_steps(plant: &Plant, commands: u64) -> u64
+pub fn most_steps(plant: &Plant, commands: u64) -> u64
     requires { commands ≤ COMMANDS }
     ensures { result ≡ bound plant.now commands * (trains plant.now + 1) + 1 }
 {

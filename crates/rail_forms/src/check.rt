@@ -1,62 +1,26 @@
 //! `check SCENE TIMETABLE COMMANDS HISTORY`: the verdict on a history of the scene, as a line.
 
-ghost use Rattle.std.specs.Prelude.{◌≡◌, ◌-◌, ◌<◌, ◌≤◌, ◌^◌, ◌++◌, ◌∷◌, [], IsTrue, IfSome, OnErr, OnOk, Some, length, map, option_copied, true};
+ghost use Rattle.std.specs.Prelude.{◌≡◌, ◌-◌, ◌<◌, ◌≤◌, ◌^◌, [], IsTrue, IfSome, OnErr, OnOk, length, map, option_copied, true};
 ghost use Rattle.rail_check.specs.Answers.{judged_in};
 ghost use Rattle.rail_input.specs.Inputs.{input_in as input_spelled, input_refusal};
 ghost use Rattle.rail_policy.specs.Seats.{is_fine_deck, names_of};
-ghost use Rattle.rail_forms.specs.Checks.{AnswersCheck, AnswersHistory, status_judged, verdict_text, verdict_words};
-ghost use Rattle.rail_words.specs.Files.{file_as};
-ghost use Rattle.rail_words.specs.Forms.{scenario_files, scenario_in};
-ghost use Rattle.rail_words.specs.declared.files.Role.TheVariants.{History};
-ghost use Rattle.rail_forms.specs.Promises.{KeepsPromise, WritesAnswer, ended, is_of_bytes};
+ghost use Rattle.rail_forms.specs.Checks.{AnswersHistory, status_judged, verdict_text, verdict_words};
+ghost use Rattle.rail_forms.specs.Promises.{WritesAnswer, ended, is_of_bytes};
 ghost use Rattle.rail_text.specs.Writes.{WritesText};
 
-use crate::files::{read_file, read_if_named};
 use crate::status::Status;
 use rail_check::{Verdict, check};
 use rail_history::read_history;
 use rail_input::{ReadInput, read_input};
-use rail_io::{Failed, Shelf, Sink, write_whole};
+use rail_io::{Failed, Sink, write_whole};
 use rail_ledger::RunInput;
 use rail_policy::{Policy, names_of};
 use rail_text::LineBuffer;
-use rail_words::{Role, Scenario};
 use std::alloc::Global;
 
-/// Writes the verdict on the history in the file of this name, for the scenario. Of the policies the names are used, and
-/// which one the scene names; none is asked.
-pub fn answer<S: Shelf, O: Sink>(
-    alloc: Global,
-    scenario: &Scenario,
-    history: &str,
-    shelf: &mut S,
-    out: &mut O,
-    deck: &[Box<dyn Policy>],
-) -> Result<(), Status>
-    requires fine { IsTrue (is_fine_deck (map ⟦<Box<dyn Policy> as Policy>⟧.seat deck.now)) }
-    ensures kept { KeepsPromise S.Shelf O.Sink
-        (scenario_files (scenario_in scenario.now) ++ file_as History (Some history.now) ∷ [])
-        shelf.old shelf.new out.old out.new (ended result) }
-    ensures answer { AnswersCheck (scenario_in scenario.now) history.now (map ⟦<Box<dyn Policy> as Policy>⟧.seat deck.now)
-        (S.told shelf.old) (O.written out.old) (O.written out.new) (ended result) }
-{
-    let scene = read_file(alloc, shelf, scenario.scene, Role::Scene)?;
-    let timetable = read_if_named(alloc, shelf, scenario.timetable, Role::Timetable)?;
-    let commands = read_if_named(alloc, shelf, scenario.commands, Role::Commands)?;
-    let history = read_file(alloc, shelf, history, Role::History)?;
-    check_files(
-        alloc,
-        &scene,
-        timetable.as_deref(),
-        commands.as_deref(),
-        &history,
-        out,
-        deck,
-    )
-}
-
-/// Writes the verdict on the history for what the other files spell.
-fn check_files<O: Sink>(
+/// Writes the verdict on the history for what the other files spell. Of the policies the names are used, and which one the
+/// scene names; none is asked.
+pub fn check_files<O: Sink>(
     alloc: Global,
     scene: &[u8],
     timetable: Option<&[u8]>,

@@ -9,16 +9,15 @@ ghost use Rattle.rail_forms.specs.BegunRuns.{HasBegun, input_of, seats_of};
 ghost use Rattle.rail_forms.specs.Promises.{KeepsPromise, WritesAnswer, ended, is_of_bytes};
 ghost use Rattle.rail_forms.specs.Purposes.{AnswersPurpose, IsRefusedIfAny, RefusesBehind, late_refusal, part_of, refusal_of, whole_of};
 
-use crate::beginning::Begun;
+use crate::beginning::{Begun, begin};
 use crate::demand::Demand;
 use crate::files::{read_file, read_if_named};
 use crate::run::write_history;
 use crate::status::Status;
 use crate::study::Study;
 use crate::{capacity, insertion, report, stairs};
-use rail_input::{ReadInput, read_input};
 use rail_io::{Shelf, Sink};
-use rail_policy::{Desk, Policy, Seen, names_of, read_marks};
+use rail_policy::{Desk, Policy, Seen};
 use rail_words::{Role, Scenario};
 use std::alloc::Global;
 
@@ -27,6 +26,8 @@ use std::alloc::Global;
 pub enum Purpose<'w> {
     /// Its lines are written as they come.
     History,
+    /// A snapshot of it is written: so many of its lines, or all where it has fewer.
+    Snapshot(u64),
     /// Its stairway is written.
     Stairs,
     /// Its delays by cause are written.
@@ -93,15 +94,7 @@ fn run_files<O: Sink>(
     ensures writes { WritesAnswer O.Sink out.old out.new (ended result) }
     ensures of_bytes { is_of_bytes (ended result) ≡ true }
 {
-    let names = names_of(alloc, &deck)?;
-    read_marks(&deck);
-    let ReadInput {
-        plant,
-        commands,
-        force,
-    } = read_input(alloc, scene, timetable, commands, &names)?;
-    let desk = Desk::new(deck, force);
-    let begun = Begun::new(alloc, plant, commands, desk)?;
+    let begun = begin(alloc, scene, timetable, commands, deck)?;
     follow(alloc, purpose, begun, out)
 }
 
@@ -124,6 +117,10 @@ fn follow<O: Sink>(
     match purpose {
         Purpose::History => {
             write_history(begun, out)?;
+            Ok(())
+        }
+        Purpose::Snapshot(count) => {
+            begun.save(*count, out)?;
             Ok(())
         }
         Purpose::Stairs => stairs::report(alloc, begun, out),

@@ -195,13 +195,13 @@ const TOLD: [(Reason, Part, u32, &str); 46] = [
         Reason::SnapshotForm,
         Part::Line,
         0,
-        "line 2 is no line of a snapshot",
+        "line 2 is no line of a history, or has no line feed at its end",
     ),
     (
         Reason::SnapshotOther,
-        Part::File,
+        Part::Line,
         0,
-        "the file is of a run of another scene, timetable or command file",
+        "line 2 is no line that a run of this scene, timetable and commands could have there",
     ),
     (
         Reason::NoPath,
@@ -273,7 +273,7 @@ const TOLD: [(Reason, Part, u32, &str); 46] = [
         Reason::TooMany,
         Part::File,
         0,
-        "the file is larger than a file may be: 1,048,576 bytes, and a history 16,777,216",
+        "the file is larger than a file may be: 1,048,576 bytes, and a history or a snapshot 16,777,216",
     ),
     (
         Reason::Unknown,

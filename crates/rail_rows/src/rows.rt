@@ -14,6 +14,8 @@ pub struct Row<'a> {
     files: Vec<Text>,
     /// What is wanted, from the line of its status on.
     wanted: Option<Wanted<'a>>,
+    /// Outputs that the tables behind may use as pieces.
+    kept: Vec<File>,
     is_right: bool,
 }
 
@@ -32,6 +34,8 @@ struct Wanted<'a> {
     output: Vec<Vec<u8>>,
     /// How many lines the output has that are no hold lines, where that is told.
     lines: Option<u32>,
+    /// The name under which the output is kept, where that is told.
+    kept_as: Option<&'a str>,
 }
 
 impl<'a> Row<'a> {
@@ -42,13 +46,14 @@ impl<'a> Row<'a> {
             asked: Asked::plainly(words),
             files: Vec::new(alloc),
             wanted: None,
+            kept: Vec::new(alloc),
             is_right: true,
         }
     }
 
-    /// Whether all that was asked was answered as the row says.
-    pub fn is_right(&self) -> bool {
-        self.is_right
+    /// Whether all that was asked was answered as the row says, and the outputs that are kept as pieces.
+    pub fn into_parts(self) -> (bool, Vec<File>) {
+        (self.is_right, self.kept)
     }
 
     /// Takes a line of the row. What is answered otherwise than the row says is told.
@@ -121,7 +126,13 @@ impl<'a> Row<'a> {
         let files = self.take_files()?;
         let answer = answer_to(self.alloc, self.asked, files)?;
         let is_right = match self.wanted.take() {
-            Some(wanted) => wanted.is_met(&answer),
+            Some(wanted) => {
+                if let Some(name) = wanted.kept_as {
+                    let bytes = answer.output.clone()?.into_bytes();
+                    self.kept.push(file(self.alloc, name, bytes)?)?;
+                }
+                wanted.is_met(&answer)
+            }
             None => false,
         };
         if !is_right {
@@ -150,17 +161,22 @@ impl<'a> Wanted<'a> {
             status,
             output: vec![in alloc; Vec::new(alloc)]?,
             lines: None,
+            kept_as: None,
         })
     }
 
     /// Takes a line of what is wanted. False where it is none.
-    fn take(&mut self, pieces: &[File], line: &str) -> Result<bool, AllocError> {
+    fn take(&mut self, pieces: &[File], line: &'a str) -> Result<bool, AllocError> {
         if line == "..." {
             self.output.push(Vec::new(*self.output.allocator()))?;
             return Ok(true);
         }
         if let Some(count) = line.strip_prefix("lines ") {
             self.lines = Some(number(count));
+            return Ok(true);
+        }
+        if let Some(name) = line.strip_prefix("keep ") {
+            self.kept_as = Some(name);
             return Ok(true);
         }
         match self.output.last_mut() {

@@ -54,10 +54,11 @@ fn piece_of(alloc: Global, pieces: &[File], name: &str, lines: &str) -> Result<F
     file(alloc, name, bytes)
 }
 
-/// Asks a row of these words. False where it is answered otherwise than its lines say, which is told then.
+/// Asks a row of these words, and adds the outputs that it keeps to the pieces. False where it is answered otherwise than its
+/// lines say, which is told then.
 fn tell_row(
     alloc: Global,
-    pieces: &[File],
+    pieces: &mut Vec<File>,
     words: &str,
     lines: &str,
     told: &mut String,
@@ -67,5 +68,9 @@ fn tell_row(
         row.take(pieces, line, told)?;
     }
     drop(row.ask(told)?);
-    Ok(row.is_right())
+    let (is_right, kept) = row.into_parts();
+    for piece in kept {
+        pieces.push(piece)?;
+    }
+    Ok(is_right)
 }

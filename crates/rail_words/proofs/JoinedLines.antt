@@ -1,5 +1,5 @@
 -- A line of a list file joins the lines before it and behind it.
-use Rattle.std.proofs.Common.{◌≡◌, ℕ, ◌+◌, Bool, true, false, ◌||◌, cond, List, [], ◌∷◌, ◌++◌, map, set, replicate, Some, None, refl, sym, ap, ◌∙◌, codes, append_assoc, append-nil}
+use Rattle.std.proofs.Common.{◌≡◌, ℕ, Bool, true, false, ◌||◌, cond, List, [], ◌∷◌, ◌++◌, map, set, replicate, None, refl, sym, ap, ◌∙◌, codes, append_assoc, append-nil}
 use Rattle.std.specs.Cmp.Lexicographic.{bytes_decides}
 use Rattle.std.specs.List.{flat_map}
 use Rattle.std.specs.Option.{option_or}
@@ -10,7 +10,6 @@ use Rattle.rail_base.specs.FirstRefusals.{first_failing}
 use Rattle.rail_base.specs.Refusals.{AnswersFirst}
 use Rattle.rail_base.specs.declared.refusals.Fault.{Fault}
 use Rattle.rail_base.specs.declared.refusals.Fault.TheVariants.{Refused, OutOfMemory}
-use Rattle.rail_base.specs.declared.refusals.Refusal.{Refusal}
 use Rattle.rail_base.proofs.CallerLemmas.{first_failing-append}
 use Rattle.rail_rules.specs.Moves.{Moves}
 use Rattle.rail_text.specs.Decimals.{value_of}

@@ -1,5 +1,5 @@
 -- What a line of a list file adds.
-use Rattle.std.proofs.Common.{◌≡◌, ℕ, ◌<◌, Bool, true, false, cond, is_some, List, [], ◌∷◌, length, map, Option, Some, None, Result, Ok, Err, OnOk, refl, ap, ◌∙◌, subst}
+use Rattle.std.proofs.Common.{◌≡◌, ℕ, ◌<◌, Bool, true, false, cond, is_some, List, [], ◌∷◌, length, map, Option, Some, None, Result, Ok, Err, OnOk, refl, subst}
 use Rattle.std.specs.List.{All, list_all}
 use Rattle.std.specs.Prelude.{unwrap_or}
 use Rattle.std.proofs.lemmas.Bool.{and_parts, false≢true}

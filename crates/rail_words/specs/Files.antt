@@ -14,6 +14,7 @@ most_bytes role.History = most HistoryBytes
 most_bytes role.List = most FileBytes
 most_bytes role.Edits = most FileBytes
 most_bytes role.Proposals = most FileBytes
+most_bytes role.Snapshot = most HistoryBytes
 
 -- the number of the file among the file words of its command, from 1, where each `-` counts too
 abbrev pub number_of : Role → ℕ
@@ -24,6 +25,7 @@ number_of role.History = 4
 number_of role.List = 2
 number_of role.Edits = 2
 number_of role.Proposals = 3
+number_of role.Snapshot = 4
 
 -- the two are one role
 abbrev pub same_role : Role → Role → Bool
@@ -34,6 +36,7 @@ same_role role.History role.History = true
 same_role role.List role.List = true
 same_role role.Edits role.Edits = true
 same_role role.Proposals role.Proposals = true
+same_role role.Snapshot role.Snapshot = true
 same_role _ _ = false
 
 -- the word that stands for no file

@@ -5,7 +5,7 @@ use Rattle.std.specs.Str.{bytes_eq}
 use Rattle.rail_base.specs.Clock.{IsLenientTime}
 use Rattle.rail_words.specs.declared.files.Role.TheVariants as role
 use Rattle.rail_words.specs.declared.forms.Form.{Form}
-use Rattle.rail_words.specs.declared.forms.Form.TheVariants.{Run, Infra, Play, Check, Stairs, Report, Capacity, Insert, Edit, Migrate, Reroute, Scene, Gen}
+use Rattle.rail_words.specs.declared.forms.Form.TheVariants.{Run, Infra, Play, Check, Stairs, Report, Capacity, Insert, Edit, Migrate, Reroute, Save, Resume, Scene, Gen}
 use Rattle.rail_words.specs.declared.forms.PathRequest.{PathRequest}
 use Rattle.rail_words.specs.declared.forms.TheConstants.{PATHS}
 use Rattle.rail_words.specs.declared.forms.Request.{Request}
@@ -26,12 +26,14 @@ verb_of Insert = codes "insert"
 verb_of Edit = codes "edit"
 verb_of Migrate = codes "migrate"
 verb_of Reroute = codes "reroute"
+verb_of Save = codes "save"
+verb_of Resume = codes "resume"
 verb_of Scene = codes "scene"
 verb_of Gen = codes "gen"
 
 -- all forms
 abbrev pub all_forms : List Form
-all_forms = Run ∷ Infra ∷ Play ∷ Check ∷ Stairs ∷ Report ∷ Capacity ∷ Insert ∷ Edit ∷ Migrate ∷ Reroute ∷ Scene ∷ Gen ∷ []
+all_forms = Run ∷ Infra ∷ Play ∷ Check ∷ Stairs ∷ Report ∷ Capacity ∷ Insert ∷ Edit ∷ Migrate ∷ Reroute ∷ Save ∷ Resume ∷ Scene ∷ Gen ∷ []
 
 -- the form with this verb
 abbrev pub form_named : List ℕ → Option Form
@@ -54,10 +56,15 @@ pub record SceneAndTwo : Type 0 where
   pub list : List ℕ
   pub proposals : List ℕ
 
--- a scenario and a history
-pub record Checked : Type 0 where
+-- a scenario and one file more
+pub record ScenarioAnd : Type 0 where
   pub scenario : Scenario
-  pub history : List ℕ
+  pub other : List ℕ
+
+-- how many lines of a scenario's run are wanted
+pub record Saving : Type 0 where
+  pub count : ℕ
+  pub scenario : Scenario
 
 -- a line, a window from one time to another, in tenths of a second, and a scenario
 pub record Study : Type 0 where
@@ -79,7 +86,7 @@ abbrev pub Values : Form → Type 0
 Values Run = Scenario
 Values Infra = List ℕ
 Values Play = SceneAnd
-Values Check = Checked
+Values Check = ScenarioAnd
 Values Stairs = Scenario
 Values Report = Scenario
 Values Capacity = Study
@@ -87,24 +94,27 @@ Values Insert = Paths
 Values Edit = SceneAnd
 Values Migrate = List ℕ
 Values Reroute = SceneAndTwo
+Values Save = Saving
+Values Resume = ScenarioAnd
 Values Scene = ℕ
 Values Gen = ℕ
+
+-- the scenario that three words name, of which `-` stands for no file
+abbrev pub scenario_of : List ℕ → List ℕ → List ℕ → Scenario
+scenario_of scene timetable commands = record { scene = scene; timetable = named_file timetable; commands = named_file commands }
 
 -- the scenario that words name: a word that is not there stands for no file, and so does `-`
 abbrev pub scenario_named : List (List ℕ) → Option Scenario
 scenario_named (scene ∷ []) = Some (record { scene = scene; timetable = None; commands = None })
 scenario_named (scene ∷ timetable ∷ []) = Some (record { scene = scene; timetable = named_file timetable; commands = None })
-scenario_named (scene ∷ timetable ∷ commands ∷ []) =
-    Some (record { scene = scene; timetable = named_file timetable; commands = named_file commands })
+scenario_named (scene ∷ timetable ∷ commands ∷ []) = Some (scenario_of scene timetable commands)
 scenario_named words = None
 
--- the scenario and the history that words name
-abbrev pub checked_named : List (List ℕ) → Option Checked
-checked_named (scene ∷ timetable ∷ commands ∷ history ∷ []) = Some (record {
-  scenario = record { scene = scene; timetable = named_file timetable; commands = named_file commands };
-  history = history;
-})
-checked_named words = None
+-- the scenario and the file that words name, all of which are there
+abbrev pub scenario_and_named : List (List ℕ) → Option ScenarioAnd
+scenario_and_named (scene ∷ timetable ∷ commands ∷ other ∷ []) =
+    Some (record { scenario = scenario_of scene timetable commands; other = other })
+scenario_and_named words = None
 
 -- the words spell the study
 abbrev pub IsStudy : Study → List (List ℕ) → Type 0
@@ -134,12 +144,18 @@ abbrev pub IsOneNumber : ℕ → List (List ℕ) → Type 0
 IsOneNumber n (word ∷ []) = IsNumber word n
 IsOneNumber n words = ⊥
 
+-- the words ask for so many lines of the scenario, whose words are all there
+abbrev pub IsSaving : Saving → List (List ℕ) → Type 0
+IsSaving saving (count ∷ scene ∷ timetable ∷ commands ∷ []) = IsNumber count saving.count
+    × (saving.scenario ≡ scenario_of scene timetable commands)
+IsSaving saving words = ⊥
+
 -- the words behind the verb of a form spell these values
 abbrev pub Spells : (form : Form) → Values form → List (List ℕ) → Type 0
 Spells Run scenario words = scenario_named words ≡ Some scenario
 Spells Infra scene words = words ≡ scene ∷ []
 Spells Play files words = words ≡ files.scene ∷ files.other ∷ []
-Spells Check checked words = checked_named words ≡ Some checked
+Spells Check files words = scenario_and_named words ≡ Some files
 Spells Stairs scenario words = scenario_named words ≡ Some scenario
 Spells Report scenario words = scenario_named words ≡ Some scenario
 Spells Capacity study words = IsStudy study words
@@ -147,6 +163,8 @@ Spells Insert paths words = ArePaths paths words
 Spells Edit files words = words ≡ files.scene ∷ files.other ∷ []
 Spells Migrate scene words = words ≡ scene ∷ []
 Spells Reroute files words = words ≡ files.scene ∷ files.list ∷ files.proposals ∷ []
+Spells Save saving words = IsSaving saving words
+Spells Resume files words = scenario_and_named words ≡ Some files
 Spells Scene number words = IsOneNumber number words
 Spells Gen number words = IsOneNumber number words
 
@@ -170,7 +188,7 @@ abbrev pub files_of : (form : Form) → Values form → List File
 files_of Run scenario = scenario_files scenario
 files_of Infra scene = file_as role.Scene (Some scene) ∷ []
 files_of Play files = file_as role.Scene (Some files.scene) ∷ file_as role.List (Some files.other) ∷ []
-files_of Check checked = scenario_files checked.scenario ++ file_as role.History (Some checked.history) ∷ []
+files_of Check files = scenario_files files.scenario ++ file_as role.History (Some files.other) ∷ []
 files_of Stairs scenario = scenario_files scenario
 files_of Report scenario = scenario_files scenario
 files_of Capacity study = scenario_files study.scenario
@@ -179,6 +197,8 @@ files_of Edit files = file_as role.Scene (Some files.scene) ∷ file_as role.Edi
 files_of Migrate scene = file_as role.Scene (Some scene) ∷ []
 files_of Reroute files = file_as role.Scene (Some files.scene) ∷ file_as role.List (Some files.list)
     ∷ file_as role.Proposals (Some files.proposals) ∷ []
+files_of Save saving = scenario_files saving.scenario
+files_of Resume files = scenario_files files.scenario ++ file_as role.Snapshot (Some files.other) ∷ []
 files_of Scene number = []
 files_of Gen number = []
 
@@ -213,6 +233,8 @@ form_in (request.Insert paths) = Insert
 form_in (request.Edit scene edits) = Edit
 form_in (request.Migrate scene) = Migrate
 form_in (request.Reroute scene list proposals) = Reroute
+form_in (request.Save count scenario) = Save
+form_in (request.Resume scenario snapshot) = Resume
 form_in (request.Scene number) = Scene
 form_in (request.Gen number) = Gen
 
@@ -221,7 +243,7 @@ abbrev pub values_in : (asked : Request) → Values (form_in asked)
 values_in (request.Run scenario) = scenario_in scenario
 values_in (request.Infra scene) = scene.now
 values_in (request.Play scene list) = record { scene = scene.now; other = list.now }
-values_in (request.Check scenario history) = record { scenario = scenario_in scenario; history = history.now }
+values_in (request.Check scenario history) = record { scenario = scenario_in scenario; other = history.now }
 values_in (request.Stairs scenario) = scenario_in scenario
 values_in (request.Report scenario) = scenario_in scenario
 values_in (request.Capacity line from to scenario) = record { line = line.now; from = from; to = to; scenario = scenario_in scenario }
@@ -229,6 +251,8 @@ values_in (request.Insert paths) = paths_in paths
 values_in (request.Edit scene edits) = record { scene = scene.now; other = edits.now }
 values_in (request.Migrate scene) = scene.now
 values_in (request.Reroute scene list proposals) = record { scene = scene.now; list = list.now; proposals = proposals.now }
+values_in (request.Save count scenario) = record { count = count; scenario = scenario_in scenario }
+values_in (request.Resume scenario snapshot) = record { scenario = scenario_in scenario; other = snapshot.now }
 values_in (request.Scene number) = number
 values_in (request.Gen number) = number
 
@@ -246,5 +270,7 @@ files_in (request.Edit scene edits) = file_as role.Scene (Some scene.now) ∷ fi
 files_in (request.Migrate scene) = file_as role.Scene (Some scene.now) ∷ []
 files_in (request.Reroute scene list proposals) = file_as role.Scene (Some scene.now) ∷ file_as role.List (Some list.now)
     ∷ file_as role.Proposals (Some proposals.now) ∷ []
+files_in (request.Save count scenario) = scenario_files (scenario_in scenario)
+files_in (request.Resume scenario snapshot) = scenario_files (scenario_in scenario) ++ file_as role.Snapshot (Some snapshot.now) ∷ []
 files_in (request.Scene number) = []
 files_in (request.Gen number) = []

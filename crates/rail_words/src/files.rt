@@ -18,6 +18,7 @@ pub enum Role {
     List,
     Edits,
     Proposals,
+    Snapshot,
 }
 
 impl Role {
@@ -27,7 +28,7 @@ impl Role {
         ensures short { result ≤ HISTORY_BYTES }
     {
         match self {
-            Role::History => HISTORY_BYTES,
+            Role::History | Role::Snapshot => HISTORY_BYTES,
             Role::Scene
             | Role::Timetable
             | Role::Commands
@@ -45,7 +46,7 @@ impl Role {
             Role::Scene => 1,
             Role::Timetable | Role::List | Role::Edits => 2,
             Role::Commands | Role::Proposals => 3,
-            Role::History => 4,
+            Role::History | Role::Snapshot => 4,
         }
     }
 }

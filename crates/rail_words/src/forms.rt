@@ -4,9 +4,9 @@
 ghost use Rattle.std.specs.Prelude.{◌≡◌, ◌≤◌, ℕ, ◌∷◌, [], List, MatchOption, length};
 ghost use Rattle.std.specs.Option.{option_copied, option_map};
 ghost use Rattle.rail_words.specs.declared.forms.Form.{Form as AnyForm};
-ghost use Rattle.rail_words.specs.declared.forms.Form.TheVariants.{Capacity, Insert};
+ghost use Rattle.rail_words.specs.declared.forms.Form.TheVariants.{Capacity, Insert, Save};
 ghost use Rattle.rail_words.specs.Files.{file_with};
-ghost use Rattle.rail_words.specs.Forms.{ArePaths, IsAsked, IsOneNumber, IsPathCount, IsStudy, Lacks, Paths, SceneAnd, SceneAndTwo, Spells, Study, Values, checked_named, files_in, form_in, form_named, scenario_files, scenario_in, scenario_named, values_in, verb_of};
+ghost use Rattle.rail_words.specs.Forms.{ArePaths, IsAsked, IsOneNumber, IsPathCount, IsSaving, IsStudy, Lacks, Paths, Saving, SceneAnd, SceneAndTwo, Spells, Study, Values, files_in, form_in, form_named, scenario_and_named, scenario_files, scenario_in, scenario_named, scenario_of, values_in, verb_of};
 
 use crate::files::{Role, named_file};
 use crate::numbers::read_number;
@@ -29,12 +29,14 @@ pub enum Form {
     Edit,
     Migrate,
     Reroute,
+    Save,
+    Resume,
     Scene,
     Gen,
 }
 
 /// The forms, in the order in which they are told.
-pub const FORMS: [Form; 13] = [
+pub const FORMS: [Form; 15] = [
     Form::Run,
     Form::Infra,
     Form::Play,
@@ -46,6 +48,8 @@ pub const FORMS: [Form; 13] = [
     Form::Edit,
     Form::Migrate,
     Form::Reroute,
+    Form::Save,
+    Form::Resume,
     Form::Scene,
     Form::Gen,
 ];
@@ -68,6 +72,8 @@ impl Form {
             Form::Edit => "edit",
             Form::Migrate => "migrate",
             Form::Reroute => "reroute",
+            Form::Save => "save",
+            Form::Resume => "resume",
             Form::Scene => "scene",
             Form::Gen => "gen",
         }
@@ -86,6 +92,8 @@ impl Form {
             Form::Insert => "TRAIN FROM TO COUNT SCENE [TIMETABLE [COMMANDS]]",
             Form::Edit => "SCENE EDITS",
             Form::Reroute => "SCENE LIST PROPOSALS",
+            Form::Save => "COUNT SCENE TIMETABLE COMMANDS",
+            Form::Resume => "SCENE TIMETABLE COMMANDS SNAPSHOT",
             Form::Scene | Form::Gen => "NUMBER",
         }
     }
@@ -95,7 +103,8 @@ impl Form {
         ensures short { length result.now ≤ 70 }
     {
         match self {
-            Form::Check => ", with - for no timetable or no commands",
+            Form::Check | Form::Resume => ", with - for no timetable or no commands",
+            Form::Save => ", where COUNT is below 2^64 with no leading zeros; - is for no file",
             Form::Capacity => ", where FROM and TO are times as 01:30:00",
             Form::Insert => ", where FROM and TO are times as 01:30:00, and COUNT is 1 to 128",
             Form::Scene | Form::Gen => ", where NUMBER is below 2^64 and has no leading zeros",
@@ -120,6 +129,8 @@ impl Form {
             Form::Edit => "the scene after the edits, as a scene file",
             Form::Migrate => "the scene, as a scene file of the newest version",
             Form::Reroute => "whether trains could take other routes from where they stand",
+            Form::Save => "a snapshot of the run after so many of its lines",
+            Form::Resume => "the lines of a run that follow those of a snapshot",
             Form::Scene => "the made-up scene of the number, as a scene file",
             Form::Gen => "a run of that scene, told in one line",
         }
@@ -190,6 +201,15 @@ pub enum Request<'w> {
         list: &'w str,
         proposals: &'w str,
     },
+    /// So many lines of the run, at most, are saved.
+    Save {
+        count: u64,
+        scenario: Scenario<'w>,
+    },
+    Resume {
+        scenario: Scenario<'w>,
+        snapshot: &'w str,
+    },
     Scene {
         number: u64,
     },
@@ -215,6 +235,8 @@ impl<'w> Request<'w> {
             Request::Edit { .. } => Form::Edit,
             Request::Migrate { .. } => Form::Migrate,
             Request::Reroute { .. } => Form::Reroute,
+            Request::Save { .. } => Form::Save,
+            Request::Resume { .. } => Form::Resume,
             Request::Scene { .. } => Form::Scene,
             Request::Gen { .. } => Form::Gen,
         }
@@ -233,13 +255,18 @@ impl<'w> Request<'w> {
                 | Role::History
                 | Role::List
                 | Role::Edits
-                | Role::Proposals => None,
+                | Role::Proposals
+                | Role::Snapshot => None,
             },
             Request::Play { scene, list } => match role {
                 Role::Scene => Some(*scene),
                 Role::List => Some(*list),
-                Role::Timetable | Role::Commands | Role::History | Role::Edits | Role::Proposals =>
-                    None,
+                Role::Timetable
+                | Role::Commands
+                | Role::History
+                | Role::Edits
+                | Role::Proposals
+                | Role::Snapshot => None,
             },
             Request::Check { scenario, history } => match role {
                 Role::History => Some(*history),
@@ -248,7 +275,8 @@ impl<'w> Request<'w> {
                 | Role::Commands
                 | Role::List
                 | Role::Edits
-                | Role::Proposals => scenario.file(role),
+                | Role::Proposals
+                | Role::Snapshot => scenario.file(role),
             },
             Request::Stairs(scenario) => scenario.file(role),
             Request::Report(scenario) => scenario.file(role),
@@ -257,8 +285,12 @@ impl<'w> Request<'w> {
             Request::Edit { scene, edits } => match role {
                 Role::Scene => Some(*scene),
                 Role::Edits => Some(*edits),
-                Role::Timetable | Role::Commands | Role::History | Role::List | Role::Proposals =>
-                    None,
+                Role::Timetable
+                | Role::Commands
+                | Role::History
+                | Role::List
+                | Role::Proposals
+                | Role::Snapshot => None,
             },
             Request::Reroute {
                 scene,
@@ -268,7 +300,19 @@ impl<'w> Request<'w> {
                 Role::Scene => Some(*scene),
                 Role::List => Some(*list),
                 Role::Proposals => Some(*proposals),
-                Role::Timetable | Role::Commands | Role::History | Role::Edits => None,
+                Role::Timetable | Role::Commands | Role::History | Role::Edits | Role::Snapshot =>
+                    None,
+            },
+            Request::Save { scenario, .. } => scenario.file(role),
+            Request::Resume { scenario, snapshot } => match role {
+                Role::Snapshot => Some(*snapshot),
+                Role::Scene
+                | Role::Timetable
+                | Role::Commands
+                | Role::History
+                | Role::List
+                | Role::Edits
+                | Role::Proposals => scenario.file(role),
             },
             Request::Scene { .. } | Request::Gen { .. } => None,
         }
@@ -284,7 +328,7 @@ impl<'w> Scenario<'w> {
             Role::Scene => Some(self.scene),
             Role::Timetable => self.timetable,
             Role::Commands => self.commands,
-            Role::History | Role::List | Role::Edits | Role::Proposals => None,
+            Role::History | Role::List | Role::Edits | Role::Proposals | Role::Snapshot => None,
         }
     }
 }
@@ -328,7 +372,7 @@ fn request_with<'w>(form: Form, words: &'w [Word]) -> Option<Request<'w>>
             Some(Request::Play { scene, list })
         }
         Form::Check => {
-            let (scenario, history) = checked_files(words)?;
+            let (scenario, history) = scenario_and_file(words)?;
             Some(Request::Check { scenario, history })
         }
         Form::Capacity => study_of(words),
@@ -347,6 +391,11 @@ fn request_with<'w>(form: Form, words: &'w [Word]) -> Option<Request<'w>>
                 list,
                 proposals,
             })
+        }
+        Form::Save => saving_of(words),
+        Form::Resume => {
+            let (scenario, snapshot) = scenario_and_file(words)?;
+            Some(Request::Resume { scenario, snapshot })
         }
         Form::Scene => Some(Request::Scene {
             number: number_in(words)?,
@@ -408,18 +457,39 @@ fn three_files<'w>(words: &'w [Word]) -> Option<(&'w str, &'w str, &'w str)>
     }
 }
 
-/// The scenario and the history that words name.
-fn checked_files<'w>(words: &'w [Word]) -> Option<(Scenario<'w>, &'w str)>
-    ensures { option_map (λ read. record { scenario = scenario_in read.0; history = read.1.now }) result ≡ checked_named words.now }
+/// The scenario and the file behind it that words name, all of which are there.
+fn scenario_and_file<'w>(words: &'w [Word]) -> Option<(Scenario<'w>, &'w str)>
+    ensures { option_map (λ read. record { scenario = scenario_in read.0; other = read.1.now }) result ≡ scenario_and_named words.now }
 {
     match words {
-        [scene, timetable, commands, history] => {
-            let scenario = Scenario {
-                scene: scene.as_str(),
-                timetable: named_file(timetable),
-                commands: named_file(commands),
-            };
-            Some((scenario, history.as_str()))
+        [scene, timetable, commands, other] => {
+            Some((whole_scenario(scene, timetable, commands), other.as_str()))
+        }
+        _ => None,
+    }
+}
+
+/// The scenario that three words name, of which `-` stands for no file.
+fn whole_scenario<'w>(scene: &'w Word, timetable: &'w Word, commands: &'w Word) -> Scenario<'w>
+    ensures { scenario_in result ≡ scenario_of scene.now timetable.now commands.now }
+{
+    Scenario {
+        scene: scene.as_str(),
+        timetable: named_file(timetable),
+        commands: named_file(commands),
+    }
+}
+
+/// The lines of a run that words ask to save.
+fn saving_of<'w>(words: &'w [Word]) -> Option<Request<'w>>
+    ensures { MatchOption result ((saving : Saving) → IsSaving saving words.now → ⊥)
+        (λ request. (form_in request ≡ Save) × Spells (form_in request) (values_in request) words.now) }
+{
+    match words {
+        [count, scene, timetable, commands] => {
+            let count = read_number(count.as_str().as_bytes())?;
+            let scenario = whole_scenario(scene, timetable, commands);
+            Some(Request::Save { count, scenario })
         }
         _ => None,
     }

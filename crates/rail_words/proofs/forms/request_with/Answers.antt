@@ -21,3 +21,8 @@ pub returns-in-Insert : goal.returns-in-Insert
 returns-in-Insert c =
     subst (λ (form : Form). MatchOption c.paths_of.result (Lacks form c.args.words.now) (λ request. (form_in request ≡ form) × Spells (form_in request) (values_in request) c.args.words.now))
     (sym c.in-Insert.is) c.paths_of.ensures
+
+pub returns-in-Save : goal.returns-in-Save
+returns-in-Save c =
+    subst (λ (form : Form). MatchOption c.saving_of.result (Lacks form c.args.words.now) (λ request. (form_in request ≡ form) × Spells (form_in request) (values_in request) c.args.words.now))
+    (sym c.in-Save.is) c.saving_of.ensures

@@ -1,0 +1,71 @@
+-- The forms `save` and `resume`: a snapshot of a run, and the lines that follow it.
+use Rattle.std.specs.Prelude.{◌≡◌, ◌⊎◌, ℕ, ◌<◌, ◌≤◌, List, [], ◌++◌, length, reverse, Option, Some, None}
+use Rattle.std.specs.Option.{option_map}
+use Rattle.rail_base.specs.declared.refusals.Reason.TheVariants.{SnapshotForm, SnapshotOther}
+use Rattle.rail_base.specs.declared.refusals.Refusal.{Refusal}
+use Rattle.rail_io.specs.Writes.{Adds, AddsPrefix}
+use Rattle.rail_policy.specs.Seats.{DeskSeat}
+use Rattle.rail_rules.specs.Fronts.{Front, Line}
+use Rattle.rail_rules.specs.Numbers.{or_else}
+use Rattle.rail_rules.specs.Orders.{Input}
+use Rattle.rail_rules.specs.RunHistories.{Seat}
+use Rattle.rail_rules.specs.Texts.{text}
+use Rattle.rail_save.specs.RunLines.{other_behind}
+use Rattle.rail_save.specs.Snapshots.{IsFirstUnread, IsSnapshot, refusal_at, snapshot}
+use Rattle.rail_words.specs.Forms.{Scenario}
+use Rattle.rail_forms.specs.declared.status.Status.{Status}
+use Rattle.rail_forms.specs.Answers.{Decides, IsAnswer, Told}
+use Rattle.rail_forms.specs.Runs.{IsRunInPart, IsRunWithin}
+use Rattle.rail_forms.specs.Scenarios.{AnswersScenario, nothing_else}
+
+-- the front is a first part of a run of the input that has so many lines, or a whole run that has fewer
+pub record IsRunUpTo (count : ℕ) (input : Input) (seats : List Seat) (front : Front) : Type 0 where
+  pub part : IsRunInPart input seats front
+  pub counted : (length front ≡ count) ⊎ ((length front < count) × IsRunWithin input seats front)
+
+-- the bytes added are the snapshot after so many lines of a run
+pub record SavesInput (count : ℕ) (input : Input) (seats : List Seat) (before now : Option (List ℕ)) : Type 0 where
+  pub front : Front
+  pub run : IsRunUpTo count input seats front
+  pub adds : Adds before now (snapshot input.plant front)
+
+-- the bytes added are a first part of the snapshot of at most so many lines of a run
+pub record SavesInputInPart (count : ℕ) (input : Input) (seats : List Seat) (before now : Option (List ℕ)) : Type 0 where
+  pub front : Front
+  pub run : IsRunInPart input seats front
+  pub few : length front ≤ count
+  pub adds : AddsPrefix before now (snapshot input.plant front)
+
+-- the bytes added are the text of lines which follow these ones, and with them are a run history of the input
+pub record ResumesInput (lines : List Line) (input : Input) (seats : List Seat) (before now : Option (List ℕ)) : Type 0 where
+  pub more : Front
+  pub run : IsRunWithin input seats (more ++ reverse lines)
+  pub adds : Adds before now (text input.plant more)
+
+-- the bytes added are a first part of the text of lines which follow these ones, and with them are a first part of a run
+pub record ResumesInputInPart (lines : List Line) (input : Input) (seats : List Seat) (before now : Option (List ℕ)) : Type 0 where
+  pub more : Front
+  pub run : IsRunInPart input seats (more ++ reverse lines)
+  pub adds : AddsPrefix before now (text input.plant more)
+
+-- why the lines of a snapshot are refused: of the first with which they are no first part of a run, counted in the snapshot,
+-- whose first line is the header
+abbrev pub lines_refusal : Input → List Seat → List Line → Option Refusal
+lines_refusal input seats lines = option_map (refusal_at SnapshotOther) (other_behind input seats [] 2 lines)
+
+-- what is answered to a snapshot file, where so much is refused without it: where its bytes are a snapshot of lines, what
+-- follows these in a run; where a line is the first that is none, its refusal
+pub record AnswersSnapshot (first : Option Refusal) (input : Input) (seats : List Seat) (bytes : List ℕ)
+    (before now : Option (List ℕ)) (status : Status) : Type 0 where
+  pub read : (lines : List Line) → IsSnapshot input.plant bytes lines → IsAnswer (or_else first (lines_refusal input seats lines))
+      (ResumesInput lines input seats before now) (ResumesInputInPart lines input seats before now) status
+  pub wrong : (number : ℕ) → IsFirstUnread input.plant bytes number
+      → IsAnswer (or_else first (Some (refusal_at SnapshotForm number))) ⊥ ⊥ status
+  -- whatever the snapshot is
+  pub of_first : Decides first status
+
+-- the snapshot after so many lines of the scenario's run, with this deck
+abbrev pub AnswersSave : ℕ → Scenario → List DeskSeat → Told → Option (List ℕ) → Option (List ℕ) → Status → Type 0
+AnswersSave count scenario deck told before now status = AnswersScenario nothing_else
+    (λ input seats. SavesInput count input seats before now)
+    (λ input seats. SavesInputInPart count input seats before now) scenario deck told status
