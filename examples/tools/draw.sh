@@ -7,6 +7,10 @@
 # left to right as long as its section; the line through the boxes is the way of the train's head. Kilometres come from
 # km.py. The program is $RAIL, or else `rail`; gnuplot draws.
 set -eu
+usage() { sed -n '2,/^set/s/^# \{0,1\}//p' "$0" >&2; exit 2; }
+[ $# -ge 4 ] || usage
+case $1 in *.svg | *.png) ;; *) usage ;; esac
+command -v gnuplot > /dev/null || { echo "draw.sh: gnuplot is not there" >&2; exit 1; }
 rail=${RAIL:-rail} picture=$1 from=$2 to=$3 scene=$4
 shift 3
 here=$(dirname "$0") room=$(mktemp -d)

@@ -54,6 +54,8 @@ def lateness(scene, timetable, text, last):
 
 
 def main():
+    if not 4 <= len(sys.argv) <= 6:
+        sys.exit(__doc__)
     scene, timetable, runs = sys.argv[1], sys.argv[2], int(sys.argv[3])
     mean, seed = (sys.argv[4:] + ["120", "1"][len(sys.argv) - 4:])[:2]
     draw = random.Random(int(seed))

@@ -3,19 +3,15 @@
 
 usage: scene_from_stations.py STATIONS TRAINS KINDS OUT
 
-STATIONS, a CSV file, has a row for each station from west to east: `code`; `km`; `tracks`, `speed` on them in km/h and
-`platform`, the length of each in metres; and of the line to the next station `line_tracks`, `line_speed` and `blocks`, its
-number of block sections. A line of one track meets more tracks by points; one of two leads straight into two. TRAINS has a
-row for trains that come again: `name`; `kind`; `from`; `to`; `back`, where it goes once it has turned at `to`, or nothing;
-`first`, the first departure; `every` so many minutes; `count`; `priority`; `tracks`, the track that it takes in a station,
-as `HB3` (else 1 eastward and 2, if there is one, westward); `stops` with their seconds, as `PF:40`. KINDS has `kind`,
-`length`, `speed`, `start` and `stop`, as in a scene. Written are OUT.toml, the scene; OUT.csv, a timetable with the first
-departures and the stops; and OUT.places, a line `train,place,station` for each place at a station.
+STATIONS, TRAINS and KINDS are CSV files; README.md beside this file has their columns. Written are OUT.toml, the scene;
+OUT.csv, a timetable with the first departures and the stops; and OUT.places, a line `train,place,station` for each place at
+a station. A table that is not as it has to be is told with its file and row, and nothing is written.
 """
 
-import csv
 import sys
 from pathlib import Path
+
+from tables import read_tables, refuse
 
 SIGHT = {"setting": 60, "watching": 50, "approach": 300}  # of each portal and signal, in tenths of a second
 POINTS, TURN, BEFORE = 50, 2400, 120  # metres; tenths of a second; seconds from the entry to the first departure
@@ -29,11 +25,6 @@ def add(table, name, **keys):
     return name
 
 
-def read(name):
-    rows = csv.DictReader(Path(name).read_text().splitlines())
-    return [{key: int(text) if text.isdigit() else text for key, text in row.items()} for row in rows]
-
-
 def throat(station, side, line_tracks):
     """The ways out of a station on one side, by its track: the joints and sections from the track to the line, in turn."""
     code, tracks = station["code"], station["tracks"]
@@ -41,7 +32,7 @@ def throat(station, side, line_tracks):
     if line_tracks == tracks or tracks == 1:
         return {track: [end] for track, end in ends.items()}
     if line_tracks != 1:
-        sys.exit(f"{code}: {line_tracks} tracks of the line do not meet {tracks} in the station")
+        refuse(f"{code}: {line_tracks} tracks of the line do not meet {tracks} in the station")
     ways, toe, ladder = {}, f"{code}{side}", []
     for track in range(1, tracks):  # a ladder of points, from the line on
         points, rest = f"{code}{side}P{track}", ends[tracks] if track == tracks - 1 else f"{code}{side}{track}"
@@ -124,7 +115,9 @@ def clock(seconds):
 
 
 def main():
-    stations, trains, kinds = map(read, sys.argv[1:4])
+    if len(sys.argv) != 5:
+        sys.exit(__doc__)
+    stations, trains, kinds = read_tables(*sys.argv[1:4])
     build(stations)
     for kind in kinds:
         add("kind", kind.pop("kind"), **kind)

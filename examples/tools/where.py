@@ -105,6 +105,9 @@ def timetable(run, calls):
 
 
 def main():
+    forms = {"at": (1, 1), "waits": (0, 1), "journeys": (0, 0), "timetable": (1, 1)}  # how many words stand behind each
+    if len(sys.argv) < 4 or sys.argv[3] not in forms or not forms[sys.argv[3]][0] <= len(sys.argv) - 4 <= forms[sys.argv[3]][1]:
+        sys.exit(__doc__)
     history, places, form, *rest = sys.argv[1:]
     stations = collections.defaultdict(dict)
     with open(places) as file:
