@@ -6,8 +6,8 @@ usage: faults.py PROGRAM [COUNT]
 The commands are those of examples/README.md. For each of them the calls are counted, and at most COUNT of each kind fail, one
 in a run of its own. A call for memory that fails ends the program with `out of memory`, one that opens or reads a file with
 `read fault`, and a write with `write fault`; or nothing changes, as where what failed was only for words on standard error.
-What a write fault left is a first part of the whole answer; nothing else writes anything. A call that moves one byte alone
-changes nothing. A C compiler is needed, as `cc`, and a system on which a library may be loaded before others.
+What a write fault left is a first part of the whole answer; nothing else writes anything. A call that moves one byte alone, or
+is interrupted by a signal, changes nothing. A C compiler is needed, as `cc`, and a system on which a library may be loaded before others.
 
 Printed are how many calls failed, how many of them ended the program, and each wrong answer; the exit status is 1 where one
 was wrong.
@@ -65,8 +65,8 @@ def fault_of(whole, kind, error, answer):
         return why
     if answer[:2] == whole[:2]:
         return None
-    if error == "short":
-        return "another answer for a call that moved one byte"
+    if error:
+        return "another answer for a call that moved one byte, or was interrupted"
     if answer[0] != ENDS[kind]:
         return f"exit status {answer[0]}"
     return None if whole[1].startswith(answer[1]) else "no first part of the answer"
@@ -82,7 +82,7 @@ def main():
         for number, words in enumerate(attack.commands()):
             whole = attack.ask(program, words)
             calls = counted(program, words, made, folder, number)
-            cases = [(kind, at, error) for kind in ENDS for at in chosen(calls[kind], count) for error in ("", "short")[: 1 + (kind in ("read", "write"))]]
+            cases = [(kind, at, error) for kind in ENDS for at in chosen(calls[kind], count) for error in ("", "short", "interrupt")[: 3 if kind in ("read", "write") else 1]]
             answers = pool.map(lambda case: ask(program, words, library=made, kind=case[0], at=case[1], error=case[2]), cases)
             for (kind, at, error), answer in zip(cases, answers):
                 why = fault_of(whole, kind, error, answer)
