@@ -3,11 +3,10 @@ pub mod FaultCounts
 pub mod Writes
 pub mod Reads
 pub mod File
+pub mod KeptFiles
 pub mod Paper
 pub mod MemoryShelf
 pub mod MemorySink
-pub mod SureShelf
-pub mod SureSink
 pub mod Room
 pub mod GatheredSink
 pub mod Whole

@@ -1,23 +1,15 @@
 -- A shelf over files in memory, on which planned calls fail.
 use Rattle.std.specs.Prelude.{ℕ, List, Option, Contains}
-use Rattle.rail_io.specs.declared.kept_file.File.{File}
 use Rattle.rail_io.specs.declared.memory.MemoryShelf.{MemoryShelf}
 use Rattle.rail_io.specs.declared.reading.Reading.{Reading}
 use Rattle.rail_io.specs.FaultCounts.{raised}
 use Rattle.rail_io.specs.File.{bytes_named}
+use Rattle.rail_io.specs.KeptFiles.{files_on}
 use Rattle.rail_io.specs.Reads.{bytes_left}
-
--- the files on the shelf
-abbrev pub files_on : MemoryShelf → List File
-files_on shelf = shelf.files.items
-
--- where the reading of the files stands
-abbrev pub reading_of : MemoryShelf → Reading
-reading_of shelf = shelf.reading
 
 -- what is left of the begun file
 abbrev pub left_on : MemoryShelf → Option (List ℕ)
-left_on shelf = bytes_left (bytes_named (files_on shelf)) (reading_of shelf)
+left_on shelf = bytes_left (bytes_named (files_on shelf.kept)) shelf.kept.reading
 
 -- the numbers of the calls that are to fail, counted from 1
 abbrev pub failing_calls : MemoryShelf → List ℕ
@@ -33,4 +25,5 @@ IsPlannedToFail shelf = Contains (failing_calls shelf) (raised (calls_made shelf
 
 -- the shelf after one more call, with the reading where it stands then
 abbrev pub with_reading : MemoryShelf → Reading → MemoryShelf
-with_reading shelf reading = record shelf { plan = record shelf.plan { calls = raised shelf.plan.calls }; reading = reading }
+with_reading shelf reading =
+    record shelf { plan = record shelf.plan { calls = raised shelf.plan.calls }; kept = record shelf.kept { reading = reading } }

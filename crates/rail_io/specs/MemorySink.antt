@@ -1,16 +1,7 @@
 -- A sink in memory, on which planned calls fail.
-use Rattle.std.specs.Prelude.{ℕ, List, Option, Contains}
+use Rattle.std.specs.Prelude.{ℕ, List, Contains}
 use Rattle.rail_io.specs.declared.memory.MemorySink.{MemorySink}
 use Rattle.rail_io.specs.FaultCounts.{raised}
-use Rattle.rail_io.specs.Paper.{told}
-
--- the bytes written, until the first piece that the room did not hold
-abbrev pub written_to : MemorySink → Option (List ℕ)
-written_to sink = told sink.paper
-
--- how many bytes the sink has room for in all
-abbrev pub room_of : MemorySink → ℕ
-room_of sink = sink.paper.room
 
 -- how many calls failed
 abbrev pub faults_of : MemorySink → ℕ

@@ -1,4 +1,4 @@
-ghost use Rattle.std.specs.Prelude.{◌≡◌, ◌≢◌, ◌+◌, ◌^◌, ◌<◌, ◌≤◌, [], ◌++◌, length, take, drop, option_copied, unwrap_or, option_and_then};
+ghost use Rattle.std.specs.Prelude.{◌≡◌, ◌≢◌, ◌+◌, ◌^◌, ◌<◌, ◌≤◌, [], ◌++◌, length, min, take, drop, option_copied, unwrap_or, option_and_then};
 ghost use Rattle.rail_io.specs.File.{bytes_named};
 
 use crate::reading::Reading;
@@ -32,6 +32,7 @@ pub(crate) fn begun_bytes<'a>(files: &'a [File], reading: &Reading) -> &'a [u8]
 /// Moves the bytes from the number `from` on to the front of `into`, as many as there are and as
 /// have room, and says how many.
 pub(crate) fn move_bytes(bytes: &[u8], from: u64, into: &mut [u8]) -> usize
+    ensures count { result ≡ min (length (drop from bytes.now)) (length into.old) }
     ensures within { result ≤ length into.old }
     ensures moves { drop from bytes.now ≡ take result into.new ++ drop (from + result) bytes.now }
     ensures none_at_end { result ≡ 0 → 0 < length into.old → drop from bytes.now ≡ [] }

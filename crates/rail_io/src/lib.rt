@@ -1,6 +1,7 @@
 //! The outside as the simulator sees it: shelves, from which named files are read, and sinks, to
-//! which bytes are written; objects of both kinds in memory, and the adapters to files and to
-//! standard output; reading a whole file, and writing a whole piece.
+//! which bytes are written; objects of both kinds in memory, which fail as planned, never, or never
+//! and move one byte a call; the adapters to files and to standard output; reading a whole file, and
+//! writing a whole piece.
 //!
 //! It stands on `rail_base`, of which it uses `Word`, `Seq` and `OutOfMemory`. The layers above use
 //! the contracts of the two traits and of `read_whole` and `write_whole` alone, so any body may be
@@ -8,9 +9,11 @@
 //! trusted edge: what files and standard output hold is outside of what is proved.
 #![tactic(auto)]
 
+mod drip_files;
 mod files;
 mod gathered_sink;
 mod kept_file;
+mod kept_files;
 mod memory;
 mod paper;
 mod plan;
@@ -21,6 +24,7 @@ mod sink;
 mod sure_files;
 mod whole_files;
 
+pub use drip_files::{DripShelf, DripSink};
 pub use files::{FileShelf, OutSink};
 pub use gathered_sink::GatheredSink;
 pub use kept_file::File;

@@ -15,12 +15,12 @@ pub(crate) struct Paper {
 }
 
 impl Paper {
-    ghost use Rattle.rail_io.specs.Paper.{told, told_after};
+    ghost use Rattle.rail_io.specs.Paper.{room_of, told, told_after};
 
     /// Takes the room, and nothing is written.
     pub(crate) fn with_room(alloc: Global, room: usize) -> Result<Paper, OutOfMemory>
         ensures none_written { IfOk result (λ paper. told paper ≡ Some []) }
-        ensures room { IfOk result (λ paper. paper.room ≡ room) }
+        ensures room { IfOk result (λ paper. room_of paper ≡ room) }
     {
         let bytes = Vec::with_capacity(alloc, room)?;
         Ok(Paper {
@@ -43,8 +43,8 @@ impl Paper {
 
     /// Takes the whole piece. From the first piece on that does not fit, the bytes are not kept.
     pub(crate) fn put(&mut self, piece: &[u8])
-        ensures told { told self.new ≡ told_after self.old.room (told self.old) piece.now }
-        ensures room { self.new.room ≡ self.old.room }
+        ensures told { told self.new ≡ told_after (room_of self.old) (told self.old) piece.now }
+        ensures room { room_of self.new ≡ room_of self.old }
     {
         if self.is_full || piece.len() > self.room - self.bytes.len() {
             self.is_full = true;

@@ -1,68 +1,59 @@
 ghost use Rattle.std.specs.Prelude.{◌≡◌, ◌<◌, [], Some, None, Ok, IfOk, length, option_copied};
-ghost use Rattle.rail_io.specs.Reads.{fresh, begun_name, bytes_left};
+ghost use Rattle.rail_io.specs.Reads.{fresh, begun_name};
 
-use crate::kept_file::{File, begun_bytes, move_bytes};
+use crate::kept_file::File;
+use crate::kept_files::KeptFiles;
 use crate::paper::Paper;
-use crate::reading::Reading;
 use crate::shelf::{Shelf, StartFault};
 use crate::sink::{Failed, Sink};
-use rail_base::{OutOfMemory, Word};
+use rail_base::OutOfMemory;
 use std::alloc::Global;
 
 /// A shelf over files in memory that never fails: a file that is not held is empty. Of two files of
 /// one name the first is read.
 #[derive(Drop)]
 pub struct SureShelf {
-    files: Vec<File>,
-    reading: Reading,
+    kept: KeptFiles,
 }
 
 impl SureShelf {
-    ghost use Rattle.rail_io.specs.SureShelf.{files_on, reading_of};
+    ghost use Rattle.rail_io.specs.KeptFiles.{files_on};
 
     /// The shelf with these files.
     pub fn new(files: Vec<File>) -> SureShelf
-        ensures files { files_on result ≡ files.items }
-        ensures none_begun { reading_of result ≡ fresh }
+        ensures files { files_on result.kept ≡ files.items }
+        ensures none_begun { result.kept.reading ≡ fresh }
     {
         SureShelf {
-            files,
-            reading: Reading::new(),
+            kept: KeptFiles::new(files),
         }
     }
 }
 
 impl Shelf for SureShelf {
-    ghost use Rattle.rail_io.specs.SureShelf.{reading_of, told_on};
+    ghost use Rattle.rail_io.specs.KeptFiles.{left_on, told_on};
 
-    ghost told = { told_on };
+    ghost told = { λ shelf. told_on shelf.kept };
 
-    ghost left = { λ shelf. bytes_left (told_on shelf) (reading_of shelf) };
+    ghost left = { λ shelf. left_on shelf.kept };
 
-    ghost begun = { λ shelf. begun_name (reading_of shelf) };
+    ghost begun = { λ shelf. begun_name shelf.kept.reading };
 
-    ghost moved = { λ shelf. (reading_of shelf).moved };
+    ghost moved = { λ shelf. shelf.kept.reading.moved };
 
-    ghost ended = { λ shelf. (reading_of shelf).has_ended };
+    ghost ended = { λ shelf. shelf.kept.reading.has_ended };
 
     ghost faults = { λ _. 0 };
 
     ghost failed = { λ _. None };
 
     fn start(&mut self, alloc: Global, name: &str) -> Result<(), StartFault> {
-        let kept = Word::from_string(String::from_str(alloc, name)?);
-        self.reading.begin(kept);
+        self.kept.start(alloc, name)?;
         Ok(())
     }
 
     fn read(&mut self, into: &mut [u8]) -> Result<usize, Failed> {
-        let count = move_bytes(
-            begun_bytes(&self.files, &self.reading),
-            self.reading.moved(),
-            into,
-        );
-        self.reading.advance(count);
-        Ok(count)
+        Ok(self.kept.read(into))
     }
 }
 
@@ -73,12 +64,12 @@ pub struct SureSink {
 }
 
 impl SureSink {
-    ghost use Rattle.rail_io.specs.SureSink.{written_to, room_of};
+    ghost use Rattle.rail_io.specs.Paper.{room_of, told};
 
     /// A sink with room for so many bytes in all. It takes the room here.
     pub fn with_room(alloc: Global, room: usize) -> Result<SureSink, OutOfMemory>
-        ensures none_written { IfOk result (λ sink. written_to sink ≡ Some []) }
-        ensures room { IfOk result (λ sink. room_of sink ≡ room) }
+        ensures none_written { IfOk result (λ sink. told sink.paper ≡ Some []) }
+        ensures room { IfOk result (λ sink. room_of sink.paper ≡ room) }
     {
         let paper = Paper::with_room(alloc, room)?;
         Ok(SureSink { paper })
@@ -86,17 +77,16 @@ impl SureSink {
 
     /// The bytes written: `None` from the first piece on that did not fit the room.
     pub fn bytes(&self) -> Option<&[u8]>
-        ensures { option_copied result ≡ written_to self.now }
+        ensures { option_copied result ≡ told self.now.paper }
     {
         self.paper.bytes()
     }
 }
 
 impl Sink for SureSink {
-    ghost use Rattle.rail_io.specs.Paper.{told_after};
-    ghost use Rattle.rail_io.specs.SureSink.{written_to, room_of};
+    ghost use Rattle.rail_io.specs.Paper.{room_of, told, told_after};
 
-    ghost written = { written_to };
+    ghost written = { λ sink. told sink.paper };
 
     ghost faults = { λ _. 0 };
 
@@ -105,9 +95,9 @@ impl Sink for SureSink {
     fn write(&mut self, piece: &[u8]) -> Result<usize, Failed>
         requires { 0 < length piece.now }
         ensures whole { result ≡ Ok (length piece.now) }
-        ensures told { written_to self.new ≡
-            told_after (room_of self.old) (written_to self.old) piece.now }
-        ensures room { room_of self.new ≡ room_of self.old }
+        ensures told { told self.new.paper ≡
+            told_after (room_of self.old.paper) (told self.old.paper) piece.now }
+        ensures room { room_of self.new.paper ≡ room_of self.old.paper }
     {
         self.paper.put(piece);
         Ok(piece.len())
