@@ -2,8 +2,6 @@
 
 -- Legs: which moves stay legal, and trains inside by their places.
 pub use Rattle.rail_consequence.proofs.Legs.{inside_from, inside_parts, inside_same, legal_kept, nobody_at}
--- no other train inside needs the sections later
-pub use Rattle.rail_consequence.proofs.Legs.{IsClear}
 -- Safe: a leg is safe exactly where no other train inside needs its last standing set later.
 pub use Rattle.rail_consequence.proofs.Safe.{apart_none, clear_from_safe, safe_from_clear, stand_out}
 -- Counts: how often a number stands in a list, number by number.
@@ -14,3 +12,5 @@ pub use Rattle.rail_consequence.proofs.Counts.{zeros_at}
 pub use Rattle.rail_consequence.proofs.Counts.{in_at}
 -- Aside: the sets of one train alone, for the moves of all
 pub use Rattle.rail_consequence.proofs.Aside.{rows_for}
+-- Cores: nothing is found from the state of a core, nor behind a move of a train that is none of it.
+pub use Rattle.rail_consequence.proofs.Cores.{core_behind, core_none}

@@ -8,7 +8,8 @@ use Rattle.rail_rules.specs.Analysis.{Leg, is_safe}
 use Rattle.rail_rules.proofs.CallerLemmas.{apart_at, apart_from, apart_sym, stand_needed}
 use Rattle.rail_sets.specs.Counts.{Columns}
 use Rattle.rail_consequence.specs.Needs.{count_of, needs_left, one_if, IsCounted}
-use Rattle.rail_consequence.proofs.Legs.{IsClear, inside_parts, inside_from, inside_listed}
+use Rattle.rail_consequence.specs.Cores.{IsClear}
+use Rattle.rail_consequence.proofs.Legs.{inside_parts, inside_from, inside_listed}
 use Rattle.rail_consequence.proofs.Safe.{clear_from_safe, safe_from_clear}
 use Rattle.rail_consequence.proofs.Holding.{same_truth}
 use Rattle.rail_consequence.proofs.Counts.{item_within, left_at, left_none, left_not, one_false, one_few, one_none, one_true, sum_shift, sum_zero, zero_at}

@@ -7,6 +7,7 @@ use Rattle.rail_rules.specs.Numbers.{any_below, all_below, is_in, are_apart}
 use Rattle.rail_rules.specs.Moves.{Moves}
 use Rattle.rail_rules.specs.Places.{place_of, is_inside, holds, has_holder, is_legal, nobody_inside}
 use Rattle.rail_rules.specs.Analysis.{Leg, is_leg, needs_later}
+use Rattle.rail_consequence.specs.Cores.{IsClear}
 use Rattle.rail_rules.proofs.CallerLemmas.{all_below_at, all_below_from, any_below_at, any_below_none, any_below_from, list_any_at, list_any_none}
 
 pub inside_from : (plan : Moves) (s : List ℕ) (t : ℕ) → 0 < place_of s t → place_of s t < plan.moves t → is_inside plan s t ≡ true
@@ -72,10 +73,6 @@ leg_from plan s leg goes =
     (λ from. or_right (ltb i (place_of s leg.train)) (is_legal plan (set s leg.train i) leg.train) (goes.legal i from below))
     (cases_lt i (place_of s leg.train))))
 
--- no other train inside needs the sections later
-abbrev pub IsClear : Moves → List ℕ → ℕ → List ℕ → Type 0
-IsClear plan s t sections = (u i : ℕ) → u ≢ t → is_inside plan s u ≡ true → place_of s u ≤ i → i < plan.moves u → are_apart (plan.claim u i) sections ≡ true
-
 abbrev pub needs_test : Moves → List ℕ → List ℕ → ℕ → ℕ → Bool
 needs_test plan s sections u i = leb (place_of s u) i && not (are_apart (plan.claim u i) sections)
 
@@ -115,6 +112,12 @@ clear_to plan s t sections clear =
     (cases_Bool (needs_test plan s sections u i)))) ∙ later.1)))
     (λ out. out)
     (cases_Bool (not (eqb u t) && needs_later plan s sections u)))
+
+-- in a state in which no other train needs more
+pub clear_later : (plan : Moves) (s r : List ℕ) (t : ℕ) (sections : List ℕ)
+    → ((u : ℕ) → u ≢ t → is_inside plan r u ≡ true → (is_inside plan s u ≡ true) × (place_of s u ≤ place_of r u))
+    → IsClear plan s t sections → IsClear plan r t sections
+clear_later plan s r t sections on clear = λ u i ne inside from below. clear u i ne (on u ne inside).0 (omega (arith, (on u ne inside).1, from)) below
 
 -- a move stays legal where no needed section gets a holder
 pub legal_kept : (plan : Moves) (s r : List ℕ) (t : ℕ) → length r ≡ length s → place_of r t ≡ place_of s t

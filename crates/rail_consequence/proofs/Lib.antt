@@ -21,3 +21,5 @@ mod Moved
 mod Noting
 mod Marks
 mod Aside
+mod Cores
+mod Lasting

@@ -1,5 +1,5 @@
--- A safe leg keeps what can be found: the legs that bring every train out do so after it, without the moves that it made.
-use Rattle.std.proofs.Common.{◌≡◌, ◌≢◌, ℕ, zero, suc, ◌+◌, ◌<◌, ◌≤◌, max, Bool, true, false, not, ◌&&◌, cond, eqb, ltb, List, [], ◌∷◌, length, set, refl, sym, ap, ◌∙◌, subst, inl, inr, ◌⊎◌, ⊎_elim, arith}
+-- What can be found can be found ahead: with trains further on, each where no other train inside needs later what it stands on, or out. So a safe leg keeps what can be found, and what can be found can be found without a train.
+use Rattle.std.proofs.Common.{◌≡◌, ◌≢◌, ℕ, zero, suc, ◌+◌, ◌<◌, ◌≤◌, Bool, true, false, not, ◌&&◌, cond, eqb, ltb, List, [], ◌∷◌, length, set, refl, sym, ap, ◌∙◌, subst, inl, inr, ⊎_elim, arith}
 use Rattle.std.proofs.lemmas.Bool.{and_parts, and_from, or_cases, or_right, cases_lt, cases_eq, cases_Bool, false≢true, eqb-true, not-true, not_from_false, cond-true, cond-false, le-ltb}
 use Rattle.std.proofs.lemmas.List.{get_or-set_same, get_or-set_other, length-set, set-set}
 use Rattle.rail_rules.specs.Numbers.{any_below, is_in, are_apart}
@@ -7,163 +7,8 @@ use Rattle.rail_rules.specs.Moves.{Moves, stand}
 use Rattle.rail_rules.specs.Places.{place_of, is_inside, holds}
 use Rattle.rail_rules.specs.Analysis.{Leg, is_leg, after_leg, needs_later, is_safe, clears, free_legs, Finds}
 use Rattle.rail_rules.proofs.CallerLemmas.{apart_at, apart_from}
-use Rattle.rail_consequence.proofs.Legs.{Goes, goes_parts, leg_from, IsClear, clear_from, clear_to, legal_kept, inside_from, inside_parts, inside_same, inside_listed, nobody_from, nobody_at}
-
--- one state leads to the other by moves of one train up to a place, whose standing set no other train inside needs later
-pub record Leads (plan : Moves) (t p : ℕ) (r q : List ℕ) : Type 0 where
-  pub long : length q ≡ length r
-  pub listed : t < length r
-  pub started : 0 < place_of r t
-  pub reached : place_of q t ≡ max (place_of r t) p
-  pub others : (u : ℕ) → u ≢ t → place_of q u ≡ place_of r u
-  pub clear : (u i : ℕ) → u ≢ t → is_inside plan r u ≡ true → place_of r u ≤ i → i < plan.moves u → are_apart (plan.claim u i) (stand plan t p) ≡ true
-
--- where the train stands in the later state, it stands in the earlier, or at the place
-stands_either : (plan : Moves) (t p : ℕ) (r q : List ℕ) → Leads plan t p r q → (place_of q t ≡ place_of r t) ⊎ (place_of q t ≡ p)
-stands_either plan t p r q leads =
-    ⊎_elim
-    (λ below. inr (omega (arith, leads.reached)))
-    (λ above. inl (omega (arith, leads.reached)))
-    (cases_lt (place_of r t) p)
-
--- another train's leg
-goes_other : (plan : Moves) (t p : ℕ) (r q : List ℕ) (u n : ℕ) → Leads plan t p r q → u ≢ t → Goes plan r u n → Goes plan q u n
-goes_other plan t p r q u n leads ne goes =
-    let same : place_of q u ≡ place_of r u = leads.others u ne in
-    let lt : u < length r = inside_listed plan r u goes.inside in
-    let lt_q : u < length q = omega (arith, leads.long) in
-    record {
-      inside = inside_same plan r q u same goes.inside;
-      ahead = omega (arith, same, goes.ahead);
-      within = goes.within;
-      legal = λ i from below.
-          let from_r : place_of r u ≤ i = omega (arith, same) in
-          let here_r : place_of (set r u i) u ≡ i = get_or-set_same r u i 0 lt in
-          let here_q : place_of (set q u i) u ≡ i = get_or-set_same q u i 0 lt_q in
-          legal_kept plan (set r u i) (set q u i) u
-          (length-set q u i ∙ leads.long ∙ sym (length-set r u i))
-          (here_q ∙ sym here_r)
-          (λ v x needed free.
-          let at_r : v ≢ u → place_of (set r u i) v ≡ place_of r v = λ other. get_or-set_other r u v i 0 other in
-          let at_q : v ≢ u → place_of (set q u i) v ≡ place_of q v = λ other. get_or-set_other q u v i 0 other in
-          let keep : place_of (set q u i) v ≡ place_of (set r u i) v → holds plan (set q u i) v x ≡ false = λ e. ap (λ k. is_in x (stand plan v k)) e ∙ free in
-          ⊎_elim
-          (λ is_u. keep (ap (λ w. place_of (set q u i) w) is_u ∙ here_q ∙ sym here_r ∙ ap (λ w. place_of (set r u i) w) (sym is_u)))
-          (λ not_u. ⊎_elim
-          (λ is_t.
-          let move_t : place_of q v ≡ place_of q t = ap (place_of q) is_t in
-          ⊎_elim
-          (λ stays. keep (at_q not_u ∙ move_t ∙ stays ∙ ap (place_of r) (sym is_t) ∙ sym (at_r not_u)))
-          (λ there.
-          let needed_i : is_in x (plan.claim u i) ≡ true = ap (λ k. is_in x (plan.claim u k)) (sym here_r) ∙ needed in
-          let apart = leads.clear u i ne goes.inside from_r (omega (arith, below, goes.within)) in
-          ap (λ k. is_in x (stand plan v k)) (at_q not_u ∙ move_t ∙ there) ∙ ap (λ w. is_in x (stand plan w p)) is_t
-          ∙ apart_at (plan.claim u i) (stand plan t p) x apart needed_i)
-          (stands_either plan t p r q leads))
-          (λ not_t. keep (at_q not_u ∙ leads.others v not_t ∙ sym (at_r not_u)))
-          (cases_eq v t))
-          (cases_eq v u))
-          (goes.legal i from_r below);
-    }
-
--- a leg of the train itself past the place
-goes_same : (plan : Moves) (t p : ℕ) (r q : List ℕ) (n : ℕ) → Leads plan t p r q → p < n → Goes plan r t n → Goes plan q t n
-goes_same plan t p r q n leads past goes =
-    let lt_q : t < length q = omega (arith, leads.long, leads.listed) in
-    let ahead : place_of q t < n = omega (arith, leads.reached, goes.ahead) in
-    record {
-      inside = inside_from plan q t (omega (arith, leads.reached, leads.started)) (omega (arith, ahead, goes.within));
-      ahead = ahead;
-      within = goes.within;
-      legal = λ i from below.
-          let from_r : place_of r t ≤ i = omega (arith, leads.reached) in
-          let here_r : place_of (set r t i) t ≡ i = get_or-set_same r t i 0 leads.listed in
-          let here_q : place_of (set q t i) t ≡ i = get_or-set_same q t i 0 lt_q in
-          legal_kept plan (set r t i) (set q t i) t
-          (length-set q t i ∙ leads.long ∙ sym (length-set r t i))
-          (here_q ∙ sym here_r)
-          (λ v x needed free.
-          let keep : place_of (set q t i) v ≡ place_of (set r t i) v → holds plan (set q t i) v x ≡ false = λ e. ap (λ k. is_in x (stand plan v k)) e ∙ free in
-          ⊎_elim
-          (λ is_t. keep (ap (λ w. place_of (set q t i) w) is_t ∙ here_q ∙ sym here_r ∙ ap (λ w. place_of (set r t i) w) (sym is_t)))
-          (λ not_t. keep (get_or-set_other q t v i 0 not_t ∙ leads.others v not_t ∙ sym (get_or-set_other r t v i 0 not_t)))
-          (cases_eq v t))
-          (goes.legal i from_r below);
-    }
-
-leads_other : (plan : Moves) (t p : ℕ) (r q : List ℕ) (u n : ℕ) → Leads plan t p r q → u ≢ t → Goes plan r u n → Leads plan t p (set r u n) (set q u n)
-leads_other plan t p r q u n leads ne goes =
-    let lt : u < length r = inside_listed plan r u goes.inside in
-    let t_r : place_of (set r u n) t ≡ place_of r t = get_or-set_other r u t n 0 (λ e. ne (sym e)) in
-    let t_q : place_of (set q u n) t ≡ place_of q t = get_or-set_other q u t n 0 (λ e. ne (sym e)) in
-    record {
-      long = length-set q u n ∙ leads.long ∙ sym (length-set r u n);
-      listed = omega (arith, length-set r u n, leads.listed);
-      started = omega (arith, t_r, leads.started);
-      reached = t_q ∙ leads.reached ∙ ap (λ k. max k p) (sym t_r);
-      others = λ v not_t.
-          ⊎_elim
-          (λ is_u.
-          let P : ℕ → Type 0 = λ w. place_of (set q u n) w ≡ place_of (set r u n) w in
-          subst P (sym is_u) (get_or-set_same q u n 0 (omega (arith, leads.long)) ∙ sym (get_or-set_same r u n 0 lt)))
-          (λ not_u. get_or-set_other q u v n 0 not_u ∙ leads.others v not_t ∙ sym (get_or-set_other r u v n 0 not_u))
-          (cases_eq v u);
-      clear = λ v i not_t inside from below.
-          ⊎_elim
-          (λ is_u.
-          let at : place_of (set r u n) v ≡ n = ap (place_of (set r u n)) is_u ∙ get_or-set_same r u n 0 lt in
-          let was : place_of r v ≡ place_of r u = ap (place_of r) is_u in
-          leads.clear v i not_t (ap (is_inside plan r) is_u ∙ goes.inside) (omega (arith, at, was, goes.ahead)) below)
-          (λ not_u.
-          let at : place_of (set r u n) v ≡ place_of r v = get_or-set_other r u v n 0 not_u in
-          leads.clear v i not_t (inside_same plan (set r u n) r v (sym at) inside) (omega (arith, at)) below)
-          (cases_eq v u);
-    }
-
--- other trains see the train's own legs alike
-clear_after : (plan : Moves) (t p : ℕ) (r q : List ℕ) (n : ℕ) → Leads plan t p r q → (u i : ℕ) → u ≢ t → is_inside plan (set r t n) u ≡ true → place_of (set r t n) u ≤ i → i < plan.moves u → are_apart (plan.claim u i) (stand plan t p) ≡ true
-clear_after plan t p r q n leads u i ne inside from below =
-    let at : place_of (set r t n) u ≡ place_of r u = get_or-set_other r t u n 0 ne in
-    leads.clear u i ne (inside_same plan (set r t n) r u (sym at) inside) (omega (arith, at)) below
-
-leads_same : (plan : Moves) (t p : ℕ) (r q : List ℕ) (n : ℕ) → Leads plan t p r q → p < n → Goes plan r t n → Leads plan t p (set r t n) (set q t n)
-leads_same plan t p r q n leads past goes =
-    let here_r : place_of (set r t n) t ≡ n = get_or-set_same r t n 0 leads.listed in
-    let here_q : place_of (set q t n) t ≡ n = get_or-set_same q t n 0 (omega (arith, leads.long, leads.listed)) in
-    record {
-      long = length-set q t n ∙ leads.long ∙ sym (length-set r t n);
-      listed = omega (arith, length-set r t n, leads.listed);
-      started = omega (arith, here_r, past);
-      reached = omega (arith, here_r, here_q, past);
-      others = λ u ne. get_or-set_other q t u n 0 ne ∙ leads.others u ne ∙ sym (get_or-set_other r t u n 0 ne);
-      clear = clear_after plan t p r q n leads;
-    }
-
-leads_skip : (plan : Moves) (t p : ℕ) (r q : List ℕ) (n : ℕ) → Leads plan t p r q → n ≤ p → Goes plan r t n → Leads plan t p (set r t n) q
-leads_skip plan t p r q n leads short goes =
-    let here_r : place_of (set r t n) t ≡ n = get_or-set_same r t n 0 leads.listed in
-    record {
-      long = leads.long ∙ sym (length-set r t n);
-      listed = omega (arith, length-set r t n, leads.listed);
-      started = omega (arith, here_r, goes.ahead);
-      reached = omega (arith, here_r, leads.reached, short, goes.ahead);
-      others = λ u ne. leads.others u ne ∙ sym (get_or-set_other r t u n 0 ne);
-      clear = clear_after plan t p r q n leads;
-    }
-
--- in the later state no train needs more
-clear_kept : (plan : Moves) (t p : ℕ) (r q : List ℕ) (u : ℕ) (sections : List ℕ) → Leads plan t p r q → IsClear plan r u sections → IsClear plan q u sections
-clear_kept plan t p r q u sections leads clear = λ v i ne inside from below.
-    ⊎_elim
-    (λ is_t.
-    let parts = inside_parts plan q v inside in
-    let at_q : place_of q v ≡ place_of q t = ap (place_of q) is_t in
-    let at_r : place_of r v ≡ place_of r t = ap (place_of r) is_t in
-    clear v i ne (inside_from plan r v (omega (arith, at_r, leads.started)) (omega (arith, parts.1, at_q, at_r, leads.reached))) (omega (arith, from, at_q, at_r, leads.reached)) below)
-    (λ not_t.
-    let same : place_of q v ≡ place_of r v = leads.others v not_t in
-    clear v i ne (inside_same plan q r v (sym same) inside) (omega (arith, same)) below)
-    (cases_eq v t)
+use Rattle.rail_consequence.specs.Cores.{IsAhead, IsClear}
+use Rattle.rail_consequence.proofs.Legs.{Goes, goes_parts, leg_from, clear_from, clear_to, clear_later, legal_kept, inside_from, inside_parts, inside_same, inside_listed, nobody_from, nobody_at}
 
 pub safe_from_clear : (plan : Moves) (s : List ℕ) (leg : Leg) → IsClear plan s leg.train (stand plan leg.train leg.place) → is_safe plan s leg ≡ true
 safe_from_clear plan s leg clear =
@@ -189,9 +34,180 @@ clear_from_safe plan s leg safe =
     (λ clear. clear_from plan s leg.train (stand plan leg.train leg.place) (not-true test clear))
     (or_cases (eqb leg.place (plan.moves leg.train)) (not test) safe)
 
-safe_kept : (plan : Moves) (t p : ℕ) (r q : List ℕ) (leg : Leg) → Leads plan t p r q → is_safe plan r leg ≡ true → is_safe plan q leg ≡ true
-safe_kept plan t p r q leg leads safe =
-    safe_from_clear plan q leg (clear_kept plan t p r q leg.train (stand plan leg.train leg.place) leads (clear_from_safe plan r leg safe))
+-- a train that is not inside stands nowhere
+stand_idle : (plan : Moves) (s : List ℕ) (t : ℕ) → is_inside plan s t ≡ false → stand plan t (place_of s t) ≡ []
+stand_idle plan s t idle =
+    ⊎_elim
+    (λ entered.
+    ⊎_elim
+    (λ left. absurd (false≢true (sym idle ∙ inside_from plan s t entered left)))
+    (λ out. stand_out plan t (place_of s t) out)
+    (cases_lt (place_of s t) (plan.moves t)))
+    (λ none. let at : place_of s t ≡ 0 = omega arith in ap (stand plan t) at)
+    (cases_lt 0 (place_of s t))
+
+-- who is inside ahead, is inside before
+pub inside_before : (plan : Moves) (r q : List ℕ) (t : ℕ) → IsAhead plan r q → is_inside plan q t ≡ true → is_inside plan r t ≡ true
+inside_before plan r q t ahead inside =
+    inside_from plan r t (ahead.entered t inside) (omega (arith, ahead.later t inside, (inside_parts plan q t inside).1))
+
+-- ahead no train needs more
+clear_ahead : (plan : Moves) (r q : List ℕ) (t : ℕ) (sections : List ℕ) → IsAhead plan r q → IsClear plan r t sections → IsClear plan q t sections
+clear_ahead plan r q t sections ahead = clear_later plan r q t sections (λ u ne inside. (inside_before plan r q u ahead inside, ahead.later u inside))
+
+safe_ahead : (plan : Moves) (r q : List ℕ) (leg : Leg) → IsAhead plan r q → is_safe plan r leg ≡ true → is_safe plan q leg ≡ true
+safe_ahead plan r q leg ahead safe =
+    safe_from_clear plan q leg (clear_ahead plan r q leg.train (stand plan leg.train leg.place) ahead (clear_from_safe plan r leg safe))
+
+-- a leg goes past the place where the train stands ahead: the rest of it is a leg there
+goes_ahead : (plan : Moves) (r q : List ℕ) (u n : ℕ) → IsAhead plan r q → is_inside plan q u ≡ true → place_of q u < n → Goes plan r u n → Goes plan q u n
+goes_ahead plan r q u n ahead inside past goes =
+    let lt : u < length r = inside_listed plan r u goes.inside in
+    let lt_q : u < length q = inside_listed plan q u inside in
+    record {
+      inside = inside;
+      ahead = past;
+      within = goes.within;
+      legal = λ i from below.
+          let here_r : place_of (set r u i) u ≡ i = get_or-set_same r u i 0 lt in
+          let here_q : place_of (set q u i) u ≡ i = get_or-set_same q u i 0 lt_q in
+          legal_kept plan (set r u i) (set q u i) u
+          (length-set q u i ∙ ahead.long ∙ sym (length-set r u i))
+          (here_q ∙ sym here_r)
+          (λ v x needed free.
+          let keep : place_of (set q u i) v ≡ place_of (set r u i) v → holds plan (set q u i) v x ≡ false = λ e. ap (λ k. is_in x (stand plan v k)) e ∙ free in
+          ⊎_elim
+          (λ is_u. keep (ap (place_of (set q u i)) is_u ∙ here_q ∙ sym here_r ∙ ap (place_of (set r u i)) (sym is_u)))
+          (λ not_u.
+          let at_r : place_of (set r u i) v ≡ place_of r v = get_or-set_other r u v i 0 not_u in
+          let at_q : place_of (set q u i) v ≡ place_of q v = get_or-set_other q u v i 0 not_u in
+          let there : holds plan (set q u i) v x ≡ is_in x (stand plan v (place_of q v)) = ap (λ k. is_in x (stand plan v k)) at_q in
+          ⊎_elim
+          (λ inside_v.
+          ⊎_elim
+          (λ stays. keep (at_q ∙ sym stays ∙ sym at_r))
+          (λ clear.
+          let needed_i : is_in x (plan.claim u i) ≡ true = ap (λ k. is_in x (plan.claim u k)) (sym here_r) ∙ needed in
+          there ∙ apart_at (plan.claim u i) (stand plan v (place_of q v)) x (clear u i (λ e. not_u (sym e)) inside from (omega (arith, below, goes.within))) needed_i)
+          (ahead.clear v inside_v))
+          (λ idle. there ∙ ap (is_in x) (stand_idle plan q v idle))
+          (cases_Bool (is_inside plan q v)))
+          (cases_eq v u))
+          (goes.legal i (omega (arith, from, ahead.later u inside)) below);
+    }
+
+-- a leg that ends no further than where the train stands ahead, or of a train that is not inside there
+ahead_skip : (plan : Moves) (r q : List ℕ) (u n : ℕ) → IsAhead plan r q → (is_inside plan q u ≡ true → n ≤ place_of q u) → Goes plan r u n → IsAhead plan (set r u n) q
+ahead_skip plan r q u n ahead short goes =
+    let here : place_of (set r u n) u ≡ n = get_or-set_same r u n 0 (inside_listed plan r u goes.inside) in
+    let other : (t : ℕ) → t ≢ u → place_of (set r u n) t ≡ place_of r t = λ t ne. get_or-set_other r u t n 0 ne in
+    let at : (t : ℕ) → t ≡ u → place_of (set r u n) t ≡ n = λ t is_u. ap (place_of (set r u n)) is_u ∙ here in
+    let upto : (t : ℕ) → is_inside plan q t ≡ true → t ≡ u → n ≤ place_of q t = λ t inside is_u. omega (arith, short (ap (is_inside plan q) (sym is_u) ∙ inside), ap (place_of q) is_u) in
+    record {
+      long = ahead.long ∙ sym (length-set r u n);
+      entered = λ t inside.
+          ⊎_elim
+          (λ is_u. omega (arith, at t is_u, goes.ahead))
+          (λ not_u. omega (arith, other t not_u, ahead.entered t inside))
+          (cases_eq t u);
+      later = λ t inside.
+          ⊎_elim
+          (λ is_u. omega (arith, at t is_u, upto t inside is_u))
+          (λ not_u. omega (arith, other t not_u, ahead.later t inside))
+          (cases_eq t u);
+      clear = λ t inside.
+          ⊎_elim
+          (λ stays.
+          ⊎_elim
+          (λ is_u. absurd (omega (arith, stays, goes.ahead, ap (place_of r) is_u, upto t inside is_u)))
+          (λ not_u. inl (other t not_u ∙ stays))
+          (cases_eq t u))
+          (λ clear. inr clear)
+          (ahead.clear t inside);
+    }
+
+-- ahead the train went on from where others stand alike
+clear_on : (plan : Moves) (q : List ℕ) (u n t : ℕ) (sections : List ℕ) → is_inside plan q u ≡ true → place_of q u < n → IsClear plan q t sections → IsClear plan (set q u n) t sections
+clear_on plan q u n t sections inside past =
+    let here : place_of (set q u n) u ≡ n = get_or-set_same q u n 0 (inside_listed plan q u inside) in
+    clear_later plan q (set q u n) t sections (λ v ne still.
+    ⊎_elim
+    (λ is_u. (ap (is_inside plan q) is_u ∙ inside, omega (arith, ap (place_of q) is_u, ap (place_of (set q u n)) is_u, here, past)))
+    (λ not_u.
+    let same : place_of (set q u n) v ≡ place_of q v = get_or-set_other q u v n 0 not_u in
+    (inside_same plan (set q u n) q v (sym same) still, omega (arith, same)))
+    (cases_eq v u))
+
+-- the train went on ahead alone
+pub ahead_on : (plan : Moves) (r q : List ℕ) (u n : ℕ) → IsAhead plan r q → is_inside plan q u ≡ true → place_of q u < n
+    → IsClear plan (set q u n) u (stand plan u n)
+    → IsAhead plan r (set q u n)
+ahead_on plan r q u n ahead inside past clear =
+    let here : place_of (set q u n) u ≡ n = get_or-set_same q u n 0 (inside_listed plan q u inside) in
+    let other : (t : ℕ) → t ≢ u → place_of (set q u n) t ≡ place_of q t = λ t ne. get_or-set_other q u t n 0 ne in
+    let was : (t : ℕ) → is_inside plan (set q u n) t ≡ true → is_inside plan q t ≡ true = λ t still.
+    ⊎_elim
+    (λ is_u. ap (is_inside plan q) is_u ∙ inside)
+    (λ not_u. inside_same plan (set q u n) q t (sym (other t not_u)) still)
+    (cases_eq t u) in
+    record {
+      long = length-set q u n ∙ ahead.long;
+      entered = λ t still. ahead.entered t (was t still);
+      later = λ t still.
+          ⊎_elim
+          (λ is_u. omega (arith, ahead.later t (was t still), ap (place_of q) is_u, ap (place_of (set q u n)) is_u, here, past))
+          (λ not_u. omega (arith, ahead.later t (was t still), other t not_u))
+          (cases_eq t u);
+      clear = λ t still.
+          ⊎_elim
+          (λ is_u.
+          let P : ℕ → Type 0 = λ v. IsClear plan (set q u n) v (stand plan v (place_of (set q u n) v)) in
+          let Q : ℕ → Type 0 = λ k. IsClear plan (set q u n) u (stand plan u k) in
+          inr (subst P (sym is_u) (subst Q (sym here) clear)))
+          (λ not_u.
+          ⊎_elim
+          (λ stays. inl (stays ∙ sym (other t not_u)))
+          (λ before.
+          let Q : ℕ → Type 0 = λ k. IsClear plan (set q u n) t (stand plan t k) in
+          inr (subst Q (sym (other t not_u)) (clear_on plan q u n t (stand plan t (place_of q t)) inside past before)))
+          (ahead.clear t (was t still)))
+          (cases_eq t u);
+    }
+
+-- both trains went on to the same place
+ahead_both : (plan : Moves) (r q : List ℕ) (u n : ℕ) → IsAhead plan r q → is_inside plan q u ≡ true → place_of q u < n → Goes plan r u n → IsAhead plan (set r u n) (set q u n)
+ahead_both plan r q u n ahead inside past goes =
+    let here_r : place_of (set r u n) u ≡ n = get_or-set_same r u n 0 (inside_listed plan r u goes.inside) in
+    let here_q : place_of (set q u n) u ≡ n = get_or-set_same q u n 0 (inside_listed plan q u inside) in
+    let other_r : (t : ℕ) → t ≢ u → place_of (set r u n) t ≡ place_of r t = λ t ne. get_or-set_other r u t n 0 ne in
+    let other_q : (t : ℕ) → t ≢ u → place_of (set q u n) t ≡ place_of q t = λ t ne. get_or-set_other q u t n 0 ne in
+    let at_r : (t : ℕ) → t ≡ u → place_of (set r u n) t ≡ n = λ t is_u. ap (place_of (set r u n)) is_u ∙ here_r in
+    let at_q : (t : ℕ) → t ≡ u → place_of (set q u n) t ≡ n = λ t is_u. ap (place_of (set q u n)) is_u ∙ here_q in
+    let was : (t : ℕ) → t ≢ u → is_inside plan (set q u n) t ≡ true → is_inside plan q t ≡ true = λ t ne still. inside_same plan (set q u n) q t (sym (other_q t ne)) still in
+    record {
+      long = length-set q u n ∙ ahead.long ∙ sym (length-set r u n);
+      entered = λ t still.
+          ⊎_elim
+          (λ is_u. omega (arith, at_r t is_u, past))
+          (λ not_u. omega (arith, other_r t not_u, ahead.entered t (was t not_u still)))
+          (cases_eq t u);
+      later = λ t still.
+          ⊎_elim
+          (λ is_u. omega (arith, at_r t is_u, at_q t is_u))
+          (λ not_u. omega (arith, other_r t not_u, other_q t not_u, ahead.later t (was t not_u still)))
+          (cases_eq t u);
+      clear = λ t still.
+          ⊎_elim
+          (λ is_u. inl (at_r t is_u ∙ sym (at_q t is_u)))
+          (λ not_u.
+          ⊎_elim
+          (λ stays. inl (other_r t not_u ∙ stays ∙ sym (other_q t not_u)))
+          (λ before.
+          let Q : ℕ → Type 0 = λ k. IsClear plan (set q u n) t (stand plan t k) in
+          inr (subst Q (sym (other_q t not_u)) (clear_on plan q u n t (stand plan t (place_of q t)) inside past before)))
+          (ahead.clear t (was t not_u still)))
+          (cases_eq t u);
+    }
 
 -- a leg that stays a leg, and is no dearer
 -- what a leg counts among the free ones
@@ -232,89 +248,64 @@ keep_leg plan k r q leg legs kept is free later =
     (cases_Bool (is_safe plan q leg)))
     (cases_Bool (is_safe plan r leg))
 
-follow : (plan : Moves) (t p k : ℕ) (r q : List ℕ) (legs : List Leg) → Leads plan t p r q → clears plan r legs ≡ true → free_legs plan r legs ≤ k → Finds plan k q
-follow plan t p k r q [] leads clear free = (
+follow : (plan : Moves) (k : ℕ) (r q : List ℕ) (legs : List Leg) → IsAhead plan r q → clears plan r legs ≡ true → free_legs plan r legs ≤ k → Finds plan k q
+follow plan k r q [] ahead clear free = (
   [],
   nobody_from plan q (λ u.
       ⊎_elim
-      (λ inside.
-      ⊎_elim
-      (λ is_t.
-      let parts = inside_parts plan q u inside in
-      let at_q : place_of q u ≡ place_of q t = ap (place_of q) is_t in
-      let moves : plan.moves u ≡ plan.moves t = ap plan.moves is_t in
-      let still : is_inside plan r t ≡ true = inside_from plan r t leads.started (omega (arith, parts.1, at_q, moves, leads.reached)) in
-      absurd (false≢true (sym (nobody_at plan r t clear) ∙ still)))
-      (λ not_t. absurd (false≢true (sym (nobody_at plan r u clear) ∙ inside_same plan q r u (sym (leads.others u not_t)) inside)))
-      (cases_eq u t))
+      (λ inside. absurd (false≢true (sym (nobody_at plan r u clear) ∙ inside_before plan r q u ahead inside)))
       (λ out. out)
       (cases_Bool (is_inside plan q u))),
   omega arith,
 )
-follow plan t p k r q (leg ∷ legs) leads clear free =
+follow plan k r q (leg ∷ legs) ahead clear free =
     let both = and_parts (is_leg plan r leg) (clears plan (after_leg r leg) legs) clear in
     let goes = goes_parts plan r leg both.0 in
     let counted : cost plan r leg + free_legs plan (after_leg r leg) legs ≤ k = rw (← free_legs-cons plan r leg legs) free in
-    let kept : is_safe plan r leg ≡ true → is_safe plan q leg ≡ true = safe_kept plan t p r q leg leads in
+    let skip : (is_inside plan q leg.train ≡ true → leg.place ≤ place_of q leg.train) → Finds plan k q = λ short.
+    follow plan k (after_leg r leg) q legs (ahead_skip plan r q leg.train leg.place ahead short goes) both.1 (omega (arith, counted)) in
     ⊎_elim
-    (λ is_t.
-    let G : ℕ → Type 0 = λ v. Goes plan r v leg.place in
-    let own : Goes plan r t leg.place = subst G is_t goes in
+    (λ inside.
     ⊎_elim
     (λ past.
-    let Q : ℕ → Type 0 = λ v. Goes plan q v leg.place in
-    let L : ℕ → Type 0 = λ v. Leads plan t p (set r v leg.place) (set q v leg.place) in
-    let next : Leads plan t p (after_leg r leg) (after_leg q leg) = subst L (sym is_t) (leads_same plan t p r q leg.place leads past own) in
-    keep_leg plan k r q leg legs kept (leg_from plan q leg (subst Q (sym is_t) (goes_same plan t p r q leg.place leads past own))) free
-    (λ j le. follow plan t p j (after_leg r leg) (after_leg q leg) legs next both.1 le))
-    (λ short.
-    let L : ℕ → Type 0 = λ v. Leads plan t p (set r v leg.place) q in
-    let next : Leads plan t p (after_leg r leg) q = subst L (sym is_t) (leads_skip plan t p r q leg.place leads short own) in
-    follow plan t p k (after_leg r leg) q legs next both.1 (omega (arith, counted)))
-    (cases_lt p leg.place))
-    (λ not_t.
-    let next : Leads plan t p (after_leg r leg) (after_leg q leg) = leads_other plan t p r q leg.train leg.place leads not_t goes in
-    keep_leg plan k r q leg legs kept (leg_from plan q leg (goes_other plan t p r q leg.train leg.place leads not_t goes)) free
-    (λ j le. follow plan t p j (after_leg r leg) (after_leg q leg) legs next both.1 le))
-    (cases_eq leg.train t)
+    keep_leg plan k r q leg legs (safe_ahead plan r q leg ahead) (leg_from plan q leg (goes_ahead plan r q leg.train leg.place ahead inside past goes)) free
+    (λ j le. follow plan j (after_leg r leg) (after_leg q leg) legs (ahead_both plan r q leg.train leg.place ahead inside past goes) both.1 le))
+    (λ short. skip (λ still. short))
+    (cases_lt (place_of q leg.train) leg.place))
+    (λ idle. skip (λ inside. absurd (false≢true (sym idle ∙ inside))))
+    (cases_Bool (is_inside plan q leg.train))
 
-leads_start : (plan : Moves) (s : List ℕ) (leg : Leg) → is_leg plan s leg ≡ true → is_safe plan s leg ≡ true → Leads plan leg.train leg.place s (after_leg s leg)
-leads_start plan s leg is safe =
-    let goes = goes_parts plan s leg is in
-    let lt : leg.train < length s = inside_listed plan s leg.train goes.inside in
-    let here : place_of (set s leg.train leg.place) leg.train ≡ leg.place = get_or-set_same s leg.train leg.place 0 lt in
-    record {
-      long = length-set s leg.train leg.place;
-      listed = lt;
-      started = (inside_parts plan s leg.train goes.inside).0;
-      reached = omega (arith, here, goes.ahead);
-      others = λ u ne. get_or-set_other s leg.train u leg.place 0 ne;
-      clear = clear_from_safe plan s leg safe;
-    }
+-- what can be found can be found ahead
+pub found_ahead : (plan : Moves) (k : ℕ) (r q : List ℕ) → IsAhead plan r q → Finds plan k r → Finds plan k q
+found_ahead plan k r q ahead found = follow plan k r q found.0 ahead found.1 found.2
+
+pub ahead_still : (plan : Moves) (s : List ℕ) → IsAhead plan s s
+ahead_still plan s = record {
+  long = refl;
+  entered = λ t inside. (inside_parts plan s t inside).0;
+  later = λ t inside. omega arith;
+  clear = λ t inside. inl refl;
+}
+
+-- a safe leg leads ahead
+pub ahead_leg : (plan : Moves) (s r : List ℕ) (leg : Leg) → IsAhead plan s r → is_leg plan r leg ≡ true → is_safe plan r leg ≡ true → IsAhead plan s (after_leg r leg)
+ahead_leg plan s r leg ahead is safe =
+    let goes = goes_parts plan r leg is in
+    ahead_on plan s r leg.train leg.place ahead goes.inside goes.ahead
+    (clear_on plan r leg.train leg.place leg.train (stand plan leg.train leg.place) goes.inside goes.ahead (clear_from_safe plan r leg safe))
 
 pub safe_leg_keeps : (plan : Moves) (k : ℕ) (s : List ℕ) (leg : Leg) → is_leg plan s leg ≡ true → is_safe plan s leg ≡ true → Finds plan k s → Finds plan k (after_leg s leg)
-safe_leg_keeps plan k s leg is safe found =
-    follow plan leg.train leg.place k s (after_leg s leg) found.0 (leads_start plan s leg is safe) found.1 found.2
+safe_leg_keeps plan k s leg is safe = found_ahead plan k s (after_leg s leg) (ahead_leg plan s s leg (ahead_still plan s) is safe)
 
 -- a train that is taken out where it stands
-leads_out : (plan : Moves) (s : List ℕ) (t : ℕ) → is_inside plan s t ≡ true → Leads plan t (plan.moves t) s (set s t (plan.moves t))
-leads_out plan s t inside =
-    let parts = inside_parts plan s t inside in
-    let lt : t < length s = inside_listed plan s t inside in
-    let here : place_of (set s t (plan.moves t)) t ≡ plan.moves t = get_or-set_same s t (plan.moves t) 0 lt in
+ahead_out : (plan : Moves) (s : List ℕ) (t : ℕ) → is_inside plan s t ≡ true → IsAhead plan s (set s t (plan.moves t))
+ahead_out plan s t inside =
     let none : stand plan t (plan.moves t) ≡ [] = stand_out plan t (plan.moves t) (omega arith) in
-    record {
-      long = length-set s t (plan.moves t);
-      listed = lt;
-      started = parts.0;
-      reached = omega (arith, here, parts.1);
-      others = λ u ne. get_or-set_other s t u (plan.moves t) 0 ne;
-      clear = λ u i ne is from below. ap (are_apart (plan.claim u i)) none ∙ apart_none (plan.claim u i);
-    }
+    ahead_on plan s s t (plan.moves t) (ahead_still plan s) inside (inside_parts plan s t inside).1
+    (λ u i ne is from below. ap (are_apart (plan.claim u i)) none ∙ apart_none (plan.claim u i))
 
 pub found_without : (plan : Moves) (k : ℕ) (s : List ℕ) (t : ℕ) → is_inside plan s t ≡ true → Finds plan k s → Finds plan k (set s t (plan.moves t))
-found_without plan k s t inside found =
-    follow plan t (plan.moves t) k s (set s t (plan.moves t)) found.0 (leads_out plan s t inside) found.1 found.2
+found_without plan k s t inside = found_ahead plan k s (set s t (plan.moves t)) (ahead_out plan s t inside)
 
 -- so where nothing is found without the train, nothing is found after a leg of it
 pub found_past_leg : (plan : Moves) (k : ℕ) (s : List ℕ) (t p : ℕ) → is_leg plan s (record { train = t; place = p }) ≡ true → Finds plan k (set s t p) → Finds plan k (set s t (plan.moves t))

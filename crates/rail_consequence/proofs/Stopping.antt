@@ -11,7 +11,8 @@ use Rattle.rail_rules.proofs.CallerLemmas.{any_below_at, any_below_none, list_an
 use Rattle.rail_place.proofs.CallerLemmas.{holder_listed, state_apart, move_valid}
 use Rattle.rail_consequence.specs.Needs.{needs_left, one_if}
 use Rattle.rail_consequence.specs.Stops.{IsBehind, IsTakenByOther, IsStopped}
-use Rattle.rail_consequence.proofs.Legs.{goes_parts, leg_from, inside_parts, inside_from, inside_listed, IsClear}
+use Rattle.rail_consequence.specs.Cores.{IsClear}
+use Rattle.rail_consequence.proofs.Legs.{goes_parts, leg_from, inside_parts, inside_from, inside_listed}
 use Rattle.rail_consequence.proofs.Safe.{safe_from_clear, clear_from_safe}
 use Rattle.rail_consequence.proofs.Counts.{left_at, one_false, one_true}
 use Rattle.rail_consequence.proofs.Clear.{none_from_clear, sum_alone}

@@ -35,7 +35,7 @@ HasFalls plan s counts width t p fell = (x : ℕ) → x < 64 * width
     → has fell x ≡ (needs_from plan t (place_of s t) x && not (needs_from plan t p x) && (count_of counts x == 2))
 
 -- as far as the words go, the sets are those of the places where the train has gone on to the place: each section of the first is taken by a train, and each of the second is needed by two or more
-pub record IsAhead (plan : Moves) (s : List ℕ) (counts : Columns) (width t p : ℕ) (ahead : Lookahead) : Type 0 where
+pub record IsLookahead (plan : Moves) (s : List ℕ) (counts : Columns) (width t p : ℕ) (ahead : Lookahead) : Type 0 where
   pub taken : (x : ℕ) → x < 64 * width → IsTrue (has ahead.taken x) → (v : ℕ) × IsTrue (holds plan (set s t p) v x)
   pub shared : (x u : ℕ) → x < 64 * width → IsTrue (has ahead.shared x) → IsSharedThen plan s counts t p u x
 

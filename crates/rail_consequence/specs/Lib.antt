@@ -6,3 +6,4 @@ pub mod AnalystStates
 pub mod Stops
 pub mod Freeing
 pub mod Analysts
+pub mod Cores

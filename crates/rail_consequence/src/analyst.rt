@@ -24,7 +24,7 @@ use crate::width::{All, Four, One, Two, Width};
 use rail_base::limits::LIST_TRAINS;
 use rail_base::{OutOfMemory, TrainNo, add_copies};
 use rail_place::{Moves, Places};
-use rail_sets::{Counts, WORDS, join, replace};
+use rail_sets::{Counts, TrainSet, WORDS, join, replace};
 use std::alloc::Global;
 use std::marker::Model;
 
@@ -44,6 +44,8 @@ pub struct Analyst {
     /// What is noted of the trains there.
     notes: Notes,
     sheet: Worksheet,
+    /// The core of the last search that failed.
+    core: TrainSet,
 }
 
 impl Drop for Analyst {
@@ -53,6 +55,7 @@ impl Drop for Analyst {
             tally: _tally,
             notes: _notes,
             sheet: _sheet,
+            core: _core,
         } = self;
     }
 }
@@ -62,7 +65,7 @@ impl Model for Analyst {
 
     ghost Value = { Tallied };
 
-    ghost view = { λ analyst. record { inside = analyst.inside; tally = analyst.tally; notes = analyst.notes; rows = analyst.sheet.rows; list = analyst.sheet.list } };
+    ghost view = { λ analyst. record { inside = analyst.inside; tally = analyst.tally; notes = analyst.notes; rows = analyst.sheet.rows; list = analyst.sheet.list; core = analyst.core } };
 }
 
 /// What a search works on. Nobody enters in a search: the calls that go over trains are handed a list
@@ -102,6 +105,7 @@ impl Analyst {
             tally: Tally::new(alloc, moves)?,
             notes: Notes::none(),
             sheet: Worksheet::new(alloc, moves)?,
+            core: TrainSet::none(),
         })
     }
 
@@ -129,6 +133,21 @@ impl Analyst {
         } else {
             None
         }
+    }
+
+    /// The list that the last search found.
+    pub fn list(&self) -> &[TrainNo]
+        ensures { result.now ≡ self.now.list }
+    {
+        self.sheet.list()
+    }
+
+    /// The core of the last search that failed: as long as each of these trains stands where it stood, nothing is found,
+    /// wherever the others are.
+    pub fn core(&self) -> TrainSet
+        ensures { result ≡ self.now.core }
+    {
+        self.core
     }
 
     /// Sets the train aside: it is counted as outside, and nothing is noted of any train. So the analyst is one for all moves
@@ -159,12 +178,12 @@ impl Analyst {
     }
 
     /// Makes a list of moves that completes from the places, by legs of which at most `depth` are free. Whether there is
-    /// one. Sets are looked at as far as the moves need.
-    fn search(&mut self, moves: &Moves, places: &Places, depth: u8) -> bool
+    /// one; where there is none, the core of the search is kept. Sets are looked at as far as the moves need.
+    pub fn search(&mut self, moves: &Moves, places: &Places, depth: u8) -> bool
         requires made { IsMadeFor moves.now places.now }
         requires own { IsAnalystFor (moves_in moves.now) self.old }
         ensures own { IsAnalystFor (moves_in moves.now) self.new }
-        ensures answer { IsAnswered (moves_in moves.now) places.now.positions depth result self.new.list }
+        ensures answer { IsAnswered (moves_in moves.now) places.now.positions depth result self.new.list self.new.core }
     {
         let words = self.sheet.rows().width();
         if words <= One::WORDS {
@@ -184,7 +203,7 @@ impl Analyst {
         requires made { IsMadeFor moves.now places.now }
         requires own { IsAnalystFor (moves_in moves.now) self.old }
         ensures own { IsAnalystFor (moves_in moves.now) self.new }
-        ensures answer { IsAnswered (moves_in moves.now) places.now.positions depth result self.new.list }
+        ensures answer { IsAnswered (moves_in moves.now) places.now.positions depth result self.new.list self.new.core }
     {
         self.tally.follow::<W>(
             moves,
@@ -199,8 +218,15 @@ impl Analyst {
         self.sheet.look_again::<W>(moves, inside, &mut self.notes);
         let mut notes = self.notes;
         let mut ahead = Lookahead::new();
-        self.sheet
-            .search::<W>(moves, inside, &mut notes, &mut ahead, depth)
+        self.sheet.close::<W>(moves, inside, &mut notes);
+        if self
+            .sheet
+            .search_on::<W>(moves, inside, &notes, &mut ahead, depth)
+        {
+            return true;
+        }
+        self.core = self.sheet.trains_inside(moves, inside);
+        false
     }
 }
 

@@ -21,6 +21,10 @@
 //! train gone for which it waits, and those to which a section would fall: no leg is tried of the others. A leg
 //! of the rest is looked at in the same way, with the sets of what would be taken and what would be shared.
 //!
+//! The trains that are inside after the first safe legs of a search that fails are its core: as long as each of them
+//! stands where it stood, nothing is found, wherever the others are. So nobody needs to search again until one of
+//! them has moved.
+//!
 //! An analyst belongs to the moves for which it was made. The counts are kept from one search to the
 //! next, and brought to the new places train by train where the place differs.
 //!
@@ -41,6 +45,8 @@ mod width;
 
 pub use analyst::Analyst;
 pub use laws::{
-    a_safe_leg_keeps_what_can_be_found, what_can_be_found_can_be_found_without_a_train,
+    a_core_lasts_behind_a_safe_leg, a_core_lasts_until_one_of_it_moves,
+    a_safe_leg_keeps_what_can_be_found, the_trains_that_safe_legs_leave_inside_are_a_core,
+    what_can_be_found_can_be_found_ahead, what_can_be_found_can_be_found_without_a_train,
 };
 pub use rows::Rows;

@@ -11,7 +11,8 @@ use Rattle.rail_rules.specs.Analysis.{Leg, is_safe, needs_later}
 use Rattle.rail_rules.proofs.CallerLemmas.{any_below_at, any_below_found, any_below_none, apart_at, apart_from, apart_sym, list_any_at, list_any_none, sum_below-le}
 use Rattle.rail_place.specs.Plays.{IsPlayed}
 use Rattle.rail_place.proofs.CallerLemmas.{move_valid, inside_listed, played_left}
-use Rattle.rail_consequence.proofs.CallerLemmas.{IsClear, apart_none, clear_from_safe, inside_from, inside_parts, inside_same, nobody_at, safe_from_clear, stand_out}
+use Rattle.rail_consequence.specs.Cores.{IsClear}
+use Rattle.rail_consequence.proofs.CallerLemmas.{apart_none, clear_from_safe, inside_from, inside_parts, inside_same, nobody_at, safe_from_clear, stand_out}
 use Rattle.rail_list.proofs.Pulling.{place_kept, inside_kept, after_comm}
 use Rattle.rail_consequence.specs.Needs.{times}
 use Rattle.rail_list.proofs.Beside.{legal_beside}

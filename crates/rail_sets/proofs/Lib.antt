@@ -4,3 +4,5 @@ pub mod CallerLemmas
 mod Digits
 -- Bits of words.
 mod Words
+-- Bits of the words of a set of trains.
+mod TrainSetLemmas

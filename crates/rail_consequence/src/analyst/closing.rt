@@ -5,6 +5,8 @@ ghost use Rattle.rail_rules.specs.Analysis.{is_leg, is_safe, moves_left};
 ghost use Rattle.rail_rules.specs.Numbers.{is_in};
 ghost use Rattle.rail_rules.specs.Places.{is_inside, place_of};
 ghost use Rattle.rail_place.specs.Tables.{moves_in};
+ghost use Rattle.rail_sets.specs.TrainSets.{has_train};
+ghost use Rattle.rail_consequence.specs.Cores.{LeadsAhead};
 ghost use Rattle.rail_consequence.specs.Needs.{AreWords};
 ghost use Rattle.rail_consequence.specs.Searches.{FindsSame, HasNoSafeLeg, HasNoSafeLegOf, leg_to};
 ghost use Rattle.rail_consequence.specs.Stops.{AreSettledFrom, IsTakenByOther, IsNotedTo, IsSettled, IsStopped, IsUntouched, Shows, section_of, stop_of};
@@ -12,10 +14,11 @@ ghost use Rattle.rail_consequence.specs.Workspace.{GoesOn, IsBack, IsListing, Is
 
 use super::Worksheet;
 use crate::notes::{Notes, Stop};
+use crate::tally::stands_inside;
 use crate::width::Width;
 use rail_base::{SectionNo, TrainNo};
 use rail_place::Moves;
-use rail_sets::{first_common, meet, meet_beyond};
+use rail_sets::{TrainSet, first_common, meet, meet_beyond};
 
 /// What looking at a train shows.
 #[derive(Clone, Copy)]
@@ -38,6 +41,7 @@ impl Worksheet {
         ensures ready { IsReady moves.now self.new }
         ensures moves { GoesOn (moves_in moves.now) self.old self.new }
         ensures same { FindsSame (moves_in moves.now) self.old.places.positions self.new.places.positions }
+        ensures ahead { LeadsAhead (moves_in moves.now) self.old.places.positions self.new.places.positions }
         ensures none { HasNoSafeLeg (moves_in moves.now) self.new.places.positions }
         ensures settled { IsSettled (moves_in moves.now) self.new.places.positions notes.new.stops }
     {
@@ -68,6 +72,7 @@ impl Worksheet {
         ensures ready { IsReady moves.now self.new }
         ensures moves { GoesOn (moves_in moves.now) self.old self.new }
         ensures same { FindsSame (moves_in moves.now) self.old.places.positions self.new.places.positions }
+        ensures ahead { LeadsAhead (moves_in moves.now) self.old.places.positions self.new.places.positions }
         ensures fewer { 0 < result → moves_left (moves_in moves.now) self.new.places.positions
             < moves_left (moves_in moves.now) self.old.places.positions }
         ensures within { result ≤ length inside.now }
@@ -100,6 +105,7 @@ impl Worksheet {
         ensures ready { IsReady moves.now self.new }
         ensures moves { GoesOn (moves_in moves.now) self.old self.new }
         ensures same { FindsSame (moves_in moves.now) self.old.places.positions self.new.places.positions }
+        ensures ahead { LeadsAhead (moves_in moves.now) self.old.places.positions self.new.places.positions }
         ensures fewer { IsTrue result → moves_left (moves_in moves.now) self.new.places.positions
             < moves_left (moves_in moves.now) self.old.places.positions }
         ensures none { result ≡ false
@@ -125,6 +131,21 @@ impl Worksheet {
                 true
             }
         }
+    }
+
+    /// The trains that are inside.
+    pub(super) fn trains_inside(&self, moves: &Moves, inside: &[TrainNo]) -> TrainSet
+        requires ready { IsReady moves.now self.now }
+        requires listed { IsListing (moves_in moves.now) self.now.places.positions inside.now }
+        ensures { (t : ℕ) → IsTrue (is_inside (moves_in moves.now) self.now.places.positions t) → IsTrue (has_train result t) }
+    {
+        let mut trains = TrainSet::none();
+        for train in inside {
+            if stands_inside(moves, &self.places, *train) {
+                trains.insert(*train);
+            }
+        }
+        trains
     }
 
     /// Looks at the trains inside that nothing of what is noted stops, and notes what does. No section has fallen

@@ -7,7 +7,7 @@ ghost use Rattle.rail_rules.specs.Numbers.{is_in};
 ghost use Rattle.rail_sets.specs.Sets.{has};
 ghost use Rattle.rail_consequence.specs.Needs.{AreWords};
 ghost use Rattle.rail_consequence.specs.Searches.{FindsByNoLegOf, HasNoSafeLegOf};
-ghost use Rattle.rail_consequence.specs.Freeing.{AreSeveral, FallsInVain, FreesNobody, HasFalls, HasOther, IsAhead, IsNextStop, IsNotAwaited, MayWaitFor, WaitsFor, is_marked};
+ghost use Rattle.rail_consequence.specs.Freeing.{AreSeveral, FallsInVain, FreesNobody, HasFalls, HasOther, IsLookahead, IsNextStop, IsNotAwaited, MayWaitFor, WaitsFor, is_marked};
 ghost use Rattle.rail_consequence.specs.Stops.{IsSettled, IsUntouched, stop_of};
 ghost use Rattle.rail_consequence.specs.declared.notes.Stop.TheVariants.{Later};
 ghost use Rattle.rail_consequence.specs.Workspace.{IsListing, IsReady};
@@ -190,7 +190,7 @@ impl Worksheet {
         requires inside { IsTrue (is_inside (moves_in moves.now) self.now.places.positions train) }
         requires within { place ≤ (moves_in moves.now).moves train }
         requires later { 0 < place }
-        ensures sets { IsAhead (moves_in moves.now) self.now.places.positions self.now.needs W.WORDS train place ahead.new }
+        ensures sets { IsLookahead (moves_in moves.now) self.now.places.positions self.now.needs W.WORDS train place ahead.new }
         ensures fell { HasFalls (moves_in moves.now) self.now.places.positions self.now.needs W.WORDS train place ahead.new.fell }
         ensures none { ahead.new.has_fallen ≡ false → (x : ℕ) → x < 64 * W.WORDS → has ahead.new.fell x ≡ false }
     {
@@ -226,7 +226,7 @@ impl Worksheet {
         requires train { train < length moves.now }
         requires later { 0 < place }
         requires within { place ≤ (moves_in moves.now).moves train }
-        requires ahead { IsAhead (moves_in moves.now) self.now.places.positions self.now.needs W.WORDS train place ahead.now }
+        requires ahead { IsLookahead (moves_in moves.now) self.now.places.positions self.now.needs W.WORDS train place ahead.now }
         ensures { IsTrue result → (u : ℕ) → IsTrue (is_in u inside.now) → u ≢ train
             → MayWaitFor (moves_in moves.now) self.now.places.positions notes.now.stops u train
             → HasNoSafeLegOf (moves_in moves.now) (set self.now.places.positions train place) u }
@@ -271,7 +271,7 @@ impl Worksheet {
         requires train { train < length moves.now }
         requires later { 0 < place }
         requires within { place ≤ (moves_in moves.now).moves train }
-        requires ahead { IsAhead (moves_in moves.now) self.now.places.positions self.now.needs W.WORDS train place ahead.now }
+        requires ahead { IsLookahead (moves_in moves.now) self.now.places.positions self.now.needs W.WORDS train place ahead.now }
         requires none { ahead.now.has_fallen ≡ false → (x : ℕ) → x < 64 * W.WORDS → has ahead.now.fell x ≡ false }
         ensures { IsTrue result → (u x : ℕ) → IsTrue (is_in u inside.now) → u ≢ train → stop_of notes.now.stops u ≡ Later x
             → IsUntouched (moves_in moves.now) self.now.places.positions ahead.now.fell u
@@ -307,7 +307,7 @@ impl Worksheet {
         requires differs { other ≢ train }
         requires later { 0 < place }
         requires within { place ≤ (moves_in moves.now).moves train }
-        requires ahead { IsAhead (moves_in moves.now) self.now.places.positions self.now.needs W.WORDS train place ahead.now }
+        requires ahead { IsLookahead (moves_in moves.now) self.now.places.positions self.now.needs W.WORDS train place ahead.now }
         ensures { IsTrue result → (x : ℕ) → stop_of notes.now.stops other ≡ Later x
             → IsUntouched (moves_in moves.now) self.now.places.positions ahead.now.fell other
             ⊎ HasNoSafeLegOf (moves_in moves.now) (set self.now.places.positions train place) other }
@@ -369,7 +369,7 @@ impl Worksheet {
         requires other { stopped ≢ train }
         requires later { 0 < place }
         requires within { place ≤ (moves_in moves.now).moves train }
-        requires ahead { IsAhead (moves_in moves.now) self.now.places.positions self.now.needs W.WORDS train place ahead.now }
+        requires ahead { IsLookahead (moves_in moves.now) self.now.places.positions self.now.needs W.WORDS train place ahead.now }
         ensures { IsTrue result → HasNoSafeLegOf (moves_in moves.now) (set self.now.places.positions train place) stopped }
     {
         let at = self.places.position(stopped);

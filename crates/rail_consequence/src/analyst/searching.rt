@@ -46,18 +46,40 @@ impl Worksheet {
     {
         let mark = self.list.len();
         self.close::<W>(moves, inside, notes);
-        if self.is_done(moves, inside) {
-            return true;
-        }
-        if depth == 0 {
-            self.go_back::<W>(moves, mark);
-            return false;
-        }
-        if self.try_free_legs::<W>(moves, inside, notes, ahead, depth - 1) {
+        if self.search_on::<W>(moves, inside, notes, ahead, depth) {
             return true;
         }
         self.go_back::<W>(moves, mark);
         false
+    }
+
+    /// As `search`, from places where no leg is safe.
+    #[cycle(search)]
+    pub(super) fn search_on<W: Width>(
+        &mut self,
+        moves: &Moves,
+        inside: &[TrainNo],
+        notes: &Notes,
+        ahead: &mut Lookahead,
+        depth: u8,
+    ) -> bool
+        requires words { AreWords (moves_in moves.now) W.WORDS }
+        requires ready { IsReady moves.now self.old }
+        requires listed { IsListing (moves_in moves.now) self.old.places.positions inside.now }
+        requires none { HasNoSafeLeg (moves_in moves.now) self.old.places.positions }
+        requires settled { IsSettled (moves_in moves.now) self.old.places.positions notes.now.stops }
+        ensures ready { IsReady moves.now self.new }
+        ensures found { IsTrue result → IsCleared (moves_in moves.now) depth self.old self.new }
+        ensures none { result ≡ false
+            → IsBack self.old self.new × (Finds (moves_in moves.now) depth self.old.places.positions → ⊥) }
+    {
+        if self.is_done(moves, inside) {
+            return true;
+        }
+        if depth == 0 {
+            return false;
+        }
+        self.try_free_legs::<W>(moves, inside, notes, ahead, depth - 1)
     }
 
     /// As `search`, with a first leg of any train, from places where no leg is safe.

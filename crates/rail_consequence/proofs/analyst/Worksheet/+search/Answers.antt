@@ -24,38 +24,15 @@ use Rattle.rail_consequence.proofs.Without.{IsOut, out_back, out_entered, out_fe
 use Rattle.rail_consequence.proofs.analyst.Worksheet.+search.Goals as goal
 use Rattle.rail_consequence.proofs.analyst.Worksheet.+search.Goals.{try_free_legs-then-depth-eq0+then-are_several_inside, try_free_legs-else-depth-eq0, try_free_legs-else-has-via-then-has+else-try_legs_of, try_free_legs-else-has-via-else-has}
 
-pub search-returns-then-is_done-clause-found : goal.search-returns-then-is_done-clause-found
-search-returns-then-is_done-clause-found g t c =
+pub search-returns-then-search_on-clause-found : goal.search-returns-then-search_on-clause-found
+search-returns-then-search_on-clause-found g t c =
     let plan : Moves = moves_in c.args.moves.now in
     let b = c.close.new.self in
-    let nobody = c.is_done.ensures.0 c.if-is_done.true in
-    λ _. (c.close.ensures.moves, nobody, (c.close.ensures.same c.args.depth).1 (found_nobody plan c.args.depth b.places.positions nobody))
-
-pub search-returns-then-depth-eq0-clause-none : goal.search-returns-then-depth-eq0-clause-none
-search-returns-then-depth-eq0-clause-none g t c =
-    let plan : Moves = moves_in c.args.moves.now in
-    let a = c.args.self.now in
-    let b = c.close.new.self in
-    let mark : c.len-mark.result ≡ length a.list = omega (arith, c.len-mark.ensures, c.self.inside.list.ok, ap (λ (w : Work). length w.list) c.self.view_is) in
-    let inside : nobody_inside plan b.places.positions ≡ false = false_both c.is_done.result (nobody_inside plan b.places.positions) c.is_done.ensures c.if-is_done.false in
+    let found = c.search_on.ensures.found c.if-search_on.true in
     λ _. (
-      back_by plan a b c.go_back.new.self c.len-mark.result c.close.ensures.moves mark c.go_back.ensures.list c.go_back.ensures.positions,
-      λ found.
-          let first = found_by_free plan c.args.depth b.places.positions inside c.close.ensures.none ((c.close.ensures.same c.args.depth).0 found) in
-          absurd (omega (arith, first.2, c.if-depth-eq0.true)),
-    )
-
-pub search-returns-then-try_free_legs-clause-found : goal.search-returns-then-try_free_legs-clause-found
-search-returns-then-try_free_legs-clause-found g t c =
-    let plan : Moves = moves_in c.args.moves.now in
-    let b = c.close.new.self in
-    let found = c.try_free_legs.ensures.found c.if-try_free_legs.true in
-    let more : c.args.depth - 1 + 1 ≡ c.args.depth = omega (arith, c.if-depth-eq0.false) in
-    let P : ℕ → Type 0 = λ k. Finds plan k b.places.positions in
-    λ _. (
-      goes_further plan c.args.self.now b c.try_free_legs.new.self c.close.ensures.moves found.0,
+      goes_further plan c.args.self.now b c.search_on.new.self c.close.ensures.moves found.0,
       found.1,
-      (c.close.ensures.same c.args.depth).1 (subst P more found.2),
+      (c.close.ensures.same c.args.depth).1 found.2,
     )
 
 pub search-returns-clause-none : goal.search-returns-clause-none
@@ -63,15 +40,54 @@ search-returns-clause-none g t c =
     let plan : Moves = moves_in c.args.moves.now in
     let a = c.args.self.now in
     let b = c.close.new.self in
-    let e = c.try_free_legs.new.self in
+    let e = c.search_on.new.self in
     let mark : c.len-mark.result ≡ length a.list = omega (arith, c.len-mark.ensures, c.self.inside.list.ok, ap (λ (w : Work). length w.list) c.self.view_is) in
-    let inside : nobody_inside plan b.places.positions ≡ false = false_both c.is_done.result (nobody_inside plan b.places.positions) c.is_done.ensures c.if-is_done.false in
-    let none = c.try_free_legs.ensures.none c.if-try_free_legs.false in
+    let none = c.search_on.ensures.none c.if-search_on.false in
     let goes = goes_further plan a b e c.close.ensures.moves (goes_back plan b e none.0) in
     λ _. (
-      back_by plan a e c.go_back-2.new.self c.len-mark.result goes mark c.go_back-2.ensures.list c.go_back-2.ensures.positions,
+      back_by plan a e c.go_back.new.self c.len-mark.result goes mark c.go_back.ensures.list c.go_back.ensures.positions,
+      λ found. none.1 ((c.close.ensures.same c.args.depth).0 found),
+    )
+
+pub search_on-returns-then-is_done-clause-found : goal.search_on-returns-then-is_done-clause-found
+search_on-returns-then-is_done-clause-found g t c =
+    let plan : Moves = moves_in c.args.moves.now in
+    let a = c.args.self.now in
+    let nobody = c.is_done.ensures.0 c.if-is_done.true in
+    λ _. (goes_back plan a a (record { list = refl; positions = refl }), nobody, found_nobody plan c.args.depth a.places.positions nobody)
+
+pub search_on-returns-then-depth-eq0-clause-none : goal.search_on-returns-then-depth-eq0-clause-none
+search_on-returns-then-depth-eq0-clause-none g t c =
+    let plan : Moves = moves_in c.args.moves.now in
+    let s = c.args.self.now.places.positions in
+    let inside : nobody_inside plan s ≡ false = false_both c.is_done.result (nobody_inside plan s) c.is_done.ensures c.if-is_done.false in
+    λ _. (
+      record { list = refl; positions = refl },
       λ found.
-          let first = found_by_free plan c.args.depth b.places.positions inside c.close.ensures.none ((c.close.ensures.same c.args.depth).0 found) in
+          let first = found_by_free plan c.args.depth s inside c.requires.none found in
+          absurd (omega (arith, first.2, c.if-depth-eq0.true)),
+    )
+
+pub search_on-returns-clause-found : goal.search_on-returns-clause-found
+search_on-returns-clause-found g t c =
+    let plan : Moves = moves_in c.args.moves.now in
+    let s = c.args.self.now.places.positions in
+    let more : c.args.depth - 1 + 1 ≡ c.args.depth = omega (arith, c.if-depth-eq0.false) in
+    let P : ℕ → Type 0 = λ k. Finds plan k s in
+    λ yes.
+    let found = c.try_free_legs.ensures.found yes in
+    (found.0, found.1, subst P more found.2)
+
+pub search_on-returns-clause-none : goal.search_on-returns-clause-none
+search_on-returns-clause-none g t c =
+    let plan : Moves = moves_in c.args.moves.now in
+    let s = c.args.self.now.places.positions in
+    let inside : nobody_inside plan s ≡ false = false_both c.is_done.result (nobody_inside plan s) c.is_done.ensures c.if-is_done.false in
+    λ no.
+    let none = c.try_free_legs.ensures.none no in (
+      none.0,
+      λ found.
+          let first = found_by_free plan c.args.depth s inside c.requires.none found in
           none.1 first.0 first.1 first.3,
     )
 
@@ -118,15 +134,11 @@ try_free_legs-returns-clause-none g t c =
       λ leg is found. c.loop-train.invariant.none leg.train leg.place (in_take_all leg.train c.args.inside.now c.loop-train.train-index c.loop-train-test.false (c.requires.listed.all leg.train (goes_parts plan a.places.positions leg is).inside)) is found,
     )
 
-pub search-is_done-requires-clause-listed : goal.search-is_done-requires-clause-listed
-search-is_done-requires-clause-listed g t c = listed_on (moves_in c.args.moves.now) c.args.self.now c.close.new.self c.args.inside.now c.close.ensures.moves c.requires.listed
-
-pub search-try_free_legs-requires : goal.search-try_free_legs-requires
-search-try_free_legs-requires g t c _ within =
+pub search-search_on-requires : goal.search-search_on-requires
+search-search_on-requires g t c _ within =
     let plan : Moves = moves_in c.args.moves.now in
-    let b = c.close.new.self in
-    let more : c.args.depth - 1 + 1 ≡ c.args.depth = omega (arith, c.if-depth-eq0.false) in (
-      omega (arith, c.if-depth-eq0.false),
+    let b = c.close.new.self in (
+      omega arith,
       (
         within,
         (
@@ -135,10 +147,7 @@ search-try_free_legs-requires g t c _ within =
             c.close.ensures.ready,
             (
               listed_on plan c.args.self.now b c.args.inside.now c.close.ensures.moves c.requires.listed,
-              (
-                omega (arith, c.if-depth-eq0.false, c.ranges.depth.fits),
-                (c.close.ensures.none, c.close.ensures.settled),
-              ),
+              (c.close.ensures.none, c.close.ensures.settled),
             ),
           ),
         ),

@@ -8,22 +8,25 @@ use Rattle.rail_consequence.proofs.Stopping.{IsOpen}
 use Rattle.rail_consequence.proofs.analyst.Worksheet.+search.Given as goal
 
 abbrev pub decreases-search : goal.decreases-search
-decreases-search g l = 5 * l.depth
+decreases-search g l = 6 * l.depth + 1
+
+abbrev pub decreases-search_on : goal.decreases-search_on
+decreases-search_on g l = 6 * l.depth
 
 abbrev pub decreases-try_free_legs : goal.decreases-try_free_legs
-decreases-try_free_legs g l = 5 * l.depth + 4
+decreases-try_free_legs g l = 6 * l.depth + 5
 
 abbrev pub decreases-try_legs_of : goal.decreases-try_legs_of
-decreases-try_legs_of g l = 5 * l.depth + 3
+decreases-try_legs_of g l = 6 * l.depth + 4
 
 abbrev pub decreases-try_leg : goal.decreases-try_leg
-decreases-try_leg g l = 5 * l.depth + 2
+decreases-try_leg g l = 6 * l.depth + 3
 
 abbrev pub decreases-is_hopeless : goal.decreases-is_hopeless
-decreases-is_hopeless g l = 5 * l.depth + 2
+decreases-is_hopeless g l = 6 * l.depth + 3
 
 abbrev pub decreases-is_found_without : goal.decreases-is_found_without
-decreases-is_found_without g l = 5 * l.depth + 1
+decreases-is_found_without g l = 6 * l.depth + 2
 
 abbrev pub invariant-try_free_legs-loop-train : goal.invariant-try_free_legs-loop-train
 invariant-try_free_legs-loop-train g l = record {

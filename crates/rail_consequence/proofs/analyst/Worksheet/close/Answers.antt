@@ -33,6 +33,7 @@ loop-upto-preserved g c =
       noted = c.make_safe_legs-upto.ensures.noted;
       goes = goes_further plan a b d c.loop-upto.invariant.goes c.make_safe_legs-upto.ensures.moves;
       same = both_ways plan a.places.positions b.places.positions d.places.positions c.loop-upto.invariant.same c.make_safe_legs-upto.ensures.same;
+      ahead = λ start ahead. c.make_safe_legs-upto.ensures.ahead start (c.loop-upto.invariant.ahead start ahead);
       within = c.make_safe_legs-upto.ensures.within;
       settled = c.make_safe_legs-upto.ensures.settled;
     }

@@ -1,6 +1,7 @@
 use Rattle.std.proofs.Common.{◌↔◌, ℕ, suc, ◌≤◌, cond, eqb, length}
 use Rattle.rail_rules.specs.Analysis.{Finds, moves_left}
 use Rattle.rail_place.specs.Tables.{moves_in}
+use Rattle.rail_consequence.specs.Cores.{LeadsAhead}
 use Rattle.rail_consequence.specs.Stops.{AreSettledFrom, IsNotedTo}
 use Rattle.rail_consequence.specs.Workspace.{GoesOn, IsReady}
 use Rattle.rail_consequence.proofs.analyst.Worksheet.close.Given as goal
@@ -11,6 +12,7 @@ invariant-loop-upto g l = record {
   noted : IsNotedTo (moves_in l.moves) l.self.places.positions l.notes;
   goes : GoesOn (moves_in l.moves) l.fn.self l.self;
   same : (k : ℕ) → Finds (moves_in l.moves) k l.fn.self.places.positions ↔ Finds (moves_in l.moves) k l.self.places.positions;
+  ahead : LeadsAhead (moves_in l.moves) l.fn.self.places.positions l.self.places.positions;
   within : l.upto ≤ length l.inside;
   settled : AreSettledFrom (moves_in l.moves) l.self.places.positions l.notes.stops l.inside l.upto;
 }

@@ -6,7 +6,7 @@ use Rattle.rail_rules.specs.Places.{is_inside, place_of}
 use Rattle.rail_rules.proofs.CallerLemmas.{state_parts}
 use Rattle.rail_place.specs.Tables.{moves_in}
 use Rattle.rail_sets.specs.Sets.{has}
-use Rattle.rail_consequence.specs.Freeing.{HasFalls, IsAhead}
+use Rattle.rail_consequence.specs.Freeing.{HasFalls, IsLookahead}
 use Rattle.rail_consequence.specs.Needs.{IsSet, count_of, needs_from}
 use Rattle.rail_consequence.specs.Workspace.{Work}
 use Rattle.rail_consequence.proofs.Freeing.{shared_then}
@@ -41,7 +41,7 @@ returns-clause-sets g c =
     let s = own.places.positions in
     let fell = c.fill_falls-ahead.new.fell in
     let G : ℕ → Type 0 = λ q. IsSet c.stand.result.now (λ x. is_in x (stand plan t q)) in
-    let P : Work → Type 0 = λ w. IsAhead plan w.places.positions w.needs g.W.Width.WORDS t p (record { taken = c.fill_replaced.new.set; shared = c.fill_falls-ahead.new.shared; fell = fell; has_fallen = c.fill_falls-ahead.result }) in
+    let P : Work → Type 0 = λ w. IsLookahead plan w.places.positions w.needs g.W.Width.WORDS t p (record { taken = c.fill_replaced.new.set; shared = c.fill_falls-ahead.new.shared; fell = fell; has_fallen = c.fill_falls-ahead.result }) in
     let I : Work → Type 0 = λ w. is_inside plan w.places.positions t ≡ true in
     let inside = subst I (sym c.self.view_is) c.requires.inside in
     let known : t < length s = omega (arith, c.requires.train, (state_parts plan s ready.made.valid).long) in

@@ -1,11 +1,13 @@
-use Rattle.std.proofs.Common.{◌<◌, length, refl, ap, arith}
+use Rattle.std.proofs.Common.{ℕ, ◌<◌, List, length, refl, sym, ap, subst, arith}
 use Rattle.rail_rules.specs.Moves.{Moves}
 use Rattle.rail_rules.specs.Analysis.{Leg, moves_left}
 use Rattle.rail_rules.proofs.CallerLemmas.{state_parts}
 use Rattle.rail_place.specs.Tables.{moves_in}
+use Rattle.rail_consequence.specs.Cores.{IsAhead}
 use Rattle.rail_consequence.proofs.Legs.{goes_parts}
 use Rattle.rail_consequence.proofs.Played.{fewer_at}
 use Rattle.rail_consequence.proofs.Walks.{leg_finds}
+use Rattle.rail_consequence.proofs.Safe.{ahead_leg}
 use Rattle.rail_consequence.proofs.Stopping.{stopped_unsafe}
 use Rattle.rail_consequence.proofs.Noting.{note_one, shown_noted, shown_unsafe}
 use Rattle.rail_consequence.proofs.analyst.Worksheet.make_safe_leg.Goals as goal
@@ -48,3 +50,12 @@ returns-in-Leads-clause-fewer g c =
     let listed : t < length s = omega (arith, c.requires.train, (state_parts plan s c.requires.ready.made.valid).long) in
     let goes = goes_parts plan s (record { train = t; place = c.in-Leads.place }) c.in-Leads.ensures.0 in
     λ _. omega (arith, ap (moves_left plan) c.go_to.ensures.positions, fewer_at plan s t c.in-Leads.place listed goes.ahead goes.within)
+
+pub returns-in-Leads-clause-ahead : goal.returns-in-Leads-clause-ahead
+returns-in-Leads-clause-ahead g c =
+    let plan : Moves = moves_in c.args.moves.now in
+    let s = c.args.self.now.places.positions in
+    let leg : Leg = record { train = c.args.train; place = c.in-Leads.place } in
+    λ start ahead.
+    let P : List ℕ → Type 0 = λ r. IsAhead plan start r in
+    subst P (sym c.go_to.ensures.positions) (ahead_leg plan start s leg ahead c.in-Leads.ensures.0 c.in-Leads.ensures.1)

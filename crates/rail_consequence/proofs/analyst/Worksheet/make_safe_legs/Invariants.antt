@@ -1,6 +1,7 @@
 use Rattle.std.proofs.Common.{◌↔◌, ℕ, ◌-◌, ◌<◌, ◌≤◌, get_or, length}
 use Rattle.rail_rules.specs.Analysis.{Finds, moves_left}
 use Rattle.rail_place.specs.Tables.{moves_in}
+use Rattle.rail_consequence.specs.Cores.{LeadsAhead}
 use Rattle.rail_consequence.specs.Stops.{AreSettledFrom, IsNotedTo, IsSettledTrain}
 use Rattle.rail_consequence.specs.Workspace.{GoesOn, IsReady}
 use Rattle.rail_consequence.proofs.analyst.Worksheet.make_safe_legs.Given as goal
@@ -12,6 +13,7 @@ invariant-loop-index g l = record {
   noted : IsNotedTo (moves_in l.moves) l.self.places.positions l.notes;
   goes : GoesOn (moves_in l.moves) l.fn.self l.self;
   same : (k : ℕ) → Finds (moves_in l.moves) k l.fn.self.places.positions ↔ Finds (moves_in l.moves) k l.self.places.positions;
+  ahead : LeadsAhead (moves_in l.moves) l.fn.self.places.positions l.self.places.positions;
   no_more : moves_left (moves_in l.moves) l.self.places.positions ≤ moves_left (moves_in l.moves) l.fn.self.places.positions;
   fewer : 0 < l.settled_from → moves_left (moves_in l.moves) l.self.places.positions < moves_left (moves_in l.moves) l.fn.self.places.positions;
   in_list : l.settled_from ≤ length l.inside;
