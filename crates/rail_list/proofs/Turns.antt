@@ -1,5 +1,5 @@
 -- What is pulled completes exactly where no earlier entry needs what the train then stands on, and the walk over these entries.
-use Rattle.std.proofs.Common.{◌≡◌, ◌≢◌, ℕ, suc, ◌+◌, ◌-◌, ◌<◌, ◌≤◌, true, false, not, ◌&&◌, eqb, leb, List, [], ◌∷◌, length, get_or, drop, set, Option, Some, None, sym, ap, ◌∙◌, subst, ⊎_elim, arith}
+use Rattle.std.proofs.Common.{◌≡◌, ◌≢◌, ℕ, suc, ◌+◌, ◌-◌, ◌<◌, ◌≤◌, true, false, not, ◌&&◌, eqb, leb, List, [], ◌∷◌, length, get_or, drop, set, sym, ap, ◌∙◌, subst, ⊎_elim, arith}
 use Rattle.std.proofs.lemmas.Bool.{and_parts, cases_eq, cond-true, cond-false, eq-eqb, le-leb, ne_eqb, not-false, false≢true}
 use Rattle.std.proofs.lemmas.List.{drop_more, get_or-set_other, get_or-set_same, length-set}
 use Rattle.rail_rules.specs.Numbers.{any_below, are_apart}
@@ -11,6 +11,8 @@ use Rattle.rail_place.proofs.CallerLemmas.{inside_listed}
 use Rattle.rail_consequence.specs.Needs.{times}
 use Rattle.rail_consequence.proofs.CallerLemmas.{nobody_at, times-cons}
 use Rattle.rail_list.specs.KeptLists.{is_free_before}
+use Rattle.rail_list.specs.declared.entries.Seen.{Seen}
+use Rattle.rail_list.specs.declared.entries.Seen.TheVariants.{Idle, Passed}
 use Rattle.rail_list.proofs.Pulling.{place_kept, inside_kept, after_comm}
 use Rattle.rail_list.proofs.Beside.{legal_beside}
 use Rattle.rail_list.proofs.MovesLeft.{entries_left, entry_inside, times-other, times-same, times_from}
@@ -102,9 +104,9 @@ clear_from plan sections rest u p reached none = λ m from below.
     apart_sym (plan.claim u m) sections (not-false (are_apart (plan.claim u m) sections) apart)
 
 -- what a walk knows of a train: how many of its entries were passed, or that it needs none of the sections any more
-abbrev pub IsPassed : Moves → List ℕ → List ℕ → List ℕ → ℕ → Option ℕ → Type 0
-IsPassed plan sections list rest u None = IsClearOf plan sections rest u
-IsPassed plan sections list rest u (Some n) = n + times u rest ≡ times u list
+abbrev pub IsPassed : Moves → List ℕ → List ℕ → List ℕ → ℕ → Seen → Type 0
+IsPassed plan sections list rest u Idle = IsClearOf plan sections rest u
+IsPassed plan sections list rest u (Passed n) = n + times u rest ≡ times u list
 
 -- the entries passed, this one and those behind it are the moves that the train has left
 pub reached : (plan : Moves) (s list : List ℕ) (i u n : ℕ) → completes plan s list ≡ true → i < length list → u ≡ get_or list i u
@@ -115,44 +117,44 @@ reached plan s list i u n done lt is passed =
     omega (arith, passed, times_here list i u lt is, entries_left plan s list u done inside)
 
 -- an entry of another train changes nothing of what is known of a train
-passed_other : (plan : Moves) (list sections : List ℕ) (i u v : ℕ) (w : Option ℕ) → i < length list → u ≡ get_or list i u → u ≢ v
+passed_other : (plan : Moves) (list sections : List ℕ) (i u v : ℕ) (w : Seen) → i < length list → u ≡ get_or list i u → u ≢ v
     → IsPassed plan sections list (drop i list) v w → IsPassed plan sections list (drop (i + 1) list) v w
-passed_other plan list sections i u v None lt is other clear = clear_later plan list sections i v lt clear
-passed_other plan list sections i u v (Some n) lt is other passed =
+passed_other plan list sections i u v Idle lt is other clear = clear_later plan list sections i v lt clear
+passed_other plan list sections i u v (Passed n) lt is other passed =
     let rest : List ℕ = drop (i + 1) list in
     let split : drop i list ≡ u ∷ rest = drop_more list i u lt ∙ ap (λ x. x ∷ rest) (sym is) in
     omega (arith, passed, ap (times v) split, times-other v u rest other)
 
 -- what is known of each train whose number a plant may have
-abbrev pub AreTold : Moves → List ℕ → List ℕ → List ℕ → List (Option ℕ) → Type 0
-AreTold plan sections list rest ws = (u : ℕ) → u < length ws → IsPassed plan sections list rest u (get_or ws u None)
+abbrev pub AreTold : Moves → List ℕ → List ℕ → List ℕ → List Seen → Type 0
+AreTold plan sections list rest ws = (u : ℕ) → u < length ws → IsPassed plan sections list rest u (get_or ws u (Passed 0))
 
 -- what is known behind an entry, where of its train this is known
-pub told_later : (plan : Moves) (list sections : List ℕ) (i u : ℕ) (ws : List (Option ℕ)) (w : Option ℕ) → i < length list → u ≡ get_or list i u → u < length ws
+pub told_later : (plan : Moves) (list sections : List ℕ) (i u : ℕ) (ws : List Seen) (w : Seen) → i < length list → u ≡ get_or list i u → u < length ws
     → AreTold plan sections list (drop i list) ws → IsPassed plan sections list (drop (i + 1) list) u w → AreTold plan sections list (drop (i + 1) list) (set ws u w)
 told_later plan list sections i u ws w lt is within told own = λ v below.
     let rest : List ℕ = drop (i + 1) list in
     ⊎_elim
     (λ same.
-    let P : ℕ → Type 0 = λ k. IsPassed plan sections list rest k (get_or (set ws u w) k None) in
-    let Q : Option ℕ → Type 0 = λ x. IsPassed plan sections list rest u x in
-    subst P same (subst Q (sym (get_or-set_same ws u w None within)) own))
+    let P : ℕ → Type 0 = λ k. IsPassed plan sections list rest k (get_or (set ws u w) k (Passed 0)) in
+    let Q : Seen → Type 0 = λ x. IsPassed plan sections list rest u x in
+    subst P same (subst Q (sym (get_or-set_same ws u w (Passed 0) within)) own))
     (λ other.
-    let Q : Option ℕ → Type 0 = λ x. IsPassed plan sections list rest v x in
-    subst Q (sym (get_or-set_other ws u v w None (λ e. other (sym e))))
-    (passed_other plan list sections i u v (get_or ws v None) lt is other (told v (omega (arith, below, length-set ws u w)))))
+    let Q : Seen → Type 0 = λ x. IsPassed plan sections list rest v x in
+    subst Q (sym (get_or-set_other ws u v w (Passed 0) (λ e. other (sym e))))
+    (passed_other plan list sections i u v (get_or ws v (Passed 0)) lt is other (told v (omega (arith, below, length-set ws u w)))))
     (cases_eq u v)
 
 -- the same, where of its train it is known that it needs none of the sections any more
-pub told_still : (plan : Moves) (list sections : List ℕ) (i u : ℕ) (ws : List (Option ℕ)) → i < length list → u ≡ get_or list i u → get_or ws u None ≡ None
+pub told_still : (plan : Moves) (list sections : List ℕ) (i u : ℕ) (ws : List Seen) → i < length list → u ≡ get_or list i u → get_or ws u (Passed 0) ≡ Idle
     → AreTold plan sections list (drop i list) ws → AreTold plan sections list (drop (i + 1) list) ws
 told_still plan list sections i u ws lt is none told = λ v below.
     let rest : List ℕ = drop (i + 1) list in
     ⊎_elim
     (λ same.
-    let none_here : get_or ws v None ≡ None = ap (λ k. get_or ws k None) (sym same) ∙ none in
-    let P : Option ℕ → Type 0 = λ x. IsPassed plan sections list (drop i list) v x in
-    let Q : Option ℕ → Type 0 = λ x. IsPassed plan sections list rest v x in
+    let none_here : get_or ws v (Passed 0) ≡ Idle = ap (λ k. get_or ws k (Passed 0)) (sym same) ∙ none in
+    let P : Seen → Type 0 = λ x. IsPassed plan sections list (drop i list) v x in
+    let Q : Seen → Type 0 = λ x. IsPassed plan sections list rest v x in
     subst Q (sym none_here) (clear_later plan list sections i v lt (subst P none_here (told v below))))
-    (λ other. passed_other plan list sections i u v (get_or ws v None) lt is other (told v below))
+    (λ other. passed_other plan list sections i u v (get_or ws v (Passed 0)) lt is other (told v below))
     (cases_eq u v)

@@ -15,6 +15,15 @@ use rail_base::limits::TRAINS;
 use rail_base::{SectionNo, TrainNo};
 use rail_place::{Moves, Places};
 
+/// What the entries that were passed tell of a train.
+#[derive(Clone, Copy, Debug)]
+enum Seen {
+    /// So many of its entries were passed.
+    Passed(u16),
+    /// It needs none of the sections any more.
+    Idle,
+}
+
 /// How many entries stand before the first of the train, where none of them needs one of the sections for its move.
 /// No entry behind that one is looked at. The list has an entry for each move that its trains have left, so that
 /// the entries of a train are its moves from its place on, in turn. The first entry of a train costs a look at the
@@ -37,13 +46,12 @@ pub fn free_entries_before(
     ensures room { kept.new.room ≡ kept.old.room }
     ensures looked { kept.new.looked ≤ kept.old.looked + length (before_first train kept.old.trains) + 1 }
 {
-    // For each train how many of its entries were passed, and `None` where it needs none of the sections any more.
-    let mut passed = [Some(0); TRAINS];
+    let mut passed = [Seen::Passed(0); TRAINS];
     let count = kept.len();
     for index in 0..count {
         let other = kept.look(index);
         let number = usize::from(other.0);
-        let Some(times) = passed[number] else {
+        let Seen::Passed(times) = passed[number] else {
             continue;
         };
         if other == train {
@@ -51,13 +59,13 @@ pub fn free_entries_before(
         }
         let place = places.position(other) + times;
         if times == 0 && !does_need_from(moves, other, place, sections) {
-            passed[number] = None;
+            passed[number] = Seen::Idle;
             continue;
         }
         if does_need_one(moves, other, place + 1, sections) {
             return None;
         }
-        passed[number] = Some(times + 1);
+        passed[number] = Seen::Passed(times + 1);
     }
     Some(count)
 }
