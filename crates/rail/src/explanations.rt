@@ -7,11 +7,12 @@ use rail_explain::{
     HELP_BEFORE, HELP_BEHIND, KeepingShelf, OTHER_FORMS, detail, file_of, help_line, law_text,
     usage, usage_with_hint, write_read_fault, write_refusal,
 };
+use rail_input::read_plant;
 use rail_io::{FileShelf, OutSink};
 use rail_scene::keys::keys_in;
 use rail_scene::{Version, item_name};
 use rail_text::LineBuffer;
-use rail_words::{FORMS, form_named, request_of};
+use rail_words::{FORMS, Form, Role, form_named, request_of};
 use std::io;
 use std::rt::HostRuntime;
 
@@ -95,8 +96,19 @@ fn explain_refusal(rt: &HostRuntime, words: &[Word], refusal: &Refusal, files: &
     let file = file_of(&request, refusal);
     let bytes = file.and_then(|file| files.bytes_of(file)).unwrap_or(&[]);
     let name = name_in(rt, bytes, refusal);
-    let detail = detail(rt.alloc(), refusal, bytes);
+    let scene = request
+        .file(Role::Scene)
+        .and_then(|file| files.bytes_of(file));
+    let mut detail = detail(rt.alloc(), refusal, bytes, scene.unwrap_or(&[]));
+    if request.form() == Form::Edit && file == request.file(Role::Scene) && is_accepted(rt, bytes) {
+        detail.put(b"; it is so after the edits, and not before them");
+    }
     let _ = write_refusal(file, refusal, name, &detail, &mut OutSink::new(rt.stderr()));
+}
+
+/// Whether the scene is accepted as it stands in its file.
+fn is_accepted(rt: &HostRuntime, scene: &[u8]) -> bool {
+    read_plant(rt.alloc(), scene).is_ok()
 }
 
 /// The name of the item in which a refusal of a scene lies.

@@ -3,9 +3,10 @@
 ghost use Rattle.std.specs.Prelude.{◌≡◌, ◌+◌, ◌≤◌, length};
 ghost use Rattle.rail_text.specs.declared.line_buffer.TheConstants.{ROOM};
 
+use crate::calls::{are_of_one_place, fault_of_call};
 use crate::places::key_at;
 use crate::terminals::put_shown;
-use csv::ReaderBuilder;
+use csv::{ByteRecord, ByteRecordsIntoIter, ReaderBuilder};
 use itoa::Buffer;
 use rail_base::limits::{ROUTES, SECTIONS};
 use rail_base::{Name, Part, Reason, Refusal};
@@ -30,15 +31,16 @@ const MOST_SAID: usize = 85;
 const MOST_OF_NAME: usize = 20;
 
 /// What the file reads where a refusal lies in it, to stand behind the explanation: a semicolon, and then the place and the
-/// text. No byte where nothing more can be told, as for a whole item, and where memory for the reading is not found.
-pub fn detail(alloc: Global, refusal: &Refusal, bytes: &[u8]) -> LineBuffer
+/// text. No byte where nothing more can be told, as for a whole item, and where memory for the reading is not found. A call
+/// of a timetable is looked at beside the scene.
+pub fn detail(alloc: Global, refusal: &Refusal, bytes: &[u8], scene: &[u8]) -> LineBuffer
     ensures short { length result ≤ 400 }
 {
     let mut line = LineBuffer::new();
     match refusal.part {
         Part::Bytes => put_fault(alloc, &mut line, bytes),
         Part::Line => put_line(&mut line, bytes, refusal.item),
-        Part::Row => put_record(alloc, &mut line, bytes, refusal.item),
+        Part::Row => put_record(alloc, &mut line, bytes, scene, refusal),
         Part::File | Part::Word => {}
         _ => put_value_of(alloc, &mut line, bytes, refusal),
     }
@@ -89,6 +91,11 @@ fn put_line(line: &mut LineBuffer, bytes: &[u8], number: u32)
     if let Some(text) = line_at(bytes, u64::from(number)) {
         line.put(b"; it reads ");
         put_quoted(line, text);
+        if text.contains(&b'\t') {
+            line.put(b"; words are parted by spaces, not by tabs");
+        } else if text.contains(&b';') {
+            line.put(b"; words are parted by spaces, with no semicolon");
+        }
     }
 }
 
@@ -101,19 +108,50 @@ fn line_at(bytes: &[u8], number: u64) -> Option<&[u8]> {
     Some(next_line(rest)?.0)
 }
 
-/// Puts the line of the record, which counts from 1, and its text.
-fn put_record(alloc: Global, line: &mut LineBuffer, bytes: &[u8], record: u32)
+/// Puts the line of a record of a timetable, its text, and what is out of order there.
+fn put_record(alloc: Global, line: &mut LineBuffer, bytes: &[u8], scene: &[u8], refusal: &Refusal)
     requires { length line.old + 400 ≤ ROOM }
     ensures short { length line.new ≤ length line.old + 400 }
 {
-    let Some(number) = line_of_record(alloc, bytes, record) else {
+    let Some(record) = record_at(alloc, bytes, refusal.item) else {
         return;
     };
-    if let Some((number, text)) = line_with_text(bytes, number) {
-        line.put(b"; line");
-        line.put_number(number);
-        line.put(b" reads ");
-        put_quoted(line, text);
+    let Some(position) = record.position() else {
+        return;
+    };
+    let Some((number, text)) = line_with_text(bytes, position.line()) else {
+        return;
+    };
+    line.put(b"; line");
+    line.put_number(number);
+    line.put(b" reads ");
+    put_quoted(line, text);
+    match refusal.reason {
+        Reason::TimetableForm => put_other_comma(line, text),
+        _ => put_call(alloc, line, bytes, scene, &record),
+    }
+}
+
+/// Puts that the fields are parted by another character than commas, where they seem to be.
+fn put_other_comma(line: &mut LineBuffer, text: &[u8])
+    requires { length line.old + 100 ≤ ROOM }
+    ensures short { length line.new ≤ length line.old + 100 }
+{
+    if text.contains(&b';') {
+        line.put(b"; fields are parted by commas, not by semicolons");
+    } else if text.contains(&b'\t') {
+        line.put(b"; fields are parted by commas, not by tabs");
+    }
+}
+
+/// Puts what is out of order in a call.
+fn put_call(alloc: Global, line: &mut LineBuffer, bytes: &[u8], scene: &[u8], call: &ByteRecord)
+    requires { length line.old + 100 ≤ ROOM }
+    ensures short { length line.new ≤ length line.old + 100 }
+{
+    if let Ok(table) = toml::table_from_slice(alloc, scene) {
+        let is_second = is_second_call(alloc, bytes, call);
+        fault_of_call(&Value::Table(table), call, is_second).put(line);
     }
 }
 
@@ -132,23 +170,41 @@ fn line_with_text(bytes: &[u8], from: u64) -> Option<(u64, &[u8])> {
     None
 }
 
-/// The line on which a record of a timetable begins; both count from 1.
-fn line_of_record(alloc: Global, bytes: &[u8], record: u32) -> Option<u64> {
-    let reader = ReaderBuilder::new()
+/// The records of a timetable.
+fn records(alloc: Global, bytes: &[u8]) -> ByteRecordsIntoIter<&[u8]> {
+    ReaderBuilder::new()
         .has_headers(false)
         .flexible(true)
-        .from_reader(alloc, bytes);
-    let mut number: u32 = 0;
-    for found in reader.into_byte_records() {
-        let Ok(found) = found else {
-            return None;
-        };
-        number = number.saturating_add(1);
-        if number == record {
-            return Some(found.position()?.line());
+        .from_reader(alloc, bytes)
+        .into_byte_records()
+}
+
+/// The record of this number of a timetable, counted from 1.
+fn record_at(alloc: Global, bytes: &[u8], number: u32) -> Option<ByteRecord> {
+    let mut left = number;
+    for record in records(alloc, bytes) {
+        left = left.saturating_sub(1);
+        if left == 0 {
+            return record.ok();
         }
     }
     None
+}
+
+/// Whether a record before the call is one of its train and place.
+fn is_second_call(alloc: Global, bytes: &[u8], call: &ByteRecord) -> bool {
+    for record in records(alloc, bytes) {
+        let Ok(record) = record else {
+            return false;
+        };
+        if record.position().map(|it| it.line()) == call.position().map(|it| it.line()) {
+            return false;
+        }
+        if are_of_one_place(&record, call) {
+            return true;
+        }
+    }
+    false
 }
 
 /// Puts the text between quotation marks, cut where it is long.

@@ -9,6 +9,7 @@
 //! there too. The other words may be changed freely; what may not is that a line is no longer than its clause says.
 #![tactic(auto)]
 
+mod calls;
 mod details;
 mod expectations;
 mod files;

@@ -572,11 +572,106 @@ fn first_other_detail(alloc: Global) -> Option<&'static str> {
             item,
             step,
         };
-        if detail(alloc, &refusal, file.as_bytes()).as_slice() != told.as_bytes() {
+        if detail(alloc, &refusal, file.as_bytes(), b"").as_slice() != told.as_bytes() {
             return Some(told);
         }
     }
     None
+}
+
+/// Two trains, with a scene's keys as far as they are read for words about a call.
+const TRAINS: &str = "\
+[[train]]
+name = \"A\"
+routes = [\"r1\", \"r2\", \"r3\"]
+
+[[train]]
+name = \"B\"
+routes = [\"r1\"]
+";
+
+/// Records of a timetable, of which the last one is refused, and what is said of it.
+const CALLS: [(Reason, &str, &str); 11] = [
+    (
+        Reason::TimetableValue,
+        "C,1,,,",
+        "; no train of the scene has this name",
+    ),
+    (
+        Reason::TimetableValue,
+        "B,2,,,",
+        "; the train has the places 1 to 1",
+    ),
+    (
+        Reason::TimetableValue,
+        "A,0,,,",
+        "; the train has the places 1 to 3",
+    ),
+    (
+        Reason::TimetableValue,
+        "A,1.5,,,",
+        "; the train has the places 1 to 3",
+    ),
+    (
+        Reason::TimetableValue,
+        "A,2,5:00,,",
+        "; its arrival is no time as 01:30:00",
+    ),
+    (
+        Reason::TimetableValue,
+        "A,2,,05:00,",
+        "; its departure is no time as 01:30:00",
+    ),
+    (
+        Reason::TimetableValue,
+        "A,2,,,30",
+        "; its dwell is no time as 00:00:30, nor pass",
+    ),
+    (
+        Reason::TimetableValue,
+        "A,1,,00:01:00,",
+        "; a record before it has this train and place",
+    ),
+    (
+        Reason::TimetableValue,
+        "A,3,,00:05:00,",
+        "; its place is the last one, where departure and dwell are empty",
+    ),
+    (
+        Reason::TimetableValue,
+        "A,2,,,pass",
+        "; the train turns there, where dwell is not pass",
+    ),
+    (
+        Reason::TimetableForm,
+        "A;2;;;",
+        "; fields are parted by commas, not by semicolons",
+    ),
+];
+
+#[test]
+fn says_what_is_out_of_order_in_a_call(rt: HostRuntime) {
+    let other = first_other_call(rt.alloc());
+    assert_eq!(rt; other, Ok(None));
+}
+
+/// The first of the calls of which something else is said.
+fn first_other_call(alloc: Global) -> Result<Option<&'static str>, AllocError> {
+    for (reason, record, told) in CALLS {
+        let refusal = Refusal {
+            reason,
+            part: Part::Row,
+            item: 3,
+            step: 0,
+        };
+        let mut file = String::from_str(alloc, "train,place,arrival,departure,dwell\nA,1,,,\n")?;
+        file.push_str(record)?;
+        let line = detail(alloc, &refusal, file.as_bytes(), TRAINS.as_bytes());
+        if !line.as_slice().ends_with(told.as_bytes()) {
+            return Ok(Some(record));
+        }
+    }
+    Ok(None)
 }
 
 #[test]
@@ -589,7 +684,7 @@ fn shows_a_name_without_control_characters(rt: HostRuntime) {
 fn shown_in(alloc: Global) -> Result<bool, OutOfMemory> {
     let mut out = MemorySink::with_room(alloc, 400, Vec::new(alloc))?;
     let refusal = repeated(Part::Line);
-    let line = detail(alloc, &refusal, b"a\nb\x07\n");
+    let line = detail(alloc, &refusal, b"a\nb\x07\n", b"");
     let is_written = write_refusal(Some("x\x1b[31m"), &refusal, None, &line, &mut out).is_ok()
         && write_read_fault("y\n", &mut out).is_ok();
     Ok(is_written && out.bytes() == Some(SHOWN.as_bytes()))
