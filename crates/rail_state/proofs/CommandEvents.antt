@@ -1,7 +1,8 @@
 -- The events of commands.
-use Rattle.std.proofs.Common.{◌≡◌, ℕ, zero, suc, ◌+◌, ◌<◌, Bool, true, false, not, ◌&&◌, Some, None, List, [], ◌∷◌, ◌++◌, length, take, get_or, refl, sym, ap, ◌∙◌, arith}
+use Rattle.std.proofs.Common.{◌≡◌, ℕ, suc, ◌+◌, ◌<◌, Bool, true, false, not, ◌&&◌, Some, None, List, [], ◌∷◌, length, drop, get_or, refl, sym, ap, ◌∙◌, arith}
 use Rattle.std.specs.Prelude.{count_by}
 use Rattle.std.specs.List.{filter}
+use Rattle.std.proofs.lemmas.List.{drop_more}
 use Rattle.std.proofs.lemmas.Option.{none-some, same_Some}
 use Rattle.rail_base.specs.declared.orders.Command.{Command}
 use Rattle.rail_base.specs.declared.orders.Order.{Order}
@@ -13,38 +14,16 @@ use Rattle.rail_state.specs.Events.{command_event, command_events}
 use Rattle.rail_state.specs.SeenCauses.{cancelled_by, is_uncancelled}
 use Rattle.rail_state.proofs.Counts.{count-append}
 
-zero_more : (n : ℕ) → n + 1 ≡ suc n
-zero_more n = omega arith
-
-none_more : (k : ℕ) → k + 0 ≡ k
-none_more k = omega arith
-
-from_none : (i : ℕ) → suc (0 + i) ≡ i + 1
-from_none i = omega arith
-
-moved : (k i : ℕ) → suc k + i ≡ k + suc i
-moved k i = omega arith
-
--- the events of the first commands, with that of the next one
-events_more : (k : ℕ) (commands : List Command) (i : ℕ) (command : Command) → i < length commands → command ≡ get_or commands i command
-    → command_events k (take (i + 1) commands) ≡ command_events k (take i commands) ++ command_event command.at (suc (k + i)) ∷ []
-events_more k [] i command lt is = absurd (omega (arith, lt))
-events_more k (first ∷ rest) zero command lt is =
-    ap (λ n. command_events k (take n (first ∷ rest))) (zero_more 0)
-    ∙ ap (λ (c : Command). command_event c.at (suc k) ∷ []) (sym is) ∙ ap (λ n. command_event command.at (suc n) ∷ []) (sym (none_more k))
-events_more k (first ∷ rest) (suc i) command lt is =
-    ap (λ n. command_events k (take n (first ∷ rest))) (zero_more (suc i))
-    ∙ ap (λ n. command_event first.at (suc k) ∷ command_events (suc k) (take n rest)) (sym (zero_more i))
-    ∙ ap (λ (events : List Event). command_event first.at (suc k) ∷ events) (events_more (suc k) rest i command (omega (arith, lt)) is)
-    ∙ ap (λ n. command_event first.at (suc k) ∷ (command_events (suc k) (take i rest) ++ command_event command.at (suc n) ∷ [])) (moved k i)
-
--- the same, counted by a test
-pub counted_more : (q : Event → Bool) (commands : List Command) (i : ℕ) (command : Command) → i < length commands → command ≡ get_or commands i command
-    → count_by q (command_events 0 (take (i + 1) commands)) ≡ count_by q (command_events 0 (take i commands)) + count_by q (command_event command.at (i + 1) ∷ [])
-counted_more q commands i command lt is =
-    ap (count_by q) (events_more 0 commands i command lt is)
-    ∙ ap (λ n. count_by q (command_events 0 (take i commands) ++ command_event command.at n ∷ [])) (from_none i)
-    ∙ count-append q (command_events 0 (take i commands)) (command_event command.at (i + 1) ∷ [])
+-- the events of the commands from one on, counted by a test: that one's, and those of the commands behind it
+pub counted_from : (q : Event → Bool) (commands : List Command) (i : ℕ) (command : Command) → i < length commands → command ≡ get_or commands i command
+    → count_by q (command_events i (drop i commands)) ≡ count_by q (command_event command.at (i + 1) ∷ []) + count_by q (command_events (i + 1) (drop (i + 1) commands))
+counted_from q commands i command lt is =
+    let rest : List Command = drop (i + 1) commands in
+    let split : drop i commands ≡ command ∷ rest = drop_more commands i command lt ∙ ap (λ (c : Command). c ∷ rest) (sym is) in
+    let next : suc i ≡ i + 1 = omega arith in
+    ap (λ (cs : List Command). count_by q (command_events i cs)) split
+    ∙ ap (λ n. count_by q (command_event command.at n ∷ command_events n rest)) next
+    ∙ count-append q (command_event command.at (i + 1) ∷ []) (command_events (i + 1) rest)
 
 -- where all pass a test, a filter by it keeps them
 pub all_stay : (events : List Event) → filter (λ event. true) events ≡ events

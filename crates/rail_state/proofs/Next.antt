@@ -1,8 +1,8 @@
 -- The first pending event is the least line to come.
-use Rattle.std.proofs.Common.{◌≡◌, ℕ, zero, suc, ◌+◌, ◌<◌, ◌≤◌, Bool, true, false, not, ◌&&◌, ◌||◌, cond, eqb, List, [], ◌∷◌, Option, Some, None, refl, sym, ap, ◌∙◌, subst, ◌⊎◌, ⊎_elim, arith}
+use Rattle.std.proofs.Common.{◌≡◌, ℕ, zero, suc, ◌+◌, ◌<◌, ◌≤◌, Bool, true, false, not, ◌&&◌, cond, eqb, List, [], ◌∷◌, Some, refl, sym, ap, ◌∙◌, subst, ◌⊎◌, ⊎_elim, arith}
 use Rattle.std.specs.Prelude.{count_by, nat_lt}
 use Rattle.std.specs.List.{list_any}
-use Rattle.std.proofs.lemmas.Bool.{eqb-true, false_from_ne_true, not_from_false, and_from, and_right, or_left, cases_Bool, cond-true, lt-ltb, le-ltb, ltb-false, ne_eqb, false≢true}
+use Rattle.std.proofs.lemmas.Bool.{eqb-true, false_from_ne_true, not_from_false, and_from, and_right, or_left, cases_Bool, cond-true, lt-ltb, ltb-false, false≢true}
 use Rattle.std.proofs.lemmas.Option.{none-some}
 use Rattle.rail_base.specs.declared.history.Entry.{Entry}
 use Rattle.rail_base.specs.declared.history.What.TheVariants.{Told, Untold}

@@ -3,7 +3,7 @@ use Rattle.std.proofs.Common.{◌≡◌, ℕ, zero, suc, ◌+◌, ◌<◌, Bool,
 use Rattle.rail_base.specs.declared.history.Entry.{Entry}
 use Rattle.rail_rules.specs.Numbers.{gather, sum_below}
 use Rattle.rail_rules.specs.Plant.{Plant, claims, overlap, step_section, steps}
-use Rattle.rail_rules.specs.Intervals.{end_of, end_time, freed_at, is_open, is_taken_over}
+use Rattle.rail_rules.specs.Intervals.{end_of, end_time, freed_at, is_open}
 use Rattle.rail_rules.specs.Events.{arrive_line, free_lines}
 use Rattle.rail_rules.proofs.CallerLemmas.{claims_are, gather_same, needed_not_taken}
 use Rattle.rail_laws_events.specs.Accounts.{tally}

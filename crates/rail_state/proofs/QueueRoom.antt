@@ -1,5 +1,5 @@
 -- The bound on the lines of a plant is small.
-use Rattle.std.proofs.Common.{◌≡◌, ℕ, suc, ◌+◌, ◌*◌, ◌<◌, ◌≤◌, Bool, true, List, length, ap, ◌∙◌, arith}
+use Rattle.std.proofs.Common.{◌≡◌, ℕ, suc, ◌+◌, ◌<◌, ◌≤◌, Bool, true, List, length, ap, ◌∙◌, arith}
 use Rattle.std.specs.Prelude.{count_by, map}
 use Rattle.rail_rules.specs.Numbers.{gather, sum_below}
 use Rattle.rail_rules.specs.Plant.{Plant, bound, move_lines, move_row, moves, trains}

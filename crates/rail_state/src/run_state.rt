@@ -358,7 +358,8 @@ fn queue_room(plant: &Plant, commands: usize) -> usize
     3 * sections + 2 * trains + commands + MOVE_EVENTS
 }
 
-/// Pushes the events of the commands, which are numbered from 1.
+/// Pushes the events of the commands, which are numbered from 1. The last one goes first: so each of those that are far
+/// goes before all far ones that were pushed.
 fn push_commands(queue: &mut EventQueue, commands: &[Command])
     requires few { length commands.now ≤ COMMANDS }
     requires room { length commands.now ≤ queue.old.spare }
@@ -366,7 +367,9 @@ fn push_commands(queue: &mut EventQueue, commands: &[Command])
         ≡ count_by q queue.old.events + count_by q (command_events 0 commands.now) }
     ensures room { length queue.new.events + queue.new.spare ≡ length queue.old.events + queue.old.spare }
 {
-    for (index, command) in commands.iter().enumerate() {
-        queue.push(event_of_command(command.at, index as u16 + 1));
+    let mut left = commands.len();
+    while left > 0 {
+        left -= 1;
+        queue.push(event_of_command(commands[left].at, left as u16 + 1));
     }
 }

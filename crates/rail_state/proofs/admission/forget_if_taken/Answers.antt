@@ -1,4 +1,4 @@
-use Rattle.std.proofs.Common.{◌≡◌, Bool, true, not, ◌&&◌, sym, ap, ◌∙◌}
+use Rattle.std.proofs.Common.{not, ◌&&◌, sym, ap, ◌∙◌}
 use Rattle.std.specs.Prelude.{count_by}
 use Rattle.rail_queue.specs.declared.event.Class.TheVariants.{Free}
 use Rattle.rail_queue.specs.Order.{is_of}

@@ -1,14 +1,11 @@
-use Rattle.std.proofs.Common.{◌≡◌, ◌+◌, ◌-◌, ◌≤◌, ◌<◌, ◌&&◌, ℕ, Bool, true, false, not, [], ◌∷◌, cond, length, refl, sym, ap, ◌∙◌, arith}
-use Rattle.std.specs.Prelude.{count_by}
+use Rattle.std.proofs.Common.{◌≡◌, ◌+◌, ◌-◌, ◌<◌, Bool, length, sym, ◌∙◌, arith}
 use Rattle.rail_base.specs.declared.history.Entry.{Entry}
 use Rattle.rail_laws_events.specs.Accounts.{tally}
 use Rattle.rail_laws_events.specs.Changes.{freed_before}
 use Rattle.rail_block.specs.CarriedTimes.{times_at}
 use Rattle.rail_block.specs.KnownMoves.{times_after}
 use Rattle.rail_block.proofs.CallerLemmas.{few_steps}
-use Rattle.rail_queue.specs.declared.event.Event.{Event}
-use Rattle.rail_state.specs.Events.{event_of, is_free_of}
-use Rattle.rail_state.specs.Representation.{forgotten, passing_event, passing_frees}
+use Rattle.rail_state.specs.Events.{event_of}
 use Rattle.rail_state.proofs.admission.push_beginning.Goals as goal
 
 pub push_stood-requires-clause-room : goal.push_stood-requires-clause-room

@@ -1,11 +1,11 @@
-use Rattle.std.proofs.Common.{◌≡◌, ℕ, suc, ◌+◌, ◌-◌, ◌<◌, ◌≤◌, Bool, [], ◌∷◌, count_by, length, sym, ap, ◌∙◌, arith}
+use Rattle.std.proofs.Common.{◌≡◌, suc, ◌+◌, ◌-◌, ◌<◌, [], ◌∷◌, count_by, sym, ap, ◌∙◌, arith}
 use Rattle.rail_rules.specs.Plant.{moves}
 use Rattle.rail_block.specs.declared.times.MoveTimes.{MoveTimes}
 use Rattle.rail_laws_run.specs.HolderTables.{own_overlap}
 use Rattle.rail_queue.specs.declared.event.Event.{Event}
 use Rattle.rail_queue.specs.declared.event.Class.TheVariants.{Arrive}
 use Rattle.rail_state.specs.Events.{event_of, free_events, train_event}
-use Rattle.rail_state.proofs.Counts.{count-append, count-cons}
+use Rattle.rail_state.proofs.Counts.{count-append}
 use Rattle.rail_state.proofs.Leaving.{before, ends_earlier, ends_last, made_at, next_ready}
 use Rattle.rail_state.proofs.pushes.push_end.Goals as goal
 

@@ -1,4 +1,4 @@
-use Rattle.std.proofs.Common.{◌≡◌, ℕ, ◌+◌, ◌≤◌, Bool, not, List, drop, length, count_by, ap, ◌∙◌, arith}
+use Rattle.std.proofs.Common.{ℕ, ◌+◌, Bool, not, drop, count_by, ap, arith}
 use Rattle.std.specs.List.{filter}
 use Rattle.rail_rules.specs.Numbers.{is_in}
 use Rattle.rail_state.specs.Events.{free_events}

@@ -1,4 +1,4 @@
-use Rattle.std.proofs.Common.{◌≡◌, ℕ, ◌+◌, ◌≤◌, Bool, not, List, length, drop, count_by}
+use Rattle.std.proofs.Common.{◌≡◌, ◌+◌, ◌≤◌, Bool, not, length, drop, count_by}
 use Rattle.std.specs.List.{filter}
 use Rattle.rail_queue.specs.declared.event.Event.{Event}
 use Rattle.rail_rules.specs.Numbers.{is_in}
