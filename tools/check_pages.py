@@ -5,7 +5,8 @@ usage: check_pages.py REPOSITORY
 
 Looked at are all files *.md of the repository but those of folders `must-fail` and `out`:
 
-- docs/DEFINITIONS.md and docs/WORKING_WORDS.md are what `write_definitions.py` would write;
+- docs/DEFINITIONS.md and docs/WORKING_WORDS.md are what `write_definitions.py` would write, and docs/CALLS.md what
+  `write_calls.py` would;
 - each relative link leads to a file, and to a heading where it names one;
 - each `crates/..`, `docs/..`, `examples/..` and `tools/..` between backquotes is there;
 - counts that a page names are those of the tree: `N crates`, `N wrong bodies`, `N edits have to fail`, `N rows`; a form of
@@ -173,10 +174,11 @@ def main():
     wrong += [f"README.md: {it}" for it in wrong_commands(repository)]
     wrong += [f"docs/CHANGING.md: {it}" for it in wrong_diffs(repository)]
     wrong += [f"docs/FORMATS.md: {it}" for it in wrong_keys(repository)]
-    definitions = [sys.executable, pathlib.Path(__file__).with_name("write_definitions.py"), "--check", repository]
-    ran = subprocess.run(definitions, stdout=subprocess.PIPE, stderr=subprocess.STDOUT, text=True)
-    if ran.returncode:
-        wrong.append(f"docs: {ran.stdout.strip()}")
+    for script in ("write_definitions.py", "write_calls.py"):
+        written = [sys.executable, pathlib.Path(__file__).with_name(script), "--check", repository]
+        ran = subprocess.run(written, stdout=subprocess.PIPE, stderr=subprocess.STDOUT, text=True)
+        if ran.returncode:
+            wrong.append(f"docs: {ran.stdout.strip()}")
     print("\n".join(wrong), end="\n" if wrong else "")
     sys.exit(1 if wrong else 0)
 
