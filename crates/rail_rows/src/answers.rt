@@ -1,10 +1,10 @@
 //! What the top call answers, and whether it is what is wanted.
 
-use crate::decks::{self, Deck};
-use crate::files::word;
+use crate::decks::{self, BUILT_IN, Deck};
+use crate::files::{number, word};
 use rail_base::Word;
 use rail_cli::Status;
-use rail_io::{File, MemoryShelf, MemorySink};
+use rail_io::{DripShelf, DripSink, File, MemoryShelf, MemorySink, Shelf};
 use std::alloc::{AllocError, Global};
 
 /// The most bytes that an output may have.
@@ -15,11 +15,13 @@ const ROOM: usize = 262_144;
 pub struct Asked<'a> {
     /// The words; `""` stands for the empty word.
     pub words: &'a str,
-    pub deck: Deck,
+    pub deck: Deck<'a>,
     /// The number of the call of the shelf that fails, from 1; 0 for none.
     pub shelf_fails: u64,
     /// The number of the call of the sink that fails, from 1; 0 for none.
     pub sink_fails: u64,
+    /// Whether each call of the shelf and of the sink moves one byte; then none fails.
+    pub is_dripping: bool,
     /// Whether it is asked twice, to be answered the same.
     pub is_twice: bool,
 }
@@ -29,23 +31,24 @@ impl<'a> Asked<'a> {
     pub fn plainly(words: &'a str) -> Asked<'a> {
         Asked {
             words,
-            deck: Deck::BuiltIn,
+            deck: Deck::Named(BUILT_IN),
             shelf_fails: 0,
             sink_fails: 0,
+            is_dripping: false,
             is_twice: false,
         }
     }
 
     /// The same with what the line says, if it says how the words are asked.
-    pub fn with(self, line: &str) -> Option<Asked<'a>> {
+    pub fn with(self, line: &'a str) -> Option<Asked<'a>> {
         let (key, value) = line.split_once(" ").unwrap_or((line, ""));
         let mut asked = self;
         match key {
             "shelf" => asked.shelf_fails = value.parse().ok()?,
             "sink" => asked.sink_fails = value.parse().ok()?,
-            "odd" => asked.deck = Deck::Odd {
-                always: value.parse().ok(),
-            },
+            "drip" => asked.is_dripping = true,
+            "deck" => asked.deck = Deck::Named(value),
+            "odd" => asked.deck = Deck::Odd,
             "counting" => asked.deck = Deck::Counting,
             "twice" => asked.is_twice = true,
             _ => return None,
@@ -63,12 +66,20 @@ pub struct Answer {
 
 /// What the top call answers over these files.
 pub fn answer_to(alloc: Global, asked: Asked, files: Vec<File>) -> Result<Answer, AllocError> {
-    let mut shelf = MemoryShelf::new(files, vec![in alloc; asked.shelf_fails]?);
-    let once = ask(alloc, asked, &mut shelf)?;
+    if asked.is_dripping {
+        return answer_over(alloc, asked, &mut DripShelf::new(files));
+    }
+    let fails = vec![in alloc; asked.shelf_fails]?;
+    answer_over(alloc, asked, &mut MemoryShelf::new(files, fails))
+}
+
+/// What the top call answers over the shelf, to the second asking where it is asked twice.
+fn answer_over<S: Shelf>(alloc: Global, asked: Asked, shelf: &mut S) -> Result<Answer, AllocError> {
+    let once = ask(alloc, asked, shelf)?;
     if !asked.is_twice {
         return Ok(once);
     }
-    let again = ask(alloc, asked, &mut shelf)?;
+    let again = ask(alloc, asked, shelf)?;
     if again.output.as_str() == once.output.as_str() {
         return Ok(again);
     }
@@ -79,15 +90,27 @@ pub fn answer_to(alloc: Global, asked: Asked, files: Vec<File>) -> Result<Answer
 }
 
 /// What the top call answers over the shelf.
-fn ask(alloc: Global, asked: Asked, shelf: &mut MemoryShelf) -> Result<Answer, AllocError> {
+fn ask<S: Shelf>(alloc: Global, asked: Asked, shelf: &mut S) -> Result<Answer, AllocError> {
+    let words = words_of(alloc, asked.words)?;
+    if asked.is_dripping {
+        let Ok(mut sink) = DripSink::with_room(alloc, ROOM) else {
+            return Err(AllocError);
+        };
+        let status = decks::ask(alloc, &words, shelf, &mut sink, asked.deck)?;
+        return answer_of(alloc, status, sink.bytes());
+    }
     let Ok(mut sink) = MemorySink::with_room(alloc, ROOM, vec![in alloc; asked.sink_fails]?) else {
         return Err(AllocError);
     };
-    let words = words_of(alloc, asked.words)?;
     let status = decks::ask(alloc, &words, shelf, &mut sink, asked.deck)?;
+    answer_of(alloc, status, sink.bytes())
+}
+
+/// The answer with this status and these bytes as output.
+fn answer_of(alloc: Global, status: Status, bytes: Option<&[u8]>) -> Result<Answer, AllocError> {
     Ok(Answer {
         status: status_text(alloc, status)?,
-        output: text_of(alloc, sink.bytes())?,
+        output: text_of(alloc, bytes)?,
     })
 }
 
@@ -112,6 +135,17 @@ fn status_text(alloc: Global, status: Status) -> Result<String, AllocError> {
 fn text_of(alloc: Global, bytes: Option<&[u8]>) -> Result<String, AllocError> {
     let text = bytes.and_then(|bytes| str::from_utf8(bytes).ok());
     String::from_str(alloc, text.unwrap_or("no text"))
+}
+
+/// Whether the answer is that of status 0, or one that is refused with a number from 1 to `most`, and without output.
+pub fn is_done_or_refused(answer: &Answer, most: u32) -> bool {
+    match answer.status.strip_prefix("refused ") {
+        Some(refusal) => {
+            let (refused, _) = refusal.split_once(" ").unwrap_or((refusal, ""));
+            answer.output.is_empty() && (1..=most).contains(&number(refused))
+        }
+        None => answer.status.as_str() == "done",
+    }
 }
 
 /// Whether the output is what is wanted: these pieces, with any bytes between each two of them.

@@ -4,62 +4,83 @@ ghost use Rattle.rail_base.specs.declared.orders.PolicyKind.TheVariants.{Custom}
 
 use rail_base::{Name, PolicyKind, TrainNo, Word};
 use rail_cli::{Status, rail};
-use rail_io::{MemoryShelf, MemorySink};
+use rail_io::{Shelf, Sink};
 use rail_policy::{
-    FcfsPolicy, Offer, Policy, PriorityPolicy, RotatingPolicy, TimetablePolicy, deck_is_fine,
+    FcfsPolicy, Offer, Policy, PriorityPolicy, RotatingPolicy, ScriptedPolicy, TimetablePolicy,
+    deck_is_fine,
 };
 use std::alloc::{AllocError, Global};
 
+/// The policies of the program, in its order.
+pub const BUILT_IN: &str = "priority timetable fcfs rotating";
+
 /// Which policies are handed in.
 #[derive(Clone, Copy)]
-pub enum Deck {
-    /// Those of the program, in its order.
-    BuiltIn,
-    /// The policy `odd` alone, which answers the last offer, or always the same number.
-    Odd { always: Option<usize> },
+pub enum Deck<'a> {
+    /// Those of these names, in this order. A name that is none of `BUILT_IN` is that of a policy of a kind of its own:
+    /// `NAME=NUMBER,NUMBER` answers these numbers in turn, and `NAME` always 0.
+    Named(&'a str),
+    /// The policy `odd` alone, which answers the last offer.
+    Odd,
     /// A policy named `odd` alone, which answers by what it counted.
     Counting,
 }
 
 /// What the top call answers with these policies.
-pub fn ask(
+pub fn ask<S: Shelf, O: Sink>(
     alloc: Global,
     words: &[Word],
-    shelf: &mut MemoryShelf,
-    out: &mut MemorySink,
+    shelf: &mut S,
+    out: &mut O,
     deck: Deck,
 ) -> Result<Status, AllocError> {
-    let mut policies: Vec<Box<dyn Policy>> = Vec::with_capacity(alloc, 4)?;
+    let mut policies: Vec<Box<dyn Policy>> = Vec::new(alloc);
     match deck {
-        Deck::BuiltIn => {
-            policies.push_reserved(Box::new(alloc, PriorityPolicy::new())?);
-            policies.push_reserved(Box::new(alloc, TimetablePolicy::new())?);
-            policies.push_reserved(Box::new(alloc, FcfsPolicy::new())?);
-            policies.push_reserved(Box::new(alloc, RotatingPolicy::new())?);
+        Deck::Named(names) => {
+            for word in names.split_whitespace() {
+                match word {
+                    "priority" => policies.push(Box::new(alloc, PriorityPolicy::new())?)?,
+                    "timetable" => policies.push(Box::new(alloc, TimetablePolicy::new())?)?,
+                    "fcfs" => policies.push(Box::new(alloc, FcfsPolicy::new())?)?,
+                    "rotating" => policies.push(Box::new(alloc, RotatingPolicy::new())?)?,
+                    _ => policies.push(Box::new(alloc, scripted(alloc, word)?)?)?,
+                }
+            }
         }
-        Deck::Odd { always } => policies.push_reserved(Box::new(alloc, Odd::new(always))?),
-        Deck::Counting => policies.push_reserved(Box::new(alloc, Counting::new())?),
+        Deck::Odd => policies.push(Box::new(alloc, Odd::new())?)?,
+        Deck::Counting => policies.push(Box::new(alloc, Counting::new())?)?,
     }
-    // The names differ; the prover does not look into the boxes, so the deck is looked at here.
+    // The prover does not look into the boxes, so the deck is looked at here.
     if !deck_is_fine(&policies) {
         return Err(AllocError);
     }
     Ok(rail(alloc, words, shelf, out, policies))
 }
 
-/// A policy of a kind of its own, named `odd`. It answers the last offer, or always the same number.
+/// The policy of `NAME=NUMBER,NUMBER`, or of `NAME` without answers.
+fn scripted(alloc: Global, word: &str) -> Result<ScriptedPolicy, AllocError> {
+    let (name, numbers) = word.split_once("=").unwrap_or((word, ""));
+    let mut answers = Vec::new(alloc);
+    for number in numbers.split_terminator(",") {
+        answers.push(number.parse().unwrap_or(0))?;
+    }
+    match Name::read(name.as_bytes()) {
+        Some(name) => Ok(ScriptedPolicy::new(name, answers)),
+        None => Err(AllocError),
+    }
+}
+
+/// A policy of a kind of its own, named `odd`. It answers the last offer.
 #[derive(Debug, Drop)]
 struct Odd {
-    always: Option<usize>,
     mark: u16,
     answered: usize,
 }
 
 impl Odd {
     /// The policy, which was not asked yet.
-    fn new(always: Option<usize>) -> Odd {
+    fn new() -> Odd {
         Odd {
-            always,
             mark: 0,
             answered: 0,
         }
@@ -87,7 +108,7 @@ impl Policy for Odd {
 
     fn choose(&mut self, offers: &[Offer]) -> usize {
         self.mark = self.mark.wrapping_add(1);
-        self.answered = self.always.unwrap_or(offers.len() - 1);
+        self.answered = offers.len() - 1;
         self.answered
     }
 

@@ -28,14 +28,36 @@ pub fn push_pieces(pieces: &[File], bytes: &mut Vec<u8>, names: &str) -> Result<
     Ok(true)
 }
 
-/// The piece of this name.
+/// The piece of this name; of `NAME<NUMBER` its lines before the line with this number, from 1.
 fn piece<'a>(pieces: &'a [File], name: &str) -> Option<&'a [u8]> {
+    let (name, line) = match name.split_once("<") {
+        Some((name, line)) => (name, Some(number(line))),
+        None => (name, None),
+    };
     for piece in pieces {
         if piece.name.as_str() == name {
-            return Some(piece.bytes.as_slice());
+            let bytes = piece.bytes.as_slice();
+            return match line {
+                Some(line) => Some(lines_before(bytes, line)),
+                None => Some(bytes),
+            };
         }
     }
     None
+}
+
+/// The lines before the line with this number, from 1.
+fn lines_before(bytes: &[u8], line: u32) -> &[u8] {
+    let mut number = 1;
+    for (index, byte) in bytes.iter().enumerate() {
+        if number >= line {
+            return &bytes[..index];
+        }
+        if *byte == b'\n' {
+            number += 1;
+        }
+    }
+    bytes
 }
 
 /// Whether the line begins as one that adds to a text.
@@ -109,14 +131,20 @@ fn push_lines(bytes: &mut Vec<u8>, count: u32, line: &str) -> Result<(), AllocEr
 
 /// Adds the line with the number in place of each `#`.
 fn push_numbered(bytes: &mut Vec<u8>, line: &str, number: u32) -> Result<(), AllocError> {
-    let mut text = String::new(*bytes.allocator());
-    for (index, part) in line.split("#").enumerate() {
-        if index > 0 {
-            write!(text, "{number}")?;
-        }
-        text.push_str(part)?;
-    }
+    let text = numbered(*bytes.allocator(), line, "#", number)?;
     push_line(bytes, text.as_str())
+}
+
+/// The text with the number in place of each mark.
+pub fn numbered(alloc: Global, text: &str, mark: &str, number: u32) -> Result<String, AllocError> {
+    let mut told = String::new(alloc);
+    for (index, part) in text.split(mark).enumerate() {
+        if index > 0 {
+            write!(told, "{number}")?;
+        }
+        told.push_str(part)?;
+    }
+    Ok(told)
 }
 
 fn push_copies(bytes: &mut Vec<u8>, count: u32, text: &str) -> Result<(), AllocError> {

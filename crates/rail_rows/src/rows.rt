@@ -1,6 +1,8 @@
 //! A row: what is asked, over which files, and what is wanted.
 
-use crate::answers::{Answer, Asked, answer_to, has_pieces, lines_beside_holds};
+use crate::answers::{
+    Answer, Asked, answer_to, has_pieces, is_done_or_refused, lines_beside_holds,
+};
 use crate::files::{file, is_written, number, push_pieces, push_written};
 use rail_io::File;
 use std::alloc::{AllocError, Global};
@@ -90,6 +92,9 @@ impl<'a> Row<'a> {
             self.asked = asked;
             return Ok(true);
         }
+        if let Some(count) = line.strip_prefix("cut ") {
+            return Ok(self.cut(number(count) as usize));
+        }
         match self.files.last_mut() {
             Some(text) if is_written(line) => push_written(pieces, &mut text.bytes, line),
             _ => {
@@ -98,6 +103,17 @@ impl<'a> Row<'a> {
                     None => Ok(false),
                 }
             }
+        }
+    }
+
+    /// Keeps so many bytes at the front of the file that was begun. False where none was.
+    fn cut(&mut self, count: usize) -> bool {
+        match self.files.last_mut() {
+            Some(text) => {
+                text.bytes.truncate(count);
+                true
+            }
+            None => false,
         }
     }
 
@@ -187,6 +203,9 @@ impl<'a> Wanted<'a> {
 
     /// Whether the answer is the one that is wanted.
     fn is_met(&self, answer: &Answer) -> bool {
+        if let Some(most) = self.status.strip_prefix("done or refused 1 to ") {
+            return is_done_or_refused(answer, number(most));
+        }
         answer.status.as_str() == self.status
             && has_pieces(answer.output.as_str(), &self.output)
             && match self.lines {

@@ -1,6 +1,6 @@
 //! A file of rows: its pieces are kept, and its rows asked.
 
-use crate::files::{file, push_written};
+use crate::files::{file, number, numbered, push_written};
 use crate::rows::Row;
 use rail_io::File;
 use std::alloc::{AllocError, Global};
@@ -30,7 +30,7 @@ pub fn tell_table(
             }
             None => {
                 rows = rows.saturating_add(1);
-                if !tell_row(alloc, pieces, head, lines, &mut told)? {
+                if !tell_rows(alloc, pieces, head, lines, &mut told)? {
                     wrong = wrong.saturating_add(1);
                 }
             }
@@ -52,6 +52,32 @@ fn piece_of(alloc: Global, pieces: &[File], name: &str, lines: &str) -> Result<F
         push_written(pieces, &mut bytes, line)?;
     }
     file(alloc, name, bytes)
+}
+
+/// Asks a row of these words: where its lines begin with `each FIRST LAST`, for each of these numbers, which stands in place
+/// of each `@` of the others. False where one is answered otherwise than its lines say, which is told then.
+fn tell_rows(
+    alloc: Global,
+    pieces: &mut Vec<File>,
+    words: &str,
+    lines: &str,
+    told: &mut String,
+) -> Result<bool, AllocError> {
+    let Some((numbers, lines)) = lines
+        .strip_prefix("each ")
+        .and_then(|rest| rest.split_once("\n"))
+    else {
+        return tell_row(alloc, pieces, words, lines, told);
+    };
+    let (first, last) = numbers.split_once(" ").unwrap_or(("1", "0"));
+    let mut is_right = number(first) <= number(last);
+    for each in number(first)..=number(last) {
+        let lines = numbered(alloc, lines, "@", each)?;
+        if !tell_row(alloc, pieces, words, lines.as_str(), told)? {
+            is_right = false;
+        }
+    }
+    Ok(is_right)
 }
 
 /// Asks a row of these words, and adds the outputs that it keeps to the pieces. False where it is answered otherwise than its
