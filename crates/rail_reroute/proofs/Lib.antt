@@ -7,6 +7,7 @@ mod OneAnswer
 mod Proposed
 mod Ready
 mod Refused
+mod Standing
 mod States
 mod Exchanged
 mod Ranges

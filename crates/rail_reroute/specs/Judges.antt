@@ -1,7 +1,8 @@
 -- What a judge of proposals keeps, and that it stands for a scene.
-use Rattle.std.specs.Prelude.{◌≡◌, ◌<◌, ◌≤◌, ℕ, List, length, set, Some, None, Result, Ok, IsErr, IfOk, MatchOption}
+use Rattle.std.specs.Prelude.{◌≡◌, ◌<◌, ◌≤◌, ℕ, Bool, not, List, get_or, length, set, Option, is_some, Some, None, Result, Ok, IsErr, IfOk, MatchOption}
 use Rattle.rail_base.specs.declared.plant.Tables.{Tables}
 use Rattle.rail_base.specs.declared.plant.TrainRow.{TrainRow}
+use Rattle.rail_place.specs.PlaceStates.{IsMadeFor}
 use Rattle.rail_place.specs.Tables.{moves_in}
 use Rattle.rail_plan.specs.MoveTables.{table_of}
 use Rattle.rail_plan.specs.PlanFaults.{IsPlannable, bare, fault_of}
@@ -24,11 +25,16 @@ use Rattle.rail_consequence.specs.AnalystStates.{IsAnalystFor}
 abbrev pub with_row : Tables → ℕ → TrainRow → Tables
 with_row tables t row = record tables { trains = set tables.trains t row }
 
--- the moves and the analyst are those of the tables, which are planned
+-- nobody holds the section
+abbrev pub is_unheld : List (Option ℕ) → ℕ → Bool
+is_unheld owners x = not (is_some (get_or owners x None))
+
+-- the moves, the analyst and the places are those of the tables, which are planned
 pub record IsOfTables (tables : Tables) (state : Judge) : Type 0 where
   pub plannable : IsPlannable tables
   pub moves : state.moves ≡ table_of tables
   pub analyst : IsAnalystFor (moves_in state.moves) state.analyst
+  pub places : IsMadeFor state.moves state.places
 
 -- the judge stands for the scene: it looks up the scene, its tables are those of the scene, and all else belongs to them
 pub record IsJudgeFor (scene : Scene) (state : Judge) : Type 0 where

@@ -1,10 +1,11 @@
 //! What judges proposals: what is made once of a scene, and exchanged for the train of a proposal.
 
-ghost use Rattle.std.specs.Prelude.{◌≡◌, ◌≤◌, ◌<◌, ℕ, IfOk, IsTrue, None, get_or, length, set, slice_index};
+ghost use Rattle.std.specs.Prelude.{◌≡◌, ◌≤◌, ◌<◌, ℕ, IfOk, IsTrue, None, OnOk, get_or, length, set, slice_index};
 ghost use Rattle.rail_compile.specs.Itineraries.{plant_of_scene};
 ghost use Rattle.rail_compile.specs.Refusals.{are_known, compile_refusal};
 ghost use Rattle.rail_consequence.specs.AnalystStates.{IsAnalystFor};
 ghost use Rattle.rail_consequence.specs.Needs.{AreRowsFor};
+ghost use Rattle.rail_place.specs.PlaceStates.{IsMadeFor};
 ghost use Rattle.rail_place.specs.Tables.{moves_in, no_lists};
 ghost use Rattle.rail_plan.specs.PlanFaults.{IsPlannable, bare, fault_of, fault_of_train};
 ghost use Rattle.rail_rules.specs.Places.{is_valid_state};
@@ -19,18 +20,19 @@ use crate::trains::{exchange_row, rerouted_train};
 use rail_base::{Name, OutOfMemory, Reason, Tables, TrainNo, TrainRow};
 use rail_compile::{Lookups, compile_train};
 use rail_consequence::{Analyst, Rows};
-use rail_place::Moves;
+use rail_place::{Moves, Places};
 use rail_plan::{Plant, moves_of_train, train_fault};
 use rail_scene::Scene;
 use std::alloc::Global;
 
 /// What judges the proposals for a scene. Between two of them it stands for the scene; for a proposal the row of its train,
-/// the train's moves and their sets are exchanged, and then put back.
+/// the train's moves and their sets are exchanged, and then put back. The trains stand where they stood for the last proposal.
 pub struct Judge {
     lookups: Lookups,
     tables: Tables,
     moves: Moves,
     analyst: Analyst,
+    places: Places,
 }
 
 impl Drop for Judge {
@@ -40,6 +42,7 @@ impl Drop for Judge {
             tables: _tables,
             moves: _moves,
             analyst: _analyst,
+            places: _places,
         } = self;
     }
 }
@@ -54,11 +57,13 @@ impl Judge {
         let lookups = Lookups::of_scene(alloc, scene)?;
         let (tables, moves) = plant.into_parts();
         let analyst = Analyst::new(alloc, &moves)?;
+        let places = Places::outside(alloc, &moves)?;
         Ok(Judge {
             lookups,
             tables,
             moves,
             analyst,
+            places,
         })
     }
 
@@ -74,7 +79,8 @@ impl Judge {
     /// `positions` has how many moves each train has made. The scene is one that `compile` accepts, and the places are ones
     /// that `Places::new` accepts for its plant; the routes are some, and known to the scene. The judge stands for the scene
     /// afterwards, also where memory is not found. What it costs goes with the train's moves and with what the analysis
-    /// looks at, and not with the moves of the other trains.
+    /// looks at, and not with the moves of the other trains; but where the places are not those of the last call, they are
+    /// made anew.
     pub fn judge(
         &mut self,
         alloc: Global,
@@ -105,7 +111,30 @@ impl Judge {
                 place: 0,
             });
         }
+        self.stand_at(alloc, positions)?;
         self.judge_rerouted(alloc, scene, positions, train, routes)
+    }
+
+    /// Stands the trains at these places, which are valid: so nothing but memory may fail.
+    fn stand_at(&mut self, alloc: Global, positions: &[u16]) -> Result<(), OutOfMemory>
+        requires made { IsMadeFor self.old.moves self.old.places }
+        requires long { length positions.now ≡ length self.old.moves }
+        requires within { (t : ℕ) → t < length self.old.moves → slice_index positions.now t ≤ (moves_in self.old.moves).moves t }
+        ensures made { IsMadeFor self.new.moves self.new.places }
+        ensures lookups { self.new.lookups ≡ self.old.lookups }
+        ensures tables { self.new.tables ≡ self.old.tables }
+        ensures moves { self.new.moves ≡ self.old.moves }
+        ensures analyst { self.new.analyst ≡ self.old.analyst }
+        ensures there { OnOk result (self.new.places.positions ≡ positions.now) }
+    {
+        if self.places.positions() == positions {
+            return Ok(());
+        }
+        let Ok(places) = Places::new(alloc, &self.moves, positions) else {
+            return Err(OutOfMemory);
+        };
+        self.places = places;
+        Ok(())
     }
 
     /// The answer where the train is not out and the new itinerary has not too many routes.
@@ -119,6 +148,7 @@ impl Judge {
     ) -> Result<Judged, OutOfMemory>
         requires own { IsJudgeFor scene.now self.old }
         requires proposed { IsProposed scene.now positions.now train routes.now }
+        requires there { self.old.places.positions ≡ positions.now }
         ensures own { IsJudgeFor scene.now self.new }
         ensures answer { IfOk result (IsJudged scene.now positions.now train routes.now) }
     {
@@ -146,6 +176,7 @@ impl Judge {
         requires plannable { IsPlannable (with_row self.old.tables train row) }
         requires fault { fault_of (with_row self.old.tables train row) ≡ fault_of_train (bare (with_row self.old.tables train row)) train }
         requires places { IsWithin (bare (with_row self.old.tables train row)) positions.now }
+        requires there { self.old.places.positions ≡ positions.now }
         ensures kept { self.new.lookups ≡ self.old.lookups }
         ensures tables { self.new.tables ≡ self.old.tables }
         ensures own { IsOfTables self.old.tables self.new }
@@ -170,6 +201,7 @@ impl Judge {
         requires plannable { IsPlannable self.old.tables }
         requires fault { fault_of self.old.tables ≡ fault_of_train (bare self.old.tables) train }
         requires places { IsWithin (bare self.old.tables) positions.now }
+        requires there { self.old.places.positions ≡ positions.now }
         ensures kept { self.new.lookups ≡ self.old.lookups }
         ensures tables { self.new.tables ≡ self.old.tables }
         ensures own { (tables : Tables) → IsOfTables tables self.old → IsOfTables tables self.new }
@@ -180,15 +212,21 @@ impl Judge {
         }
         let mut moves = moves_of_train(alloc, &self.tables, train)?;
         let mut sets = Rows::new(alloc, &moves)?;
+        self.places.put(&self.moves, train, 0);
         self.exchange(train, &mut moves, &mut sets);
+        self.moves.trains();
         let answer = find_way(
             alloc,
             &self.moves,
             &mut self.analyst,
             self.tables.depth,
+            &mut self.places,
             positions,
+            train,
         );
         self.exchange(train, &mut moves, &mut sets);
+        let place = positions[usize::from(train.0)];
+        self.places.put(&self.moves, train, place);
         answer
     }
 
@@ -200,6 +238,7 @@ impl Judge {
         requires sets { AreRowsFor (moves_in (set self.old.moves train (get_or moves.old 0 no_lists))) train sets.old }
         ensures lookups { self.new.lookups ≡ self.old.lookups }
         ensures tables { self.new.tables ≡ self.old.tables }
+        ensures places { self.new.places ≡ self.old.places }
         ensures here { self.new.moves ≡ set self.old.moves train (get_or moves.old 0 no_lists) }
         ensures there { moves.new ≡ set moves.old 0 (get_or self.old.moves train no_lists) }
         ensures analyst { IsAnalystFor (moves_in self.new.moves) self.new.analyst }

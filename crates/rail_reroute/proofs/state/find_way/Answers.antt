@@ -1,12 +1,22 @@
-use Rattle.std.proofs.Common.{ℕ, List, sym, subst}
-use Rattle.std.proofs.lemmas.Result.{IfOk-weaker}
+use Rattle.std.proofs.Common.{ℕ, set, slice_index_or, sym, ◌∙◌}
 use Rattle.rail_place.specs.Tables.{moves_in}
-use Rattle.rail_reroute.specs.Judgements.{LeadsTo}
+use Rattle.rail_rules.specs.Moves.{stand}
+use Rattle.rail_reroute.proofs.Exchanged.{put_back}
+use Rattle.rail_reroute.proofs.Standing.{free_apart}
 use Rattle.rail_reroute.proofs.state.find_way.Goals as goal
 
-pub returns-in-Err-clause-answer : goal.returns-in-Err-clause-answer
-returns-in-Err-clause-answer c =
-    let plan = moves_in c.args.moves.now in
-    let s : List ℕ = c.args.positions.now in
-    IfOk-weaker c.found_for.result _ (LeadsTo plan c.args.depth s) (λ found parts. subst (LeadsTo plan c.args.depth s) (sym parts.3) parts.4)
-    (c.found_for.ensures plan s c.in-Err.ensures.fault)
+pub put-requires-clause-free : goal.put-requires-clause-free
+put-requires-clause-free c = λ u other.
+    let table = c.args.moves.now in
+    let place : ℕ = slice_index_or c.args.positions.now c.from.result 0 in
+    free_apart table c.args.places.now (stand (moves_in table) c.args.train place) u c.requires.made (sym c.is_free.ensures ∙ c.if-not-is_free.false)
+
+pub returns-clause-positions : goal.returns-clause-positions
+returns-clause-positions c =
+    let s = c.args.places.now.positions in
+    let t = c.args.train in
+    let place : ℕ = slice_index_or c.args.positions.now c.from.result 0 in
+    c.put-2.ensures.positions
+    ∙ (λ i. set (c.put.ensures.positions i) t 0)
+    ∙ (λ i. set (set s t place) t (sym c.requires.outside i))
+    ∙ put_back s t place 0

@@ -18,6 +18,7 @@ judge_tables-answer-requires-clause-own c =
         plannable = subst P (sym back) c.requires.own.plannable;
         moves = c.requires.own.moves ∙ ap table_of (sym back);
         analyst = c.requires.own.analyst;
+        places = c.requires.own.places;
       },
     )
 
@@ -35,9 +36,11 @@ returns-clause-own c =
       plannable = c.requires.own.plannable;
       moves = c.requires.own.moves;
       analyst = c.requires.own.analyst;
+      places = c.requires.own.places;
     }) in
     record {
       plannable = kept.plannable;
       moves = kept.moves;
       analyst = kept.analyst;
+      places = kept.places;
     }
