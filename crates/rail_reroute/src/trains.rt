@@ -31,7 +31,9 @@ pub fn rerouted_train(
     requires { place ≤ length train.now.routes }
     ensures { IfOk result (λ made. made ≡ rerouted_train train.now place routes.now) }
 {
-    let mut itinerary = train.routes.as_slice()[..usize::from(place)].to_vec(alloc)?;
+    let kept = &train.routes.as_slice()[..usize::from(place)];
+    let mut itinerary = Vec::with_capacity(alloc, kept.len().saturating_add(routes.len()))?;
+    itinerary.extend_from_slice(kept)?;
     itinerary.extend_from_slice(routes)?;
     Ok(with_routes(train, itinerary))
 }
