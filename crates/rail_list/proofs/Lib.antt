@@ -11,3 +11,5 @@ mod Trying
 mod Remaining
 mod Finding
 mod Knowing
+mod Unfound
+mod Failing

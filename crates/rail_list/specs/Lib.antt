@@ -3,3 +3,4 @@ pub mod KeptLists
 -- The kept list repaired for an admission, or a fresh one.
 pub mod Repairs
 pub mod GivenLists
+pub mod Failures

@@ -7,9 +7,10 @@ ghost use Rattle.rail_rules.specs.Places.{after, completes, is_inside, is_legal,
 ghost use Rattle.rail_place.specs.PlaceStates.{IsMadeFor};
 ghost use Rattle.rail_place.specs.Tables.{moves_in};
 ghost use Rattle.rail_list.specs.KeptLists.{HasRoomFor, before_first};
+ghost use Rattle.rail_list.specs.Failures.{AreFailures};
 ghost use Rattle.rail_list.specs.GivenLists.{given_list, may_be_given};
 
-use crate::KeptList;
+use crate::{Failures, KeptList};
 use rail_base::{Note, TrainNo};
 use rail_place::{Moves, Places, Played};
 
@@ -20,6 +21,7 @@ pub fn admit_given(
     moves: &Moves,
     places: &mut Places,
     kept: &mut KeptList,
+    failures: &mut Failures,
     train: TrainNo,
     note: Note,
     list: &[TrainNo],
@@ -35,13 +37,19 @@ pub fn admit_given(
     ensures given { IsTrue result → (places.new.positions ≡ after places.old.positions train)
         × (kept.new.trains ≡ given_list (moves_in moves.now) kept.old.trains train note list.now) }
     ensures none { result ≡ false → (places.new.positions ≡ places.old.positions) × (kept.new.trains ≡ kept.old.trains) }
+    ensures failures { (depth : ℕ) → AreFailures (moves_in moves.now) depth places.old.positions failures.old
+        → AreFailures (moves_in moves.now) depth places.new.positions failures.new }
     ensures looked { kept.new.looked ≤ kept.old.looked + length (before_first train kept.old.trains) + 1 }
 {
-    match note {
+    let admitted = match note {
         Note::Pulled => admit_pulled(moves, places, kept, train),
         Note::Appended => admit_appended(moves, places, kept, train),
         Note::Fresh => admit_listed(moves, places, kept, train, list),
+    };
+    if admitted {
+        failures.forget(train);
     }
+    admitted
 }
 
 /// An admission that pulls the train.

@@ -1,10 +1,12 @@
-ghost use Rattle.std.specs.Prelude.{◌≡◌, ℕ, suc, ◌<◌, ◌≤◌, List, length, IsTrue};
+ghost use Rattle.std.specs.Prelude.{◌≡◌, ◌≢◌, ℕ, suc, ◌<◌, ◌≤◌, Bool, false, List, length, IsTrue};
 ghost use Rattle.rail_rules.specs.Analysis.{is_safe};
 ghost use Rattle.rail_rules.specs.Fronts.{without_first};
 ghost use Rattle.rail_rules.specs.Moves.{Moves, is_valid, stand};
 ghost use Rattle.rail_rules.specs.Numbers.{sum_below};
 ghost use Rattle.rail_rules.specs.Places.{after, completes, is_inside, place_of};
+ghost use Rattle.rail_consequence.specs.Cores.{IsCore};
 ghost use Rattle.rail_list.specs.KeptLists.{is_free_before, with_moves_left};
+ghost use Rattle.rail_list.specs.Repairs.{is_known, is_repairable_for};
 
 /// A list that completes has no more entries than the trains have moves, so that it fits into each
 /// kept list that was made for these moves.
@@ -30,4 +32,14 @@ pub fn a_pulled_list_completes_exactly_where_no_earlier_entry_needs_what_the_tra
         → IsTrue (is_inside plan s t) → IsTrue (completes plan s list)
         → completes plan (after s t) (without_first t list)
         ≡ is_free_before plan t (stand plan t (suc (place_of s t))) list }
+{}
+
+/// Where a search for a waiting train failed, no list is known for it after the move of another train that is none of
+/// the core of that search, but where the repaired list completes.
+pub fn no_list_is_known_until_one_of_the_core_moves()
+    ensures { (plan : Moves) (depth : ℕ) (s list : List ℕ) (waiting moved : ℕ) (core : ℕ → Bool)
+        → waiting < length s → moved ≢ waiting → core moved ≡ false
+        → IsCore plan depth (after s waiting) core
+        → is_repairable_for plan (after s moved) list waiting ≡ false
+        → is_known plan depth (after s moved) list waiting ≡ false }
 {}
