@@ -1,6 +1,6 @@
 //! Sets of trains, 64 in a word: train 0 is the lowest bit of the first word.
 
-ghost use Rattle.std.specs.Prelude.{◌≡◌, ◌<◌, ◌≤◌, ◌==◌, ◌&&◌, ◌||◌, ℕ, not, true, false, IfSome, IsNone, MatchOption};
+ghost use Rattle.std.specs.Prelude.{◌≡◌, ◌<◌, ◌≤◌, ◌==◌, ◌&&◌, ◌||◌, ℕ, not, true, false, cond, IfSome, IsNone, MatchOption};
 ghost use Rattle.std.specs.Int.{bit_at};
 ghost use Rattle.rail_base.specs.declared.limits.TheConstants.{TRAINS};
 ghost use Rattle.rail_sets.specs.TrainSets.{has_train, size_of};
@@ -50,8 +50,20 @@ impl TrainSet {
         self.words[usize::from(train.0 / 64)] &= !(1u64 << (train.0 % 64));
     }
 
+    /// Puts the train in or takes it out.
+    pub fn put(&mut self, train: TrainNo, is_in: bool)
+        requires { train < TRAINS }
+        ensures { (t : ℕ) → has_train self.new t ≡ cond (t == train) is_in (has_train self.old t) }
+    {
+        if is_in {
+            self.insert(train);
+        } else {
+            self.remove(train);
+        }
+    }
+
     /// The first train from this number on, where there is one.
-    fn first_from(&self, number: u16) -> Option<TrainNo>
+    pub fn first_from(&self, number: u16) -> Option<TrainNo>
         ensures { MatchOption result ((t : ℕ) → number ≤ t → has_train self.now t ≡ false)
             (λ train. (number ≤ train) × (train < TRAINS) × (has_train self.now train ≡ true)
             × ((t : ℕ) → number ≤ t → t < train → has_train self.now t ≡ false)) }

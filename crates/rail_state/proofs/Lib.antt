@@ -7,7 +7,7 @@ mod Leaving
 -- Lemmas on the list of trains, on the sets that tell who of them is to be looked at, and on what is done to each of a set.
 mod TrainNumbers
 mod TrainsChanged
-mod TrainSetLemmas
+mod Blocked
 mod Sets
 mod Turned
 mod First

@@ -9,9 +9,10 @@ use Rattle.rail_base.specs.declared.limits.TheConstants.{TRAINS}
 use Rattle.rail_base.specs.declared.orders.Order.{Order}
 use Rattle.rail_rules.specs.Plant.{Plant, claimed}
 use Rattle.rail_state.specs.declared.train.TrainState.{TrainState}
-use Rattle.rail_state.specs.declared.train_set.TrainSet.{TrainSet}
+use Rattle.rail_sets.specs.declared.train_set.TrainSet.{TrainSet}
 use Rattle.rail_state.specs.declared.train_sets.TrainSets.{TrainSets}
-use Rattle.rail_state.specs.TrainSets.{has_train, set_at}
+use Rattle.rail_sets.specs.TrainSets.{has_train}
+use Rattle.rail_state.specs.BlockedAt.{set_at}
 use Rattle.rail_laws_run.specs.HolderTables.{own_overlap}
 use Rattle.rail_state.specs.TrainStates.{IsAnyWaiting, IsNextOf, after_taking, is_blocked_at, is_touched, is_untried, lacks_hold_line, no_state, outlasts_taking, state_of, state_told, without_known}
 use Rattle.rail_state.specs.TrainSearches.{AreBlockedAt, AreSetsOf, HaveNobody, IsSetOf, is_changeable, is_waiting}

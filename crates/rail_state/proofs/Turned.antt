@@ -4,8 +4,8 @@ use Rattle.std.proofs.lemmas.Bool.{cases_Bool, cond-false, cond-true, eq-eqb, eq
 use Rattle.std.proofs.lemmas.Bool.Decides.{nat_tests}
 use Rattle.std.proofs.lemmas.List.{get_or_default, length-set}
 use Rattle.rail_state.specs.declared.train.TrainState.{TrainState}
-use Rattle.rail_state.specs.declared.train_set.TrainSet.{TrainSet}
-use Rattle.rail_state.specs.TrainSets.{has_train}
+use Rattle.rail_sets.specs.declared.train_set.TrainSet.{TrainSet}
+use Rattle.rail_sets.specs.TrainSets.{has_train}
 use Rattle.rail_state.specs.TrainStates.{no_state, state_of}
 use Rattle.rail_state.specs.TrainSearches.{IsSetOf}
 use Rattle.rail_state.proofs.Sets.{passing_known, written}

@@ -3,7 +3,7 @@ pub mod Events
 -- What a run keeps of each train.
 pub mod TrainStates
 -- By which sets it finds them.
-pub mod TrainSets
+pub mod BlockedAt
 pub mod TrainSearches
 -- What a run keeps, and the front that it stands for.
 pub mod Representation

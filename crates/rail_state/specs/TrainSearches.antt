@@ -5,9 +5,10 @@ use Rattle.rail_base.specs.declared.history.Cause.TheVariants.{Blocked, NoList}
 use Rattle.rail_base.specs.declared.limits.TheConstants.{TRAINS}
 use Rattle.rail_rules.specs.Numbers.{comes_before}
 use Rattle.rail_state.specs.declared.train.TrainState.{TrainState}
-use Rattle.rail_state.specs.declared.train_set.TrainSet.{TrainSet}
+use Rattle.rail_sets.specs.declared.train_set.TrainSet.{TrainSet}
 use Rattle.rail_state.specs.declared.train_sets.TrainSets.{TrainSets}
-use Rattle.rail_state.specs.TrainSets.{has_train, set_at}
+use Rattle.rail_sets.specs.TrainSets.{has_train}
+use Rattle.rail_state.specs.BlockedAt.{set_at}
 use Rattle.rail_state.specs.TrainStates.{is_blocked_at, is_untried, lacks_hold_line, state_of, turn}
 
 -- the train waits

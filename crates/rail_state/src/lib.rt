@@ -14,11 +14,11 @@
 #![tactic(auto)]
 
 mod admission;
+mod blocked_at;
 mod events;
 mod pushes;
 mod run_state;
 mod train;
-mod train_set;
 mod train_sets;
 mod train_walks;
 mod trains;

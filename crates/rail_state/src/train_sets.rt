@@ -6,7 +6,7 @@ ghost use Rattle.rail_state.specs.declared.train.TrainState.{TrainState};
 ghost use Rattle.rail_state.specs.TrainSearches.{AreSetsOf, HaveNobody};
 
 use crate::train::TrainState;
-use crate::train_set::TrainSet;
+use rail_sets::TrainSet;
 use rail_base::TrainNo;
 
 /// For some questions the trains of which the answer is yes.

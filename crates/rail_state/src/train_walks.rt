@@ -6,11 +6,12 @@ ghost use Rattle.rail_rules.specs.Numbers.{comes_before};
 ghost use Rattle.rail_rules.specs.Plant.{moves, trains};
 ghost use Rattle.rail_state.specs.TrainStates.{AreAtFirst, IsReadyFirst, after_taking, bar_by, is_blocked_at, is_untried, looked_at, state_of, state_told, turn, without_known};
 ghost use Rattle.rail_base.specs.declared.limits.TheConstants.{SECTIONS, TRAINS};
-ghost use Rattle.rail_state.specs.TrainSets.{has_train};
+ghost use Rattle.rail_sets.specs.TrainSets.{has_train};
 ghost use Rattle.rail_state.specs.TrainSearches.{AreBlockedAt, AreSetsOf, earlier};
 
 use crate::train::TrainState;
-use crate::train_set::{BlockedAt, TrainSet};
+use crate::blocked_at::BlockedAt;
+use rail_sets::TrainSet;
 use crate::train_sets::TrainSets;
 use rail_base::{Order, SectionNo, Time, TrainNo};
 use rail_orders::ToldOrders;

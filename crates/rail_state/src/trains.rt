@@ -11,7 +11,7 @@ ghost use Rattle.rail_state.specs.TrainStates.{AreAtFirst, IsAnyWaiting, IsNextO
 ghost use Rattle.rail_state.specs.TrainSearches.{is_waiting};
 
 use crate::train::{TrainState, head_behind, push_outside, section_at};
-use crate::train_set::BlockedAt;
+use crate::blocked_at::BlockedAt;
 use crate::train_sets::TrainSets;
 use crate::train_walks::{look_again_at_each, look_at_each, note_taking_each, tell_each};
 use rail_base::{Cause, Order, OutOfMemory, SectionNo, Time, TrainNo};

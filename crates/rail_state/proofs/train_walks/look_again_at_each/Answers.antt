@@ -1,8 +1,8 @@
 use Rattle.std.proofs.Common.{◌≡◌, ◌<◌, ℕ, List, length, get_or, set, true, false, refl, sym, ap, subst, ◌∙◌, arith}
 use Rattle.std.proofs.lemmas.List.{get_or-set_same, get_or_default}
 use Rattle.rail_state.specs.declared.train.TrainState.{TrainState}
-use Rattle.rail_state.specs.declared.train_set.TrainSet.{TrainSet}
-use Rattle.rail_state.specs.TrainSets.{has_train}
+use Rattle.rail_sets.specs.declared.train_set.TrainSet.{TrainSet}
+use Rattle.rail_sets.specs.TrainSets.{has_train}
 use Rattle.rail_state.specs.TrainStates.{is_blocked_at, no_state, state_of, without_known}
 use Rattle.rail_state.specs.TrainSearches.{AreSetsOf}
 use Rattle.rail_state.proofs.ChangeableCauses.{IsForgotten, forgot, forgotten_at, forgotten_other, forgotten_past, forgotten_same}

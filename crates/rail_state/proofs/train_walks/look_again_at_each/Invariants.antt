@@ -1,4 +1,4 @@
-use Rattle.rail_state.specs.TrainSets.{size_of}
+use Rattle.rail_sets.specs.TrainSets.{size_of}
 use Rattle.rail_state.specs.TrainSearches.{AreSetsOf}
 use Rattle.rail_state.proofs.ChangeableCauses.{IsForgotten}
 use Rattle.rail_state.proofs.train_walks.look_again_at_each.Given as goal

@@ -2,7 +2,7 @@ use Rattle.std.proofs.Common.{◌≡◌, ◌≢◌, ◌<◌, ℕ, true, Option, 
 use Rattle.std.proofs.lemmas.Bool.{and_parts, cond-false, cond-true}
 use Rattle.std.proofs.lemmas.List.{get_or-set_other}
 use Rattle.rail_state.specs.declared.train.TrainState.{TrainState}
-use Rattle.rail_state.specs.declared.train_set.TrainSet.{TrainSet}
+use Rattle.rail_sets.specs.declared.train_set.TrainSet.{TrainSet}
 use Rattle.rail_state.specs.TrainStates.{bar_by, is_untried, looked_at, no_state, state_of}
 use Rattle.rail_state.specs.TrainSearches.{earlier}
 use Rattle.rail_state.proofs.First.{first_more, first_of_all, looked_not}

@@ -1,4 +1,4 @@
-use Rattle.rail_state.specs.TrainSets.{size_of}
+use Rattle.rail_sets.specs.TrainSets.{size_of}
 use Rattle.rail_state.specs.TrainStates.{bar_by, is_untried, looked_at}
 use Rattle.rail_state.specs.TrainSearches.{AreBlockedAt, AreSetsOf}
 use Rattle.rail_state.proofs.First.{IsFirstOf}

@@ -1,4 +1,4 @@
-use Rattle.rail_state.specs.TrainSets.{size_of}
+use Rattle.rail_sets.specs.TrainSets.{size_of}
 use Rattle.rail_state.specs.TrainStates.{after_taking}
 use Rattle.rail_state.specs.TrainSearches.{AreSetsOf, is_changeable}
 use Rattle.rail_state.proofs.Turned.{AllPass, IsTurned}

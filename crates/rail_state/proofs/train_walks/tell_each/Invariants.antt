@@ -1,5 +1,5 @@
 use Rattle.std.proofs.Common.{[], ◌∷◌}
-use Rattle.rail_state.specs.TrainSets.{size_of}
+use Rattle.rail_sets.specs.TrainSets.{size_of}
 use Rattle.rail_state.specs.TrainStates.{state_told}
 use Rattle.rail_state.specs.TrainSearches.{AreSetsOf, is_waiting}
 use Rattle.rail_state.proofs.Turned.{AllPass, IsTurned}
