@@ -14,6 +14,8 @@ mod chains;
 #[cfg(test)]
 mod events;
 #[cfg(test)]
+mod failures;
+#[cfg(test)]
 mod ground;
 #[cfg(test)]
 mod holders;
