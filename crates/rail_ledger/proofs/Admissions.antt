@@ -20,6 +20,7 @@ use Rattle.rail_laws_run.specs.HolderTables.{held_cause, own_overlap}
 use Rattle.rail_judging.specs.Verdicts.{broken_law, is_forbidden, is_misplaced, is_occupied}
 use Rattle.rail_place.specs.PlaceStates.{State, IsMadeFor}
 use Rattle.rail_place.specs.Tables.{moves_in, MoveLists}
+use Rattle.rail_list.specs.Failures.{AreFailures, Failed}
 use Rattle.rail_list.specs.KeptLists.{Kept}
 use Rattle.rail_queue.specs.Order.{is_sorted}
 use Rattle.rail_list.specs.GivenLists.{given_list, may_be_given}
@@ -77,15 +78,17 @@ pub given_exact : (table : List MoveLists) (front : Front) (ledger : Ledger) →
 given_exact table front ledger same at t note list = λ i. may_be_given (same i) (at.placed.positions i) (at.keeps.is_list i) t note list
 
 pub has_given : (table : List MoveLists) (front : Front) (old new : Ledger) → moves_in table ≡ moves_of old.input.plant → IsAt front old → (t : ℕ) (note : Note) (list : List ℕ)
-    → IsMadeFor table new.places → new.kept.room ≡ old.kept.room → new.places.positions ≡ after old.places.positions t
+    → IsMadeFor table new.places → AreFailures (moves_in table) old.input.plant.tables.depth new.places.positions new.failures
+    → new.kept.room ≡ old.kept.room → new.places.positions ≡ after old.places.positions t
     → new.kept.trains ≡ given_list (moves_in table) old.kept.trains t note list → HasGiven front old new t note list
-has_given table front old new same at t note list made room moved is = record {
+has_given table front old new same at t note list made failing room moved is = record {
   list_is = is ∙ (λ i. given_list (same i) (at.keeps.is_list i) t note list);
   positions = moved ∙ ap (λ s. after s t) at.placed.positions;
   room = made.room;
   counted = made.counted;
   told = subst (λ (plan : Moves). (x u : ℕ) → (get_or new.places.owners x None ≡ Some u) ↔ (holds plan new.places.positions u x ≡ true)) same made.told;
   list_room = subst (λ n. sum_below (moves old.input.plant) (trains old.input.plant) ≤ n) (sym room) at.keeps.room;
+  failures = subst (λ (plan : Moves). AreFailures plan old.input.plant.tables.depth new.places.positions new.failures) same failing;
 }
 
 module _ (front : Front) (ledger : Ledger) (at : IsAt front ledger) (going : ledger.state.has_ended ≡ false) (sorted : is_sorted ledger.state.queue.events ≡ true) (when t m : ℕ) (note : Note) (list : List ℕ) (after_hold : Bool) (after_hold_is : after_hold ≡ has_held front) where
@@ -335,14 +338,14 @@ module _ (front : Front) (ledger : Ledger) (at : IsAt front ledger) (going : led
         lists Appended = refl
         lists Fresh = refl
 
-    pub given_at : (P : State) (K : Kept) (after : RunState)
-        → HasGiven front ledger (record ledger { places = P; kept = K }) t note list
+    pub given_at : (P : State) (K : Kept) (F : Failed) (after : RunState)
+        → HasGiven front ledger (record ledger { places = P; kept = K; failures = F }) t note list
         → length after.queue.events + after.queue.spare ≡ length ledger.state.queue.events + ledger.state.queue.spare
         → (times : MoveTimes) (arrival : Option ℕ) → IsAdmitLine ledger.input.plant front t times arrival ledger.state after
-        → IsAt (line ∷ front) (record ledger { places = P; kept = K; state = after; listed = list_with note })
-    given_at P K after has room times arrival admits =
+        → IsAt (line ∷ front) (record ledger { places = P; kept = K; failures = F; state = after; listed = list_with note })
+    given_at P K F after has room times arrival admits =
         let new : Line = admit_line ledger.state.instant t (suc (place front t)) note new_list in
-        subst (λ l. IsAt (l ∷ front) (record ledger { places = P; kept = K; state = after; listed = list_with note })) line_same
+        subst (λ l. IsAt (l ∷ front) (record ledger { places = P; kept = K; failures = F; state = after; listed = list_with note })) line_same
         (record {
           accepted = at.accepted;
           ordered = at.ordered;
@@ -358,4 +361,5 @@ module _ (front : Front) (ledger : Ledger) (at : IsAt front ledger) (going : led
           list_room = at.list_room;
           list_empty = λ open_still. at.list_empty still;
           analyst = at.analyst;
+          failures = has.failures;
         })

@@ -136,6 +136,7 @@ module _ (front : Front) (ledger : Ledger) (at : IsAt front ledger) (going : led
         list_room = at.list_room;
         list_empty = λ open_still. at.list_empty still;
         analyst = at.analyst;
+        failures = at.failures;
       }))
 
   -- its order takes effect
@@ -171,6 +172,7 @@ module _ (front : Front) (ledger : Ledger) (at : IsAt front ledger) (going : led
         list_room = at.list_room;
         list_empty = λ open_still. at.list_empty still;
         analyst = at.analyst;
+        failures = at.failures;
       }))
 
   -- the event of a command gives its line

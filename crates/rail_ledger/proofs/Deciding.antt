@@ -28,4 +28,5 @@ again_at front ledger at some = record {
   list_room = at.list_room;
   list_empty = at.list_empty;
   analyst = at.analyst;
+  failures = at.failures;
 }

@@ -15,6 +15,7 @@ use Rattle.rail_laws_front.proofs.CallerLemmas.{kept_completes, unbarred_legal, 
 use Rattle.rail_consequence.specs.AnalystStates.{IsAnalystFor, Tallied}
 use Rattle.rail_place.specs.PlaceStates.{IsMadeFor, State}
 use Rattle.rail_place.specs.Tables.{IsTable, moves_in, MoveLists}
+use Rattle.rail_list.specs.Failures.{AreFailures, Failed}
 use Rattle.rail_list.specs.KeptLists.{HasRoomFor, Kept}
 use Rattle.rail_list.specs.Repairs.{IsNoted, is_known}
 use Rattle.rail_state.specs.declared.train.TrainState.{TrainState}
@@ -66,12 +67,19 @@ legal_next table front ledger same at deciding t next =
 pub analyst_for : (table : List MoveLists) (front : Front) (ledger : Ledger) → moves_in table ≡ moves_of ledger.input.plant → IsAt front ledger → IsAnalystFor (moves_in table) ledger.analyst
 analyst_for table front ledger same at = subst (λ (plan : Moves). IsAnalystFor plan ledger.analyst) (sym same) at.analyst
 
+-- the failures of a ledger are those at its places, for a table of its plant's moves
+pub failures_for : (table : List MoveLists) (front : Front) (ledger : Ledger) (depth : ℕ) → moves_in table ≡ moves_of ledger.input.plant → depth ≡ ledger.input.plant.tables.depth → IsAt front ledger
+    → AreFailures (moves_in table) depth ledger.places.positions ledger.failures
+failures_for table front ledger depth same is at =
+    subst (λ (plan : Moves). AreFailures plan depth ledger.places.positions ledger.failures) (sym same)
+    (subst (λ (d : ℕ). AreFailures (moves_of ledger.input.plant) d ledger.places.positions ledger.failures) (sym is) at.failures)
+
 -- what the search for a list gives
-pub has_list : (table : List MoveLists) (front : Front) (ledger : Ledger) (places_now : State) (kept_now : Kept) (analyst_now : Tallied) (t : ℕ) (note : Note) → moves_in table ≡ moves_of ledger.input.plant → IsAt front ledger
-    → IsMadeFor table places_now → IsAnalystFor (moves_in table) analyst_now → kept_now.room ≡ ledger.kept.room → places_now.positions ≡ after ledger.places.positions t
+pub has_list : (table : List MoveLists) (front : Front) (ledger : Ledger) (places_now : State) (kept_now : Kept) (analyst_now : Tallied) (failures_now : Failed) (t : ℕ) (note : Note) → moves_in table ≡ moves_of ledger.input.plant → IsAt front ledger
+    → IsMadeFor table places_now → IsAnalystFor (moves_in table) analyst_now → AreFailures (moves_in table) ledger.input.plant.tables.depth places_now.positions failures_now → kept_now.room ≡ ledger.kept.room → places_now.positions ≡ after ledger.places.positions t
     → IsNoted (moves_in table) ledger.input.plant.tables.depth ledger.places.positions ledger.kept.trains t note kept_now.trains
-    → HasList front ledger (record ledger { places = places_now; kept = kept_now; analyst = analyst_now }) t note
-has_list table front ledger places_now kept_now analyst_now t note same at made own room moved noted = record {
+    → HasList front ledger (record ledger { places = places_now; kept = kept_now; analyst = analyst_now; failures = failures_now }) t note
+has_list table front ledger places_now kept_now analyst_now failures_now t note same at made own failing room moved noted = record {
   noted = subst (λ plan. IsNoted plan ledger.input.plant.tables.depth (places ledger.input.plant front) (kept ledger.input.plant front) t note kept_now.trains) same
       (subst (λ s. IsNoted (moves_in table) ledger.input.plant.tables.depth s (kept ledger.input.plant front) t note kept_now.trains) at.placed.positions
       (subst (λ list. IsNoted (moves_in table) ledger.input.plant.tables.depth ledger.places.positions list t note kept_now.trains) at.keeps.is_list noted));
@@ -81,6 +89,7 @@ has_list table front ledger places_now kept_now analyst_now t note same at made 
   told = subst (λ (plan : Moves). (x u : ℕ) → (get_or places_now.owners x None ≡ Some u) ↔ (holds plan places_now.positions u x ≡ true)) same made.told;
   list_room = subst (λ n. sum_below (moves ledger.input.plant) (trains ledger.input.plant) ≤ n) (sym room) at.keeps.room;
   analyst = subst (λ (plan : Moves). IsAnalystFor plan analyst_now) same own;
+  failures = subst (λ (plan : Moves). AreFailures plan ledger.input.plant.tables.depth places_now.positions failures_now) same failing;
 }
 
 -- one train less is untried
@@ -108,10 +117,10 @@ fewer_untried states t lt is =
     (λ u lu other. ap {B = ℕ} (λ (r : TrainState). cond (is_untried r) 1 0) (get_or-set_other states t u (record (state_of states t) { known = Some NoList }) _ other)))
 
 -- where the places and the kept list are as before, the ledger stands as before
-pub kept_at : (table : List MoveLists) (front : Front) (ledger : Ledger) (places_now : State) (kept_now : Kept) (analyst_now : Tallied) → moves_in table ≡ moves_of ledger.input.plant → IsAt front ledger
-    → IsMadeFor table places_now → IsAnalystFor (moves_in table) analyst_now → places_now.positions ≡ ledger.places.positions → kept_now.trains ≡ ledger.kept.trains → kept_now.room ≡ ledger.kept.room
-    → IsAt front (record ledger { places = places_now; kept = kept_now; analyst = analyst_now })
-kept_at table front ledger places_now kept_now analyst_now same at made own positions list room = record {
+pub kept_at : (table : List MoveLists) (front : Front) (ledger : Ledger) (places_now : State) (kept_now : Kept) (analyst_now : Tallied) (failures_now : Failed) → moves_in table ≡ moves_of ledger.input.plant → IsAt front ledger
+    → IsMadeFor table places_now → IsAnalystFor (moves_in table) analyst_now → AreFailures (moves_in table) ledger.input.plant.tables.depth places_now.positions failures_now → places_now.positions ≡ ledger.places.positions → kept_now.trains ≡ ledger.kept.trains → kept_now.room ≡ ledger.kept.room
+    → IsAt front (record ledger { places = places_now; kept = kept_now; analyst = analyst_now; failures = failures_now })
+kept_at table front ledger places_now kept_now analyst_now failures_now same at made own failing positions list room = record {
   accepted = at.accepted;
   ordered = at.ordered;
   rep = at.rep;
@@ -126,6 +135,7 @@ kept_at table front ledger places_now kept_now analyst_now same at made own posi
   list_room = at.list_room;
   list_empty = at.list_empty;
   analyst = subst (λ (plan : Moves). IsAnalystFor plan analyst_now) same own;
+  failures = subst (λ (plan : Moves). AreFailures plan ledger.input.plant.tables.depth places_now.positions failures_now) same failing;
 }
 
 -- whether a list is known, by what is kept and by the front
@@ -135,11 +145,11 @@ pub known_same : (table : List MoveLists) (front : Front) (ledger : Ledger) (dep
 known_same table front ledger depth t same at is = λ i. is_known (same i) (is i) (at.placed.positions i) (at.keeps.is_list i) t
 
 -- with no list the ledger stays where it is
-pub no_list_at : (table : List MoveLists) (front : Front) (ledger : Ledger) (places_now : State) (kept_now : Kept) (analyst_now : Tallied) (t : ℕ) → moves_in table ≡ moves_of ledger.input.plant → IsAt front ledger → IsNext (dispatch_in ledger.input) ledger.input.plant front ledger.state.holders ledger.state.trains t
-    → IsMadeFor table places_now → IsAnalystFor (moves_in table) analyst_now → places_now.positions ≡ ledger.places.positions → kept_now.trains ≡ ledger.kept.trains → kept_now.room ≡ ledger.kept.room → is_known (moves_in table) ledger.input.plant.tables.depth ledger.places.positions ledger.kept.trains t ≡ false
+pub no_list_at : (table : List MoveLists) (front : Front) (ledger : Ledger) (places_now : State) (kept_now : Kept) (analyst_now : Tallied) (failures_now : Failed) (t : ℕ) → moves_in table ≡ moves_of ledger.input.plant → IsAt front ledger → IsNext (dispatch_in ledger.input) ledger.input.plant front ledger.state.holders ledger.state.trains t
+    → IsMadeFor table places_now → IsAnalystFor (moves_in table) analyst_now → AreFailures (moves_in table) ledger.input.plant.tables.depth places_now.positions failures_now → places_now.positions ≡ ledger.places.positions → kept_now.trains ≡ ledger.kept.trains → kept_now.room ≡ ledger.kept.room → is_known (moves_in table) ledger.input.plant.tables.depth ledger.places.positions ledger.kept.trains t ≡ false
     → (states : List TrainState) → states ≡ set ledger.state.trains t (record (state_of ledger.state.trains t) { known = Some NoList })
-    → IsAt front (record ledger { places = places_now; kept = kept_now; analyst = analyst_now; state = record ledger.state { trains = states } })
-no_list_at table front ledger places_now kept_now analyst_now t same at next made own positions list room unknown states is = record {
+    → IsAt front (record ledger { places = places_now; kept = kept_now; analyst = analyst_now; failures = failures_now; state = record ledger.state { trains = states } })
+no_list_at table front ledger places_now kept_now analyst_now failures_now t same at next made own failing positions list room unknown states is = record {
   accepted = at.accepted;
   ordered = at.ordered;
   rep = no_list_stands (dispatch_in ledger.input) ledger.input.plant front ledger.state at.rep t next
@@ -158,4 +168,5 @@ no_list_at table front ledger places_now kept_now analyst_now t same at next mad
   list_room = at.list_room;
   list_empty = at.list_empty;
   analyst = subst (λ (plan : Moves). IsAnalystFor plan analyst_now) same own;
+  failures = subst (λ (plan : Moves). AreFailures plan ledger.input.plant.tables.depth places_now.positions failures_now) same failing;
 }

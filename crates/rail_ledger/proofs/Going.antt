@@ -125,6 +125,7 @@ module _ (front : Front) (ledger : Ledger) (at : IsAt front ledger) (going : led
         list_room = at.list_room;
         list_empty = λ open_still. at.list_empty still;
         analyst = at.analyst;
+        failures = at.failures;
       }
 
 -- the trains that are neither out nor cancelled, by what is kept
@@ -169,4 +170,5 @@ ended_at front ledger at going settled empty remaining room is =
       list_room = room ∙ at.list_room;
       list_empty = λ open_still. absurd (false≢true (sym open_still));
       analyst = at.analyst;
+      failures = at.failures;
     }

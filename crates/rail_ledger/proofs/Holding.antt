@@ -28,6 +28,7 @@ settled_at front ledger at known told = record {
   list_room = at.list_room;
   list_empty = at.list_empty;
   analyst = at.analyst;
+  failures = at.failures;
 }
 
 -- the hold line of the first train that was not told why it waits
@@ -53,6 +54,7 @@ held_at front ledger at going deciding known t in_list lacks first why is after 
       list_room = at.list_room;
       list_empty = λ open_still. at.list_empty still;
       analyst = at.analyst;
+      failures = at.failures;
     })
 
 -- its line may follow

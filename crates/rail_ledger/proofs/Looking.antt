@@ -58,6 +58,7 @@ looked front ledger at states many each = record {
   list_room = at.list_room;
   list_empty = at.list_empty;
   analyst = at.analyst;
+  failures = at.failures;
 }
 
 -- who is untried after the look was so before, and no taken section bars the train

@@ -17,6 +17,7 @@ use Rattle.rail_laws_run.proofs.CallerLemmas.{stays_below, ready_is_past}
 use Rattle.rail_block.specs.declared.times.MoveTimes.{MoveTimes}
 use Rattle.rail_block.specs.CarriedTimes.{AreBelow, times_at}
 use Rattle.rail_consequence.specs.AnalystStates.{Tallied}
+use Rattle.rail_list.specs.Failures.{Failed}
 use Rattle.rail_list.specs.KeptLists.{Kept}
 use Rattle.rail_place.specs.PlaceStates.{State}
 use Rattle.rail_state.specs.Representation.{IsAdmissible, IsAdmitLine, MayKeep, admit_line, list_for}
@@ -109,12 +110,12 @@ module _ (front : Front) (ledger : Ledger) (at : IsAt front ledger) (going : led
   }
 
   -- the ledger stands for the front with the line of the admission
-  pub admitted_at : (P : State) (K : Kept) (W : Tallied) (after : RunState)
-      → HasList front ledger (record ledger { places = P; kept = K; analyst = W }) t note → K.trains ≡ list
+  pub admitted_at : (P : State) (K : Kept) (W : Tallied) (F : Failed) (after : RunState)
+      → HasList front ledger (record ledger { places = P; kept = K; analyst = W; failures = F }) t note → K.trains ≡ list
       → length after.queue.events + after.queue.spare ≡ length ledger.state.queue.events + ledger.state.queue.spare
       → (times : MoveTimes) (arrival : Option ℕ) → IsAdmitLine ledger.input.plant front t times arrival ledger.state after
-      → IsAt (line ∷ front) (record ledger { places = P; kept = K; analyst = W; state = after; listed = list_with note })
-  admitted_at P K W after has is_list room times arrival admits = record {
+      → IsAt (line ∷ front) (record ledger { places = P; kept = K; analyst = W; failures = F; state = after; listed = list_with note })
+  admitted_at P K W F after has is_list room times arrival admits = record {
     accepted = at.accepted;
     ordered = at.ordered;
     rep = admitted_line (dispatch_in ledger.input) ledger.input.plant front ledger.state at.rep still deciding t next note list noted times arrival after admits;
@@ -129,6 +130,7 @@ module _ (front : Front) (ledger : Ledger) (at : IsAt front ledger) (going : led
     list_room = at.list_room;
     list_empty = λ open_still. at.list_empty still;
     analyst = has.analyst;
+    failures = has.failures;
   }
 
 -- the list on the line of an admission
@@ -137,8 +139,8 @@ listed_with Pulled kept_list remaining = refl
 listed_with Appended kept_list remaining = refl
 listed_with Fresh kept_list remaining = refl
 
--- a ledger that differs in places, kept list and analyst alone
-pub alike_ledger : (old mid : Ledger) → AreAlike old mid → mid.state.trains ≡ old.state.trains → mid ≡ record old { places = mid.places; kept = mid.kept; analyst = mid.analyst }
+-- a ledger that differs in places, kept list, analyst and failures alone
+pub alike_ledger : (old mid : Ledger) → AreAlike old mid → mid.state.trains ≡ old.state.trains → mid ≡ record old { places = mid.places; kept = mid.kept; analyst = mid.analyst; failures = mid.failures }
 alike_ledger old mid alike trains = λ i. record {
   input = alike.input i;
   orders = alike.orders i;
@@ -147,6 +149,7 @@ alike_ledger old mid alike trains = λ i. record {
   kept = mid.kept;
   reader = alike.reader i;
   analyst = mid.analyst;
+  failures = mid.failures;
   remaining = alike.remaining i;
   listed = alike.listed i;
 }

@@ -1,6 +1,7 @@
 -- A ledger before its first line.
-use Rattle.std.proofs.Common.{◌≡◌, ℕ, zero, suc, ◌+◌, ◌≤◌, true, List, [], ◌∷◌, ◌++◌, length, get_or, replicate, Some, None, refl, sym, ap, ◌∙◌, subst, arith}
+use Rattle.std.proofs.Common.{◌≡◌, ℕ, zero, suc, ◌+◌, ◌≤◌, true, false, List, [], ◌∷◌, ◌++◌, length, get_or, replicate, Some, None, refl, sym, ap, ◌∙◌, subst, arith}
 use Rattle.std.specs.Prelude.{◌↔◌, vec_capacity}
+use Rattle.std.proofs.lemmas.Bool.{false≢true}
 use Rattle.std.proofs.lemmas.Grind.{replicate_next}
 use Rattle.rail_base.specs.declared.limits.TheConstants.{TRAINS}
 use Rattle.rail_rules.specs.Accepted.{is_accepted_input}
@@ -14,6 +15,7 @@ use Rattle.rail_rules.specs.Places.{holds}
 use Rattle.rail_rules.specs.Plant.{moves_of, trains}
 use Rattle.rail_laws_run.specs.MostDue.{most_due}
 use Rattle.rail_consequence.specs.AnalystStates.{IsAnalystFor}
+use Rattle.rail_list.specs.Failures.{is_kept}
 use Rattle.rail_list.specs.KeptLists.{HasRoomFor}
 use Rattle.rail_place.specs.PlaceStates.{IsMadeFor}
 use Rattle.rail_place.specs.Tables.{moves_in, MoveLists}
@@ -37,6 +39,7 @@ pub record IsNew (ledger : Ledger) (table : List MoveLists) : Type 0 where
   pub remaining_room : vec_capacity ledger.remaining ≡ TRAINS
   pub remaining : ledger.remaining.items ≡ []
   pub analyst : IsAnalystFor (moves_in table) ledger.analyst
+  pub failures : (t : ℕ) → is_kept ledger.failures t ≡ false
 
 zeros : (n : ℕ) → replicate {A = ℕ} n 0 ≡ listed (λ t. 0) n
 zeros zero = refl
@@ -62,4 +65,5 @@ new_stands ledger table new = record {
   list_room = new.remaining_room;
   list_empty = λ going. new.remaining;
   analyst = subst (λ (plan : Moves). IsAnalystFor plan ledger.analyst) new.same new.analyst;
+  failures = λ t lt is. absurd (false≢true (sym (new.failures t) ∙ is));
 }

@@ -19,6 +19,7 @@ use Rattle.rail_rules.specs.RunHistories.{Seat, is_chosen, is_run}
 use Rattle.rail_place.specs.PlaceStates.{State}
 use Rattle.rail_consequence.specs.AnalystStates.{IsAnalystFor}
 use Rattle.rail_list.specs.KeptLists.{Kept}
+use Rattle.rail_list.specs.Failures.{AreFailures}
 use Rattle.rail_queue.specs.Order.{first_time_of}
 use Rattle.rail_state.specs.declared.train.TrainState.{TrainState}
 use Rattle.rail_laws_run.specs.HolderTables.{own_overlap}
@@ -63,6 +64,7 @@ pub record IsAt (front : Front) (ledger : Ledger) : Type 0 where
   pub list_room : vec_capacity ledger.remaining ≡ TRAINS
   pub list_empty : has_ended front ≡ false → ledger.remaining.items ≡ []
   pub analyst : IsAnalystFor (moves_of ledger.input.plant) ledger.analyst
+  pub failures : AreFailures (moves_of ledger.input.plant) ledger.input.plant.tables.depth ledger.places.positions ledger.failures
 
 -- the order takes effect, by what is kept
 abbrev pub is_effective : Ledger → Order → Bool
@@ -123,7 +125,7 @@ MayGoOn ledger = (ledger.state.is_settled ≡ true) ⊎ (first_time_of ledger.st
 abbrev pub untried : List TrainState → ℕ
 untried states = sum_below (λ t. cond (is_untried (state_of states t)) 1 0) (length states)
 
--- two ledgers differ in places, kept list, analyst, and what is kept of the trains alone
+-- two ledgers differ in places, kept list, analyst, failures, and what is kept of the trains alone
 pub record AreAlike (first second : Ledger) : Type 0 where
   pub input : second.input ≡ first.input
   pub orders : second.orders ≡ first.orders
@@ -259,6 +261,7 @@ pub record HasList (front : Front) (old new : Ledger) (t : ℕ) (note : Note) : 
   pub told : (x u : ℕ) → (get_or new.places.owners x None ≡ Some u) ↔ IsTrue (holds (moves_of old.input.plant) new.places.positions u x)
   pub list_room : sum_below (moves old.input.plant) (trains old.input.plant) ≤ new.kept.room
   pub analyst : IsAnalystFor (moves_of old.input.plant) new.analyst
+  pub failures : AreFailures (moves_of old.input.plant) old.input.plant.tables.depth new.places.positions new.failures
 
 -- the list that belongs to the line of an admission
 abbrev pub list_with : Note → Listed
@@ -295,6 +298,7 @@ pub record HasGiven (front : Front) (old new : Ledger) (t : ℕ) (note : Note) (
   pub counted : new.places.played < 2 ^ 64
   pub told : (x u : ℕ) → (get_or new.places.owners x None ≡ Some u) ↔ IsTrue (holds (moves_of old.input.plant) new.places.positions u x)
   pub list_room : sum_below (moves old.input.plant) (trains old.input.plant) ≤ new.kept.room
+  pub failures : AreFailures (moves_of old.input.plant) old.input.plant.tables.depth new.places.positions new.failures
 
 -- of these trains, those of the line that says this: of an admission a fresh list alone
 abbrev pub trains_taken : What → List ℕ → List ℕ

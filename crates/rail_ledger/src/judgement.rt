@@ -337,7 +337,7 @@ impl Ledger {
     fn keep_given(&mut self, train: TrainNo, note: Note, list: &[TrainNo]) -> bool
         requires next { IsAdmissibleNow self.old train }
         requires going { self.old.state.has_ended ≡ false }
-        ensures lists { self.new ≡ record self.old { places = self.new.places; kept = self.new.kept } }
+        ensures lists { self.new ≡ record self.old { places = self.new.places; kept = self.new.kept; failures = self.new.failures } }
         ensures exact { (front : Front) → IsAt front self.old → result
             ≡ may_be_given (moves_of self.old.input.plant) (places self.old.input.plant front) (kept self.old.input.plant front) train note list.now }
         ensures given { IsTrue result → (front : Front) → IsAt front self.old → HasGiven front self.old self.new train note list.now }
@@ -345,7 +345,15 @@ impl Ledger {
     {
         let moves = self.input.plant.moves();
         moves.trains();
-        admit_given(moves, &mut self.places, &mut self.kept, train, note, list)
+        admit_given(
+            moves,
+            &mut self.places,
+            &mut self.kept,
+            &mut self.failures,
+            train,
+            note,
+            list,
+        )
     }
 }
 

@@ -12,6 +12,7 @@ ghost use Rattle.rail_ledger.specs.Ledgers.{AreAlike, AreUnbarred, ContinuesRun,
 ghost use Rattle.rail_ledger.specs.declared.ledger.Listed.TheVariants as which;
 ghost use Rattle.rail_base.specs.declared.limits.TheConstants.{TRAINS};
 ghost use Rattle.rail_consequence.specs.AnalystStates.{IsAnalystFor};
+ghost use Rattle.rail_list.specs.Failures.{is_kept};
 ghost use Rattle.rail_list.specs.KeptLists.{HasRoomFor};
 ghost use Rattle.rail_place.specs.PlaceStates.{IsMadeFor};
 ghost use Rattle.rail_place.specs.Tables.{moves_in};
@@ -25,7 +26,7 @@ use crate::input::RunInput;
 use rail_base::limits::TRAINS;
 use rail_base::{Entry, Note, Order, OutOfMemory, Time, TrainNo, What};
 use rail_consequence::Analyst;
-use rail_list::{KeptList, Reader, admit_by_list, is_list_known};
+use rail_list::{Failures, KeptList, Reader, admit_by_list, is_list_known};
 use rail_orders::ToldOrders;
 use rail_place::{Moves, Places};
 use rail_queue::{Class, Event};
@@ -54,6 +55,8 @@ pub struct Ledger {
     /// With it the kept list is read as a whole.
     pub reader: Reader,
     pub analyst: Analyst,
+    /// The searches that failed.
+    pub failures: Failures,
     /// The trains that remain, once the end line was given.
     pub remaining: Vec<TrainNo>,
     pub listed: Listed,
@@ -69,6 +72,7 @@ impl Drop for Ledger {
             kept: _kept,
             reader: _reader,
             analyst: _analyst,
+            failures: _failures,
             remaining: _remaining,
             listed: _listed,
         } = self;
@@ -93,6 +97,7 @@ impl Ledger {
             kept: lists.kept,
             reader: lists.reader,
             analyst: lists.analyst,
+            failures: lists.failures,
             remaining: lists.remaining,
             listed: Listed::Nothing,
         })
@@ -184,6 +189,7 @@ impl Ledger {
             &mut self.places,
             &mut self.kept,
             &mut self.analyst,
+            &mut self.failures,
             depth,
             train,
         ) {
@@ -217,6 +223,7 @@ impl Ledger {
             &mut self.places,
             &mut self.kept,
             &mut self.analyst,
+            &mut self.failures,
             depth,
             train,
         ) {
@@ -444,6 +451,7 @@ struct Lists {
     kept: KeptList,
     reader: Reader,
     analyst: Analyst,
+    failures: Failures,
     remaining: Vec<TrainNo>,
 }
 
@@ -452,6 +460,7 @@ fn lists_of(alloc: Global, moves: &Moves) -> Result<Lists, OutOfMemory>
     ensures made { IfOk result (λ lists. IsMadeFor moves.now lists.places) }
     ensures positions { IfOk result (λ lists. lists.places.positions ≡ replicate {A = ℕ} (length moves.now) 0) }
     ensures analyst { IfOk result (λ lists. IsAnalystFor (moves_in moves.now) lists.analyst) }
+    ensures failures { IfOk result (λ lists. (t : ℕ) → is_kept lists.failures t ≡ false) }
     ensures kept { IfOk result (λ lists. lists.kept.trains ≡ []) }
     ensures room { IfOk result (λ lists. HasRoomFor moves.now lists.kept) }
     ensures remaining { IfOk result (λ lists. lists.remaining.items ≡ []) }
@@ -461,11 +470,13 @@ fn lists_of(alloc: Global, moves: &Moves) -> Result<Lists, OutOfMemory>
     let remaining = Vec::with_capacity(alloc, TRAINS)?;
     let places = Places::outside(alloc, moves)?;
     let analyst = Analyst::new(alloc, moves)?;
+    let failures = Failures::new(alloc)?;
     Ok(Lists {
         places,
         kept,
         reader,
         analyst,
+        failures,
         remaining,
     })
 }

@@ -37,6 +37,7 @@ returns-clause-begun c = (
     remaining_room = c.in_ok-lists.ensures.capacity;
     remaining = c.in_ok-lists.ensures.remaining;
     analyst = c.in_ok-lists.ensures.analyst;
+    failures = c.in_ok-lists.ensures.failures;
   }),
   refl,
 )

@@ -1,4 +1,4 @@
-use Rattle.std.proofs.Common.{◌∙◌, arith}
+use Rattle.std.proofs.Common.{◌∙◌}
 use Rattle.rail_ledger.proofs.Going.{end_next}
 use Rattle.rail_ledger.proofs.ledger.Ledger.is_end.Goals as goal
 
@@ -20,4 +20,5 @@ returns-clause-unchanged c = λ front at. record {
   list_room = c.clear.ensures.capacity ∙ c.list_remaining.ensures.room ∙ at.list_room;
   list_empty = λ still. c.clear.ensures.items;
   analyst = at.analyst;
+  failures = at.failures;
 }

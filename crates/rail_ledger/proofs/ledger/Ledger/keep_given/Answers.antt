@@ -1,6 +1,6 @@
-use Rattle.std.proofs.Common.{◌∙◌}
+use Rattle.std.proofs.Common.{refl, ◌∙◌}
 use Rattle.rail_ledger.proofs.Admissions.{given_exact, has_given, legal_admissible}
-use Rattle.rail_ledger.proofs.Finding.{analyst_for, kept_at, list_completes, made_for}
+use Rattle.rail_ledger.proofs.Finding.{analyst_for, failures_for, kept_at, list_completes, made_for}
 use Rattle.rail_ledger.proofs.ledger.Ledger.keep_given.Goals as goal
 
 pub admit_given-requires-clause-made : goal.admit_given-requires-clause-made
@@ -20,9 +20,9 @@ returns-clause-exact c = λ front at. c.admit_given.ensures.exact ∙ given_exac
 pub returns-clause-given : goal.returns-clause-given
 returns-clause-given c = λ yes front at.
     let given = c.admit_given.ensures.given yes in
-    has_given c.moves-moves.result.now front c.args.self.now (record c.args.self.now { places = c.admit_given.new.places; kept = c.admit_given.new.kept }) c.moves-moves.ensures.moves at c.args.train c.args.note c.args.list.now c.admit_given.ensures.made c.admit_given.ensures.room given.0 given.1
+    has_given c.moves-moves.result.now front c.args.self.now (record c.args.self.now { places = c.admit_given.new.places; kept = c.admit_given.new.kept; failures = c.admit_given.new.failures }) c.moves-moves.ensures.moves at c.args.train c.args.note c.args.list.now c.admit_given.ensures.made (c.admit_given.ensures.failures c.args.self.now.input.plant.tables.depth (failures_for c.moves-moves.result.now front c.args.self.now c.args.self.now.input.plant.tables.depth c.moves-moves.ensures.moves refl at)) c.admit_given.ensures.room given.0 given.1
 
 pub returns-clause-unchanged : goal.returns-clause-unchanged
 returns-clause-unchanged c = λ no front at.
     let none = c.admit_given.ensures.none no in
-    kept_at c.moves-moves.result.now front c.args.self.now c.admit_given.new.places c.admit_given.new.kept c.args.self.now.analyst c.moves-moves.ensures.moves at c.admit_given.ensures.made (analyst_for c.moves-moves.result.now front c.args.self.now c.moves-moves.ensures.moves at) none.0 none.1 c.admit_given.ensures.room
+    kept_at c.moves-moves.result.now front c.args.self.now c.admit_given.new.places c.admit_given.new.kept c.args.self.now.analyst c.admit_given.new.failures c.moves-moves.ensures.moves at c.admit_given.ensures.made (analyst_for c.moves-moves.result.now front c.args.self.now c.moves-moves.ensures.moves at) (c.admit_given.ensures.failures c.args.self.now.input.plant.tables.depth (failures_for c.moves-moves.result.now front c.args.self.now c.args.self.now.input.plant.tables.depth c.moves-moves.ensures.moves refl at)) none.0 none.1 c.admit_given.ensures.room

@@ -120,7 +120,7 @@ returns-clause-taken c = λ _ front with_after_hold.
     let old : Ledger = c.args.self.now in
     let mid : Ledger = c.keep_given.new.self in
     let t : ℕ = c.args.train in
-    let same : mid ≡ record old { places = mid.places; kept = mid.kept } = c.keep_given.ensures.lists in
+    let same : mid ≡ record old { places = mid.places; kept = mid.kept; failures = mid.failures } = c.keep_given.ensures.lists in
     let givable_now = can_give front old at c.requires.going c.is_in_place.ensures.sorted c.args.at c.args.train c.args.place c.args.note c.args.list.now c.args.after_hold
     after_hold (sym c.is_in_place.ensures.exact ∙ c.if-not-is_in_place.false) (sym c.is_forbidden.ensures ∙ c.if-is_forbidden.false) (sym c.is_occupied.ensures ∙ c.if-is_occupied.false)
     (sym (c.keep_given.ensures.exact front at) ∙ c.if-not-keep_given.false) in
@@ -131,7 +131,7 @@ returns-clause-taken c = λ _ front with_after_hold.
     let has = subst (λ (r : Ledger). HasGiven front old r t c.args.note c.args.list.now) same (c.keep_given.ensures.given (c.if-not-keep_given.false) front at) in
     let line : Line = admission c.args.at t c.args.place c.args.note c.args.list.now in
     subst (λ (r : Ledger). IsAt (line ∷ front) (record r { state = after; listed = c.list_with-self.result })) (sym same)
-    (subst (λ (l : Listed). IsAt (line ∷ front) (record old { places = mid.places; kept = mid.kept; state = after; listed = l })) (sym c.list_with-self.ensures)
+    (subst (λ (l : Listed). IsAt (line ∷ front) (record old { places = mid.places; kept = mid.kept; failures = mid.failures; state = after; listed = l })) (sym c.list_with-self.ensures)
     (given_at front old at c.requires.going c.is_in_place.ensures.sorted c.args.at c.args.train c.args.place c.args.note c.args.list.now c.args.after_hold after_hold
     (sym c.is_in_place.ensures.exact ∙ c.if-not-is_in_place.false) (sym c.is_forbidden.ensures ∙ c.if-is_forbidden.false) (sym c.is_occupied.ensures ∙ c.if-is_occupied.false)
-    (sym (c.keep_given.ensures.exact front at) ∙ c.if-not-keep_given.false) mid.places mid.kept after has room given.0 given.1 admits))
+    (sym (c.keep_given.ensures.exact front at) ∙ c.if-not-keep_given.false) mid.places mid.kept mid.failures after has room given.0 given.1 admits))
