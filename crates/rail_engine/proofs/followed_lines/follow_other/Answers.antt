@@ -15,6 +15,9 @@ tell_desk-requires g c = λ k told.
     let at = c.in-None.ensures.taken refl front c.requires.running.at in
     (told_tells (input_in c.take_other.new.self.input) (line_with c.args.entry c.args.list.now) front k at.rep.lawful told).counted k told
 
+pub returns-in-None-clause-line : goal.returns-in-None-clause-line
+returns-in-None-clause-line g c = λ _. c.in-None.ensures.taken refl
+
 pub returns-in-Some-clause-refused : goal.returns-in-Some-clause-refused
 returns-in-Some-clause-refused g c = λ _ seats front marks at run.
     refused_run (input_in c.args.ledger.now.input) seats front (line_with c.args.entry c.args.list.now) (c.in-Some.ensures.refused front at).0
