@@ -6,8 +6,8 @@ ghost use Rattle.rail_state.specs.declared.train.TrainState.{TrainState};
 ghost use Rattle.rail_state.specs.TrainSearches.{AreSetsOf, HaveNobody};
 
 use crate::train::TrainState;
-use rail_sets::TrainSet;
 use rail_base::TrainNo;
+use rail_sets::TrainSet;
 
 /// For some questions the trains of which the answer is yes.
 #[derive(Clone, Copy, Debug)]

@@ -9,14 +9,14 @@ ghost use Rattle.rail_base.specs.declared.limits.TheConstants.{SECTIONS, TRAINS}
 ghost use Rattle.rail_sets.specs.TrainSets.{has_train};
 ghost use Rattle.rail_state.specs.TrainSearches.{AreBlockedAt, AreSetsOf, earlier};
 
-use crate::train::TrainState;
 use crate::blocked_at::BlockedAt;
-use rail_sets::TrainSet;
+use crate::train::TrainState;
 use crate::train_sets::TrainSets;
 use rail_base::{Order, SectionNo, Time, TrainNo};
 use rail_orders::ToldOrders;
 use rail_plan::Plant;
 use rail_release::Holders;
+use rail_sets::TrainSet;
 
 /// Looks at each untried train. Of those that are untried then, the one that was ready first, and of several that
 /// the one with the least number.

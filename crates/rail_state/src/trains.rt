@@ -10,8 +10,8 @@ ghost use Rattle.rail_state.specs.TrainStates.{state_told};
 ghost use Rattle.rail_state.specs.TrainStates.{AreAtFirst, IsAnyWaiting, IsNextOf, IsReadyFirst, bar_by, is_blocked_at, lacks_hold_line, is_untried, looked_at, outside, state_admitted, state_after, state_of, after_hold_line};
 ghost use Rattle.rail_state.specs.TrainSearches.{is_waiting};
 
-use crate::train::{TrainState, head_behind, push_outside, section_at};
 use crate::blocked_at::BlockedAt;
+use crate::train::{TrainState, head_behind, push_outside, section_at};
 use crate::train_sets::TrainSets;
 use crate::train_walks::{look_again_at_each, look_at_each, note_taking_each, tell_each};
 use rail_base::{Cause, Order, OutOfMemory, SectionNo, Time, TrainNo};
