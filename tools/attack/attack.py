@@ -1,7 +1,7 @@
 #!/usr/bin/env python3
 """Hands the program files that are cut, changed, too large or pipes, and many of them at once.
 
-usage: attack.py PROGRAM cuts|mutations|sizes|pipes|crowd [COUNT] [SEED] [OTHER ..]
+usage: attack.py PROGRAM cuts|mutations|histories|sizes|pipes|crowd [COUNT] [SEED] [OTHER ..]
 
 The files are those of the commands in examples/README.md. Each answer must be one that docs/FORMATS.md allows: an exit status
 with its status text, nothing on standard output unless all is done, a history is judged or a write failed, no control
@@ -10,6 +10,9 @@ character on standard error, and an end within a minute. Beside that
   cuts       COUNT files are cut, each at another byte;
   mutations  COUNT files are changed at random, from SEED on; where OTHER is given, a command line of another program that
              takes the same words, both must end with one status text, unless the other one knows no such form;
+  histories  COUNT histories are changed at random, from SEED on, so that most are histories still: lines are lost, doubled
+             or moved, and times, numbers, names, causes and lists exchanged; beside OTHER as with mutations, so that both
+             must name one line and law;
   sizes      files at each limit and one past it: just those past it are refused, as too many;
   pipes      each file is a named pipe: what is answered is what the file itself gives;
   crowd      COUNT runs at once print what each prints alone.
@@ -145,6 +148,52 @@ def mutations(count, seed):
         yield f"{' '.join(words)}: file {place}, change {number} from {seed}", words, place, text
 
 
+def exchanged(line, lines, chance):
+    """The line with one of its words exchanged: its time or a number by another near it, else by a word of another line."""
+    words = line.split(b" ")
+    at = chance.randrange(len(words))
+    word = words[at]
+    if at == 0:
+        words[0] = chance.choice(lines).split(b" ")[0]
+    elif word.isdigit():
+        words[at] = b"%d" % max(0, int(word) + chance.choice([-1, 1, 2]))
+    elif word in (b"pulled", b"appended"):
+        words[at] = chance.choice([b"pulled", b"appended"])
+    else:
+        other = chance.choice(lines).split(b" ")
+        words[at] = other[at] if at < len(other) else chance.choice(other)
+    return b" ".join(words)
+
+
+def lawless(text, chance):
+    """A history with a line lost, doubled, moved to another place or put in order anew, or a word of it exchanged."""
+    lines = text.rstrip(b"\n").split(b"\n")
+    at = chance.randrange(len(lines))
+    kind = chance.randrange(8)
+    if kind == 0:
+        del lines[at]
+    elif kind == 1:
+        lines.insert(at, lines[at])
+    elif kind == 2:
+        lines.insert(max(0, at - chance.choice([1, 1, 2, 5])), lines.pop(at))
+    elif kind == 3:
+        lines = lines[:at]
+    else:
+        lines[at] = exchanged(lines[at], lines, chance)
+    return b"".join(line + b"\n" for line in lines)
+
+
+def histories(count, seed):
+    chance = random.Random(seed)
+    checks = [words for words in commands() if words[0] == "check" and (TOP / words[4]).stat().st_size]
+    for number in range(count):
+        words = chance.choice(checks)
+        text = (TOP / words[4]).read_bytes()
+        for _ in range(chance.choice([1, 1, 1, 2])):
+            text = lawless(text, chance)
+        yield f"{' '.join(words)}: change {number} from {seed}", words, 4, text
+
+
 def items(table, count, keys):
     """So many items of a table of a scene."""
     return "".join(f"[[{table}]]\nname = \"{table[0]}{number}\"\n{keys(number)}" for number in range(count))
@@ -253,6 +302,8 @@ def main():
         try_files(program, None, cuts(count), score)
     elif what == "mutations":
         try_files(program, rest[2:], mutations(count, int(rest[1]) if rest[1:] else 0), score)
+    elif what == "histories":
+        try_files(program, rest[2:], histories(count, int(rest[1]) if rest[1:] else 0), score)
     elif what == "sizes":
         try_sizes(program, score)
     elif what == "pipes":
