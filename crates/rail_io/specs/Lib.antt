@@ -7,6 +7,9 @@ pub mod KeptFiles
 pub mod Paper
 pub mod MemoryShelf
 pub mod MemorySink
+pub mod SureFiles
+pub mod DripFiles
+pub mod SystemFiles
 pub mod Room
 pub mod GatheredSink
 pub mod Whole

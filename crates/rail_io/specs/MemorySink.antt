@@ -1,7 +1,12 @@
 -- A sink in memory, on which planned calls fail.
 use Rattle.std.specs.Prelude.{ℕ, List, Contains}
 use Rattle.rail_io.specs.declared.memory.MemorySink.{MemorySink}
+use Rattle.rail_io.specs.declared.paper.Paper.{Paper}
 use Rattle.rail_io.specs.FaultCounts.{raised}
+
+-- the bytes that are written, and their room
+abbrev pub paper_of : MemorySink → Paper
+paper_of sink = sink.paper
 
 -- how many calls failed
 abbrev pub faults_of : MemorySink → ℕ

@@ -81,19 +81,21 @@ fn read_some<F: Read>(file: &mut F, into: &mut [u8]) -> Option<usize>
 }
 
 impl<R: Files + Drop> Shelf for FileShelf<R> {
+    ghost use Rattle.rail_io.specs.SystemFiles.{reading_of};
+
     ghost told = { λ _ _. None };
 
     ghost left = { λ _. None };
 
-    ghost begun = { λ shelf. begun_name shelf.reading };
+    ghost begun = { λ shelf. begun_name (reading_of shelf) };
 
-    ghost moved = { λ shelf. shelf.reading.moved };
+    ghost moved = { λ shelf. (reading_of shelf).moved };
 
-    ghost ended = { λ shelf. shelf.reading.has_ended };
+    ghost ended = { λ shelf. (reading_of shelf).has_ended };
 
-    ghost faults = { λ shelf. shelf.reading.faults };
+    ghost faults = { λ shelf. (reading_of shelf).faults };
 
-    ghost failed = { λ shelf. failed_name shelf.reading };
+    ghost failed = { λ shelf. failed_name (reading_of shelf) };
 
     fn start(&mut self, alloc: Global, name: &str) -> Result<(), StartFault> {
         let kept = Word::from_string(String::from_str(alloc, name)?);
@@ -149,9 +151,11 @@ impl<R: Print + Drop> OutSink<R> {
 }
 
 impl<R: Print + Drop> Sink for OutSink<R> {
+    ghost use Rattle.rail_io.specs.SystemFiles.{faults_of};
+
     ghost written = { λ _. None };
 
-    ghost faults = { λ sink. sink.faults };
+    ghost faults = { faults_of };
 
     /// `Failed` where the system fails, and where it takes no byte.
     fn write(&mut self, piece: &[u8]) -> Result<usize, Failed> {

@@ -25,14 +25,14 @@ pub struct MemoryShelf {
 
 impl MemoryShelf {
     ghost use Rattle.rail_io.specs.KeptFiles.{files_on};
-    ghost use Rattle.rail_io.specs.MemoryShelf.{failing_calls, calls_made};
+    ghost use Rattle.rail_io.specs.MemoryShelf.{calls_made, failing_calls, kept_of, reading_of};
 
     /// The shelf with these files. `fails` has the numbers of the calls that are to fail.
     pub fn new(files: Vec<File>, fails: Vec<u64>) -> MemoryShelf
-        ensures files { files_on result.kept ≡ files.items }
+        ensures files { files_on (kept_of result) ≡ files.items }
         ensures fails { failing_calls result ≡ fails.items }
         ensures no_call { calls_made result ≡ 0 }
-        ensures none_begun { result.kept.reading ≡ fresh }
+        ensures none_begun { reading_of result ≡ fresh }
     {
         MemoryShelf {
             kept: KeptFiles::new(files),
@@ -43,34 +43,34 @@ impl MemoryShelf {
 
 impl Shelf for MemoryShelf {
     ghost use Rattle.rail_io.specs.KeptFiles.{files_on};
-    ghost use Rattle.rail_io.specs.MemoryShelf.{left_on, with_reading, IsPlannedToFail};
+    ghost use Rattle.rail_io.specs.MemoryShelf.{kept_of, left_on, reading_of, with_reading, IsPlannedToFail};
     ghost use Rattle.rail_io.specs.declared.shelf.StartFault.TheVariants as start_fault;
 
-    ghost told = { λ shelf. bytes_named (files_on shelf.kept) };
+    ghost told = { λ shelf. bytes_named (files_on (kept_of shelf)) };
 
     ghost left = { left_on };
 
-    ghost begun = { λ shelf. begun_name shelf.kept.reading };
+    ghost begun = { λ shelf. begun_name (reading_of shelf) };
 
-    ghost moved = { λ shelf. shelf.kept.reading.moved };
+    ghost moved = { λ shelf. (reading_of shelf).moved };
 
-    ghost ended = { λ shelf. shelf.kept.reading.has_ended };
+    ghost ended = { λ shelf. (reading_of shelf).has_ended };
 
-    ghost faults = { λ shelf. shelf.kept.reading.faults };
+    ghost faults = { λ shelf. (reading_of shelf).faults };
 
-    ghost failed = { λ shelf. failed_name shelf.kept.reading };
+    ghost failed = { λ shelf. failed_name (reading_of shelf) };
 
     fn start(&mut self, alloc: Global, name: &str) -> Result<(), StartFault>
         ensures begins { OnOk result
-            (self.new ≡ with_reading self.old (after_begin self.old.kept.reading name.now)) }
-        ensures begins_held { OnOk result (IsSome (bytes_named (files_on self.old.kept) name.now)) }
+            (self.new ≡ with_reading self.old (after_begin (reading_of self.old) name.now)) }
+        ensures begins_held { OnOk result (IsSome (bytes_named (files_on (kept_of self.old)) name.now)) }
         ensures begins_unplanned { OnOk result (¬ IsPlannedToFail self.old) }
         ensures refuses { result ≡ Err start_fault.Failed →
-            self.new ≡ with_reading self.old (after_refusal self.old.kept.reading name.now) }
+            self.new ≡ with_reading self.old (after_refusal (reading_of self.old) name.now) }
         ensures refused_by { result ≡ Err start_fault.Failed →
-            IsPlannedToFail self.old ⊎ IsNone (bytes_named (files_on self.old.kept) name.now) }
+            IsPlannedToFail self.old ⊎ IsNone (bytes_named (files_on (kept_of self.old)) name.now) }
         ensures out_of_memory { result ≡ Err start_fault.OutOfMemory → self.new ≡ self.old }
-        ensures faults_never_fall { self.old.kept.reading.faults ≤ self.new.kept.reading.faults }
+        ensures faults_never_fall { (reading_of self.old).faults ≤ (reading_of self.new).faults }
     {
         let kept = Word::from_string(String::from_str(alloc, name)?);
         if self.plan.is_next_to_fail() || !self.kept.has(name) {
@@ -82,7 +82,7 @@ impl Shelf for MemoryShelf {
     }
 
     fn read(&mut self, into: &mut [u8]) -> Result<usize, Failed>
-        requires begun { IsSome (begun_name self.old.kept.reading) }
+        requires begun { IsSome (begun_name (reading_of self.old)) }
         requires room { 0 < length into.old }
 
         ensures planned { IsErr result ↔ IsPlannedToFail self.old }
@@ -91,12 +91,12 @@ impl Shelf for MemoryShelf {
             (λ n. left_on self.old ≡ prepend_known (take n into.new) (left_on self.new)) }
         ensures none_at_end { IfOk result (λ n. n ≡ 0 → IsAtEnd (left_on self.old)) }
         ensures some_before_end { IfOk result (λ n. 0 < n → left_on self.old ≢ Some []) }
-        ensures count_fits { IfOk result (λ n. self.old.kept.reading.moved + n < 2 ^ 64) }
+        ensures count_fits { IfOk result (λ n. (reading_of self.old).moved + n < 2 ^ 64) }
         ensures reads { IfOk result
-            (λ n. self.new ≡ with_reading self.old (after_move self.old.kept.reading n)) }
+            (λ n. self.new ≡ with_reading self.old (after_move (reading_of self.old) n)) }
         ensures fails { OnErr result
-            (self.new ≡ with_reading self.old (after_failure self.old.kept.reading)) }
-        ensures faults_never_fall { self.old.kept.reading.faults ≤ self.new.kept.reading.faults }
+            (self.new ≡ with_reading self.old (after_failure (reading_of self.old))) }
+        ensures faults_never_fall { (reading_of self.old).faults ≤ (reading_of self.new).faults }
     {
         if self.plan.is_next_to_fail() {
             self.kept.reading.fail();
@@ -116,14 +116,14 @@ pub struct MemorySink {
 }
 
 impl MemorySink {
-    ghost use Rattle.rail_io.specs.MemorySink.{faults_of, failing_writes, writes_made};
+    ghost use Rattle.rail_io.specs.MemorySink.{failing_writes, faults_of, paper_of, writes_made};
     ghost use Rattle.rail_io.specs.Paper.{room_of, told};
 
     /// A sink with room for so many bytes in all, which it takes here. `fails` has the numbers of
     /// the calls that are to fail.
     pub fn with_room(alloc: Global, room: usize, fails: Vec<u64>) -> Result<MemorySink, OutOfMemory>
-        ensures none_written { IfOk result (λ sink. told sink.paper ≡ Some []) }
-        ensures room { IfOk result (λ sink. room_of sink.paper ≡ room) }
+        ensures none_written { IfOk result (λ sink. told (paper_of sink) ≡ Some []) }
+        ensures room { IfOk result (λ sink. room_of (paper_of sink) ≡ room) }
         ensures fails { IfOk result (λ sink. failing_writes sink ≡ fails.items) }
         ensures no_call { IfOk result (λ sink. writes_made sink ≡ 0) }
         ensures no_fault { IfOk result (λ sink. faults_of sink ≡ 0) }
@@ -138,17 +138,17 @@ impl MemorySink {
 
     /// The bytes written: `None` from the first piece on that did not fit the room.
     pub fn bytes(&self) -> Option<&[u8]>
-        ensures { option_copied result ≡ told self.now.paper }
+        ensures { option_copied result ≡ told (paper_of self.now) }
     {
         self.paper.bytes()
     }
 }
 
 impl Sink for MemorySink {
-    ghost use Rattle.rail_io.specs.MemorySink.{faults_of, failing_writes, writes_made, IsPlannedToFail};
+    ghost use Rattle.rail_io.specs.MemorySink.{failing_writes, faults_of, paper_of, writes_made, IsPlannedToFail};
     ghost use Rattle.rail_io.specs.Paper.{room_of, told, told_after};
 
-    ghost written = { λ sink. told sink.paper };
+    ghost written = { λ sink. told (paper_of sink) };
 
     ghost faults = { faults_of };
 
@@ -160,8 +160,8 @@ impl Sink for MemorySink {
         ensures planned { IsErr result ↔ IsPlannedToFail self.old }
         ensures whole { IfOk result (λ n. n ≡ length piece.now) }
         ensures told { OnOk result
-            (told self.new.paper ≡ told_after (room_of self.old.paper) (told self.old.paper) piece.now) }
-        ensures failed_adds_none { OnErr result (told self.new.paper ≡ told self.old.paper) }
+            (told (paper_of self.new) ≡ told_after (room_of (paper_of self.old)) (told (paper_of self.old)) piece.now) }
+        ensures failed_adds_none { OnErr result (told (paper_of self.new) ≡ told (paper_of self.old)) }
 
         ensures ok_counts_no_fault { OnOk result (faults_of self.new ≡ faults_of self.old) }
         ensures failed_counted { OnErr result (faults_of self.new ≡ raised (faults_of self.old)) }
@@ -169,7 +169,7 @@ impl Sink for MemorySink {
 
         ensures call_counted { writes_made self.new ≡ raised (writes_made self.old) }
         ensures plan_stays { failing_writes self.new ≡ failing_writes self.old }
-        ensures room_stays { room_of self.new.paper ≡ room_of self.old.paper }
+        ensures room_stays { room_of (paper_of self.new) ≡ room_of (paper_of self.old) }
     {
         if self.plan.is_next_to_fail() {
             self.faults = self.faults.saturating_add(1);

@@ -18,11 +18,12 @@ pub struct SureShelf {
 
 impl SureShelf {
     ghost use Rattle.rail_io.specs.KeptFiles.{files_on};
+    ghost use Rattle.rail_io.specs.SureFiles.{kept_of, reading_of};
 
     /// The shelf with these files.
     pub fn new(files: Vec<File>) -> SureShelf
-        ensures files { files_on result.kept ≡ files.items }
-        ensures none_begun { result.kept.reading ≡ fresh }
+        ensures files { files_on (kept_of result) ≡ files.items }
+        ensures none_begun { reading_of result ≡ fresh }
     {
         SureShelf {
             kept: KeptFiles::new(files),
@@ -32,16 +33,17 @@ impl SureShelf {
 
 impl Shelf for SureShelf {
     ghost use Rattle.rail_io.specs.KeptFiles.{left_on, told_on};
+    ghost use Rattle.rail_io.specs.SureFiles.{kept_of, reading_of};
 
-    ghost told = { λ shelf. told_on shelf.kept };
+    ghost told = { λ shelf. told_on (kept_of shelf) };
 
-    ghost left = { λ shelf. left_on shelf.kept };
+    ghost left = { λ shelf. left_on (kept_of shelf) };
 
-    ghost begun = { λ shelf. begun_name shelf.kept.reading };
+    ghost begun = { λ shelf. begun_name (reading_of shelf) };
 
-    ghost moved = { λ shelf. shelf.kept.reading.moved };
+    ghost moved = { λ shelf. (reading_of shelf).moved };
 
-    ghost ended = { λ shelf. shelf.kept.reading.has_ended };
+    ghost ended = { λ shelf. (reading_of shelf).has_ended };
 
     ghost faults = { λ _. 0 };
 
@@ -65,11 +67,12 @@ pub struct SureSink {
 
 impl SureSink {
     ghost use Rattle.rail_io.specs.Paper.{room_of, told};
+    ghost use Rattle.rail_io.specs.SureFiles.{paper_of};
 
     /// A sink with room for so many bytes in all. It takes the room here.
     pub fn with_room(alloc: Global, room: usize) -> Result<SureSink, OutOfMemory>
-        ensures none_written { IfOk result (λ sink. told sink.paper ≡ Some []) }
-        ensures room { IfOk result (λ sink. room_of sink.paper ≡ room) }
+        ensures none_written { IfOk result (λ sink. told (paper_of sink) ≡ Some []) }
+        ensures room { IfOk result (λ sink. room_of (paper_of sink) ≡ room) }
     {
         let paper = Paper::with_room(alloc, room)?;
         Ok(SureSink { paper })
@@ -77,7 +80,7 @@ impl SureSink {
 
     /// The bytes written: `None` from the first piece on that did not fit the room.
     pub fn bytes(&self) -> Option<&[u8]>
-        ensures { option_copied result ≡ told self.now.paper }
+        ensures { option_copied result ≡ told (paper_of self.now) }
     {
         self.paper.bytes()
     }
@@ -85,8 +88,9 @@ impl SureSink {
 
 impl Sink for SureSink {
     ghost use Rattle.rail_io.specs.Paper.{room_of, told, told_after};
+    ghost use Rattle.rail_io.specs.SureFiles.{paper_of};
 
-    ghost written = { λ sink. told sink.paper };
+    ghost written = { λ sink. told (paper_of sink) };
 
     ghost faults = { λ _. 0 };
 
@@ -95,9 +99,9 @@ impl Sink for SureSink {
     fn write(&mut self, piece: &[u8]) -> Result<usize, Failed>
         requires { 0 < length piece.now }
         ensures whole { result ≡ Ok (length piece.now) }
-        ensures told { told self.new.paper ≡
-            told_after (room_of self.old.paper) (told self.old.paper) piece.now }
-        ensures room { room_of self.new.paper ≡ room_of self.old.paper }
+        ensures told { told (paper_of self.new) ≡
+            told_after (room_of (paper_of self.old)) (told (paper_of self.old)) piece.now }
+        ensures room { room_of (paper_of self.new) ≡ room_of (paper_of self.old) }
     {
         self.paper.put(piece);
         Ok(piece.len())
