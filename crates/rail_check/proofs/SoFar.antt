@@ -1,5 +1,5 @@
 -- How far a history was checked.
-use Rattle.std.proofs.Common.{◌≡◌, ℕ, suc, ◌+◌, Bool, true, false, cond, List, [], ◌∷◌, length, refl, sym, ap, ◌∙◌, subst}
+use Rattle.std.proofs.Common.{◌≡◌, ℕ, suc, Bool, true, false, List, [], ◌∷◌, sym, ap, ◌∙◌, subst}
 use Rattle.std.proofs.lemmas.Bool.{and_parts, cond-false, cond-true}
 use Rattle.rail_rules.specs.Fronts.{Front, Line, has_ended, has_held, is_hold}
 use Rattle.rail_rules.specs.Lawful.{is_lawful, may_follow}

@@ -48,11 +48,12 @@ pub fn check(alloc: Global, input: RunInput, history: &History) -> Result<Verdic
     ensures verdict { IfOk result (λ answer. judged_in answer ≡ verdict (input_in input) (lines_of history.now)) }
 {
     let mut ledger = Ledger::begin(alloc, input)?;
+    let mut lines = history.lines(alloc)?;
     let mut after_hold = false;
     let mut line = 0;
-    for (entry, trains) in history.lines() {
+    while let Some(entry) = lines.next_entry() {
         line += 1;
-        if let Some(law) = ledger.take(entry, trains, after_hold) {
+        if let Some(law) = ledger.take(entry, lines.trains(), after_hold) {
             return Ok(Verdict::No { line, law });
         }
         after_hold = is_hold(&entry.what);

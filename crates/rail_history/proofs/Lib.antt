@@ -1,5 +1,7 @@
 mod Brought
-mod Items
+mod ItemTexts
+-- Lists as items.
+mod ItemRuns
 mod Pieces
 -- Lemmas on words.
 mod Cut

@@ -4,5 +4,6 @@ pub mod Pieces
 -- Lines of a history that are read.
 pub mod HistoryLines
 pub mod LineReads
+pub mod ListItems
 pub mod LinesLeft
 pub mod ReadWords

@@ -1,5 +1,5 @@
 -- What the reading of a line answers.
-use Rattle.std.specs.Prelude.{◌≡◌, ℕ, ◌+◌, ◌<◌, ◌≤◌, true, cond, List, [], ◌∷◌, ◌++◌, count_by, drop, length, Option, IsSomeAnd}
+use Rattle.std.specs.Prelude.{◌≡◌, ℕ, ◌+◌, ◌<◌, ◌≤◌, true, cond, List, [], ◌∷◌, ◌++◌, count_by, drop, length, map, Option, IsSomeAnd}
 use Rattle.rail_base.specs.declared.history.Entry.{Entry}
 use Rattle.rail_base.specs.declared.history.Note.{Note}
 use Rattle.rail_base.specs.declared.history.What.{What}
@@ -16,6 +16,7 @@ use Rattle.rail_history.specs.declared.read_line.ReadLine.{ReadLine}
 use Rattle.rail_history.specs.declared.files.History.{History}
 use Rattle.rail_history.specs.HistoryLines.{IsLine, IsSpelled, does_list, is_fresh, is_fresh_list, is_fresh_note, is_history_line, is_list_within, lines_in, refusal_at}
 use Rattle.rail_history.specs.Lines.{brought, brought_by_note, line_of}
+use Rattle.rail_history.specs.ListItems.{spelled_by}
 use Rattle.rail_history.specs.ReadWords.{joined}
 
 -- the line that was read
@@ -39,13 +40,17 @@ AreNotedTrains names note text list = (plant : Plant) → HasNames plant names �
     → is_writable_note plant line note ≡ true → cond (is_fresh_note note) (is_fresh_list line.trains) true ≡ true
     → text ≡ joined (drop 1 (note_words plant line note)) → brought_by_note note list ≡ line.trains
 
+-- the trains that the lines of a history have beside their entries, for those lines that have some
+abbrev pub lists_of : History → List (List ℕ)
+lists_of history = map spelled_by history.lists.items
+
 -- the lines of a history
 abbrev pub lines_of : History → List Line
-lines_of history = lines_in history.entries.items history.lists.items
+lines_of history = lines_in history.entries.items (lists_of history)
 
 -- there are as many lists as lines that have one
 abbrev pub IsPaired : History → Type 0
-IsPaired history = count_by (λ (entry : Entry). does_list entry.what) history.entries.items ≡ length history.lists.items
+IsPaired history = count_by (λ (entry : Entry). does_list entry.what) history.entries.items ≡ length (lists_of history)
 
 -- the bytes are a line, which was added to the history, and is counted where its list is fresh
 pub record TakesLine (names : Names) (old new : History) (bytes : List ℕ) (fresh more : ℕ) : Type 0 where

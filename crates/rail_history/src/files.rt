@@ -6,22 +6,23 @@ ghost use Rattle.rail_base.specs.declared.limits.TheConstants.{FRESH_LINES};
 ghost use Rattle.rail_base.specs.declared.refusals.Fault.TheVariants.{Refused};
 ghost use Rattle.rail_text.specs.Names.{HasNames};
 ghost use Rattle.rail_history.specs.HistoryLines.{IsHistory, IsRefusedFor, does_list, is_fresh, refusal_at};
-ghost use Rattle.rail_history.specs.LineReads.{IsPaired, IsWrongLine, TakesLine, lines_of};
+ghost use Rattle.rail_history.specs.LineReads.{IsPaired, IsWrongLine, TakesLine, lines_of, lists_of};
 ghost use Rattle.rail_rules.specs.Plant.{Plant};
 
+use crate::items::{ListItem, items_of};
 use crate::lists::{does_list, is_fresh};
 use crate::read_line::{ReadLine, read_line};
 use rail_base::limits::FRESH_LINES;
-use rail_base::{Entry, Fault, Names, Part, Reason, Refusal, Seq, TrainNo};
+use rail_base::{Entry, Fault, Names, Part, Reason, Refusal, Seq};
 use std::alloc::{AllocError, Global};
 
 /// A history that was read.
 #[derive(Debug, Drop)]
 pub struct History {
     pub entries: Vec<Entry>,
-    /// For each admission with a fresh list, and for each end line, the trains that it names, in the order of
+    /// For each admission with a fresh list, and for each end line, the trains that it names, as items, in the order of
     /// the entries.
-    pub lists: Vec<Seq<TrainNo>>,
+    pub lists: Vec<Seq<ListItem>>,
 }
 
 /// Reads a history file, for the sections and trains of these names.
@@ -78,19 +79,20 @@ fn take_line(
     if fresh + more > FRESH_LINES {
         return Err(refused_at(number));
     }
-    add(history, line)?;
+    add(alloc, history, line)?;
     Ok(more)
 }
 
 /// Adds the line behind the others.
-fn add(history: &mut History, line: ReadLine) -> Result<(), AllocError>
+fn add(alloc: Global, history: &mut History, line: ReadLine) -> Result<(), AllocError>
     ensures entries { OnOk result (history.new.entries.items ≡ history.old.entries.items ++ line.entry ∷ []) }
-    ensures lists { OnOk result (history.new.lists.items
-        ≡ history.old.lists.items ++ cond (does_list line.entry.what) (line.trains.items ∷ []) []) }
+    ensures lists { OnOk result (lists_of history.new
+        ≡ lists_of history.old ++ cond (does_list line.entry.what) (line.trains.items ∷ []) []) }
 {
     let ReadLine { entry, trains } = line;
     if does_list(&entry.what) {
-        history.lists.push(Seq::from_vec(trains))?;
+        let items = items_of(alloc, trains.as_slice())?;
+        history.lists.push(Seq::from_vec(items))?;
     }
     history.entries.push(entry)?;
     Ok(())

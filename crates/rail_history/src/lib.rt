@@ -12,6 +12,7 @@
 mod cutting;
 mod files;
 mod history_lines;
+mod items;
 mod laws;
 mod lines;
 mod lists;
@@ -26,6 +27,7 @@ mod writing;
 mod written_text;
 
 pub use files::{History, read_history};
+pub use items::ListItem;
 pub use laws::{
     a_file_has_one_first_wrong_line, a_file_is_a_history_or_has_a_first_wrong_line,
     a_file_with_a_wrong_line_is_no_history, a_history_file_has_one_history,

@@ -3,14 +3,15 @@
 ghost use Rattle.std.specs.Prelude.{◌≡◌, [], cond, drop, get_or};
 ghost use Rattle.rail_history.specs.HistoryLines.{does_list, is_fresh};
 
-use rail_base::{Note, Seq, TrainNo, What};
+use crate::items::ListItem;
+use rail_base::{Note, Seq, What};
 
-/// The trains beside the next line, of which the entry says this, and the lists of the lines behind it. `lists` has those of
+/// The items beside the next line, of which the entry says this, and the lists of the lines behind it. `lists` has those of
 /// the lines from this one on that have some.
 pub(crate) fn cut_list<'a>(
     what: &What,
-    lists: &'a [Seq<TrainNo>],
-) -> (&'a [TrainNo], &'a [Seq<TrainNo>])
+    lists: &'a [Seq<ListItem>],
+) -> (&'a [ListItem], &'a [Seq<ListItem>])
     ensures list { result.0.now ≡ cond (does_list what.now) (get_or lists.now 0 []) [] }
     ensures others { result.1.now ≡ cond (does_list what.now) (drop 1 lists.now) lists.now }
 {

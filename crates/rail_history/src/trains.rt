@@ -1,7 +1,6 @@
 //! The trains that a line brings, put behind its words. Where the line is full, it is handed on so far.
 
-ghost use Rattle.std.specs.Prelude.{◌≡◌, ◌+◌, ◌≤◌, ◌<◌, ◌∷◌, ◌++◌, length, map, nat_eq, OnOk, OnErr};
-ghost use Rattle.std.specs.List.{prefix_len};
+ghost use Rattle.std.specs.Prelude.{◌≡◌, ◌+◌, ◌≤◌, ◌<◌, ◌∷◌, ◌++◌, length, map, OnOk, OnErr};
 ghost use Rattle.rail_io.specs.FaultCounts.{Rose};
 ghost use Rattle.rail_io.specs.Writes.{Adds, AddsPrefix};
 ghost use Rattle.rail_rules.specs.Texts.{items_of};
@@ -12,6 +11,7 @@ ghost use Rattle.rail_history.specs.Pieces.{IsHandedOn};
 ghost use Rattle.rail_text.specs.declared.line_buffer.TheConstants.{ROOM};
 ghost use Rattle.rail_history.specs.declared.trains.TheConstants.{FULL};
 
+use crate::items::repeats;
 use rail_base::{Entry, Names, Note, TrainNo, What};
 use rail_io::{Failed, Sink, write_whole};
 use rail_text::LineBuffer;
@@ -93,14 +93,6 @@ fn put_trains<O: Sink>(
         left = others;
     }
     Ok(())
-}
-
-/// How often the train stands at the front of the list without another between.
-fn repeats(train: TrainNo, list: &[TrainNo]) -> usize
-    ensures count { result ≡ prefix_len (nat_eq train) list.now }
-    ensures few { result ≤ length list.now }
-{
-    list.iter().take_while(|other| **other == train).count()
 }
 
 /// Puts the name of the train, and how often it is taken in a row from two times on.

@@ -126,7 +126,9 @@ fn told_of(
             let lists = history.lists.len();
             let mut trains = 0usize;
             for list in &history.lists {
-                trains = trains.saturating_add(list.as_slice().len());
+                for item in list.as_slice() {
+                    trains = trains.saturating_add(item.count);
+                }
             }
             format!(in alloc; "{entries} {lists} {trains}")
         }

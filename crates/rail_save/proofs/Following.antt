@@ -8,7 +8,7 @@ use Rattle.rail_check.proofs.CallerLemmas.{behind_is, taken_line}
 use Rattle.rail_engine.specs.Engines.{StandsFor}
 use Rattle.rail_history.specs.declared.lines.Lines.{Lines}
 use Rattle.rail_history.specs.Lines.{line_of}
-use Rattle.rail_history.specs.LinesLeft.{IsNextLine, lines_left}
+use Rattle.rail_history.specs.LinesLeft.{IsNextLine, beside, lines_left}
 use Rattle.rail_judging.specs.Verdicts.{behind}
 use Rattle.rail_ledger.specs.declared.input.RunInput.{RunInput}
 use Rattle.rail_ledger.specs.declared.ledger.Ledger.{Ledger}
@@ -40,12 +40,12 @@ none_followed seats all left ledger table stands is = subst (λ (left : List Lin
 })
 
 module _ (input : RunInput) (seats : List Seat) (all : List Line) (number : ℕ) (old : Lines) (ledger : Ledger) (table : Table)
-    (so_far : IsFollowed input seats all number (lines_left old) ledger table) (entry : Entry) (trains : List ℕ) (new : Lines) (next : IsNextLine old entry trains new) where
+    (so_far : IsFollowed input seats all number (lines_left old) ledger table) (entry : Entry) (trains : List ℕ) (new : Lines) (beside_is : trains ≡ beside new) (next : IsNextLine old entry new) where
   abbrev line : Line
-  line = line_of entry trains
+  line = line_of entry (beside new)
 
   taken_is : line_taken entry trains ≡ line
-  taken_is = taken_line entry trains next.brings
+  taken_is = ap (line_taken entry) beside_is ∙ taken_line entry (beside new) next.brings
 
   -- with the next line the front is none of a run
   pub next_other : is_run (input_in ledger.input) seats (line_taken entry trains ∷ so_far.front) ≡ false → other_behind (input_in input) seats [] 2 all ≡ Some (number + 1)

@@ -4,6 +4,7 @@ ghost use Rattle.std.specs.Prelude.{◌≡◌, ◌-◌, ◌<◌, ◌^◌, [], If
 ghost use Rattle.rail_base.specs.declared.refusals.Fault.TheVariants.{Refused};
 ghost use Rattle.rail_engine.specs.Engines.{StandsFor};
 ghost use Rattle.rail_history.specs.LineReads.{lines_of};
+ghost use Rattle.rail_history.specs.LinesLeft.{lines_left};
 ghost use Rattle.rail_laws_end.specs.Forks.{are_marks};
 ghost use Rattle.rail_ledger.specs.Inputs.{input_in};
 ghost use Rattle.rail_policy.specs.Desks.{run_seats};
@@ -13,7 +14,7 @@ ghost use Rattle.rail_save.specs.Snapshots.{IsOtherFault, IsRefusedSnapshot, IsR
 use crate::saving::HEADER;
 use rail_base::{Fault, Part, Reason, Refusal};
 use rail_engine::Engine;
-use rail_history::{History, read_history};
+use rail_history::{History, Lines, read_history};
 use rail_plan::Plant;
 use rail_policy::{Desk, Seen};
 use std::alloc::Global;
@@ -38,7 +39,8 @@ pub fn resume(alloc: Global, engine: Engine, bytes: &[u8]) -> Result<Engine, Fau
 {
     let mut engine = engine;
     let history = read_snapshot(alloc, engine.plant(), bytes)?;
-    follow_lines(&mut engine, &history)?;
+    let mut lines = history.lines(alloc)?;
+    follow_lines(&mut engine, &mut lines)?;
     Ok(engine)
 }
 
@@ -61,20 +63,20 @@ fn read_snapshot(alloc: Global, plant: &Plant, bytes: &[u8]) -> Result<History, 
 }
 
 /// Follows the lines of a snapshot up to the first with which the lines so far are not those of a run.
-fn follow_lines(engine: &mut Engine, history: &History) -> Result<(), Fault>
+fn follow_lines(engine: &mut Engine, lines: &mut Lines<'_>) -> Result<(), Fault>
     requires begun { let desk = ⟦<Desk as Seen>⟧.table engine.old.desk in StandsFor (run_seats desk) [] engine.old.core desk }
     requires marks { IsTrue (are_marks (run_seats (⟦<Desk as Seen>⟧.table engine.old.desk))) }
-    requires short { length (lines_of history.now) < 2 ^ 32 - 1 }
+    requires short { length (lines_left lines.old) < 2 ^ 32 - 1 }
     ensures input { engine.new.core.input ≡ engine.old.core.input }
     ensures followed { let table = ⟦<Desk as Seen>⟧.table in
-        OnOk result (StandsFor (run_seats (table engine.old.desk)) (reverse (lines_of history.now)) engine.new.core (table engine.new.desk)) }
+        OnOk result (StandsFor (run_seats (table engine.old.desk)) (reverse (lines_left lines.old)) engine.new.core (table engine.new.desk)) }
     ensures other { let seats = run_seats (⟦<Desk as Seen>⟧.table engine.old.desk) in
-        IfErr result (IsOtherFault (input_in engine.old.core.input) seats (lines_of history.now)) }
+        IfErr result (IsOtherFault (input_in engine.old.core.input) seats (lines_left lines.old)) }
 {
     let mut number = 1;
-    for (entry, trains) in history.lines() {
+    while let Some(entry) = lines.next_entry() {
         number += 1;
-        if !engine.follow(entry, trains) {
+        if !engine.follow(entry, lines.trains()) {
             return Err(refused_at(Reason::SnapshotOther, number));
         }
     }

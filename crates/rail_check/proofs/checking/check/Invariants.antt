@@ -8,6 +8,9 @@ use Rattle.rail_check.proofs.checking.check.Given as goal
 
 abbrev pub invariant-loop-entry : goal.invariant-loop-entry
 invariant-loop-entry l = record {
-  checked : IsChecked l.fn.input (verdict (input_in l.fn.input) (lines_of l.fn.history)) l.line (lines_left l.entry-iterator) l.after_hold l.ledger;
-  counted : l.line + length (lines_left l.entry-iterator) ≡ length (lines_of l.fn.history);
+  checked : IsChecked l.fn.input (verdict (input_in l.fn.input) (lines_of l.fn.history)) l.line (lines_left l.lines) l.after_hold l.ledger;
+  counted : l.line + length (lines_left l.lines) ≡ length (lines_of l.fn.history);
 }
+
+abbrev pub decreases-loop-entry : goal.decreases-loop-entry
+decreases-loop-entry l = length (lines_left l.lines)

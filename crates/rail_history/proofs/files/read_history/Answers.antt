@@ -1,7 +1,7 @@
 use Rattle.std.proofs.Common.{◌+◌, length, ap, sym, ◌∙◌, arith}
 use Rattle.std.proofs.lemmas.Bool.{eqb-false}
 use Rattle.std.proofs.lemmas.Result.{err_from_is_err_and}
-use Rattle.rail_history.specs.LineReads.{lines_of}
+use Rattle.rail_history.specs.LineReads.{lines_of, lists_of}
 use Rattle.rail_history.proofs.Histories.{first_wrong, length-lines_in, refused_for}
 use Rattle.rail_history.proofs.files.read_history.Goals as goal
 
@@ -22,4 +22,4 @@ returns-in_err-fresh-clause-refused c =
 pub returns-clause-short : goal.returns-clause-short
 returns-clause-short c =
     let at = c.loop-text.invariant in
-    omega (arith, at.numbered, at.short, length-lines_in c.loop-text.history.entries.items c.loop-text.history.lists.items)
+    omega (arith, at.numbered, at.short, length-lines_in c.loop-text.history.entries.items (lists_of c.loop-text.history))

@@ -6,7 +6,7 @@ use Rattle.rail_base.specs.declared.refusals.Fault.{Fault}
 use Rattle.rail_rules.specs.Fronts.{Line}
 use Rattle.rail_history.specs.declared.read_line.ReadLine.{ReadLine}
 use Rattle.rail_history.specs.HistoryLines.{IsLine, does_list, is_fresh, lines_in}
-use Rattle.rail_history.specs.LineReads.{IsWrongLine, line_read}
+use Rattle.rail_history.specs.LineReads.{IsWrongLine, line_read, lists_of}
 use Rattle.rail_history.proofs.Histories.{lines_push, one_line, paired_push}
 use Rattle.rail_history.proofs.files.take_line.Goals as goal
 
@@ -37,8 +37,8 @@ returns-clause-taken c =
     record {
       line = line_read c.in-Some.line;
       is_line = mine;
-      added = λ paired. (λ i. lines_in (entries i) (lists i)) ∙ lines_push old.entries.items old.lists.items c.in-Some.line.entry c.in-Some.line.trains.items paired;
-      paired = λ paired. ap (count_by (λ (e : Entry). does_list e.what)) entries ∙ paired_push old.entries.items old.lists.items c.in-Some.line.entry c.in-Some.line.trains.items paired ∙ sym (ap (length {A = List ℕ}) lists);
+      added = λ paired. (λ i. lines_in (entries i) (lists i)) ∙ lines_push old.entries.items (lists_of old) c.in-Some.line.entry c.in-Some.line.trains.items paired;
+      paired = λ paired. ap (count_by (λ (e : Entry). does_list e.what)) entries ∙ paired_push old.entries.items (lists_of old) c.in-Some.line.entry c.in-Some.line.trains.items paired ∙ sym (ap (length {A = List ℕ}) lists);
       counted = c.from-more.ensures ∙ ap bool_byte c.is_fresh.ensures ∙ one_of (is_fresh c.in-Some.line.entry.what);
       within = omega (arith, c.if-fresh-more-gt-FRESH_LINES.false);
     }

@@ -4,7 +4,7 @@ use Rattle.rail_rules.specs.Texts.{behind}
 use Rattle.rail_text.specs.Names.{names_in, train_name}
 use Rattle.rail_history.specs.Lines.{item_text}
 use Rattle.rail_history.proofs.Pieces.{none_handed_on, handed_on_then, one_more_said, failed_before}
-use Rattle.rail_history.proofs.Items.{first_name}
+use Rattle.rail_history.proofs.ItemTexts.{first_name}
 use Rattle.rail_history.proofs.trains.put_trains.Goals as goal
 
 pub loop-train-init : goal.loop-train-init

@@ -1,5 +1,4 @@
-use Rattle.std.proofs.Common.{map}
-use Rattle.rail_history.specs.LineReads.{lines_of}
+use Rattle.std.proofs.Common.{length, map}
 use Rattle.rail_history.specs.LinesLeft.{lines_left}
 use Rattle.rail_policy.specs.Desks.{Table, run_seats}
 use Rattle.rail_save.proofs.Following.{IsFollowed}
@@ -18,5 +17,8 @@ invariant-loop-entry g l =
       last = l.engine.desk.last;
     } in
     record {
-      followed : IsFollowed l.fn.engine.core.input (run_seats first) (lines_of l.fn.history) l.number (lines_left l.entry-iterator) l.engine.core now;
+      followed : IsFollowed l.fn.engine.core.input (run_seats first) (lines_left l.fn.lines) l.number (lines_left l.lines) l.engine.core now;
     }
+
+abbrev pub decreases-loop-entry : goal.decreases-loop-entry
+decreases-loop-entry g l = length (lines_left l.lines)

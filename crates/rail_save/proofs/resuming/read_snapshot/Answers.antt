@@ -2,6 +2,7 @@ use Rattle.std.proofs.Common.{arith, subst}
 use Rattle.rail_history.specs.HistoryLines.{IsRefusedFor}
 use Rattle.rail_history.proofs.CallerLemmas.{length-lines_in, wrong_within}
 use Rattle.rail_text.specs.Names.{HasNames}
+use Rattle.rail_history.specs.LineReads.{lists_of}
 use Rattle.rail_save.proofs.resuming.read_snapshot.Goals as goal
 
 pub overflow_add-refusal : goal.overflow_add-refusal
@@ -13,4 +14,4 @@ overflow_add-refusal c =
 
 pub returns-in-Ok-clause-short : goal.returns-in-Ok-clause-short
 returns-in-Ok-clause-short c =
-    omega (arith, length-lines_in c.in-Ok.history.entries.items c.in-Ok.history.lists.items, c.in-Ok.ensures.short, c.in-Some.ensures.cases.2, c.requires.short)
+    omega (arith, length-lines_in c.in-Ok.history.entries.items (lists_of c.in-Ok.history), c.in-Ok.ensures.short, c.in-Some.ensures.cases.2, c.requires.short)

@@ -1,6 +1,6 @@
 use Rattle.std.proofs.Common.{◌∙◌, inl, inr, sym, ap, subst}
 use Rattle.std.proofs.lemmas.Result.{err_from_is_err_and}
-use Rattle.rail_history.specs.LineReads.{lines_of}
+use Rattle.rail_history.specs.LinesLeft.{lines_left}
 use Rattle.rail_laws_events.proofs.CallerLemmas.{input_parts}
 use Rattle.rail_laws_text.proofs.CallerLemmas.{accepted_named}
 use Rattle.rail_ledger.specs.Inputs.{input_in}
@@ -25,14 +25,16 @@ pub returns-in_err-follow_lines-clause-refused : goal.returns-in_err-follow_line
 returns-in_err-follow_lines-clause-refused g c =
     let p = err_from_is_err_and c.from_residual-in_err-follow_lines.result c.from_residual-in_err-follow_lines.ensures.1 in
     rw (p.1, p.2) (inr (record {
-      lines = lines_of c.in_ok-history.history;
-      snapshot = subst (λ (plant : Plant). IsSnapshot plant c.args.bytes.now (lines_of c.in_ok-history.history)) c.plant.ensures c.in_ok-history.ensures.read;
+      lines = lines_left c.in_ok-lines.lines;
+      snapshot = subst (λ (plant : Plant). IsSnapshot plant c.args.bytes.now (lines_left c.in_ok-lines.lines)) c.plant.ensures
+          (subst (IsSnapshot c.plant.result.now c.args.bytes.now) (sym c.in_ok-lines.ensures) c.in_ok-history.ensures.read);
       other = c.in_err-follow_lines.ensures.other;
     }))
 
 pub returns-clause-resumed : goal.returns-clause-resumed
 returns-clause-resumed g c = record {
-  lines = lines_of c.in_ok-history.history;
-  snapshot = subst (λ (plant : Plant). IsSnapshot plant c.args.bytes.now (lines_of c.in_ok-history.history)) (c.plant.ensures ∙ sym (ap (λ (i : RunInput). i.plant) c.follow_lines.ensures.input)) c.in_ok-history.ensures.read;
+  lines = lines_left c.in_ok-lines.lines;
+  snapshot = subst (λ (plant : Plant). IsSnapshot plant c.args.bytes.now (lines_left c.in_ok-lines.lines)) (c.plant.ensures ∙ sym (ap (λ (i : RunInput). i.plant) c.follow_lines.ensures.input))
+      (subst (IsSnapshot c.plant.result.now c.args.bytes.now) (sym c.in_ok-lines.ensures) c.in_ok-history.ensures.read);
   stands = c.in_ok-follow_lines.ensures.followed;
 }
