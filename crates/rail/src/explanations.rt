@@ -5,7 +5,7 @@ use rail_base::{Name, Refusal, Word};
 use rail_cli::Status;
 use rail_explain::{
     HELP_BEFORE, HELP_BEHIND, KeepingShelf, OTHER_FORMS, detail, file_of, help_line, law_text,
-    usage, usage_with_hint, write_read_fault, write_refusal,
+    usage, usage_with_hint, write_read_fault, write_refusal, write_unknown_policies,
 };
 use rail_input::read_plant;
 use rail_io::{FileShelf, OutSink};
@@ -13,7 +13,7 @@ use rail_scene::keys::keys_in;
 use rail_scene::{Version, item_name};
 use rail_text::LineBuffer;
 use rail_words::{FORMS, Form, Role, form_named, request_of};
-use std::io;
+use std::io::{self, IsTerminal};
 use std::rt::HostRuntime;
 
 /// The files of the system, with what was read of them.
@@ -34,7 +34,11 @@ pub fn explain(rt: &HostRuntime, words: &[Word], status: Status, files: &Files<'
         }
         Status::WriteFault => explain_write_fault(rt),
         Status::CheckedNo { law, .. } => rt.eprintln(law_text(law)),
-        Status::Done | Status::OutOfMemory => Ok(()),
+        Status::Done => {
+            explain_unknown_policies(rt, words, files);
+            Ok(())
+        }
+        Status::OutOfMemory => Ok(()),
     };
 }
 
@@ -79,6 +83,21 @@ fn print_line(rt: &HostRuntime, line: &LineBuffer) -> io::Result<()> {
 /// Says that standard output failed.
 pub fn explain_write_fault(rt: &HostRuntime) -> io::Result<()> {
     rt.eprintln("standard output did not take all that was written")
+}
+
+/// Says which commands changed nothing, since they name no policy of the program. It is said to a person at a terminal alone:
+/// where standard error goes elsewhere nothing stands there behind a command that did what it was asked for.
+fn explain_unknown_policies(rt: &HostRuntime, words: &[Word], files: &Files<'_>) {
+    let errors = rt.stderr();
+    if !errors.is_terminal() {
+        return;
+    }
+    if let Some(request) = request_of(words)
+        && let Some(file) = request.file(Role::Commands)
+        && let Some(commands) = files.bytes_of(file)
+    {
+        let _ = write_unknown_policies(file, commands, &mut OutSink::new(errors));
+    }
 }
 
 /// Says which file could not be read.

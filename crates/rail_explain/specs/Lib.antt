@@ -3,5 +3,6 @@ pub mod Files
 pub mod Places
 pub mod Meanings
 pub mod Terminals
+pub mod Policies
 pub mod Explanations
 pub mod KeptFiles

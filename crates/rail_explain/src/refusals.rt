@@ -66,7 +66,7 @@ pub fn write_read_fault<O: Sink>(file: &str, out: &mut O) -> Result<(), Failed>
 }
 
 /// Writes the name of the file in which a refusal lies, where it lies in one, with a colon and a space.
-fn write_file<O: Sink>(file: Option<&str>, out: &mut O) -> Result<(), Failed>
+pub(crate) fn write_file<O: Sink>(file: Option<&str>, out: &mut O) -> Result<(), Failed>
     ensures { WritesText O.Sink out.old out.new (file_text (option_copied file.entry)) result }
 {
     let Some(file) = file else {

@@ -3,7 +3,7 @@
 use rail_base::{Name, OutOfMemory, Part, Reason, Refusal, Seq, Word};
 use rail_explain::{
     KeepingShelf, VERSION, detail, explained, file_of, help_line, law_text, usage_with_hint,
-    write_read_fault, write_refusal,
+    write_read_fault, write_refusal, write_unknown_policies,
 };
 use rail_io::{File, MemoryShelf, MemorySink, read_whole};
 use rail_words::{Form, request_of};
@@ -694,6 +694,38 @@ fn shown_in(alloc: Global) -> Result<bool, OutOfMemory> {
 const SHOWN: &str = "\
 x\\x1b[31m: line 2 gives a name, or a turn, that stands already; it reads \"b\\x07\"
 y\\x0a: the file is not there, or could not be read
+";
+
+#[test]
+fn tells_which_policies_are_unknown(rt: HostRuntime) {
+    let told = are_told(rt.alloc());
+    assert_eq!(rt; told, Ok(true));
+}
+
+/// Whether each command that names a policy which the program does not have is told with its line, and no other one.
+fn are_told(alloc: Global) -> Result<bool, OutOfMemory> {
+    let mut out = MemorySink::with_room(alloc, 400, Vec::new(alloc))?;
+    let is_written = write_unknown_policies("c", ORDERS.as_bytes(), &mut out).is_ok();
+    Ok(is_written && out.bytes() == Some(UNKNOWN.as_bytes()))
+}
+
+/// Commands, of which two name a policy that the program does not have.
+const ORDERS: &str = "\
+# 00:00:01 policy best
+00:00:01 policy priority
+00:00:01 policy timetable
+00:00:02  policy  best
+00:00:02 policy fcfs
+
+00:00:03 retire rotating
+00:00:03 retire prioritys
+00:00:04 close fcf
+";
+
+/// What is told of these commands.
+const UNKNOWN: &str = "\
+c: line 4: no policy is named best, so the command changed nothing; the policies are priority, timetable, fcfs and rotating
+c: line 8: no policy is named prioritys, so the command changed nothing; the policies are priority, timetable, fcfs and rotating
 ";
 
 #[test]
