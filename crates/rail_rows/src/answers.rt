@@ -8,7 +8,7 @@ use rail_io::{DripShelf, DripSink, File, MemoryShelf, MemorySink, Shelf};
 use std::alloc::{AllocError, Global};
 
 /// The most bytes that an output may have.
-const ROOM: usize = 262_144;
+const ROOM: usize = 4_194_304;
 
 /// A command line, with the policies that are handed in and the calls of the shelf and of the sink that fail.
 #[derive(Clone, Copy)]

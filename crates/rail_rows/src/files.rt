@@ -69,7 +69,7 @@ pub fn is_written(line: &str) -> bool {
 }
 
 /// Adds what a line of a row stands for: `|TEXT` is a line with its line feed, `*COUNT|TEXT` so many lines with their number
-/// from 0 in place of each `#`, `~COUNT|TEXT` the text so often, without line feeds, and `+ PIECE PIECE` pieces. False
+/// from 0 in place of each `#` (as `numbered` has it), `~COUNT|TEXT` the text so often, without line feeds, and `+ PIECE PIECE` pieces. False
 /// where it is none of these.
 pub fn push_written(pieces: &[File], bytes: &mut Vec<u8>, line: &str) -> Result<bool, AllocError> {
     if let Some(names) = line.strip_prefix("+ ") {
@@ -135,16 +135,31 @@ fn push_numbered(bytes: &mut Vec<u8>, line: &str, number: u32) -> Result<(), All
     push_line(bytes, text.as_str())
 }
 
-/// The text with the number in place of each mark.
+/// The text with the number in place of each mark, and one more for each `+` behind the mark; with a `:` behind it the time
+/// of day that is so many times ten minutes.
 pub fn numbered(alloc: Global, text: &str, mark: &str, number: u32) -> Result<String, AllocError> {
     let mut told = String::new(alloc);
     for (index, part) in text.split(mark).enumerate() {
-        if index > 0 {
-            write!(told, "{number}")?;
+        if index == 0 {
+            told.push_str(part)?;
+        } else if let Some(rest) = part.strip_prefix(":") {
+            let (tens, minutes) = (number / 60, number / 6 % 10);
+            write!(told, "{tens}{minutes}:{}0:00{rest}", number % 6)?;
+        } else {
+            let (more, rest) = pluses(part);
+            write!(told, "{}{rest}", number.saturating_add(more))?;
         }
-        told.push_str(part)?;
     }
     Ok(told)
+}
+
+/// How many `+` stand at the front of the text, and what stands behind them.
+fn pluses(text: &str) -> (u32, &str) {
+    let count = text.bytes().take_while(|byte| *byte == b'+').count();
+    match text.split_at_checked(count) {
+        Some((_, rest)) => (u32::try_from(count).unwrap_or(0), rest),
+        None => (0, text),
+    }
 }
 
 fn push_copies(bytes: &mut Vec<u8>, count: u32, text: &str) -> Result<(), AllocError> {
