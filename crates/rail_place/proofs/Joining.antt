@@ -1,6 +1,9 @@
 -- Claims made of needed sections and overlaps.
-use Rattle.std.proofs.Common.{◌≡◌, ℕ, zero, suc, ◌+◌, ◌-◌, ◌<◌, List, [], ◌∷◌, ◌++◌, length, get_or, take, refl, sym, ap, ◌∙◌, arith}
-use Rattle.std.proofs.lemmas.List.{length-append, take_at}
+use Rattle.std.proofs.Common.{◌≡◌, ℕ, true, zero, suc, ◌+◌, ◌-◌, ◌<◌, List, [], ◌∷◌, ◌++◌, length, get_or, take, refl, sym, ap, ◌∙◌, arith}
+use Rattle.std.specs.List.{list_all}
+use Rattle.std.proofs.lemmas.Bool.{and_parts, eqb-true}
+use Rattle.std.proofs.lemmas.List.{append-nil, length-append, take_at}
+use Rattle.rail_place.specs.Lists.{is_empty}
 use Rattle.rail_place.specs.Tables.{EndWith, joined}
 
 more : (needs overs : List (List ℕ)) (i : ℕ) → i < length needs → i < length overs
@@ -49,3 +52,12 @@ joined_end needs overs wide = record {
       ∙ sym (ap (λ xs. xs ++ over) (front_of (get_or needs m []) over))
       ∙ sym (ap (λ xs. take (length xs - length over) xs ++ over) is);
 }
+
+-- where no move has an overlap, the claims are what the moves need
+pub joined_empty : (needs overs : List (List ℕ)) → list_all is_empty overs ≡ true → joined needs overs ≡ needs
+joined_empty [] overs none = refl
+joined_empty (need ∷ needs) [] none = refl
+joined_empty (need ∷ needs) ([] ∷ overs) none = ap (λ n. n ∷ joined needs overs) (append-nil need) ∙ ap (λ rest. need ∷ rest) (joined_empty needs overs none)
+joined_empty (need ∷ needs) ((x ∷ over) ∷ overs) none =
+    let parts = and_parts (is_empty (x ∷ over)) (list_all is_empty overs) none in
+    absurd (omega (arith, eqb-true (length (x ∷ over)) 0 parts.0))

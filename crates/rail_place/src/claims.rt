@@ -6,8 +6,24 @@ ghost use Rattle.rail_place.specs.Tables.{joined};
 use crate::section_lists::SectionLists;
 use std::alloc::{AllocError, Global};
 
-/// The sections that each move claims: first those that it needs, then those of its overlap.
+/// The sections that each move claims: first those that it needs, then those of its overlap. Where no move has an
+/// overlap they are those that it needs, and nothing is copied.
 pub fn claims_of(
+    alloc: Global,
+    need: SectionLists,
+    over: &SectionLists,
+) -> Result<SectionLists, AllocError>
+    requires { length over.now ≡ length need }
+    ensures { IfOk result (λ claims. claims ≡ joined need over.now) }
+{
+    if over.are_empty() {
+        return Ok(need);
+    }
+    joined(alloc, &need, over)
+}
+
+/// The lists joined, the first with the first, and so on.
+fn joined(
     alloc: Global,
     need: &SectionLists,
     over: &SectionLists,

@@ -83,7 +83,7 @@ impl Moves {
         ensures ok { OnOk result (self.new ≡ self.old ++ lists_of need over stand ∷ []) }
         ensures err { OnErr result (self.new ≡ self.old) }
     {
-        let Ok(claims) = claims_of(alloc, &need, &over) else {
+        let Ok(claims) = claims_of(alloc, need, &over) else {
             return Err(OutOfMemory);
         };
         let Ok(lasts) = last_claims(alloc, &claims) else {

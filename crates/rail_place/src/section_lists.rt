@@ -1,6 +1,8 @@
 //! Many short lists of sections, one behind the other.
 
 ghost use Rattle.std.specs.Prelude.{◌≡◌, ◌<◌, [], ◌∷◌, ◌++◌, length, get_or, IfOk, OnOk, OnErr};
+ghost use Rattle.std.specs.List.{list_all};
+ghost use Rattle.rail_place.specs.Lists.{is_empty, is_empty_span};
 
 use rail_base::SectionNo;
 use std::alloc::{AllocError, Global};
@@ -11,6 +13,15 @@ use std::marker::Model;
 struct Span {
     start: usize,
     end: usize,
+}
+
+impl Span {
+    /// Whether the list is empty.
+    fn is_empty(&self) -> bool
+        ensures { result ≡ is_empty_span self.now }
+    {
+        self.start == self.end
+    }
 }
 
 /// Lists of sections, all in one vector, so that a list takes no memory of its own. Contracts see it as
@@ -80,6 +91,13 @@ impl SectionLists {
         self.sections.len()
     }
 
+    /// Whether each list is empty.
+    pub fn are_empty(&self) -> bool
+        ensures { result ≡ list_all is_empty self.now }
+    {
+        are_empty(self.spans.as_slice())
+    }
+
     /// The list at the index, which counts from 0.
     pub fn at(&self, index: usize) -> &[SectionNo]
         requires { index < length self.now }
@@ -88,4 +106,11 @@ impl SectionLists {
         let span = self.spans[index];
         &self.sections[span.start..span.end]
     }
+}
+
+/// Whether each span is one of no sections.
+fn are_empty(spans: &[Span]) -> bool
+    ensures { result ≡ list_all is_empty_span spans.now }
+{
+    spans.iter().all(|span| span.is_empty())
 }
