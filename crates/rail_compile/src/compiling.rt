@@ -15,11 +15,11 @@ ghost use Rattle.rail_compile.specs.Ways.{AreLookups};
 use crate::compiling::itineraries::of_train;
 use crate::compiling::kinds::kind_names;
 use crate::compiling::spelling::tables_of;
-use crate::compiling::trains::train_row;
+use crate::compiling::trains::train_moves;
 use crate::compiling::ways::{Ways, ways_of};
 use indexmap::IndexSet;
-use rail_base::{Fault, Name, OutOfMemory, Part, Reason, Refusal, TrainNo, TrainRow};
-use rail_plan::{PlanFault, Plant};
+use rail_base::{Fault, Name, OutOfMemory, Part, Reason, Refusal, TrainNo};
+use rail_plan::{LentMove, PlanFault, Plant};
 use rail_scene::{Scene, SceneTrain};
 use std::alloc::Global;
 
@@ -92,27 +92,27 @@ pub fn compile_with(
     }
 }
 
-/// The row of one train, which counts from 1 among those of the scene, or the first refusal of it for its kind or its
-/// itinerary.
-pub fn compile_train(
+/// The moves of one train, which counts from 1 among those of the scene, or the first refusal of it for its kind or its
+/// itinerary. They are lent by what was looked up, so that no row is copied.
+pub fn compile_moves<'a>(
     alloc: Global,
     scene: &Scene,
-    lookups: &Lookups,
+    lookups: &'a Lookups,
     item: u32,
     train: &SceneTrain,
-) -> Result<TrainRow, Fault>
+) -> Result<Vec<LentMove<'a>>, Fault>
     requires lookups { AreLookups scene.now lookups.now }
     requires train { IsTrue (is_fit_train train.now) }
     ensures accepted { OnOk result (first_failing (train_tests scene.now item train.now) ≡ None) }
-    ensures row { IfOk result (λ row. row ≡ train_row scene.now train.now) }
-    ensures typed { IfOk result (λ row. IsTrue (is_typed_row row)) }
+    ensures moves { IfOk result (λ moves. moves.items ≡ (train_row scene.now train.now).moves) }
+    ensures typed { IsTrue (is_typed_row (train_row scene.now train.now)) }
     ensures refused { IfErr result (AnswersFirst (first_failing (train_tests scene.now item train.now))) }
 {
-    train_row(alloc, scene, &lookups.kinds, &lookups.ways, item, train)
+    train_moves(alloc, scene, &lookups.kinds, &lookups.ways, item, train)
 }
 
-/// The refusal of a scene whose plant has this fault.
-fn fault_for(fault: PlanFault) -> Fault
+/// What a scene is refused for whose plant has this fault.
+pub fn fault_for(fault: PlanFault) -> Fault
     ensures { result ≡ fault_for fault }
 {
     match fault {

@@ -1,8 +1,10 @@
 -- The first answer of numbers below a bound.
-use Rattle.std.proofs.Common.{◌≡◌, ℕ, zero, suc, ◌<◌, true, is_some, Option, Some, None, refl, sym, ap, ◌∙◌, ⊎_elim, arith}
+use Rattle.std.proofs.Common.{◌≡◌, ℕ, zero, suc, ◌<◌, true, false, is_some, Option, Some, None, refl, sym, ap, ◌∙◌, ⊎_elim, arith}
 use Rattle.std.proofs.lemmas.Bool.{cases_lt, false≢true}
 use Rattle.rail_rules.specs.Numbers.{or_else}
-use Rattle.rail_plan.specs.PlanFaults.{first_answer}
+use Rattle.rail_plan.specs.PlanFaults.{IsAnswer, first_answer}
+use Rattle.rail_plan.specs.declared.faults.PlanFault.{PlanFault}
+use Rattle.rail_plan.specs.declared.faults.PlanFault.TheVariants.{OutOfMemory, SelfBlocked, TooLong}
 
 or_else-some : {X : Type 0} (o other : Option X) → is_some o ≡ true → or_else o other ≡ o
 or_else-some None other some = absurd (false≢true some)
@@ -34,3 +36,23 @@ none_at f (suc n) i none lt =
     (λ below. none_at f n i parts.0 below)
     (λ above. let same : i ≡ n = omega arith in ap f same ∙ parts.1)
     (cases_lt i n)
+
+is_none : {X : Type 0} (o : Option X) → is_some o ≡ false → o ≡ None
+is_none None empty = refl
+is_none (Some x) empty = absurd (false≢true (sym empty))
+
+-- no answer once more
+pub first_more : {X : Type 0} (f : ℕ → Option X) (n : ℕ) → first_answer f n ≡ None → is_some (f n) ≡ false → first_answer f (suc n) ≡ None
+first_more f n none empty = ap (λ o. or_else o (f n)) none ∙ is_none (f n) empty
+
+-- a fault that is the first one answers it
+pub answer_told : (first : Option PlanFault) (why : PlanFault) → first ≡ Some why → IsAnswer first why
+answer_told first (TooLong t place) is = is
+answer_told first (SelfBlocked t place x) is = is
+answer_told first OutOfMemory is = tt
+
+-- what answers the first of numbers that has an answer answers them all
+pub answer_first : (f : ℕ → Option PlanFault) (n i : ℕ) (why : PlanFault) → i < n → first_answer f i ≡ None → IsAnswer (f i) why → IsAnswer (first_answer f n) why
+answer_first f n i (TooLong t place) lt none is = first_found f n i lt none (ap is_some is) ∙ is
+answer_first f n i (SelfBlocked t place x) lt none is = first_found f n i lt none (ap is_some is) ∙ is
+answer_first f n i OutOfMemory lt none is = tt

@@ -7,5 +7,6 @@ mod Firsts
 mod Valid
 mod Spelled
 mod Naming
+mod OtherRows
 mod CallRows
 mod Accepting

@@ -12,7 +12,7 @@ use Rattle.rail_rules.specs.Moves.{Moves, is_valid_move, is_valid}
 use Rattle.rail_rules.specs.Plant.{Plant, no_train, no_move, train, moves, move_row, moves_of, needed, overlap, claimed, standing_after}
 use Rattle.rail_rules.proofs.CallerLemmas.{all_below_from, list_all_at, move_in_range, row_in_range}
 use Rattle.rail_place.specs.Tables.{joined, moves_in, MoveLists, no_lists}
-use Rattle.rail_plan.specs.PlanFaults.{IsPlannable, bare, standing_of, fault_of}
+use Rattle.rail_plan.specs.PlanFaults.{IsPlannable, bare, standing_of, fault_of_train}
 use Rattle.rail_plan.specs.MoveTables.{needs_in, overs_in, spelled}
 use Rattle.rail_plan.proofs.Valid.{valid_move}
 
@@ -75,8 +75,8 @@ test_is : (plan : Moves) (t m : ℕ) → is_valid_move plan t m ≡ move_test (p
 unfolding move_test
 test_is plan t m = refl
 
-pub spelled_row : (tables : Tables) → IsPlannable tables → fault_of tables ≡ None → (t : ℕ) → t < length tables.trains → IsSpelledRow (spelled (bare tables) (train (bare tables) t))
-spelled_row tables h none t lt =
+pub spelled_row : (tables : Tables) → IsPlannable tables → (t : ℕ) → fault_of_train (bare tables) t ≡ None → t < length tables.trains → IsSpelledRow (spelled (bare tables) (train (bare tables) t))
+spelled_row tables h t none lt =
     let plant : Plant = bare tables in
     let row : TrainRow = train plant t in
     let facts = row_in_range (bare tables) h.trains t lt in
@@ -102,5 +102,5 @@ spelled_row tables h none t lt =
           (λ here. omega (arith, ltb-true x (length tables.sections) (list_all_at (λ y. ltb y (length tables.sections)) (claimed plant t m) x (fine m here).known (ap (is_in x) (sym (spelt m)) ∙ is)), h.few_sections))
           (λ gone. absurd (false≢true (ap (is_in x) (sym (past m gone)) ∙ is)))
           (cases_lt m (moves plant t));
-      valid = all_below_from (is_valid_move (moves_in alone) 0) (length need - 1) (λ m lm. same m ∙ valid_move tables h none t m lt (omega (arith, count)));
+      valid = all_below_from (is_valid_move (moves_in alone) 0) (length need - 1) (λ m lm. same m ∙ valid_move tables h t m none lt (omega (arith, count)));
     }

@@ -88,19 +88,22 @@ no_common plant t m none =
     let test : ℕ → Bool = λ x. is_in x (standing_after plant t m) in
     not_from_false (list_any test (claimed plant t (suc m))) (find-none test (claimed plant t (suc m)) (no_block t (suc m) (blocking plant t m) second))
 
-no_fault_at : (tables : Tables) (t m : ℕ) → fault_of tables ≡ None → t < length tables.trains → m < moves (bare tables) t - 1 → fault_at (bare tables) t m ≡ None
-no_fault_at tables t m none lt more =
-    none_at (fault_at (bare tables) t) (moves (bare tables) t - 1) m (none_at (fault_of_train (bare tables)) (length tables.trains) t none lt) more
+-- tables without a fault have none of a train
+none_of : (tables : Tables) (t : ℕ) → fault_of tables ≡ None → t < length tables.trains → fault_of_train (bare tables) t ≡ None
+none_of tables t none lt = none_at (fault_of_train (bare tables)) (length tables.trains) t none lt
+
+no_fault_at : (tables : Tables) (t m : ℕ) → fault_of_train (bare tables) t ≡ None → m < moves (bare tables) t - 1 → fault_at (bare tables) t m ≡ None
+no_fault_at tables t m none more = none_at (fault_at (bare tables) t) (moves (bare tables) t - 1) m none more
 
 pub each_fits : (tables : Tables) → fault_of tables ≡ None → all_below (does_fit (bare tables)) (length tables.trains) ≡ true
 each_fits tables none =
     let plant : Plant = bare tables in
     all_below_from (does_fit plant) (length tables.trains) (λ t lt.
     let fits : ℕ → Bool = λ m. leb (train plant t).kind.length (metres_of plant (needed plant t m)) in
-    all_below_from fits (moves plant t - 1) (λ m lm. not-false (fits m) (no_long plant t m (no_fault_at tables t m none lt lm))))
+    all_below_from fits (moves plant t - 1) (λ m lm. not-false (fits m) (no_long plant t m (no_fault_at tables t m (none_of tables t none lt) lm))))
 
-pub valid_move : (tables : Tables) → IsPlannable tables → fault_of tables ≡ None → (t m : ℕ) → t < length tables.trains → m < moves (bare tables) t - 1 → is_valid_move (moves_of (bare tables)) t m ≡ true
-valid_move tables h none t m lt more =
+pub valid_move : (tables : Tables) → IsPlannable tables → (t m : ℕ) → fault_of_train (bare tables) t ≡ None → t < length tables.trains → m < moves (bare tables) t - 1 → is_valid_move (moves_of (bare tables)) t m ≡ true
+valid_move tables h t m none lt more =
     let plant : Plant = bare tables in
     let row = row_in_range (bare tables) h.trains t lt in
     let fine = move_in_range (length tables.sections) (move_row plant t m) (row.each_move m (omega arith)) in
@@ -113,10 +116,10 @@ valid_move tables h none t m lt more =
     subst P (sym there)
     (and_from (ltb 0 (length stands) && list_all (λ x. is_in x (claimed plant t m)) stands) (are_apart (claimed plant t (suc m)) stands)
     (and_from (ltb 0 (length stands)) (list_all (λ x. is_in x (claimed plant t m)) stands) (lt-ltb 0 (length stands) some) (list_all_from (λ x. is_in x (claimed plant t m)) stands inner))
-    (no_common plant t m (no_fault_at tables t m none lt more)))
+    (no_common plant t m (no_fault_at tables t m none more)))
 
 pub valid : (tables : Tables) → IsPlannable tables → fault_of tables ≡ None → is_valid (moves_of (bare tables)) ≡ true
 valid tables h none =
     let plan : Moves = moves_of (bare tables) in
     let each : ℕ → Bool = λ t. all_below (is_valid_move plan t) (moves (bare tables) t - 1) in
-    all_below_from each (length tables.trains) (λ t lt. all_below_from (is_valid_move plan t) (moves (bare tables) t - 1) (λ m lm. valid_move tables h none t m lt lm))
+    all_below_from each (length tables.trains) (λ t lt. all_below_from (is_valid_move plan t) (moves (bare tables) t - 1) (λ m lm. valid_move tables h t m (none_of tables t none lt) lt lm))

@@ -1,5 +1,5 @@
 -- Which tables are planned, and their faults.
-use Rattle.std.specs.Prelude.{ℕ, zero, suc, ◌-◌, ◌≤◌, Bool, not, cond, nat_le, List, [], length, map, sum_by, Option, Some, None, IsTrue}
+use Rattle.std.specs.Prelude.{ℕ, zero, suc, ◌-◌, ◌≤◌, Bool, not, cond, nat_le, List, [], ◌++◌, get_or, length, map, sum_by, Option, Some, None, IsTrue}
 use Rattle.std.specs.List.{find, list_all}
 use Rattle.rail_base.specs.FirstRefusals.{IsFirstRefusal}
 use Rattle.rail_base.specs.Limits.{most, Sections, Trains, ReleaseTime, OverlapTime, Depth}
@@ -8,7 +8,7 @@ use Rattle.rail_base.specs.declared.plant.SectionRow.{SectionRow}
 use Rattle.rail_base.specs.declared.plant.TrainRow.{TrainRow}
 use Rattle.rail_base.specs.declared.plant.MoveRow.{MoveRow}
 use Rattle.rail_rules.specs.Numbers.{all_below, is_in, or_else}
-use Rattle.rail_rules.specs.Plant.{Plant, section, train, moves, needed, claimed, standing_after, shortest_end, from_turn, longer}
+use Rattle.rail_rules.specs.Plant.{Plant, no_move, section, train, moves, needed, claimed, standing_after, shortest_end, from_turn, longer}
 use Rattle.rail_rules.specs.Accepted.{are_distinct_names, is_section_in_range, is_train_in_range}
 use Rattle.rail_plan.specs.declared.faults.PlanFault.{PlanFault}
 use Rattle.rail_plan.specs.declared.faults.PlanFault.TheVariants.{TooLong, SelfBlocked, OutOfMemory}
@@ -54,6 +54,13 @@ blocked_by t place (Some x) = Some (SelfBlocked t place x)
 -- the fault of a train at the place after its move m: it is too long to stand there, or blocks its own way
 abbrev pub fault_at : Plant → ℕ → ℕ → Option PlanFault
 fault_at plant t m = or_else (cond (is_too_long plant t m) (Some (TooLong t (suc m))) None) (blocked_by t (suc m) (blocking plant t m))
+
+-- that of a train of so many metres which makes these moves
+abbrev pub fault_over : Plant → ℕ → ℕ → List MoveRow → ℕ → Option PlanFault
+fault_over plant t metres rows m = let row = get_or rows m no_move in
+    let next = get_or rows (suc m) no_move in
+    or_else (cond (not (nat_le metres (metres_of plant row.sections))) (Some (TooLong t (suc m))) None)
+    (blocked_by t (suc m) (find (λ x. is_in x (standing_of plant metres row)) (next.sections ++ next.overlap)))
 
 -- the answer for the first of the numbers below the bound that has one
 abbrev pub first_answer : {X : Type 0} → (ℕ → Option X) → ℕ → Option X

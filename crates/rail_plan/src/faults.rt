@@ -1,12 +1,15 @@
 //! Why tables are no plant.
 
-ghost use Rattle.std.specs.Prelude.{◌≡◌, ◌+◌, ◌-◌, ◌<◌, ◌≤◌, length};
-ghost use Rattle.rail_rules.specs.Plant.{moves};
-ghost use Rattle.rail_plan.specs.PlanFaults.{IsPlannable, bare, fault_at, fault_of, fault_of_train};
+ghost use Rattle.std.specs.Prelude.{◌≡◌, ℕ, ◌-◌, ◌<◌, ◌≤◌, IsTrue, get_or, length, map};
+ghost use Rattle.rail_base.specs.declared.limits.TheConstants.{ITINERARY_ROUTES};
+ghost use Rattle.rail_rules.specs.Accepted.{is_move_in_range};
+ghost use Rattle.rail_rules.specs.Plant.{no_move};
+ghost use Rattle.rail_plan.specs.PlanFaults.{IsPlannable, bare, fault_over, first_answer, standing_of};
 
-use crate::rows::{move_row, train_row};
-use crate::standing::{first_claimed, route_length, standing};
+use crate::lent::LentMove;
+use crate::standing::{first_claimed, route_length};
 use rail_base::{OutOfMemory, SectionNo, Tables, TrainNo};
+use rail_place::SectionLists;
 use std::alloc::AllocError;
 
 /// Why tables are no plant. Trains count from 0, places from 1.
@@ -48,29 +51,22 @@ impl From<OutOfMemory> for PlanFault {
     }
 }
 
-/// The first fault of the tables, train by train and place by place.
-pub fn first_fault(tables: &Tables) -> Option<PlanFault>
-    requires { IsPlannable tables.now }
-    ensures { result ≡ fault_of tables.now }
-{
-    for index in 0..tables.trains.as_slice().len() {
-        let fault = train_fault(tables, TrainNo(index as u16));
-        if fault.is_some() {
-            return fault;
-        }
-    }
-    None
-}
-
-/// The first fault of the train, place by place.
-pub fn train_fault(tables: &Tables, train: TrainNo) -> Option<PlanFault>
+/// The first fault of a train of so many metres that makes these moves, place by place.
+pub fn first_fault(
+    tables: &Tables,
+    train: TrainNo,
+    metres: u32,
+    moves: &[LentMove<'_>],
+    stands: &SectionLists,
+) -> Option<PlanFault>
     requires tables { IsPlannable tables.now }
-    requires train { train < length tables.now.trains }
-    ensures { result ≡ fault_of_train (bare tables.now) train }
+    requires few { length moves.now ≤ ITINERARY_ROUTES }
+    requires fine { (m : ℕ) → m < length moves.now → IsTrue (is_move_in_range (length tables.now.sections) (get_or moves.now m no_move)) }
+    requires stands { stands.now ≡ map (standing_of (bare tables.now) metres) moves.now }
+    ensures { result ≡ first_answer (fault_over (bare tables.now) train metres moves.now) (length moves.now - 1) }
 {
-    let moves = train_row(tables, train).moves.as_slice().len() as u16;
-    for place in 1..moves {
-        let fault = place_fault(tables, train, place);
+    for place in 1..moves.len() as u16 {
+        let fault = place_fault(tables, train, metres, moves, stands, place);
         if fault.is_some() {
             return fault;
         }
@@ -79,21 +75,26 @@ pub fn train_fault(tables: &Tables, train: TrainNo) -> Option<PlanFault>
 }
 
 /// The fault of the train at a place that is not its last.
-fn place_fault(tables: &Tables, train: TrainNo, place: u16) -> Option<PlanFault>
+fn place_fault(
+    tables: &Tables,
+    train: TrainNo,
+    metres: u32,
+    moves: &[LentMove<'_>],
+    stands: &SectionLists,
+    place: u16,
+) -> Option<PlanFault>
     requires tables { IsPlannable tables.now }
-    requires train { train < length tables.now.trains }
+    requires fine { (m : ℕ) → m < length moves.now → IsTrue (is_move_in_range (length tables.now.sections) (get_or moves.now m no_move)) }
+    requires stands { stands.now ≡ map (standing_of (bare tables.now) metres) moves.now }
     requires first { 1 ≤ place }
-    requires inside { place < moves (bare tables.now) train }
-    ensures { result ≡ fault_at (bare tables.now) train (place - 1) }
+    requires inside { place < length moves.now }
+    ensures { result ≡ fault_over (bare tables.now) train metres moves.now (place - 1) }
 {
-    let metres = train_row(tables, train).kind.length;
-    let before = move_row(tables, train, place);
-    let next = move_row(tables, train, place + 1);
-    if route_length(tables, before) < metres {
+    let index = usize::from(place) - 1;
+    if route_length(tables, &moves[index]) < metres {
         return Some(PlanFault::TooLong { train, place });
     }
-    let stand = standing(tables, metres, before);
-    let section = first_claimed(next, stand)?;
+    let section = first_claimed(&moves[index + 1], stands.at(index))?;
     Some(PlanFault::SelfBlocked {
         train,
         place,

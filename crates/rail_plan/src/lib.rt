@@ -7,18 +7,20 @@
 //! word. `specs/` says which tables are planned, what their fault is, and which calls belong to them.
 //!
 //! The layers above use the contracts alone: what a plant keeps beside its tables may be changed. What
-//! may not change is that only `Plant::new`, `Calls::new` and `moves_of_train` take memory.
+//! may not change is that only `Plant::new`, `Calls::new` and `moves_over` take memory.
 #![tactic(auto)]
 
 mod bounds;
 mod calls;
 mod faults;
+mod lent;
 mod making;
 mod plant;
 mod rows;
 mod standing;
 
 pub use calls::Calls;
-pub use faults::{PlanFault, train_fault};
-pub use making::moves_of_train;
+pub use faults::PlanFault;
+pub use lent::LentMove;
+pub use making::moves_over;
 pub use plant::Plant;

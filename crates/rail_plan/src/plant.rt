@@ -12,7 +12,7 @@ ghost use Rattle.rail_plan.specs.MoveTables.{table_of};
 
 use crate::bounds::event_bound;
 use crate::calls::Calls;
-use crate::faults::{PlanFault, first_fault};
+use crate::faults::PlanFault;
 use crate::making::{moves_of, names_of};
 use crate::rows::{move_row, section_row, train_row};
 use rail_base::{Call, MoveRow, Names, SectionNo, SectionRow, Tables, Time, TrainNo, TrainRow};
@@ -65,11 +65,8 @@ impl Plant {
         ensures valid { IfOk result (λ plant. IsTrue (is_accepted plant)) }
         ensures refused { IfErr result (IsAnswer (fault_of tables)) }
     {
-        if let Some(fault) = first_fault(&tables) {
-            return Err(fault);
-        }
-        let names = names_of(alloc, &tables)?;
         let moves = moves_of(alloc, &tables)?;
+        let names = names_of(alloc, &tables)?;
         Ok(Plant {
             tables,
             calls: Calls::none(alloc),

@@ -1,17 +1,19 @@
 -- The faults of tables in which the row of one train is changed.
-use Rattle.std.proofs.Common.{◌++◌, ◌≡◌, ◌≢◌, ℕ, zero, suc, ◌-◌, ◌<◌, ◌≤◌, Bool, true, false, not, cond, List, [], ◌∷◌, length, get_or, set, Option, Some, None, refl, sym, ap, ◌∙◌, subst, ⊎_elim, arith}
-use Rattle.std.specs.Prelude.{nat_le, sum_by}
-use Rattle.std.specs.List.{find}
+use Rattle.std.proofs.Common.{◌≡◌, ◌≢◌, ℕ, zero, suc, ◌-◌, ◌<◌, ◌≤◌, Bool, true, false, cond, length, get_or, set, Option, Some, None, refl, sym, ap, ◌∙◌, subst, ⊎_elim, arith}
 use Rattle.std.proofs.lemmas.Bool.{cases_eq, cases_lt}
 use Rattle.std.proofs.lemmas.List.{get_or-set_other, length-set}
 use Rattle.rail_base.specs.declared.plant.Tables.{Tables}
 use Rattle.rail_base.specs.declared.plant.TrainRow.{TrainRow}
-use Rattle.rail_rules.specs.Numbers.{is_in, or_else}
-use Rattle.rail_rules.specs.Plant.{Plant, from_turn, longer, moves, no_move, no_train, section, shortest_end}
-use Rattle.rail_plan.specs.PlanFaults.{bare, blocked_by, blocking, fault_at, fault_of, fault_of_train, first_answer, is_too_long, metres_of}
+use Rattle.rail_rules.specs.Numbers.{or_else}
+use Rattle.rail_rules.specs.Plant.{Plant, moves, no_train}
+use Rattle.rail_plan.specs.PlanFaults.{bare, blocked_by, blocking, fault_at, fault_of, fault_of_train, fault_over, first_answer, is_too_long}
 use Rattle.rail_plan.specs.declared.faults.PlanFault.{PlanFault}
-use Rattle.rail_reroute.specs.Judges.{with_row}
+use Rattle.rail_plan.proofs.CallerLemmas.{fault_same}
 use Rattle.rail_plan.specs.declared.faults.PlanFault.TheVariants.{TooLong, SelfBlocked, OutOfMemory}
+
+-- the tables with another row of the train
+abbrev pub with_row : Tables → ℕ → TrainRow → Tables
+with_row tables t row = record tables { trains = set tables.trains t row }
 
 -- the fault is one of this train, at a place up to the last
 abbrev pub IsFaultOf : ℕ → ℕ → PlanFault → Type 0
@@ -88,25 +90,15 @@ module _ (tables : Tables) (t : ℕ) (row : TrainRow) where
   abbrev pub other : Tables
   other = with_row tables t row
 
-  pub end_same : (metres : ℕ) (xs : List ℕ) → shortest_end (bare other) metres xs ≡ shortest_end (bare tables) metres xs
-  end_same metres [] = refl
-  end_same metres (x ∷ xs) = ap (λ shorter. cond (nat_le metres (sum_by (λ y. (section (bare tables) y).length) xs)) shorter (x ∷ xs)) (end_same metres xs)
-
   -- the fault of a train at a place, by its row
   abbrev fault_by : ℕ → ℕ → TrainRow → Option PlanFault
-  fault_by u m r = or_else (cond (not (nat_le r.kind.length (metres_of (bare tables) (get_or r.moves m no_move).sections))) (Some (TooLong u (suc m))) None)
-      (blocked_by u (suc m) (find (λ x. is_in x (longer (shortest_end (bare tables) r.kind.length (get_or r.moves m no_move).sections) (from_turn (get_or r.moves m no_move).turn (get_or r.moves m no_move).sections)))
-      ((get_or r.moves (suc m) no_move).sections ++ (get_or r.moves (suc m) no_move).overlap)))
+  fault_by u m r = fault_over (bare tables) u r.kind.length r.moves m
 
   of_tables : (u m : ℕ) → fault_at (bare tables) u m ≡ fault_by u m (get_or tables.trains u no_train)
   of_tables u m = refl
 
   of_other : (u m : ℕ) → fault_at (bare other) u m ≡ fault_by u m (get_or (set tables.trains t row) u no_train)
-  of_other u m =
-      let r : TrainRow = get_or (set tables.trains t row) u no_train in
-      ap (λ (end : List ℕ). or_else (cond (not (nat_le r.kind.length (metres_of (bare tables) (get_or r.moves m no_move).sections))) (Some (TooLong u (suc m))) None)
-      (blocked_by u (suc m) (find (λ x. is_in x (longer end (from_turn (get_or r.moves m no_move).turn (get_or r.moves m no_move).sections))) ((get_or r.moves (suc m) no_move).sections ++ (get_or r.moves (suc m) no_move).overlap))))
-      (end_same r.kind.length (get_or r.moves m no_move).sections)
+  of_other u m = fault_same tables (set tables.trains t row) u m
 
   -- where the tables have no fault, the first one of the changed tables is of the changed train
   pub changed_train : fault_of tables ≡ None → (why : PlanFault) → fault_of other ≡ Some why → IsFaultOf t (moves (bare other) t) why

@@ -1,18 +1,16 @@
 -- Moves and rows of one train that are exchanged.
-use Rattle.std.proofs.Common.{◌≡◌, ℕ, ◌<◌, List, [], ◌∷◌, length, get_or, map, set, sym, ap, ◌∙◌, arith}
-use Rattle.std.proofs.lemmas.List.{get_or-map, get_or-set_other, get_or-set_same, length-set, map-set, set-set, set-get_or}
-use Rattle.rail_base.specs.declared.plant.MoveRow.{MoveRow}
+use Rattle.std.proofs.Common.{◌≡◌, ℕ, refl, ◌<◌, List, [], ◌∷◌, length, get_or, map, set, sym, ap, ◌∙◌, arith}
+use Rattle.std.proofs.lemmas.List.{get_or-set_other, get_or-set_same, length-set, map-set, set-set, set-get_or}
 use Rattle.rail_base.specs.declared.plant.Tables.{Tables}
 use Rattle.rail_base.specs.declared.plant.TrainRow.{TrainRow}
-use Rattle.rail_rules.specs.Plant.{from_turn, longer, no_train}
-use Rattle.rail_place.specs.Tables.{MoveLists, lists_of, moves_in, no_lists}
-use Rattle.rail_plan.specs.MoveTables.{needs_in, overs_in, spelled, table_of}
+use Rattle.rail_place.specs.Tables.{MoveLists, moves_in, no_lists}
+use Rattle.rail_plan.specs.MoveTables.{spelled, table_of}
 use Rattle.rail_plan.specs.PlanFaults.{bare}
 use Rattle.rail_consequence.specs.AnalystStates.{AreAlikeBut}
 use Rattle.rail_consequence.specs.Needs.{AreRowsFor, IsRowsOf, SetRows}
 use Rattle.rail_consequence.proofs.CallerLemmas.{rows_for}
-use Rattle.rail_reroute.specs.Judges.{with_row}
-use Rattle.rail_reroute.proofs.Changed.{end_same}
+use Rattle.rail_plan.proofs.CallerLemmas.{spelled_same}
+use Rattle.rail_reroute.proofs.Changed.{with_row}
 
 -- a table in which the row of one train is another has the same moves of the others
 pub alike : (table : List MoveLists) (t : ℕ) (row : MoveLists) → AreAlikeBut t (moves_in table) (moves_in (set table t row))
@@ -37,28 +35,16 @@ sets_for table t row sets lt own =
 pub put_back : {X : Type 0} (xs : List X) (t : ℕ) (x d : X) → set (set xs t x) t (get_or xs t d) ≡ xs
 put_back xs t x d = set-set xs t x (get_or xs t d) ∙ set-get_or xs t d
 
--- how a train is spelled does not depend on the rows of the trains
-pub spelled_same : (tables : Tables) (t : ℕ) (row given : TrainRow) → spelled (bare (with_row tables t row)) given ≡ spelled (bare tables) given
-spelled_same tables t row given =
-    ap (λ (f : MoveRow → List ℕ). lists_of (needs_in given.moves) (overs_in given.moves) (map f given.moves))
-    (λ i r. longer (end_same tables t row given.kind.length r.sections i) (from_turn r.turn r.sections))
-
 -- the table of moves of the changed tables
-pub table_changed : (tables : Tables) (t : ℕ) (row : TrainRow) → table_of (with_row tables t row) ≡ set (table_of tables) t (spelled (bare (with_row tables t row)) row)
+pub table_changed : (tables : Tables) (t : ℕ) (row : TrainRow) → table_of (with_row tables t row) ≡ set (table_of tables) t (spelled (bare tables) row)
 table_changed tables t row =
-    (λ i. map (λ given. spelled_same tables t row given i) (set tables.trains t row))
-    ∙ map-set (spelled (bare tables)) tables.trains t row
-    ∙ ap (set (table_of tables) t) (sym (spelled_same tables t row row))
+    (λ i. map (λ given. spelled_same tables (set tables.trains t row) given i) (set tables.trains t row)) ∙ map-set (spelled (bare tables)) tables.trains t row
 
--- with its own row of the train, a table is that of the tables again
-pub table_there : (tables : Tables) (t : ℕ) (row : TrainRow) (moves : List MoveLists) → t < length tables.trains → moves ≡ table_of (with_row tables t row)
-    → set moves t (spelled (bare tables) (get_or tables.trains t no_train)) ≡ table_of tables
-table_there tables t row moves lt is =
-    let own : MoveLists = spelled (bare tables) (get_or tables.trains t no_train) in
-    let other : MoveLists = spelled (bare (with_row tables t row)) row in
-    ap (λ (m : List MoveLists). set m t own) (is ∙ table_changed tables t row)
-    ∙ ap (λ (lists : MoveLists). set (set (table_of tables) t other) t lists) (sym (get_or-map (spelled (bare tables)) tables.trains t no_train no_lists lt))
-    ∙ put_back (table_of tables) t other no_lists
+-- a table of one train has its row
+pub alone : (table : List MoveLists) → length table ≡ 1 → table ≡ get_or table 0 no_lists ∷ []
+alone [] one = absurd (omega (arith, one))
+alone (row ∷ []) one = refl
+alone (row ∷ next ∷ rows) one = absurd (omega (arith, one))
 
 -- moves that were exchanged are as before once they are exchanged again
 pub moves_back : (table now one two : List MoveLists) (t : ℕ) → 0 < length one → now ≡ set table t (get_or one 0 no_lists) → two ≡ set one 0 (get_or table t no_lists)
@@ -67,9 +53,3 @@ moves_back table now one two t some here there =
     (λ i. set (here i) t (get_or (there i) 0 no_lists))
     ∙ ap (λ (lists : MoveLists). set (set table t (get_or one 0 no_lists)) t lists) (get_or-set_same one 0 (get_or table t no_lists) no_lists some)
     ∙ put_back table t (get_or one 0 no_lists) no_lists
-
--- so are tables
-pub tables_back : (tables now : Tables) (t : ℕ) (row : TrainRow) → now ≡ with_row tables t row → with_row now t (get_or tables.trains t no_train) ≡ tables
-tables_back tables now t row is =
-    ap (λ (given : Tables). with_row given t (get_or tables.trains t no_train)) is
-    ∙ ap (λ (rows : List TrainRow). record tables { trains = rows }) (put_back tables.trains t row no_train)

@@ -1,6 +1,6 @@
 -- The answer to a proposal, from what was found.
-use Rattle.std.proofs.Common.{◌≡◌, ℕ, suc, ◌<◌, ◌^◌, List, Option, refl, Some, None, Result, Ok, IsErr, IfOk, IfSome, MatchOption, sym, ap, ◌∙◌, subst, inr, arith}
-use Rattle.std.proofs.lemmas.Result.{IfOk-from_err, IfOk-weaker}
+use Rattle.std.proofs.Common.{◌≡◌, ℕ, ◌<◌, ◌^◌, List, Some, None, Result, Ok, IsErr, IfOk, IfSome, MatchOption, sym, ap, ◌∙◌, subst, inr, arith}
+use Rattle.std.proofs.lemmas.Result.{IfOk-from_err}
 use Rattle.rail_base.specs.Refusals.{AnswersFirst, refusal_in}
 use Rattle.rail_base.specs.declared.refusals.Fault.{Fault}
 use Rattle.rail_base.specs.declared.refusals.Fault.TheVariants as fault
@@ -8,17 +8,12 @@ use Rattle.rail_base.specs.declared.refusals.OutOfMemory.{OutOfMemory}
 use Rattle.rail_base.specs.declared.refusals.Refusal.{Refusal}
 use Rattle.rail_rules.specs.Plant.{moves_of}
 use Rattle.rail_scene.specs.declared.scene.Scene.{Scene}
-use Rattle.rail_compile.specs.Itineraries.{plant_of_scene, tables_of}
-use Rattle.rail_compile.specs.Refusals.{compile_refusal, fault_for, train_tests}
+use Rattle.rail_compile.specs.Itineraries.{plant_of_scene}
+use Rattle.rail_compile.specs.Refusals.{compile_refusal}
 use Rattle.rail_reroute.specs.Judgements.{IsJudged, IsProposed, LeadsTo, rerouted}
 use Rattle.rail_reroute.specs.declared.judgements.Judged.{Judged}
 use Rattle.rail_reroute.specs.declared.judgements.Judged.TheVariants.{Out, Refused, Overlap, NoList, List as Listed}
-use Rattle.rail_base.specs.FirstRefusals.{first_failing}
-use Rattle.rail_plan.specs.PlanFaults.{fault_of}
-use Rattle.rail_plan.specs.declared.faults.PlanFault.{PlanFault}
-use Rattle.rail_plan.specs.declared.faults.PlanFault.TheVariants.{TooLong, SelfBlocked, OutOfMemory as NoMemory}
-use Rattle.rail_reroute.specs.Judges.{AnswersTables}
-use Rattle.rail_reroute.proofs.Refused.{after, refusal_for, refusal_is, refused}
+use Rattle.rail_reroute.proofs.Refused.{refused}
 
 module _ (scene : Scene) (s : List ℕ) (t : ℕ) (routes : List (List ℕ)) (h : IsProposed scene s t routes) where
   -- a fault of compiling the rerouted scene is at a place that fits its type
@@ -42,15 +37,3 @@ module _ (scene : Scene) (s : List ℕ) (t : ℕ) (routes : List (List ℕ)) (h 
   judged_found compiles (Overlap x first second) found = (record { inside = h.inside; few = h.few; compiles = compiles }, found)
   judged_found compiles NoList found = (record { inside = h.inside; few = h.few; compiles = compiles }, found)
   judged_found compiles (Listed list) found = (record { inside = h.inside; few = h.few; compiles = compiles }, found)
-
-  -- what is answered for the tables of the rerouted scene is the answer
-  pub judged_tables : (result : Result Judged OutOfMemory) → first_failing (train_tests scene (suc t) (after scene s t routes h)) ≡ None
-      → AnswersTables (tables_of (rerouted scene s t routes)) s result → IfOk result (IsJudged scene s t routes)
-  judged_tables result none answers = by (fault_of (tables_of (rerouted scene s t routes))) refl
-    where
-      by : (first : Option PlanFault) → fault_of (tables_of (rerouted scene s t routes)) ≡ first → IfOk result (IsJudged scene s t routes)
-      by None is = IfOk-weaker result (LeadsTo (moves_of (plant_of_scene (rerouted scene s t routes))) scene.depth s) (IsJudged scene s t routes)
-          (λ answer found. judged_found (refusal_is scene s t routes h none ∙ ap refusal_for is) answer found) (answers.found is)
-      by (Some (TooLong u place)) is = judged_refused (fault_for (TooLong u place)) result (refusal_is scene s t routes h none ∙ ap refusal_for is) (answers.refused (TooLong u place) is)
-      by (Some (SelfBlocked u place x)) is = judged_refused (fault_for (SelfBlocked u place x)) result (refusal_is scene s t routes h none ∙ ap refusal_for is) (answers.refused (SelfBlocked u place x) is)
-      by (Some NoMemory) is = judged_refused (fault_for NoMemory) result tt (answers.refused NoMemory is)

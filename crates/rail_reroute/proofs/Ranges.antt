@@ -17,7 +17,7 @@ use Rattle.rail_compile.specs.Refusals.{train_tests}
 use Rattle.rail_compile.specs.RowTypes.{is_typed_row}
 use Rattle.rail_compile.proofs.CallerLemmas.{row_fine}
 use Rattle.rail_reroute.specs.Judgements.{IsProposed, no_scene_train}
-use Rattle.rail_reroute.specs.Judges.{with_row}
+use Rattle.rail_reroute.proofs.Changed.{with_row}
 use Rattle.rail_reroute.proofs.Proposed.{fit, is_scene}
 use Rattle.rail_reroute.proofs.Refused.{after, changed, same_tables, unrefused}
 

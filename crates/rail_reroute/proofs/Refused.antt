@@ -15,7 +15,8 @@ use Rattle.rail_base.specs.declared.refusals.Reason.TheVariants as reason
 use Rattle.rail_base.specs.declared.refusals.Refusal.{Refusal}
 use Rattle.rail_rules.specs.Places.{place_of}
 use Rattle.rail_rules.specs.Plant.{moves, no_train}
-use Rattle.rail_plan.specs.PlanFaults.{bare, fault_of, fault_of_train}
+use Rattle.rail_plan.specs.PlanFaults.{IsAnswer, bare, fault_of, fault_of_train}
+use Rattle.rail_plan.specs.MoveTables.{row_with}
 use Rattle.rail_plan.specs.declared.faults.PlanFault.{PlanFault}
 use Rattle.rail_plan.specs.declared.faults.PlanFault.TheVariants.{TooLong, SelfBlocked, OutOfMemory}
 use Rattle.rail_routes.specs.declared.items.Route.{Route}
@@ -25,8 +26,7 @@ use Rattle.rail_compile.specs.Itineraries.{plant_of_scene, route_of, routes_of, 
 use Rattle.rail_compile.specs.Refusals.{are_known, compile_refusal, fault_for, is_known, route_tests, train_tests, trains_tests}
 use Rattle.rail_compile.proofs.CallerLemmas.{IsUnrefused, length-moves_over, train_is, unrefused_at}
 use Rattle.rail_reroute.specs.Judgements.{IsItineraryRefusal, IsProposed, no_scene_train, rerouted, rerouted_train}
-use Rattle.rail_reroute.proofs.Changed.{IsFaultOf, changed_train, fault_told, fault_within, only_changed}
-use Rattle.rail_reroute.specs.Judges.{with_row}
+use Rattle.rail_reroute.proofs.Changed.{IsFaultOf, changed_train, fault_told, fault_within, only_changed, with_row}
 use Rattle.rail_reroute.proofs.Itineraries.{both_none, changed_tests, route_told, told_at}
 
 -- what a fault of the tables is refused as
@@ -145,6 +145,22 @@ module _ (scene : Scene) (s : List ℕ) (t : ℕ) (routes : List (List ℕ)) (h 
   pub own_fault : fault_of (with_row (tables_of scene) t (train_row scene after)) ≡ fault_of_train (bare (with_row (tables_of scene) t (train_row scene after))) t
   own_fault = only_changed (tables_of scene) t (train_row scene after) (no_fault (fault_of (tables_of scene)) (fault_told (tables_of scene)) neither.1)
       (omega (arith, h.train, length-map scene.trains (train_row scene)))
+
+  -- where no test fails, the scene is refused for the first fault of the train
+  pub told_fault : first_failing (train_tests scene (suc t) after) ≡ None
+      → compile_refusal changed ≡ refusal_for (fault_of_train (bare (with_row (tables_of scene) t (train_row scene after))) t)
+  told_fault none = refusal_is none ∙ ap refusal_for (ap fault_of same_tables ∙ own_fault)
+
+  -- what answers the fault answers the refusal
+  pub fault_answers : (why : PlanFault) → first_failing (train_tests scene (suc t) after) ≡ None
+      → IsAnswer (fault_of_train (bare (with_row (tables_of scene) t (train_row scene after))) t) why → AnswersFirst (compile_refusal changed) (fault_for why)
+  fault_answers (TooLong u place) none is = told_fault none ∙ ap refusal_for is
+  fault_answers (SelfBlocked u place x) none is = told_fault none ∙ ap refusal_for is
+  fault_answers OutOfMemory none is = tt
+
+  -- the row of the train with the moves of the new itinerary
+  pub row_rerouted : row_with (tables_of scene) t (train_row scene after).moves ≡ train_row scene after
+  row_rerouted = ap (λ (row : TrainRow). record row { moves = (train_row scene after).moves }) (get_or-map (train_row scene) scene.trains t no_scene_train no_train h.train)
 
   -- the train has a known kind and known routes, and goes out
   pub unrefused : first_failing (train_tests scene (suc t) after) ≡ None → IsUnrefused changed after

@@ -4,7 +4,7 @@ ghost use Rattle.std.specs.Prelude.{◌≡◌, ◌≤◌, ◌<◌, ◌^◌, ◌+
 ghost use Rattle.rail_base.specs.declared.limits.TheConstants.{ITINERARY_ROUTES};
 ghost use Rattle.rail_base.specs.Refusals.{refusal_in};
 ghost use Rattle.rail_compile.specs.Itineraries.{plant_of_scene};
-ghost use Rattle.rail_compile.specs.Refusals.{are_known, compile_refusal, fault_for};
+ghost use Rattle.rail_compile.specs.Refusals.{are_known, compile_refusal};
 ghost use Rattle.rail_rules.specs.Places.{is_valid_state};
 ghost use Rattle.rail_rules.specs.Plant.{moves, moves_of};
 ghost use Rattle.rail_scene.specs.Scenes.{IsScene};
@@ -15,7 +15,6 @@ use crate::judges::Judge;
 use rail_base::limits::ITINERARY_ROUTES;
 use rail_base::{Fault, Name, OutOfMemory, Reason, SectionNo, Seq, TrainNo};
 use rail_compile::compile;
-use rail_plan::PlanFault;
 use rail_scene::Scene;
 use std::alloc::Global;
 
@@ -96,22 +95,5 @@ pub fn refused_for(fault: Fault) -> Result<Judged, OutOfMemory>
             place: refusal.step as u16,
         }),
         Fault::OutOfMemory => Err(OutOfMemory),
-    }
-}
-
-/// That the new itinerary is refused for this fault of the plant.
-pub fn fault_told(fault: PlanFault) -> Result<Judged, OutOfMemory>
-    ensures { MatchOption (refusal_in (fault_for fault)) (IsErr result) (λ refusal. result ≡ Ok (Refused refusal.reason refusal.step)) }
-{
-    match fault {
-        PlanFault::TooLong { place, .. } => Ok(Judged::Refused {
-            reason: Reason::TooLong,
-            place,
-        }),
-        PlanFault::SelfBlocked { place, .. } => Ok(Judged::Refused {
-            reason: Reason::SelfBlocked,
-            place,
-        }),
-        PlanFault::OutOfMemory => Err(OutOfMemory),
     }
 }

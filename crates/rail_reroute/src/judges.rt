@@ -1,32 +1,32 @@
 //! What judges proposals: what is made once of a scene, and exchanged for the train of a proposal.
 
-ghost use Rattle.std.specs.Prelude.{◌≡◌, ◌≤◌, ◌<◌, ℕ, IfOk, IsTrue, None, OnOk, get_or, length, set, slice_index};
-ghost use Rattle.rail_compile.specs.Itineraries.{plant_of_scene};
+ghost use Rattle.std.specs.Prelude.{◌≡◌, ◌≤◌, ◌<◌, ℕ, IfErr, IfOk, IsTrue, None, OnOk, get_or, length, set, slice_index};
+ghost use Rattle.rail_base.specs.Refusals.{AnswersFirst};
+ghost use Rattle.rail_compile.specs.Itineraries.{plant_of_scene, tables_of};
 ghost use Rattle.rail_compile.specs.Refusals.{are_known, compile_refusal};
 ghost use Rattle.rail_consequence.specs.AnalystStates.{IsAnalystFor};
 ghost use Rattle.rail_consequence.specs.Needs.{AreRowsFor};
 ghost use Rattle.rail_place.specs.PlaceStates.{IsMadeFor};
 ghost use Rattle.rail_place.specs.Tables.{moves_in, no_lists};
-ghost use Rattle.rail_plan.specs.PlanFaults.{IsPlannable, bare, fault_of, fault_of_train};
 ghost use Rattle.rail_rules.specs.Places.{is_valid_state};
 ghost use Rattle.rail_rules.specs.Plant.{moves, moves_of};
 ghost use Rattle.rail_scene.specs.Scenes.{IsScene};
-ghost use Rattle.rail_reroute.specs.Judgements.{IsJudged, IsProposed};
-ghost use Rattle.rail_reroute.specs.Judges.{AnswersTables, IsJudgeFor, IsOfTables, IsWithin, with_row};
+ghost use Rattle.rail_reroute.specs.Judgements.{IsJudged, IsProposed, LeadsTo, rerouted};
+ghost use Rattle.rail_reroute.specs.Judges.{IsJudgeFor, IsOfTables, IsRowFor, moves_with};
 
-use crate::judgements::{Judged, fault_told, is_out_at, is_too_many, refused_for};
+use crate::judgements::{Judged, is_out_at, is_too_many, refused_for};
 use crate::state::find_way;
-use crate::trains::{exchange_row, rerouted_train};
-use rail_base::{Name, OutOfMemory, Reason, Tables, TrainNo, TrainRow};
-use rail_compile::{Lookups, compile_train};
+use crate::trains::rerouted_train;
+use rail_base::{Fault, Name, OutOfMemory, Reason, Tables, TrainNo};
+use rail_compile::{Lookups, compile_moves, fault_for};
 use rail_consequence::{Analyst, Rows};
 use rail_place::{Moves, Places};
-use rail_plan::{Plant, moves_of_train, train_fault};
+use rail_plan::{Plant, moves_over};
 use rail_scene::Scene;
 use std::alloc::Global;
 
-/// What judges the proposals for a scene. Between two of them it stands for the scene; for a proposal the row of its train,
-/// the train's moves and their sets are exchanged, and then put back. The trains stand where they stood for the last proposal.
+/// What judges the proposals for a scene. Between two of them it stands for the scene; for a proposal the moves of its train
+/// and their sets are exchanged, and then put back. The trains stand where they stood for the last proposal.
 pub struct Judge {
     lookups: Lookups,
     tables: Tables,
@@ -152,65 +152,59 @@ impl Judge {
         ensures own { IsJudgeFor scene.now self.new }
         ensures answer { IfOk result (IsJudged scene.now positions.now train routes.now) }
     {
+        match self.rerouted_moves(alloc, scene, positions, train, routes) {
+            Ok(moves) => self.judge_moves(alloc, positions, train, moves),
+            Err(fault) => refused_for(fault),
+        }
+    }
+
+    /// The moves of the train with the new itinerary, or what the scene is refused for with it.
+    fn rerouted_moves(
+        &self,
+        alloc: Global,
+        scene: &Scene,
+        positions: &[u16],
+        train: TrainNo,
+        routes: &[Name],
+    ) -> Result<Moves, Fault>
+        requires own { IsJudgeFor scene.now self.now }
+        requires proposed { IsProposed scene.now positions.now train routes.now }
+        ensures accepted { OnOk result (compile_refusal (rerouted scene.now positions.now train routes.now) ≡ None) }
+        ensures moves { IfOk result (IsRowFor (tables_of scene.now) train (tables_of (rerouted scene.now positions.now train routes.now))) }
+        ensures refused { IfErr result (AnswersFirst (compile_refusal (rerouted scene.now positions.now train routes.now))) }
+    {
         scene.network.sections();
         let index = usize::from(train.0);
         let before = &scene.trains.as_slice()[index];
         let after = rerouted_train(alloc, before, positions[index], routes)?;
         let item = u32::from(train.0) + 1;
-        match compile_train(alloc, scene, &self.lookups, item, &after) {
-            Ok(row) => self.judge_row(alloc, positions, train, row),
-            Err(fault) => refused_for(fault),
+        let rows = compile_moves(alloc, scene, &self.lookups, item, &after)?;
+        match moves_over(alloc, &self.tables, train, rows.as_slice()) {
+            Ok(moves) => Ok(moves),
+            Err(fault) => Err(fault_for(fault)),
         }
     }
 
-    /// The answer where the train has this row: for a fault of the tables with it, or for what the state leads to there.
-    fn judge_row(
+    /// What the state leads to where the train has these moves.
+    fn judge_moves(
         &mut self,
         alloc: Global,
         positions: &[u16],
         train: TrainNo,
-        row: TrainRow,
+        row: Moves,
     ) -> Result<Judged, OutOfMemory>
         requires own { IsOfTables self.old.tables self.old }
-        requires train { train < length self.old.tables.trains }
-        requires plannable { IsPlannable (with_row self.old.tables train row) }
-        requires fault { fault_of (with_row self.old.tables train row) ≡ fault_of_train (bare (with_row self.old.tables train row)) train }
-        requires places { IsWithin (bare (with_row self.old.tables train row)) positions.now }
+        requires train { train < length self.old.moves }
+        requires one { length row ≡ 1 }
+        requires long { length positions.now ≡ length self.old.moves }
+        requires within { (t : ℕ) → t < length self.old.moves → slice_index positions.now t ≤ (moves_with self.old.moves train row).moves t }
         requires there { self.old.places.positions ≡ positions.now }
-        ensures kept { self.new.lookups ≡ self.old.lookups }
+        ensures lookups { self.new.lookups ≡ self.old.lookups }
         ensures tables { self.new.tables ≡ self.old.tables }
         ensures own { IsOfTables self.old.tables self.new }
-        ensures answer { AnswersTables (with_row self.old.tables train row) positions.now result }
+        ensures answer { IfOk result (LeadsTo (moves_with self.old.moves train row) self.old.tables.depth positions.now) }
     {
-        let mut other = row;
-        exchange_row(alloc, &mut self.tables, train, &mut other);
-        let answer = self.judge_tables(alloc, positions, train);
-        exchange_row(alloc, &mut self.tables, train, &mut other);
-        answer
-    }
-
-    /// The answer where the tables have the row of the train.
-    fn judge_tables(
-        &mut self,
-        alloc: Global,
-        positions: &[u16],
-        train: TrainNo,
-    ) -> Result<Judged, OutOfMemory>
-        requires own { (row : TrainRow) × IsOfTables (with_row self.old.tables train row) self.old }
-        requires train { train < length self.old.tables.trains }
-        requires plannable { IsPlannable self.old.tables }
-        requires fault { fault_of self.old.tables ≡ fault_of_train (bare self.old.tables) train }
-        requires places { IsWithin (bare self.old.tables) positions.now }
-        requires there { self.old.places.positions ≡ positions.now }
-        ensures kept { self.new.lookups ≡ self.old.lookups }
-        ensures tables { self.new.tables ≡ self.old.tables }
-        ensures own { (tables : Tables) → IsOfTables tables self.old → IsOfTables tables self.new }
-        ensures answer { AnswersTables self.old.tables positions.now result }
-    {
-        if let Some(fault) = train_fault(&self.tables, train) {
-            return fault_told(fault);
-        }
-        let mut moves = moves_of_train(alloc, &self.tables, train)?;
+        let mut moves = row;
         let mut sets = Rows::new(alloc, &moves)?;
         self.places.put(&self.moves, train, 0);
         self.exchange(train, &mut moves, &mut sets);

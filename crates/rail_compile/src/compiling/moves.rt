@@ -8,6 +8,7 @@ ghost use Rattle.rail_compile.specs.Ways.{AreWays, are_numbers, routes_at};
 use crate::compiling::itineraries::{route_in, turn_between, way_in};
 use crate::compiling::ways::Ways;
 use rail_base::{MoveRow, Seq, TurnRow};
+use rail_plan::LentMove;
 use rail_routes::Network;
 use std::alloc::{AllocError, Global};
 
@@ -27,6 +28,25 @@ pub fn moves_over(
         let way = way_in(network, ways, numbers, index);
         let turn = turn_after(network, numbers, index);
         moves.push(with_turn(alloc, &way.row, turn)?)?;
+    }
+    Ok(moves)
+}
+
+/// The moves over the routes of these numbers, lent by the ways.
+pub fn lent_over<'a>(
+    alloc: Global,
+    network: &Network,
+    ways: &'a Ways,
+    numbers: &[usize],
+) -> Result<Vec<LentMove<'a>>, AllocError>
+    requires ways { AreWays network.now ways.now }
+    requires numbers { IsTrue (are_numbers network.now numbers.now) }
+    ensures { IfOk result (λ moves. moves.items ≡ moves_over network.now (routes_at network.now numbers.now)) }
+{
+    let mut moves = Vec::with_capacity(alloc, numbers.len())?;
+    for index in 0..numbers.len() {
+        let way = way_in(network, ways, numbers, index);
+        moves.push(LentMove::new(&way.row, turn_after(network, numbers, index)))?;
     }
     Ok(moves)
 }

@@ -15,10 +15,11 @@ ghost use Rattle.rail_compile.specs.Ways.{AreWays, are_numbers, routes_at};
 
 use crate::compiling::itineraries::{of_train, route_numbers, route_refusal};
 use crate::compiling::kinds::kind_of;
-use crate::compiling::moves::{copied, moves_over};
+use crate::compiling::moves::{copied, lent_over, moves_over};
 use crate::compiling::ways::Ways;
 use indexmap::IndexSet;
 use rail_base::{Fault, MoveRow, Name, Reason, Seq, Time, TrainKind, TrainRow};
+use rail_plan::LentMove;
 use rail_scene::{Scene, SceneTrain};
 use std::alloc::Global;
 
@@ -146,6 +147,29 @@ pub fn train_row(
     let kind = kind_of(scene.kinds.as_slice(), kinds, train.kind);
     let moves = moves_over(alloc, &scene.network, ways, &numbers)?;
     Ok(typed_row(train.name, kind, train.entry, train.priority, moves))
+}
+
+/// The moves of a train, lent by the ways, or its first refusal. Its name is a name by its type.
+pub fn train_moves<'a>(
+    alloc: Global,
+    scene: &Scene,
+    kinds: &IndexSet<Name>,
+    ways: &'a Ways,
+    item: u32,
+    train: &SceneTrain,
+) -> Result<Vec<LentMove<'a>>, Fault>
+    requires kinds { kinds.now.keys ≡ map (λ (kind : TrainKind). kind.name) scene.now.kinds }
+    requires ways { AreWays scene.now.network ways.now }
+    requires train { IsTrue (is_fit_train train.now) }
+    ensures accepted { OnOk result (first_failing (train_tests scene.now item train.now) ≡ None) }
+    ensures moves { IfOk result (λ moves. moves.items ≡ (train_row scene.now train.now).moves) }
+    ensures typed { IsTrue (is_typed_row (train_row scene.now train.now)) }
+    ensures refused { IfErr result (AnswersFirst (first_failing (train_tests scene.now item train.now))) }
+{
+    prove!(!train.name.as_bytes().is_empty());
+    prove!(train.priority <= 255);
+    let numbers = itinerary_of(alloc, scene, kinds, ways, item, train)?;
+    Ok(lent_over(alloc, &scene.network, ways, &numbers)?)
 }
 
 /// The numbers of the routes of the train's itinerary, or its first refusal.

@@ -1,6 +1,6 @@
-use Rattle.std.proofs.Common.{◌≡◌, None}
-use Rattle.rail_plan.specs.PlanFaults.{bare, first_answer, fault_of_train}
+use Rattle.std.proofs.Common.{◌≡◌, ◌-◌, None}
+use Rattle.rail_plan.specs.PlanFaults.{bare, first_answer, fault_over}
 use Rattle.rail_plan.proofs.faults.first_fault.Given as goal
 
-abbrev pub invariant-loop-index : goal.invariant-loop-index
-invariant-loop-index l = first_answer (fault_of_train (bare l.tables)) l.index ≡ None
+abbrev pub invariant-loop-place : goal.invariant-loop-place
+invariant-loop-place l = first_answer (fault_over (bare l.tables) l.train l.metres l.moves) (l.place - 1) ≡ None
