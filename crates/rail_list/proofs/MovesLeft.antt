@@ -1,5 +1,5 @@
 -- How many entries a list that completes has of each train: as many as the train has moves left.
-use Rattle.std.proofs.Common.{◌≡◌, ◌≢◌, ℕ, zero, suc, ◌+◌, ◌-◌, ◌<◌, ◌≤◌, true, false, ◌&&◌, eqb, List, [], ◌∷◌, ◌++◌, length, get_or, take, drop, refl, sym, ap, ◌∙◌, subst, ⊎_elim, arith}
+use Rattle.std.proofs.Common.{◌≡◌, ◌≢◌, ℕ, zero, suc, ◌+◌, ◌-◌, ◌<◌, ◌≤◌, true, false, ◌&&◌, eqb, List, [], ◌∷◌, ◌++◌, length, take, drop, refl, sym, ap, ◌∙◌, subst, ⊎_elim, arith}
 use Rattle.std.specs.List.{remove}
 use Rattle.std.proofs.lemmas.Bool.{and_parts, cases_eq, cases_lt, cases_Bool, cond-true, cond-false, eq-eqb, ne_eqb, false≢true}
 use Rattle.std.proofs.lemmas.List.{append_assoc, drop_at, get_or-set_same, length-append, length-drop, length-take-le, take-take}
@@ -70,13 +70,11 @@ entries_fit plan s list u done =
     (λ out. omega (arith, none_left plan s list u done out))
     (cases_Bool (is_inside plan s u))
 
--- an entry and those of its train behind it are no more than the train's entries
-pub times_from : (list : List ℕ) (i u d : ℕ) → i < length list → u ≡ get_or list i d → suc (times u (drop (i + 1) list)) ≤ times u list
-times_from [] i u d lt is = absurd (omega arith)
-times_from (v ∷ rest) zero u d lt is = omega (arith, ap (λ k. times u (k ∷ rest)) (sym is), times-same u rest)
-times_from (v ∷ rest) (suc i) u d lt is =
-    let next : suc i + 1 ≡ suc (i + 1) = omega arith in
-    omega (arith, times_from rest i u d (omega arith) is, times-cons u v rest, ap (λ k. times u (drop k (v ∷ rest))) next)
+-- the entries of a train from an index on
+pub times_drop : (i u : ℕ) (list : List ℕ) → times u (drop i list) ≤ times u list
+times_drop zero u list = omega arith
+times_drop (suc i) u [] = omega arith
+times_drop (suc i) u (v ∷ rest) = omega (arith, times_drop i u rest, times-cons u v rest)
 
 -- an entry taken out, as the parts around it
 removed_parts : {X : Type 0} → (xs : List X) (k : ℕ) → k < length xs → remove xs k ≡ take k xs ++ drop (k + 1) xs

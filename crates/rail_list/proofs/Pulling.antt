@@ -1,8 +1,8 @@
 -- The list without the first entry of a train that has made its move: the entries before that one, and the rest.
-use Rattle.std.proofs.Common.{◌≡◌, ◌≢◌, ℕ, suc, ◌+◌, ◌<◌, true, ◌&&◌, eqb, ltb, List, [], ◌∷◌, length, get_or, drop, set, refl, sym, ap, ◌∙◌, ⊎_elim, arith}
+use Rattle.std.proofs.Common.{◌≡◌, ◌≢◌, ℕ, suc, ◌<◌, true, ◌&&◌, eqb, ltb, List, [], ◌∷◌, length, get_or, set, refl, sym, ap, ◌∙◌, ⊎_elim, arith}
 use Rattle.std.specs.List.{remove}
 use Rattle.std.proofs.lemmas.Bool.{and_parts, cases_eq, cond-true, cond-false, eq-eqb, ne_eqb, not-true, false≢true}
-use Rattle.std.proofs.lemmas.List.{get_or-set_other, set_comm, drop_more}
+use Rattle.std.proofs.lemmas.List.{get_or-set_other, set_comm}
 use Rattle.rail_rules.specs.Numbers.{any_below}
 use Rattle.rail_rules.specs.Moves.{Moves}
 use Rattle.rail_rules.specs.Places.{place_of, is_inside, is_legal, after, completes}
@@ -39,6 +39,17 @@ first_there plan s (u ∷ rest) t done inside =
     omega (arith, rest_there, ap length (cond-false (eqb u t) [] (u ∷ before_first t rest) (ne_eqb u t other))))
     (cases_eq u t)
 
+-- the first entry of the train
+pub first_is : (list : List ℕ) (t : ℕ) → length (before_first t list) < length list → get_or list (length (before_first t list)) 0 ≡ t
+first_is [] t there = absurd (omega (arith, there))
+first_is (u ∷ rest) t there =
+    ⊎_elim
+    (λ same. ap (λ xs. get_or (u ∷ rest) (length xs) 0) (cond-true (eqb u t) [] (u ∷ before_first t rest) (eq-eqb u t same)) ∙ same)
+    (λ other.
+    let before : before_first t (u ∷ rest) ≡ u ∷ before_first t rest = cond-false (eqb u t) [] (u ∷ before_first t rest) (ne_eqb u t other) in
+    ap (λ xs. get_or (u ∷ rest) (length xs) 0) before ∙ first_is rest t (omega (arith, there, ap length before)))
+    (cases_eq u t)
+
 -- the first entry of the train taken out
 pub removed_is : (list : List ℕ) (t : ℕ) → remove list (length (before_first t list)) ≡ without_first t list
 removed_is [] t = refl
@@ -50,9 +61,3 @@ removed_is (u ∷ rest) t =
     ∙ ap (λ xs. u ∷ xs) (removed_is rest t)
     ∙ sym (cond-false (eqb u t) rest (u ∷ without_first t rest) (ne_eqb u t other)))
     (cases_eq u t)
-
--- the entries before the first of the train, from an index on
-pub before_later : (list : List ℕ) (i u t : ℕ) → i < length list → u ≡ get_or list i u → u ≢ t → length (before_first t (drop i list)) ≡ suc (length (before_first t (drop (i + 1) list)))
-before_later list i u t lt is other =
-    let split : drop i list ≡ u ∷ drop (i + 1) list = drop_more list i u lt ∙ ap (λ x. x ∷ drop (i + 1) list) (sym is) in
-    ap (λ xs. length (before_first t xs)) split ∙ ap length (cond-false (eqb u t) [] (u ∷ before_first t (drop (i + 1) list)) (ne_eqb u t other))

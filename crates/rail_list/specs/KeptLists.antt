@@ -1,11 +1,11 @@
 -- The kept list and its room.
-use Rattle.std.specs.Prelude.{◌≡◌, ℕ, suc, ◌-◌, ◌==◌, Bool, true, ◌&&◌, cond, ◌≤◌, List, [], ◌∷◌, ◌++◌, length, replicate}
+use Rattle.std.specs.Prelude.{◌≡◌, ℕ, zero, suc, ◌-◌, ◌==◌, Bool, true, ◌&&◌, cond, ◌<◌, ◌≤◌, List, [], ◌∷◌, ◌++◌, length, replicate, drop, get_or}
 use Rattle.rail_rules.specs.Numbers.{sum_below, are_apart}
 use Rattle.rail_rules.specs.Moves.{Moves}
 use Rattle.rail_place.specs.Tables.{moves_in, MoveLists}
 use Rattle.rail_consequence.specs.Needs.{times}
 
--- the trains that move, in this order, for how many entries memory was taken, and how many entries were looked at
+-- the trains that move, in this order, for how many entries memory was taken, and how many looks at its runs there were
 pub record Kept : Type 0 where
   pub trains : List ℕ
   pub room : ℕ
@@ -31,7 +31,25 @@ is_free_before plan t sections (u ∷ rest) =
     let later = is_free_before plan t sections rest in
     cond (u == t) true (are_apart sections (plan.claim u (plan.moves u - suc (times u rest))) && later)
 
--- the list begins at the front, and memory was taken for so many entries and for no more
-pub record IsKeptIn (trains : List ℕ) (front room taken : ℕ) : Type 0 where
+-- how many entries of the train stand side by side at the start of the list
+abbrev pub entries_at_start : ℕ → List ℕ → ℕ
+entries_at_start t [] = 0
+entries_at_start t (u ∷ rest) = cond (u == t) (suc (entries_at_start t rest)) 0
+
+-- from each entry on at least so many entries of its train stand side by side, itself among them
+abbrev pub AreRuns : List ℕ → List ℕ → Type 0
+AreRuns list counts = (i : ℕ) → i < length list
+    → (1 ≤ get_or counts i 0) × (get_or counts i 0 ≤ entries_at_start (get_or list i 0) (drop i list))
+
+-- the counts for a run of so many entries: the first tells of all, each other one of itself
+abbrev pub counts_of_run : ℕ → List ℕ
+counts_of_run zero = []
+counts_of_run (suc n) = suc n ∷ replicate n 1
+
+-- the list begins at the front, with the runs of its entries beside it, and memory was taken for so many entries and for no more
+pub record IsKeptIn (trains counts : List ℕ) (front room taken taken_counts : ℕ) : Type 0 where
   pub within : front ≤ length trains
+  pub beside : length counts ≡ length trains
+  pub runs : AreRuns (drop front trains) (drop front counts)
   pub full : taken ≡ room
+  pub full_counts : taken_counts ≡ room

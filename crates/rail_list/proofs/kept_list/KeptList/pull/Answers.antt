@@ -1,12 +1,12 @@
-use Rattle.std.proofs.Common.{◌≡◌, ℕ, suc, ◌+◌, true, List, length, sym, ap, ◌∙◌, arith}
+use Rattle.std.proofs.Common.{◌≡◌, ℕ, suc, ◌+◌, true, List, length, get_or, sym, ap, ◌∙◌, arith}
 use Rattle.std.specs.List.{remove}
 use Rattle.rail_rules.specs.Fronts.{without_first}
 use Rattle.rail_rules.specs.Moves.{Moves, stand}
 use Rattle.rail_rules.specs.Places.{after, completes, is_inside, place_of}
 use Rattle.rail_place.specs.Tables.{moves_in}
 use Rattle.rail_place.proofs.CallerLemmas.{made_long}
-use Rattle.rail_list.specs.KeptLists.{is_free_before}
-use Rattle.rail_list.proofs.Pulling.{first_there, removed_is}
+use Rattle.rail_list.specs.KeptLists.{before_first, is_free_before}
+use Rattle.rail_list.proofs.Pulling.{first_is, first_there, removed_is}
 use Rattle.rail_list.proofs.Appending.{completing_listed}
 use Rattle.rail_list.proofs.Turns.{pulled_where_free}
 use Rattle.rail_list.proofs.kept_list.KeptList.pull.Goals as goal
@@ -16,14 +16,25 @@ free_entries_before-requires-clause-known c =
     let table = c.args.moves.now in
     completing_listed (moves_in table) c.args.places.now.positions c.args.self.now.trains (length table) (made_long table c.args.places.now c.requires.made) c.requires.completes
 
-pub take_out-requires : goal.take_out-requires
-take_out-requires c =
+pub take_out-requires-clause-within : goal.take_out-requires-clause-within
+take_out-requires-clause-within c =
     omega (
       arith,
       first_there (moves_in c.args.moves.now) c.args.places.now.positions c.args.self.now.trains c.args.train c.requires.completes c.requires.inside,
       c.in-Some.ensures.first,
       ap length c.in-Some.ensures.trains,
     )
+
+pub take_out-requires-clause-first : goal.take_out-requires-clause-first
+take_out-requires-clause-first c =
+    let list = c.args.self.now.trains in
+    let t = c.args.train in
+    let k = c.in-Some.first in
+    let there = first_there (moves_in c.args.moves.now) c.args.places.now.positions list t c.requires.completes c.requires.inside in
+    let here : t ≡ get_or list k 0 = sym (first_is list t there) ∙ ap (λ j. get_or list j 0) (sym c.in-Some.ensures.first) in
+    c.in-Some.ensures.first
+    ∙ ap (λ u. length (before_first u list)) here
+    ∙ ap (λ xs. length (before_first (get_or xs k 0) xs)) (sym c.in-Some.ensures.trains)
 
 pub returns-in-Some-clause-trains : goal.returns-in-Some-clause-trains
 returns-in-Some-clause-trains c =

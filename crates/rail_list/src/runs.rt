@@ -1,0 +1,63 @@
+//! The runs of a kept list: entries of one train that stand side by side.
+
+ghost use Rattle.std.specs.Prelude.{◌≡◌, suc, ◌+◌, ◌<◌, ◌≤◌, ◌++◌, drop, length, slice_index, vec_len, vec_capacity};
+ghost use Rattle.rail_list.specs.KeptLists.{AreRuns, counts_of_run, entries_at_start};
+
+use rail_base::{TrainNo, add_copies};
+
+/// Adds the counts for a run of so many entries at the end.
+pub fn add_run(runs: &mut Vec<u16>, count: u16)
+    requires { vec_len runs.old + count ≤ vec_capacity runs.old }
+    ensures rows { runs.new.items ≡ runs.old.items ++ counts_of_run count }
+    ensures room { vec_capacity runs.new ≡ vec_capacity runs.old }
+{
+    if count > 0 {
+        runs.push_reserved(count);
+        add_copies(runs, 1, usize::from(count - 1));
+    }
+}
+
+/// Counts the runs of the list: from each entry on how many entries of its train stand side by side, at most 2^16 - 1.
+pub fn count_runs(list: &[TrainNo], runs: &mut [u16])
+    requires { length runs.old ≡ length list.now }
+    ensures runs { AreRuns list.now runs.new }
+    ensures len { length runs.new ≡ length runs.old }
+{
+    let mut index = list.len();
+    while index > 0 {
+        index -= 1;
+        runs[index] = count_run(list, runs, index);
+    }
+}
+
+/// How many entries stand side by side from this one on, where the runs behind it are counted.
+fn count_run(list: &[TrainNo], runs: &[u16], index: usize) -> u16
+    requires within { index < length list.now }
+    requires long { length runs.now ≡ length list.now }
+    requires behind { AreRuns (drop (index + 1) list.now) (drop (index + 1) runs.now) }
+    ensures some { 1 ≤ result }
+    ensures few { result ≤ suc (entries_at_start (slice_index list.now index) (drop (index + 1) list.now)) }
+{
+    let next = index + 1;
+    if next < list.len() && list[next] == list[index] {
+        runs[next].saturating_add(1)
+    } else {
+        1
+    }
+}
+
+/// The run of an entry is then told by the entry behind it, where it has one in the run. The list and its counts begin at
+/// the front, and so many entries stand before that entry.
+pub fn pass_on(list: &[TrainNo], runs: &mut Vec<u16>, front: usize, before: usize)
+    requires within { front + before < length list.now }
+    requires long { vec_len runs.old ≡ length list.now }
+    requires runs { AreRuns (drop front list.now) (drop front runs.old.items) }
+    ensures runs { AreRuns (drop front list.now) (drop front runs.new.items) }
+    ensures len { vec_len runs.new ≡ vec_len runs.old }
+    ensures room { vec_capacity runs.new ≡ vec_capacity runs.old }
+{
+    let count = runs[front + before];
+    if count > 1 {
+        runs[front + before + 1] = count - 1;
+    }
+}
