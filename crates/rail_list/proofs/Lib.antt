@@ -3,6 +3,7 @@ pub mod CallerLemmas
 -- Lemmas on repaired lists, and the law that a public function states.
 mod Pulling
 mod SideBySide
+mod MovedBack
 mod Beside
 mod MovesLeft
 mod Turns

@@ -1,9 +1,7 @@
 -- How many entries a list that completes has of each train: as many as the train has moves left.
-use Rattle.std.proofs.Common.{◌≡◌, ◌≢◌, ℕ, zero, suc, ◌+◌, ◌-◌, ◌<◌, ◌≤◌, true, false, ◌&&◌, eqb, List, [], ◌∷◌, ◌++◌, length, take, drop, refl, sym, ap, ◌∙◌, subst, ⊎_elim, arith}
-use Rattle.std.specs.List.{remove}
+use Rattle.std.proofs.Common.{◌≡◌, ◌≢◌, ℕ, zero, suc, ◌+◌, ◌<◌, ◌≤◌, true, false, ◌&&◌, eqb, List, [], ◌∷◌, drop, refl, sym, ap, ◌∙◌, subst, ⊎_elim, arith}
 use Rattle.std.proofs.lemmas.Bool.{and_parts, cases_eq, cases_lt, cases_Bool, cond-true, cond-false, eq-eqb, ne_eqb, false≢true}
-use Rattle.std.proofs.lemmas.List.{append_assoc, drop_at, get_or-set_same, length-append, length-drop, length-take-le, take-take}
-use borrow.Rule.Slice.PartMut.{put_mid}
+use Rattle.std.proofs.lemmas.List.{get_or-set_same}
 use Rattle.rail_rules.specs.Moves.{Moves}
 use Rattle.rail_rules.specs.Places.{place_of, is_inside, is_legal, after, completes}
 use Rattle.rail_place.proofs.CallerLemmas.{inside_listed}
@@ -75,33 +73,3 @@ pub times_drop : (i u : ℕ) (list : List ℕ) → times u (drop i list) ≤ tim
 times_drop zero u list = omega arith
 times_drop (suc i) u [] = omega arith
 times_drop (suc i) u (v ∷ rest) = omega (arith, times_drop i u rest, times-cons u v rest)
-
--- an entry taken out, as the parts around it
-removed_parts : {X : Type 0} → (xs : List X) (k : ℕ) → k < length xs → remove xs k ≡ take k xs ++ drop (k + 1) xs
-removed_parts [] k lt = absurd (omega arith)
-removed_parts (x ∷ xs) zero lt = refl
-removed_parts (x ∷ xs) (suc k) lt =
-    let next : suc k + 1 ≡ suc (k + 1) = omega arith in
-    ap (λ ys. x ∷ ys) (removed_parts xs k (omega arith)) ∙ ap (λ n. x ∷ take k xs ++ drop n (x ∷ xs)) (sym next)
-
--- the entry put before those that stand before it, which are so moved back by one place
-pub gap_closed : {X : Type 0} → (xs ys : List X) (f k n : ℕ) → f + k < length xs → n ≡ k + 1
-    → ys ≡ drop (length (take n (drop f xs)) - 1) (take n (drop f xs)) ++ take (length (take n (drop f xs)) - 1) (take n (drop f xs))
-    → drop (f + 1) (put_mid f n xs ys) ≡ remove (drop f xs) k
-gap_closed xs ys f k n lt many is =
-    let begin : List _ = take f xs in
-    let list : List _ = drop f xs in
-    let part : List _ = take n list in
-    let entry : List _ = drop k part in
-    let behind : List _ = drop n list in
-    let within : k < length list = omega (arith, length-drop f xs, lt) in
-    let long : length part ≡ k + 1 = length-take-le n list (omega (arith, within, many)) ∙ many in
-    let last : length part - 1 ≡ k = omega (arith, long) in
-    let front : length (begin ++ entry) ≡ f + 1 = omega (arith, length-append begin entry, length-take-le f xs (omega (arith, lt)), length-drop k part, long) in
-    ap (λ zs. drop (f + 1) (begin ++ (zs ++ behind))) (is ∙ ap (λ j. drop j part ++ take j part) last)
-    ∙ ap (λ zs. drop (f + 1) (begin ++ zs)) (append_assoc entry (take k part) behind)
-    ∙ ap (drop (f + 1)) (sym (append_assoc begin entry (take k part ++ behind)))
-    ∙ drop_at (begin ++ entry) (take k part ++ behind) (f + 1) front
-    ∙ ap (λ zs. zs ++ behind) (take-take k n list (omega (arith, many)))
-    ∙ ap (λ j. take k list ++ drop j list) many
-    ∙ sym (removed_parts list k within)

@@ -1,20 +1,18 @@
 -- Entries of one train that stand side by side.
 use Rattle.std.proofs.Common.{◌≡◌, ◌≢◌, ℕ, zero, suc, ◌+◌, ◌-◌, ◌<◌, ◌≤◌, eqb, List, [], ◌∷◌, ◌++◌, length, replicate, get_or, drop, set, refl, sym, ap, ◌∙◌, subst, ⊎_elim, arith}
-use Rattle.std.specs.List.{remove}
 use Rattle.std.proofs.lemmas.Bool.{cases_eq, cond-true, cond-false, eq-eqb, ne_eqb}
 use Rattle.std.proofs.lemmas.List.{drop-drop, drop_more, get_or-drop, get_or-set_other, get_or-set_same, length-drop, length-replicate}
-use Rattle.rail_rules.specs.Fronts.{without_first}
-use Rattle.rail_list.specs.KeptLists.{AreRuns, before_first, counts_of_run, entries_at_start}
+use Rattle.rail_list.specs.KeptLists.{AreRuns, counts_of_run, entries_at_start}
 
 -- the entries at the start, where the first is one of the train and where it is one of another
-start_same : (u : ℕ) (rest : List ℕ) → entries_at_start u (u ∷ rest) ≡ suc (entries_at_start u rest)
+pub start_same : (u : ℕ) (rest : List ℕ) → entries_at_start u (u ∷ rest) ≡ suc (entries_at_start u rest)
 start_same u rest = cond-true (eqb u u) (suc (entries_at_start u rest)) 0 (eq-eqb u u refl)
 
-start_other : (u v : ℕ) (rest : List ℕ) → v ≢ u → entries_at_start u (v ∷ rest) ≡ 0
+pub start_other : (u v : ℕ) (rest : List ℕ) → v ≢ u → entries_at_start u (v ∷ rest) ≡ 0
 start_other u v rest ne = cond-false (eqb v u) (suc (entries_at_start u rest)) 0 (ne_eqb v u ne)
 
 -- some entries of the train at the start begin with one of it
-start_head : (u : ℕ) (list : List ℕ) → 1 ≤ entries_at_start u list → (get_or list 0 0 ≡ u) × (1 ≤ length list)
+pub start_head : (u : ℕ) (list : List ℕ) → 1 ≤ entries_at_start u list → (get_or list 0 0 ≡ u) × (1 ≤ length list)
 start_head u [] some = absurd (omega (arith, some))
 start_head u (v ∷ rest) some =
     ⊎_elim
@@ -97,38 +95,6 @@ each_alone (suc n) u = runs_cons u 1 (replicate n u) (replicate n 1) (omega arit
 pub runs_of_one : (n u : ℕ) → AreRuns (replicate n u) (counts_of_run n)
 runs_of_one zero u = λ i below. absurd (omega (arith, below))
 runs_of_one (suc n) u = runs_cons u (suc n) (replicate n u) (replicate n 1) (omega arith) (omega (arith, start_all n u)) (each_alone n u)
-
--- the first entry of another train taken out leaves no run shorter
-start_without : (u t : ℕ) (list : List ℕ) → u ≢ t → entries_at_start u list ≤ entries_at_start u (without_first t list)
-start_without u t [] ne = omega arith
-start_without u t (v ∷ rest) ne =
-    ⊎_elim
-    (λ same.
-    let kept : without_first t (v ∷ rest) ≡ u ∷ without_first t rest =
-    cond-false (eqb v t) rest (v ∷ without_first t rest) (ne_eqb v t (λ e. ne (sym same ∙ e))) ∙ ap (λ k. k ∷ without_first t rest) same in
-    omega (arith, ap (λ k. entries_at_start u (k ∷ rest)) same, start_same u rest, ap (entries_at_start u) kept, start_same u (without_first t rest), start_without u t rest ne))
-    (λ other. omega (arith, start_other u v rest other))
-    (cases_eq v u)
-
-pub runs_without : (t : ℕ) (list counts : List ℕ) → length counts ≡ length list → AreRuns list counts → AreRuns (without_first t list) (remove counts (length (before_first t list)))
-runs_without t [] counts long are = λ i below. absurd (omega (arith, below))
-runs_without t (u ∷ list) [] long are = absurd (omega (arith, long))
-runs_without t (u ∷ list) (c ∷ counts) long are =
-    let P : List ℕ → Type 0 = λ xs. AreRuns xs (remove (c ∷ counts) (length (before_first t (u ∷ list)))) in
-    ⊎_elim
-    (λ same.
-    let Q : List ℕ → Type 0 = λ ys. AreRuns list (remove (c ∷ counts) (length ys)) in
-    subst P (sym (cond-true (eqb u t) list (u ∷ without_first t list) (eq-eqb u t same)))
-    (subst Q (sym (cond-true (eqb u t) [] (u ∷ before_first t list) (eq-eqb u t same))) (runs_tail u c list counts are)))
-    (λ other.
-    let now = runs_first u c list counts are in
-    let left : List ℕ = without_first t list in
-    let Q : List ℕ → Type 0 = λ ys. AreRuns (u ∷ left) (remove (c ∷ counts) (length ys)) in
-    subst P (sym (cond-false (eqb u t) list (u ∷ left) (ne_eqb u t other)))
-    (subst Q (sym (cond-false (eqb u t) [] (u ∷ before_first t list) (ne_eqb u t other)))
-    (runs_cons u c left (remove counts (length (before_first t list))) now.0 (omega (arith, now.1, start_without u t list other))
-    (runs_without t list counts (omega (arith, long)) (runs_tail u c list counts are)))))
-    (cases_eq u t)
 
 -- another count that is one
 pub runs_set : (list counts : List ℕ) (k c : ℕ) → k < length counts → 1 ≤ c → c ≤ entries_at_start (get_or list k 0) (drop k list) → AreRuns list counts → AreRuns list (set counts k c)

@@ -1,7 +1,7 @@
 //! The entries of a kept list.
 
 ghost use Rattle.std.specs.Prelude.{◌≡◌, ℕ, ◌+◌, ◌-◌, ◌<◌, ◌≤◌, drop, length, IsTrue, IfSome, is_some, not, vec_len, vec_capacity};
-ghost use Rattle.std.specs.List.{All, remove};
+ghost use Rattle.std.specs.List.{All};
 ghost use Rattle.rail_base.specs.declared.limits.TheConstants.{ITINERARY_ROUTES, SECTIONS};
 ghost use Rattle.rail_rules.specs.Numbers.{any_below, are_apart, is_in};
 ghost use Rattle.rail_rules.specs.Places.{completes};
@@ -108,16 +108,6 @@ fn does_need_one(moves: &Moves, train: TrainNo, place: u16, sections: &[SectionN
         }
     }
     false
-}
-
-/// Takes out the row before which so many stand from the front on. These are moved back by one place, so
-/// that the table begins one place later.
-pub fn close_gap<T>(table: &mut [T], front: usize, before: usize)
-    requires { front + before < length table.old }
-    ensures rows { drop (front + 1) table.new ≡ remove (drop front table.old) before }
-    ensures len { length table.new ≡ length table.old }
-{
-    table[front..=front + before].rotate_right(1);
 }
 
 /// Moves the list, which begins at the front, and its runs to the start of their room where so many entries more would

@@ -6,8 +6,8 @@ ghost use Rattle.rail_rules.specs.Numbers.{sum_below};
 ghost use Rattle.rail_place.specs.Tables.{moves_in};
 ghost use Rattle.rail_list.specs.KeptLists.{HasRoomFor, before_first};
 
-use crate::entries::{close_gap, make_room};
-use crate::runs::{add_run, count_runs, pass_on};
+use crate::entries::make_room;
+use crate::runs::{add_run, close_gap, count_runs, pass_on};
 use rail_base::{OutOfMemory, TrainNo, add_copies, replace_rows};
 use rail_place::Moves;
 use std::alloc::Global;
@@ -127,8 +127,7 @@ impl KeptList {
         ensures looked { self.new.looked ≡ self.old.looked }
     {
         pass_on(&self.trains, &mut self.runs, self.front, before);
-        close_gap(&mut self.trains, self.front, before);
-        close_gap(&mut self.runs, self.front, before);
+        close_gap(&mut self.trains, &mut self.runs, self.front, before);
         self.front += 1;
     }
 

@@ -5,8 +5,8 @@
 //! the places after its move: the train's first entry is pulled out of it, or its remaining moves are appended.
 //! Since the old list completes, no move is played to test the new one: an entering train must have ended its
 //! first move safely, and before a pulled entry no entry may need what the train then stands on; both are laws.
-//! The list lies in one room from a front on, so that a pull moves only the entries before it. Beside each entry stands
-//! of how many entries of its train side by side it is known to be the first. So a repair looks at the list run by run;
+//! The list lies in one room from a front on, so that a pull moves only the runs before it. Beside each entry stands of
+//! how many entries of its train side by side it is known to be the first. So a repair looks at the list run by run;
 //! each look is counted, and none behind the train's first entry is made. Only where the list
 //! can't be repaired is the analysis asked for a fresh one, and a move is made only where a list is known. So
 //! wherever the kept list completes before a call, it does so after it. Where the analysis fails, the core of its search

@@ -1,7 +1,8 @@
 //! The runs of a kept list: entries of one train that stand side by side.
 
 ghost use Rattle.std.specs.Prelude.{◌≡◌, suc, ◌+◌, ◌<◌, ◌≤◌, ◌++◌, drop, length, slice_index, vec_len, vec_capacity};
-ghost use Rattle.rail_list.specs.KeptLists.{AreRuns, counts_of_run, entries_at_start};
+ghost use Rattle.std.specs.List.{remove};
+ghost use Rattle.rail_list.specs.KeptLists.{AreRuns, before_first, counts_of_run, entries_at_start};
 
 use rail_base::{TrainNo, add_copies};
 
@@ -59,5 +60,36 @@ pub fn pass_on(list: &[TrainNo], runs: &mut Vec<u16>, front: usize, before: usiz
     let count = runs[front + before];
     if count > 1 {
         runs[front + before + 1] = count - 1;
+    }
+}
+
+/// Takes out the train's first entry, before which so many stand, of the list that begins at the front. The runs before it
+/// are moved back by one place, so that the list begins one place later. Of a run only the ends change: one place behind its
+/// last entry it has one more, and its first place is that of the run before.
+pub fn close_gap(trains: &mut Vec<TrainNo>, runs: &mut Vec<u16>, front: usize, before: usize)
+    requires within { front + before < vec_len trains.old }
+    requires beside { vec_len runs.old ≡ vec_len trains.old }
+    requires runs { AreRuns (drop front trains.old.items) (drop front runs.old.items) }
+    requires first { let list = drop front trains.old.items in before ≡ length (before_first (slice_index list before) list) }
+    ensures trains { drop (front + 1) trains.new.items ≡ remove (drop front trains.old.items) before }
+    ensures runs { AreRuns (drop (front + 1) trains.new.items) (drop (front + 1) runs.new.items) }
+    ensures len { vec_len trains.new ≡ vec_len trains.old }
+    ensures beside { vec_len runs.new ≡ vec_len trains.old }
+    ensures room { vec_capacity trains.new ≡ vec_capacity trains.old }
+    ensures room_of_runs { vec_capacity runs.new ≡ vec_capacity runs.old }
+{
+    let mut index = front;
+    let mut train = trains[front];
+    let mut count = runs[front];
+    while index < front + before {
+        let next = index + usize::from(count);
+        let next_train = trains[next];
+        let next_count = runs[next];
+        trains[next] = train;
+        runs[next] = 1;
+        runs[index + 1] = count;
+        index = next;
+        train = next_train;
+        count = next_count;
     }
 }
