@@ -9,7 +9,7 @@ use Rattle.rail_sets.specs.declared.train_set.TrainSet.{TrainSet}
 use Rattle.rail_sets.specs.TrainSets.{has_train}
 use Rattle.rail_consequence.specs.Cores.{IsCore}
 use Rattle.rail_consequence.proofs.CallerLemmas.{core_behind, core_none}
-use Rattle.rail_list.specs.Failures.{AreFailures, Failed, core_at, is_kept, is_touched}
+use Rattle.rail_list.specs.Failures.{AreFailures, AreOthersKept, Failed, core_at, is_kept, is_touched}
 use Rattle.rail_list.proofs.Finding.{finds_none}
 
 -- the failures of the trains that a move does not touch last behind it
@@ -29,6 +29,27 @@ failures_behind plan depth s r moved old new there cores kept are t lt is =
     (subst Q same
     (core_behind plan depth s t moved (has_train (core_at old t)) listed
     (λ e. false≢true (sym apart.0 ∙ eq-eqb t moved (sym e))) apart.1 (are t listed both.0)))
+
+and_yes : (b : Bool) → (b && true) ≡ b
+and_yes true = refl
+and_yes false = refl
+
+-- and stay as they are
+pub others_forgotten : (moved : ℕ) (old new : Failed) → new.cores ≡ old.cores
+    → ((t : ℕ) → is_kept new t ≡ (is_kept old t && not (is_touched old moved t))) → AreOthersKept moved old new
+others_forgotten moved old new cores kept = λ t untouched. (
+  kept t ∙ ap (λ b. is_kept old t && not b) untouched ∙ and_yes (is_kept old t),
+  ap (λ (list : List TrainSet). core_at (record { cores = list; kept = new.kept }) t) cores,
+)
+
+-- so do all failures but that of the train of which one is kept
+pub others_noted : (moved : ℕ) (old new : Failed) → ((t : ℕ) → is_kept new t ≡ (t == moved || is_kept old t))
+    → ((t : ℕ) → t ≢ moved → core_at new t ≡ core_at old t) → AreOthersKept moved old new
+others_noted moved old new kept cores = λ t untouched.
+    let other : (t == moved) ≡ false = (or_parts (t == moved) (has_train (core_at old t) moved) untouched).0 in (
+      kept t ∙ ap (λ b. b || is_kept old t) other,
+      cores t (λ same. false≢true (sym other ∙ eq-eqb t moved same)),
+    )
 
 -- a failure more
 pub failures_more : (plan : Moves) (depth : ℕ) (s : List ℕ) (train : ℕ) (core : TrainSet) (old new : Failed)

@@ -1,5 +1,5 @@
 -- Searches that failed, by train.
-use Rattle.std.specs.Prelude.{◌≡◌, ℕ, ◌<◌, ◌==◌, Bool, true, ◌||◌, List, [], get_or, length}
+use Rattle.std.specs.Prelude.{◌≡◌, ℕ, ◌<◌, ◌==◌, Bool, true, false, ◌||◌, List, [], get_or, length}
 use Rattle.rail_rules.specs.Moves.{Moves}
 use Rattle.rail_rules.specs.Places.{after}
 use Rattle.rail_sets.specs.declared.train_set.TrainSet.{TrainSet}
@@ -30,3 +30,7 @@ is_touched failed moved t = t == moved || has_train (core_at failed t) moved
 -- each failure that is kept is one: the core bars what the next move of its train would lead to
 abbrev pub AreFailures : Moves → ℕ → List ℕ → Failed → Type 0
 AreFailures plan depth s failed = (t : ℕ) → t < length s → is_kept failed t ≡ true → IsCore plan depth (after s t) (has_train (core_at failed t))
+
+-- of each train that the move doesn't touch it stays whether its failure is kept, and with which core
+abbrev pub AreOthersKept : ℕ → Failed → Failed → Type 0
+AreOthersKept moved old new = (t : ℕ) → is_touched old moved t ≡ false → (is_kept new t ≡ is_kept old t) × (core_at new t ≡ core_at old t)

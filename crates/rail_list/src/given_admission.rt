@@ -7,7 +7,7 @@ ghost use Rattle.rail_rules.specs.Places.{after, completes, is_inside, is_legal,
 ghost use Rattle.rail_place.specs.PlaceStates.{IsMadeFor};
 ghost use Rattle.rail_place.specs.Tables.{moves_in};
 ghost use Rattle.rail_list.specs.KeptLists.{HasRoomFor, before_first};
-ghost use Rattle.rail_list.specs.Failures.{AreFailures};
+ghost use Rattle.rail_list.specs.Failures.{AreFailures, AreOthersKept};
 ghost use Rattle.rail_list.specs.GivenLists.{given_list, may_be_given};
 
 use crate::{Failures, KeptList};
@@ -39,6 +39,7 @@ pub fn admit_given(
     ensures none { result ≡ false → (places.new.positions ≡ places.old.positions) × (kept.new.trains ≡ kept.old.trains) }
     ensures failures { (depth : ℕ) → AreFailures (moves_in moves.now) depth places.old.positions failures.old
         → AreFailures (moves_in moves.now) depth places.new.positions failures.new }
+    ensures others { AreOthersKept train failures.old failures.new }
     ensures looked { kept.new.looked ≤ kept.old.looked + length (before_first train kept.old.trains) + 1 }
 {
     let admitted = match note {

@@ -4,7 +4,7 @@ ghost use Rattle.rail_rules.specs.Places.{after, completes, is_legal};
 ghost use Rattle.rail_place.specs.PlaceStates.{IsMadeFor};
 ghost use Rattle.rail_place.specs.Tables.{moves_in};
 ghost use Rattle.rail_consequence.specs.AnalystStates.{IsAnalystFor};
-ghost use Rattle.rail_list.specs.Failures.{AreFailures, is_kept};
+ghost use Rattle.rail_list.specs.Failures.{AreFailures, AreOthersKept, is_kept};
 ghost use Rattle.rail_list.specs.KeptLists.{HasRoomFor, before_first};
 ghost use Rattle.rail_list.specs.Repairs.{IsNoted, is_known, is_repairable_for};
 
@@ -36,6 +36,7 @@ pub fn admit_by_list(
     ensures made { IsMadeFor moves.now places.new }
     ensures own { IsAnalystFor (moves_in moves.now) analyst.new }
     ensures failures { AreFailures (moves_in moves.now) depth places.new.positions failures.new }
+    ensures others { AreOthersKept train failures.old failures.new }
     ensures room { kept.new.room ≡ kept.old.room }
     ensures none { IsNone result → (places.new.positions ≡ places.old.positions) × (kept.new.trains ≡ kept.old.trains)
         × (is_known (moves_in moves.now) depth places.old.positions kept.old.trains train ≡ false) }
@@ -107,6 +108,7 @@ fn admit_afresh(
     ensures made { IsMadeFor moves.now places.new }
     ensures own { IsAnalystFor (moves_in moves.now) analyst.new }
     ensures failures { AreFailures (moves_in moves.now) depth places.new.positions failures.new }
+    ensures others { AreOthersKept train failures.old failures.new }
     ensures room { kept.new.room ≡ kept.old.room }
     ensures exact { result ≡ finds (moves_in moves.now) depth (after places.old.positions train) }
     ensures none { result ≡ false → (places.new.positions ≡ places.old.positions) × (kept.new.trains ≡ kept.old.trains) }

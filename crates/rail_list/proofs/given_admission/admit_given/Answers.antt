@@ -4,7 +4,7 @@ use Rattle.rail_rules.specs.Places.{after}
 use Rattle.rail_place.specs.PlaceStates.{State}
 use Rattle.rail_place.specs.Tables.{moves_in}
 use Rattle.rail_list.specs.Failures.{AreFailures}
-use Rattle.rail_list.proofs.Failing.{failures_behind}
+use Rattle.rail_list.proofs.Failing.{failures_behind, others_forgotten}
 use Rattle.rail_list.proofs.given_admission.admit_given.Goals as goal
 use Rattle.rail_list.proofs.given_admission.admit_given.Goals.{in-Pulled, in-Appended, in-Fresh}
 
@@ -31,3 +31,6 @@ returns-else-admitted-clause-failures c = λ depth are.
       | in-Fresh w ↦ ap (λ (p : State). p.positions) w.places-is ∙ (w.admit_listed-admitted.ensures.none (sym w.admitted-is ∙ c.if-admitted.false)).0
     ] in
     subst (λ (r : List ℕ). AreFailures plan depth r c.args.failures.now) (sym same) are
+
+pub returns-then-admitted-clause-others : goal.returns-then-admitted-clause-others
+returns-then-admitted-clause-others c = others_forgotten c.args.train c.args.failures.now c.forget.new.self c.forget.ensures.cores c.forget.ensures.kept

@@ -8,7 +8,7 @@ use Rattle.rail_place.proofs.CallerLemmas.{made_long}
 use Rattle.rail_list.specs.Failures.{AreFailures}
 use Rattle.rail_list.proofs.Appending.{completing_fits}
 use Rattle.rail_list.proofs.Trying.{way}
-use Rattle.rail_list.proofs.Failing.{failure_noted, failures_behind}
+use Rattle.rail_list.proofs.Failing.{failure_noted, failures_behind, others_forgotten, others_noted}
 use Rattle.rail_list.proofs.Finding.{finds_none, finds_some}
 use Rattle.rail_list.proofs.repair.admit_afresh.Goals as goal
 
@@ -57,3 +57,9 @@ returns-else-search-clause-failures c =
     (failure_noted plan c.args.depth c.args.places.now.positions c.advance.new.self.positions c.args.train c.search.new.self.core c.core.result c.args.failures.now c.note.new.self
     c.advance.ensures.positions c.core.ensures (c.search.ensures.answer.stuck c.if-search.false)
     c.note.ensures.kept c.note.ensures.core c.note.ensures.others c.requires.failures)
+
+pub returns-then-search-clause-others : goal.returns-then-search-clause-others
+returns-then-search-clause-others c = others_forgotten c.args.train c.args.failures.now c.forget.new.self c.forget.ensures.cores c.forget.ensures.kept
+
+pub returns-else-search-clause-others : goal.returns-else-search-clause-others
+returns-else-search-clause-others c = others_noted c.args.train c.args.failures.now c.note.new.self c.note.ensures.kept c.note.ensures.others

@@ -7,7 +7,7 @@ use Rattle.rail_place.specs.PlaceStates.{State}
 use Rattle.rail_place.specs.Tables.{moves_in}
 use Rattle.rail_place.proofs.CallerLemmas.{made_long}
 use Rattle.rail_list.specs.Repairs.{is_repairable_for}
-use Rattle.rail_list.proofs.Failing.{failure_finds_none, failures_behind}
+use Rattle.rail_list.proofs.Failing.{failure_finds_none, failures_behind, others_forgotten}
 use Rattle.rail_list.proofs.Remaining.{fresh_some, noted_completes}
 use Rattle.rail_list.proofs.repair.admit_by_list.Goals as goal
 
@@ -50,3 +50,6 @@ returns-then-has-clause-none c = λ none.
       or_from (is_repairable_for plan s list c.args.train) (finds plan c.args.depth (after s c.args.train)) not_so.1
           (failure_finds_none plan c.args.depth s c.args.train c.args.failures.now c.requires.failures (omega (arith, c.requires.train, made_long c.args.moves.now c.args.places.now c.requires.made)) (sym c.has.ensures ∙ c.if-has.true)),
     )
+
+pub returns-in-Some-clause-others : goal.returns-in-Some-clause-others
+returns-in-Some-clause-others c = others_forgotten c.args.train c.args.failures.now c.forget.new.self c.forget.ensures.cores c.forget.ensures.kept
