@@ -65,7 +65,8 @@ impl Model for KeptList {
 
     ghost view = { λ kept. record { trains = drop kept.front kept.trains.items; room = kept.room; looked = kept.looked } };
 
-    ghost invariant = { λ kept. IsKeptIn kept.trains.items kept.runs.items kept.front kept.room (vec_capacity kept.trains) (vec_capacity kept.runs) };
+    ghost invariant = { λ kept.
+        IsKeptIn kept.trains.items kept.runs.items kept.front kept.room (vec_capacity kept.trains) (vec_capacity kept.runs) };
 }
 
 impl KeptList {
