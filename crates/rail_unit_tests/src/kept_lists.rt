@@ -45,10 +45,10 @@ fn begins_empty(rt: HostRuntime) {
 
 #[test]
 fn a_pull_looks_no_further_than_the_first_entry(rt: HostRuntime) {
-    assert!(rt; looks_of_a_pull(rt.alloc()) == Some(3));
+    assert!(rt; looks_of_a_pull(rt.alloc()) == Some(2));
 }
 
-/// How many entries were looked at once train 1 was pulled, before whose first entry two of train 2 stand.
+/// How many looks there were once train 1 was pulled, before whose first entry a run of train 2 stands.
 fn looks_of_a_pull(alloc: Global) -> Option<u64> {
     let moves = moves_of(alloc, TRAINS)?;
     let list = trains_of(alloc, "2211").ok()?;
