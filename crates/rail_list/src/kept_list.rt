@@ -7,7 +7,7 @@ ghost use Rattle.rail_place.specs.Tables.{moves_in};
 ghost use Rattle.rail_list.specs.KeptLists.{HasRoomFor, before_first};
 
 use crate::entries::make_room;
-use crate::runs::{add_run, close_gap, count_runs, pass_on};
+use crate::runs::{add_run, close_gap, count_runs, fit, pass_on};
 use rail_base::{OutOfMemory, TrainNo, add_copies, replace_rows};
 use rail_place::Moves;
 use std::alloc::Global;
@@ -152,8 +152,7 @@ impl KeptList {
         ensures looked { self.new.looked ≡ self.old.looked }
     {
         replace_rows(&mut self.trains, list);
-        self.runs.truncate(0);
-        add_copies(&mut self.runs, 1, list.len());
+        fit(&mut self.runs, list.len());
         count_runs(list, &mut self.runs);
         self.front = 0;
     }

@@ -1,9 +1,10 @@
 //! The runs of a kept list: entries of one train that stand side by side.
 
-ghost use Rattle.std.specs.Prelude.{◌≡◌, suc, ◌+◌, ◌<◌, ◌≤◌, ◌++◌, drop, length, slice_index, vec_len, vec_capacity};
+ghost use Rattle.std.specs.Prelude.{◌≡◌, ℕ, List, ◌∷◌, suc, ◌+◌, ◌<◌, ◌≤◌, ◌++◌, drop, length, slice_index, vec_len, vec_capacity};
 ghost use Rattle.std.specs.List.{remove};
 ghost use Rattle.rail_list.specs.KeptLists.{AreRuns, before_first, counts_of_run, entries_at_start};
 
+use crate::kept_list::Run;
 use rail_base::{TrainNo, add_copies};
 
 /// Adds the counts for a run of so many entries at the end.
@@ -25,26 +26,40 @@ pub fn count_runs(list: &[TrainNo], runs: &mut [u16])
     ensures len { length runs.new ≡ length runs.old }
 {
     let mut index = list.len();
+    let mut run = Run {
+        train: TrainNo(0),
+        count: 0,
+    };
     while index > 0 {
         index -= 1;
-        runs[index] = count_run(list, runs, index);
+        run = run_from(list[index], run);
+        runs[index] = run.count;
     }
 }
 
-/// How many entries stand side by side from this one on, where the runs behind it are counted.
-fn count_run(list: &[TrainNo], runs: &[u16], index: usize) -> u16
-    requires within { index < length list.now }
-    requires long { length runs.now ≡ length list.now }
-    requires behind { AreRuns (drop (index + 1) list.now) (drop (index + 1) runs.now) }
-    ensures some { 1 ≤ result }
-    ensures few { result ≤ suc (entries_at_start (slice_index list.now index) (drop (index + 1) list.now)) }
+/// The run that begins with an entry of this train, where that one stands behind it.
+fn run_from(train: TrainNo, behind: Run) -> Run
+    ensures train { result.train ≡ train }
+    ensures some { 1 ≤ result.count }
+    ensures few { (list : List ℕ) → behind.count ≤ entries_at_start behind.train list → result.count ≤ entries_at_start train (train ∷ list) }
 {
-    let next = index + 1;
-    if next < list.len() && list[next] == list[index] {
-        runs[next].saturating_add(1)
+    let count = if train == behind.train {
+        behind.count.saturating_add(1)
     } else {
         1
-    }
+    };
+    Run { train, count }
+}
+
+/// There are then so many counts: those that there were are kept, and others are 1.
+pub fn fit(runs: &mut Vec<u16>, count: usize)
+    requires { count ≤ vec_capacity runs.old }
+    ensures len { vec_len runs.new ≡ count }
+    ensures room { vec_capacity runs.new ≡ vec_capacity runs.old }
+{
+    runs.truncate(count);
+    let more = count - runs.len();
+    add_copies(runs, 1, more);
 }
 
 /// The run of an entry is then told by the entry behind it, where it has one in the run. The list and its counts begin at
