@@ -202,3 +202,11 @@ closed_is plant deck force orders told sections are known = ap (option_map Close
     found [] all = refl
     found (x ∷ xs) all = let parts = and_parts (nat_lt x (length plant.tables.sections)) (list_all (λ x. nat_lt x (length plant.tables.sections)) xs) all in
         λ i. cond (are.closed x (ltb-true x (length plant.tables.sections) parts.0) i) (Some x) (found xs parts.1 i)
+
+-- where no section is closed none is found
+pub none_closed : (told : Told) (sections : List ℕ) → ((x : ℕ) → get_or told.closed x false ≡ false) → closed_in told sections ≡ None
+none_closed told sections none = ap (option_map Closed) (found sections)
+  where
+    found : (xs : List ℕ) → find (λ x. get_or told.closed x false) xs ≡ None
+    found [] = refl
+    found (x ∷ xs) = ap (λ b. cond b (Some x) (find (λ y. get_or told.closed y false) xs)) (none x) ∙ found xs

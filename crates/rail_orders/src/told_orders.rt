@@ -12,6 +12,8 @@ use std::marker::Model;
 /// priority of each train, and the policies that are left and in force. Sections and trains count from 0.
 pub struct ToldOrders {
     closed: Vec<bool>,
+    /// A section was closed at some time: before that no sections are looked through for a closed one.
+    has_closed: bool,
     stopped: Vec<bool>,
     cancelled: Vec<bool>,
     priorities: Vec<u8>,
@@ -25,6 +27,7 @@ impl Drop for ToldOrders {
     fn drop(self) {
         let ToldOrders {
             closed: _closed,
+            has_closed: _,
             stopped: _stopped,
             cancelled: _cancelled,
             priorities: _priorities,
@@ -35,7 +38,7 @@ impl Drop for ToldOrders {
 }
 
 impl Model for ToldOrders {
-    ghost use Rattle.std.specs.Prelude.{◌≡◌, length, vec_capacity};
+    ghost use Rattle.std.specs.Prelude.{◌≡◌, ℕ, false, get_or, length, vec_capacity};
     ghost use Rattle.rail_orders.specs.OrderTables.{Told};
 
     ghost Value = { Told };
@@ -53,7 +56,8 @@ impl Model for ToldOrders {
     ghost invariant = { λ orders. (vec_capacity orders.closed ≡ length orders.closed.items)
         × (vec_capacity orders.stopped ≡ length orders.stopped.items)
         × (vec_capacity orders.cancelled ≡ length orders.cancelled.items)
-        × (vec_capacity orders.priorities ≡ length orders.priorities.items) };
+        × (vec_capacity orders.priorities ≡ length orders.priorities.items)
+        × (orders.has_closed ≡ false → (x : ℕ) → get_or orders.closed.items x false ≡ false) };
 }
 
 impl ToldOrders {
@@ -72,6 +76,7 @@ impl ToldOrders {
         let trains = usize::from(plant.moves().trains());
         Ok(ToldOrders {
             closed: copies(alloc, false, sections, sections)?,
+            has_closed: false,
             stopped: copies(alloc, false, trains, trains)?,
             cancelled: copies(alloc, false, trains, trains)?,
             priorities: priorities_of(alloc, plant)?,
@@ -119,6 +124,9 @@ impl ToldOrders {
     pub fn closed_cause(&self, sections: &[SectionNo]) -> Option<Cause>
         ensures { result ≡ closed_in self.now sections.now }
     {
+        if !self.has_closed {
+            return None;
+        }
         let first = sections
             .iter()
             .find(|section| is_set(&self.closed, usize::from(section.0)))?;
@@ -150,7 +158,10 @@ impl ToldOrders {
         ensures { self.new ≡ told_after order.now self.old }
     {
         match order {
-            Order::Close(section) => set_at(&mut self.closed, usize::from(section.0), true),
+            Order::Close(section) => {
+                set_at(&mut self.closed, usize::from(section.0), true);
+                self.has_closed = true;
+            }
             Order::Reopen(section) => set_at(&mut self.closed, usize::from(section.0), false),
             Order::Stop(train) => set_at(&mut self.stopped, usize::from(train.0), true),
             Order::Go(train) => set_at(&mut self.stopped, usize::from(train.0), false),
