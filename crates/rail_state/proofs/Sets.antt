@@ -1,12 +1,14 @@
 -- The sets of the trains that pass a test, where trains are written; and the table of those that are blocked at a section.
-use Rattle.std.proofs.Common.{◌≡◌, ◌≢◌, ℕ, ◌<◌, ◌≤◌, ◌==◌, Bool, true, false, ◌&&◌, cond, is_some, List, ◌++◌, length, get_or, set, take, drop, Option, Some, None, MatchOption, refl, sym, ◌∙◌, ap, subst, ◌⊎◌, inl, inr, ⊎_elim, arith}
+use Rattle.std.proofs.Common.{◌≡◌, ◌≢◌, ℕ, ◌<◌, ◌≤◌, ◌==◌, Bool, true, false, not, ◌&&◌, cond, is_some, List, ◌++◌, length, get_or, set, take, drop, Option, Some, None, MatchOption, refl, sym, ◌∙◌, ap, subst, ◌⊎◌, inl, inr, ⊎_elim, arith}
 use Rattle.std.proofs.Math.Seq.{take-append_seam}
 use Rattle.std.proofs.lemmas.List.{get_or-set_same, get_or-set_other, get_or_default, get_or_past}
-use Rattle.std.proofs.lemmas.Bool.{cases_Bool, cases_lt, cond-true, cond-false, eq-eqb, eqb-true, false≢true}
+use Rattle.std.specs.Cmp.Lexicographic.{bytes_decides}
+use Rattle.std.proofs.lemmas.Bool.{and_parts, cases_Bool, cases_lt, cond-true, cond-false, eq-eqb, eqb-true, false≢true, not-true}
 use Rattle.std.proofs.lemmas.Bool.Decides.{nat_tests}
 use Rattle.rail_base.specs.declared.history.Cause.{Cause}
 use Rattle.rail_base.specs.declared.limits.TheConstants.{TRAINS}
 use Rattle.rail_base.specs.declared.orders.Order.{Order}
+use Rattle.rail_rules.specs.Fronts.{option_code, same_cause}
 use Rattle.rail_rules.specs.Plant.{Plant, claimed}
 use Rattle.rail_state.specs.declared.train.TrainState.{TrainState}
 use Rattle.rail_sets.specs.declared.train_set.TrainSet.{TrainSet}
@@ -14,8 +16,8 @@ use Rattle.rail_state.specs.declared.train_sets.TrainSets.{TrainSets}
 use Rattle.rail_sets.specs.TrainSets.{has_train}
 use Rattle.rail_state.specs.BlockedAt.{set_at}
 use Rattle.rail_laws_run.specs.HolderTables.{own_overlap}
-use Rattle.rail_state.specs.TrainStates.{IsAnyWaiting, IsNextOf, after_taking, is_blocked_at, is_touched, is_untried, lacks_hold_line, no_state, outlasts_taking, state_of, state_told, without_known}
-use Rattle.rail_state.specs.TrainSearches.{AreBlockedAt, AreSetsOf, HaveNobody, IsSetOf, is_changeable, is_waiting}
+use Rattle.rail_state.specs.TrainStates.{IsAnyWaiting, IsNextOf, after_hold_line, after_taking, is_blocked_at, is_touched, is_untried, lacks_hold_line, no_state, outlasts_taking, state_of, state_told, without_known}
+use Rattle.rail_state.specs.TrainSearches.{AreBlockedAt, AreSetsOf, HaveNobody, IsSetOf, is_changeable, is_waiting, may_change}
 
 -- what holds of the train that is written, and of the others as they were, holds of each train
 pub written : (P : ℕ → TrainState → Type 0) (states : List TrainState) (t : ℕ) (train_state : TrainState) → t < length states → P t train_state → ((u : ℕ) → u ≢ t → P u (state_of states u)) → (u : ℕ) → P u (state_of (set states t train_state) u)
@@ -61,8 +63,18 @@ put_set test states those now t train_state passes lt is put are =
     (put t ∙ cond-true (t == t) passes (has_train those t) (eq-eqb t t refl) ∙ is)
     (λ u ne. put u ∙ cond-false (u == t) passes (has_train those u) (other u t ne) ∙ are u)
 
+-- one train is written, which doesn't pass and leaves the set
+pub removed_set : (test : TrainState → Bool) (states : List TrainState) (those now : TrainSet) (t : ℕ) (train_state : TrainState) → t < length states → test train_state ≡ false
+    → ((u : ℕ) → has_train now u ≡ (not (u == t) && has_train those u)) → IsSetOf test states those → IsSetOf test (set states t train_state) now
+removed_set test states those now t train_state lt off left =
+    put_set test states those now t train_state false lt (sym off) (λ u. left u ∙ by (u == t) (has_train those u))
+  where
+    by : (b c : Bool) → (not b && c) ≡ cond b false c
+    by true c = refl
+    by false c = refl
+
 -- one train is written that passes the test as before
-same_set : (test : TrainState → Bool) (states : List TrainState) (those : TrainSet) (t : ℕ) (train_state : TrainState) → t < length states → test train_state ≡ test (state_of states t)
+pub same_set : (test : TrainState → Bool) (states : List TrainState) (those : TrainSet) (t : ℕ) (train_state : TrainState) → t < length states → test train_state ≡ test (state_of states t)
     → IsSetOf test states those → IsSetOf test (set states t train_state) those
 same_set test states those t train_state lt same are =
     written (λ u r. has_train those u ≡ test r) states t train_state lt (are t ∙ sym same) (λ u _. are u)
@@ -77,6 +89,50 @@ same_sets states sets t train_state lt waits untried lacks changeable are = reco
   lacking = same_set lacks_hold_line states sets.lacking t train_state lt lacks are.lacking;
   changeable = same_set is_changeable states sets.changeable t train_state lt changeable are.changeable;
 }
+
+-- a train whose cause isn't known waits where it is untried, lacks no hold line, and has no cause that may change
+pub untried_unknown : (train_state : TrainState) → train_state.known ≡ None → train_state.waits ≡ is_untried train_state
+untried_unknown train_state none = sym (ap (λ known. train_state.waits && not (is_some known)) none ∙ by train_state.waits)
+  where
+    by : (b : Bool) → (b && true) ≡ b
+    by true = refl
+    by false = refl
+
+pub lacks_unknown : (train_state : TrainState) → train_state.known ≡ None → lacks_hold_line train_state ≡ false
+lacks_unknown train_state none =
+    ap (λ known. train_state.waits && is_some known && not (same_cause train_state.last_hold known)) none ∙ by train_state.waits (not (same_cause train_state.last_hold None))
+  where
+    by : (b c : Bool) → ((b && false) && c) ≡ false
+    by true c = refl
+    by false c = refl
+
+pub changes_unknown : (train_state : TrainState) → train_state.known ≡ None → is_changeable train_state ≡ false
+changes_unknown train_state none = ap (may_change train_state.at_first) none
+
+and_false : (b : Bool) → (b && false) ≡ false
+and_false true = refl
+and_false false = refl
+
+-- a train whose cause is known isn't untried
+pub tried_known : (train_state : TrainState) → is_some train_state.known ≡ true → is_untried train_state ≡ false
+tried_known train_state some = ap (λ b. train_state.waits && not b) some ∙ and_false train_state.waits
+
+-- a train that was given its hold line doesn't lack it
+pub lacks_none : (train_state : TrainState) → lacks_hold_line (after_hold_line train_state) ≡ false
+lacks_none train_state =
+    ap (λ b. train_state.waits && is_some train_state.known && not b) ((bytes_decides (option_code train_state.known) (option_code train_state.known)).1 refl)
+    ∙ and_false (train_state.waits && is_some train_state.known)
+
+-- no cause is known
+pub unknown_is : (known : Option Cause) → is_some known ≡ false → known ≡ None
+unknown_is None off = refl
+unknown_is (Some why) off = absurd (false≢true (sym off))
+
+-- an untried train waits, and its cause isn't known
+pub untried_parts : (train_state : TrainState) → is_untried train_state ≡ true → (train_state.waits ≡ true) × (train_state.known ≡ None)
+untried_parts train_state untried =
+    let parts = and_parts train_state.waits (not (is_some train_state.known)) untried in
+    (parts.0, unknown_is train_state.known (not-true (is_some train_state.known) parts.1))
 
 -- nobody passes a test
 pub no_sets : (states : List TrainState) (sets : TrainSets) → HaveNobody sets

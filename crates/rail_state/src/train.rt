@@ -85,10 +85,7 @@ impl TrainState {
     pub fn is_blocked_at(&self, freed: SectionNo) -> bool
         ensures { result ≡ is_blocked_at freed self.now.known }
     {
-        match self.known {
-            Some(Cause::Blocked { section, .. }) => section == freed,
-            _ => false,
-        }
+        is_blocked_at(&self.known, freed)
     }
 
     /// The cause is no longer known where it was that this section is blocked. Whether it was.
@@ -149,16 +146,20 @@ impl TrainState {
     }
 
     /// Another train took sections, which leaves these holders: the cause stays known as long as the train waits and the
-    /// cause is the same.
-    pub(crate) fn note_taking(&mut self, plant: &Plant, holders: &Holders, train: TrainNo)
+    /// cause is the same. Whether it stays so.
+    pub(crate) fn note_taking(&mut self, plant: &Plant, holders: &Holders, train: TrainNo) -> bool
         requires known { train < trains plant.now }
         requires sections { length holders.now ≡ length plant.now.tables.sections }
         requires moves { self.old.waits ≡ true → self.old.place < moves plant.now train }
-        ensures { self.new ≡ after_taking plant.now holders.now train self.old }
+        ensures train_state { self.new ≡ after_taking plant.now holders.now train self.old }
+        ensures same { result ≡ true → self.new ≡ self.old }
+        ensures forgotten { result ≡ false → self.new.known ≡ None }
     {
-        if !(self.waits && self.outlasts_taking(plant, holders, train)) {
+        let stays = self.waits && self.outlasts_taking(plant, holders, train);
+        if !stays {
             self.known = None;
         }
+        stays
     }
 
     /// Whether the cause of the train's next move is the same behind an admission, which leaves these holders.
@@ -173,7 +174,7 @@ impl TrainState {
                 has_few_moves(plant, train);
                 let sections = claimed_sections(plant, train, self.place + 1);
                 let own = overlap_behind(plant, train, self.place);
-                !is_blocked_before(holders, train, own, section, sections)
+                is_unbarred_before(holders, train, own, section, sections)
             }
             Some(Cause::NoList) => false,
             _ => true,
@@ -231,6 +232,16 @@ impl TrainState {
         self.waits = false;
         self.last_hold = None;
         self.known = None;
+    }
+}
+
+/// Whether the cause is that this section is blocked.
+fn is_blocked_at(cause: &Option<Cause>, freed: SectionNo) -> bool
+    ensures { result ≡ is_blocked_at freed cause.now }
+{
+    match cause {
+        Some(Cause::Blocked { section, .. }) => *section == freed,
+        _ => false,
     }
 }
 
@@ -349,14 +360,14 @@ pub(crate) fn bar_holder(
     holders: &Holders,
     train: TrainNo,
     own: &[SectionNo],
-    section: SectionNo,
+    section: &SectionNo,
 ) -> Option<TrainNo>
-    requires { section < length holders.now }
-    ensures { result ≡ bar_holder holders.now train own.now section }
+    requires { section.now < length holders.now }
+    ensures { result ≡ bar_holder holders.now train own.now section.now }
 {
-    match holders.holder(section) {
+    match holders.holder(*section) {
         Some(holder) => {
-            if holder == train && own.contains(&section) {
+            if holder == train && own.contains(section) {
                 None
             } else {
                 Some(holder)
@@ -377,7 +388,7 @@ pub fn held_cause(
     ensures { result ≡ held_cause holders.now train own.now sections.now }
 {
     for section in sections {
-        if let Some(holder) = bar_holder(holders, train, own, *section) {
+        if let Some(holder) = bar_holder(holders, train, own, section) {
             return Some(Cause::Blocked {
                 section: *section,
                 holder,
@@ -385,6 +396,22 @@ pub fn held_cause(
         }
     }
     None
+}
+
+/// Whether the holder of no section that stands before this one among these bars the train. Mostly this one still is the
+/// first whose holder does.
+fn is_unbarred_before(
+    holders: &Holders,
+    train: TrainNo,
+    own: &[SectionNo],
+    section: SectionNo,
+    sections: &[SectionNo],
+) -> bool
+    requires { All (λ x. x < length holders.now) sections.now }
+    ensures { result ≡ not (is_blocked_before holders.now train own.now section sections.now) }
+{
+    let first = held_cause(holders, train, own, sections);
+    is_blocked_at(&first, section) || !is_blocked_before(holders, train, own, section, sections)
 }
 
 /// Whether the holder of a section that stands before this one among these bars the train.
@@ -402,7 +429,7 @@ fn is_blocked_before(
         if *other == section {
             return false;
         }
-        if bar_holder(holders, train, own, *other).is_some() {
+        if bar_holder(holders, train, own, other).is_some() {
             return true;
         }
     }

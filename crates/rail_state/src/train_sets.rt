@@ -1,9 +1,10 @@
 //! The trains of a run by what is kept of them.
 
-ghost use Rattle.std.specs.Prelude.{◌≡◌, ◌<◌, ℕ, List, length, set};
+ghost use Rattle.std.specs.Prelude.{◌≡◌, ◌<◌, ℕ, List, None, length, set, true};
 ghost use Rattle.rail_base.specs.declared.limits.TheConstants.{TRAINS};
 ghost use Rattle.rail_state.specs.declared.train.TrainState.{TrainState};
 ghost use Rattle.rail_state.specs.TrainSearches.{AreSetsOf, HaveNobody};
+ghost use Rattle.rail_state.specs.TrainStates.{after_hold_line, is_untried, state_of};
 
 use crate::train::TrainState;
 use rail_base::TrainNo;
@@ -45,5 +46,39 @@ impl TrainSets {
         self.untried.put(train, train_state.is_untried());
         self.lacking.put(train, train_state.lacks_hold_line());
         self.changeable.put(train, train_state.is_changeable());
+    }
+
+    /// The untried train was looked at, and this is kept of it now.
+    pub(crate) fn note_look(&mut self, train: TrainNo, train_state: &TrainState)
+        requires { train < TRAINS }
+        ensures { (states : List TrainState) → train < length states → is_untried (state_of states train) ≡ true
+            → train_state.now.waits ≡ true → AreSetsOf states self.old → AreSetsOf (set states train train_state.now) self.new }
+    {
+        if train_state.known.is_some() {
+            self.untried.remove(train);
+            self.lacking.put(train, train_state.lacks_hold_line());
+            self.changeable.put(train, train_state.is_changeable());
+        }
+    }
+
+    /// The cause of the train is no longer known, and this is kept of it now.
+    pub(crate) fn note_forgotten(&mut self, train: TrainNo, train_state: &TrainState)
+        requires train { train < TRAINS }
+        requires unknown { train_state.now.known ≡ None }
+        ensures { (states : List TrainState) → train < length states → train_state.now.waits ≡ (state_of states train).waits
+            → AreSetsOf states self.old → AreSetsOf (set states train train_state.now) self.new }
+    {
+        self.untried.put(train, train_state.waits);
+        self.lacking.remove(train);
+        self.changeable.remove(train);
+    }
+
+    /// The hold line of the train was given.
+    pub(crate) fn note_hold(&mut self, train: TrainNo)
+        requires { train < TRAINS }
+        ensures { (states : List TrainState) → train < length states → AreSetsOf states self.old
+            → AreSetsOf (set states train (after_hold_line (state_of states train))) self.new }
+    {
+        self.lacking.remove(train);
     }
 }

@@ -74,7 +74,7 @@ fn look_at(
 {
     let train_state = &mut rows[usize::from(train.0)];
     train_state.look(plant, orders, holders, train);
-    sets.note(train, train_state);
+    sets.note_look(train, train_state);
     has_few_sections(plant);
     train_state.note_in(blocked, train);
     train_state.is_untried()
@@ -140,7 +140,7 @@ pub(crate) fn look_again_at_each(
         let index = usize::from(train.0);
         if index < rows.len() {
             if rows[index].forget(section) {
-                sets.note(train, &rows[index]);
+                sets.note_forgotten(train, &rows[index]);
                 any = true;
             }
         }
@@ -190,7 +190,8 @@ pub(crate) fn note_taking_each(
     let mut left = sets.changeable;
     while let Some(train) = left.take_first() {
         let train_state = &mut rows[usize::from(train.0)];
-        train_state.note_taking(plant, holders, train);
-        sets.note(train, train_state);
+        if !train_state.note_taking(plant, holders, train) {
+            sets.note_forgotten(train, train_state);
+        }
     }
 }

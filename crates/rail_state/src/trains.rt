@@ -241,7 +241,7 @@ impl TrainStates {
     {
         let train_state = &mut self.rows[usize::from(train.0)];
         let arrival = train_state.hold();
-        self.sets.note(train, train_state);
+        self.sets.note_hold(train);
         arrival
     }
 

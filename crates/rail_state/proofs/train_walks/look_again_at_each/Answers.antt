@@ -1,4 +1,4 @@
-use Rattle.std.proofs.Common.{◌≡◌, ◌<◌, ℕ, List, length, get_or, set, true, false, refl, sym, ap, subst, ◌∙◌, arith}
+use Rattle.std.proofs.Common.{◌≡◌, ◌<◌, ℕ, List, length, get_or, set, true, false, cond, None, refl, sym, ap, subst, ◌∙◌, arith}
 use Rattle.std.proofs.lemmas.List.{get_or-set_same, get_or_default}
 use Rattle.rail_state.specs.declared.train.TrainState.{TrainState}
 use Rattle.rail_sets.specs.declared.train_set.TrainSet.{TrainSet}
@@ -8,6 +8,15 @@ use Rattle.rail_state.specs.TrainSearches.{AreSetsOf}
 use Rattle.rail_state.proofs.ChangeableCauses.{IsForgotten, forgot, forgotten_at, forgotten_other, forgotten_past, forgotten_same}
 use Rattle.rail_state.proofs.Turned.{IsTaken, turned_all}
 use Rattle.rail_state.proofs.train_walks.look_again_at_each.Goals as goal
+
+pub note_forgotten-requires-clause-unknown : goal.note_forgotten-requires-clause-unknown
+note_forgotten-requires-clause-unknown c =
+    let rows : List TrainState = c.loop-train.rows in
+    let t : ℕ = c.from-index.result in
+    let item : TrainState = c.index-rows-index.result in
+    let now : TrainState = c.forget.new.self in
+    ap (λ (r : TrainState). r.known) (get_or-set_same rows t now c.index-rows-index-then-forget.result c.if-index-rows.true ∙ c.forget.ensures.train_state)
+    ∙ ap (λ b. cond b None (get_or rows t item).known) (sym c.forget.ensures.was ∙ c.if-forget.true)
 
 pub loop-train-preserved-then-forget : goal.loop-train-preserved-then-forget
 loop-train-preserved-then-forget c =
@@ -27,12 +36,14 @@ loop-train-preserved-then-forget c =
     let now_is : now ≡ without_known x (state_of rows t) = c.forget.ensures.train_state ∙ ap (without_known x) read in
     let was : is_blocked_at x (state_of rows t).known ≡ true = ap (λ (r : TrainState). is_blocked_at x r.known) (sym read) ∙ sym c.forget.ensures.was ∙ c.if-forget.true in
     let again : TrainState = c.index-rows-index-then-forget.result in
-    let noted : AreSetsOf (set rows t (get_or (set rows t now) t again)) c.note.new.self =
-    subst (λ (k : ℕ). AreSetsOf (set rows k (get_or (set rows t now) t again)) c.note.new.self) at (c.note.ensures rows (omega (arith, at, within)) before.sets) in
+    let waits : (get_or (set rows t now) t again).waits ≡ (state_of rows c.in-Some.train).waits =
+    ap (λ (r : TrainState). r.waits) (get_or-set_same rows t now again within ∙ now_is) ∙ ap (λ (k : ℕ). (state_of rows k).waits) (sym at) in
+    let noted : AreSetsOf (set rows t (get_or (set rows t now) t again)) c.note_forgotten.new.self =
+    subst (λ (k : ℕ). AreSetsOf (set rows k (get_or (set rows t now) t again)) c.note_forgotten.new.self) at (c.note_forgotten.ensures rows (omega (arith, at, within)) waits before.sets) in
     record {
       forgotten = subst (λ (r : TrainState). IsForgotten x c.args.rows.now (set rows t r) fewer true) (sym now_is)
           (forgotten_at x c.args.rows.now rows left fewer c.loop-train.any t on taken within before.forgotten was);
-      sets = subst (λ (r : TrainState). AreSetsOf (set rows t r) c.note.new.self) (get_or-set_same rows t now again within) noted;
+      sets = subst (λ (r : TrainState). AreSetsOf (set rows t r) c.note_forgotten.new.self) (get_or-set_same rows t now again within) noted;
     }
 
 pub loop-train-preserved-else-forget : goal.loop-train-preserved-else-forget
