@@ -187,9 +187,11 @@ fn index_of_least(offers: &[Offer], kind: PolicyKind, mark: u16) -> usize
     ensures { HasLeastKey kind mark offers.now result }
 {
     let mut least = 0;
+    let mut first = &offers[0];
     for (index, offer) in offers.iter().enumerate() {
-        if offer.goes_before(&offers[least], kind, mark) {
+        if offer.goes_before(first, kind, mark) {
             least = index;
+            first = offer;
         }
     }
     least
