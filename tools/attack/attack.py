@@ -1,7 +1,7 @@
 #!/usr/bin/env python3
 """Hands the program files that are cut, changed, too large or pipes, and many of them at once.
 
-usage: attack.py PROGRAM cuts|mutations|histories|sizes|pipes|crowd [COUNT] [SEED] [OTHER ..]
+usage: attack.py PROGRAM cuts|mutations|histories|sizes|pipes|terminal|crowd [COUNT] [SEED] [OTHER ..]
 
 The files are those of the commands in examples/README.md. Each answer must be one that docs/FORMATS.md allows: an exit status
 with its status text, nothing on standard output unless all is done, a history is judged or a write failed, no control
@@ -15,12 +15,14 @@ character on standard error, and an end within a minute. Beside that
              must name one line and law;
   sizes      files at each limit and one past it: just those past it are refused, as too many;
   pipes      each file is a named pipe: what is answered is what the file itself gives;
+  terminal   standard error is a terminal: what is answered is the same, and a policy that is not there is told with its line;
   crowd      COUNT runs at once print what each prints alone.
 
 Printed are how many were tried, how many of them refused, and each wrong one; the exit status is 1 where one was wrong.
 """
 
 import os
+import pty
 import random
 import re
 import subprocess
@@ -284,6 +286,36 @@ def try_pipes(program, score):
         score.note(" ".join(words), answer, fault_of(answer) or (None if same else "another answer than the file's"))
 
 
+def at_terminal(program, words):
+    """What the program answers where standard error is a terminal."""
+    ours, its = pty.openpty()
+    ran = subprocess.run([*program, *words], cwd=TOP, stdin=subprocess.DEVNULL, stdout=subprocess.PIPE, stderr=its, timeout=SECONDS)
+    os.close(its)
+    told = b""
+    try:
+        while piece := os.read(ours, 65_536):
+            told += piece
+    except OSError:  # the terminal is closed, and has no more
+        pass
+    os.close(ours)
+    return ran.returncode, ran.stdout, told.replace(b"\r\n", b"\n")
+
+
+def try_terminal(program, score):
+    for words in commands():
+        answer = at_terminal(program, words)
+        score.note(" ".join(words), answer, fault_of(answer) or (None if answer == ask(program, words) else "another answer than elsewhere"))
+    scene = next(words[1] for words in commands() if words[0] == "run")
+    with tempfile.NamedTemporaryFile(suffix=".cmd") as file:
+        file.write(b"00:00:00 policy fcfs\n00:00:00 policy best\n")
+        file.flush()
+        words = ["run", scene, "-", file.name]
+        status, out, told = at_terminal(program, words)
+        is_told = told.startswith(f"{file.name}: line 2: no policy is named best, ".encode()) and told.count(b"\n") == 1
+        elsewhere = ask(program, words)
+        score.note("a policy that is not there", elsewhere, None if is_told and elsewhere == (status, out, b"") else f"it tells {told}")
+
+
 def try_crowd(program, count, score):
     wanted = {tuple(words): ask(program, words) for words in commands()}
     asked = (list(wanted) * (count // len(wanted) + 1))[:count]
@@ -308,6 +340,8 @@ def main():
         try_sizes(program, score)
     elif what == "pipes":
         try_pipes(program, score)
+    elif what == "terminal":
+        try_terminal(program, score)
     elif what == "crowd":
         try_crowd(program, count, score)
     else:
