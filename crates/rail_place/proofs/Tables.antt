@@ -1,5 +1,5 @@
 -- Reading a table of moves, and adding a train to it.
-use Rattle.std.proofs.Common.{◌≡◌, ℕ, zero, suc, ◌+◌, ◌-◌, ◌<◌, ◌≤◌, Bool, true, ◌&&◌, cond, ltb, List, [], ◌∷◌, ◌++◌, length, get_or, map, set, refl, sym, ap, ◌∙◌, subst, inl, inr, ◌⊎◌, ⊎_elim, arith}
+use Rattle.std.proofs.Common.{Global, ◌≡◌, ℕ, zero, suc, ◌+◌, ◌-◌, ◌<◌, ◌≤◌, Bool, true, ◌&&◌, cond, ltb, List, [], ◌∷◌, ◌++◌, length, get_or, map, set, refl, sym, ap, ◌∙◌, subst, inl, inr, ◌⊎◌, ⊎_elim, arith}
 use Rattle.std.proofs.lemmas.Bool.{and_parts, cases_lt, cases_eq, false≢true, ltb-true, lt-ltb, cond-true}
 use Rattle.std.proofs.lemmas.List.{get_or_past, get_or_push, get_or_append_left, get_or-map, get_or-set_other, get_or-set_same, length-map, length-set, length_push, map-set}
 use Rattle.std.specs.List.{list_all}
@@ -7,16 +7,24 @@ use Rattle.rail_base.specs.declared.limits.TheConstants.{ITINERARY_ROUTES, OVERL
 use Rattle.rail_rules.specs.Numbers.{all_below, is_in, are_apart}
 use Rattle.rail_rules.specs.Moves.{Moves, stand, is_valid_move, is_valid}
 use Rattle.rail_rules.proofs.CallerLemmas.{all_below_at, all_below_from, stand_needed}
-use Rattle.rail_place.specs.Tables.{moves_in, IsTable, MoveLists, no_lists}
+use Rattle.std.specs.declared.rc.Rc.{Rc}
+use Rattle.rail_place.specs.Tables.{AreFirsts, moves_in, IsTable, MoveLists, no_lists}
 use Rattle.rail_place.specs.declared.moves.Row.{Row}
 
 -- a row as contracts see it
 abbrev pub row_of : Row → MoveLists
 row_of row = record { claims = row.claims; overs = row.overs; stands = row.stands }
 
--- what the code reads of a row
-pub row_read : (rows : List Row) (t : ℕ) (row : Row) → t < length rows → row ≡ get_or rows t row → get_or (map row_of rows) t no_lists ≡ row_of row
-row_read rows t row lt is = get_or-map row_of rows t row no_lists lt ∙ ap row_of (sym is)
+-- a row that trains share, as contracts see it
+abbrev pub Kept : Type 0
+Kept = Rc Row Global
+
+abbrev pub kept_of : Kept → MoveLists
+kept_of kept = row_of kept.value
+
+-- what the code reads of it
+pub row_read : (rows : List Kept) (t : ℕ) (kept : Kept) → t < length rows → kept ≡ get_or rows t kept → get_or (map kept_of rows) t no_lists ≡ kept_of kept
+row_read rows t kept lt is = get_or-map kept_of rows t kept no_lists lt ∙ ap kept_of (sym is)
 
 pub stand-inner : (plan : Moves) (t p : ℕ) → 0 < p → p < plan.moves t → stand plan t p ≡ plan.standing t (p - 1)
 stand-inner plan t zero low high = absurd (omega arith)
@@ -130,12 +138,12 @@ table_pushed table row h room short narrow in_range valid =
     }
 
 -- the same behind the view of the table
-pub row_at : (now : List MoveLists) (rows : List Row) (t k : ℕ) (row : Row) → map row_of rows ≡ now → k ≡ t → t < length now → row ≡ get_or rows k row → get_or now t no_lists ≡ row_of row
-row_at now rows t k row view same lt is =
-    let within : k < length rows = omega (arith, ap length view, length-map rows row_of) in
-    ap (λ n. get_or n t no_lists) (sym view) ∙ ap (λ i. get_or (map row_of rows) i no_lists) (sym same) ∙ row_read rows k row within is
+pub row_at : (now : List MoveLists) (rows : List Kept) (t k : ℕ) (kept : Kept) → map kept_of rows ≡ now → k ≡ t → t < length now → kept ≡ get_or rows k kept → get_or now t no_lists ≡ kept_of kept
+row_at now rows t k kept view same lt is =
+    let within : k < length rows = omega (arith, ap length view, length-map rows kept_of) in
+    ap (λ n. get_or n t no_lists) (sym view) ∙ ap (λ i. get_or (map kept_of rows) i no_lists) (sym same) ∙ row_read rows k kept within is
 
-pub table_at : (now : List MoveLists) (rows : List Row) → map row_of rows ≡ now → IsTable (map row_of rows) → IsTable now
+pub table_at : (now : List MoveLists) (rows : List Kept) → map kept_of rows ≡ now → IsTable (map kept_of rows) → IsTable now
 table_at now rows view h = let P : List MoveLists → Type 0 = λ n. IsTable n in subst P view h
 
 -- the moves of a train, as its row tells them
@@ -201,7 +209,58 @@ table_exchanged table others t k h other lt =
     }
 
 -- a row put among others, as a table sees it
-pub row_set : (now : List MoveLists) (rows : List Row) (i t : ℕ) (row : Row) (lists : MoveLists) → map row_of rows ≡ now → i ≡ t → row_of row ≡ lists
-    → map row_of (set rows i row) ≡ set now t lists
-row_set now rows i t row lists view same is =
-    map-set row_of rows i row ∙ (λ j. set (view j) (same j) (is j))
+pub row_set : (now : List MoveLists) (rows : List Kept) (i t : ℕ) (kept : Kept) (lists : MoveLists) → map kept_of rows ≡ now → i ≡ t → kept_of kept ≡ lists
+    → map kept_of (set rows i kept) ≡ set now t lists
+row_set now rows i t kept lists view same is =
+    map-set kept_of rows i kept ∙ (λ j. set (view j) (same j) (is j))
+
+-- a train that makes the moves of one of the table
+pub table_repeated : (table : List MoveLists) (t : ℕ) → IsTable table → length table < TRAINS → t < length table → IsTable (table ++ get_or table t no_lists ∷ [])
+table_repeated table t h room lt =
+    let row : MoveLists = get_or table t no_lists in
+    table_pushed table row h room (h.short t) (h.narrow t) (h.in_range t)
+    (valid_by_rows (row ∷ []) ∙ all_below_from (λ u. row_test (get_or (row ∷ []) u no_lists)) 1 (λ u lu.
+    let here : u ≡ 0 = omega (arith, lu) in
+    ap (λ k. row_test (get_or (row ∷ []) k no_lists)) here ∙ row_kept table t h lt))
+
+-- the first trains, where one more comes that has its own
+pub firsts_pushed : (table : List MoveLists) (firsts : List ℕ) (row : MoveLists) (first : ℕ) → AreFirsts table firsts → length firsts ≡ length table
+    → first ≤ length table → get_or (table ++ row ∷ []) first no_lists ≡ row → AreFirsts (table ++ row ∷ []) (firsts ++ first ∷ [])
+firsts_pushed table firsts row first h all before same =
+    let whole : List MoveLists = table ++ row ∷ [] in
+    let size : length (firsts ++ first ∷ []) ≡ length firsts + 1 = length_push firsts first in
+    let at : (t : ℕ) → t < length firsts → get_or (firsts ++ first ∷ []) t 0 ≡ get_or firsts t 0 = λ t lt. get_or_append_left firsts (first ∷ []) 0 t lt in
+    let last : (t : ℕ) → t ≡ length firsts → get_or (firsts ++ first ∷ []) t 0 ≡ first = λ t is. get_or_push firsts first 0 t (sym is) in
+    record {
+      known = omega (arith, size, all, length_push table row);
+      before = λ t lt. ⊎_elim
+          (λ below. omega (arith, at t below, h.before t below))
+          (λ above. let is : t ≡ length firsts = omega (arith, lt, size, above) in omega (arith, last t is, is, all, before))
+          (cases_lt t (length firsts));
+      same = λ t lt. ⊎_elim
+          (λ below.
+          let low : get_or firsts t 0 < length table = omega (arith, h.before t below, below, all) in
+          ap (λ k. get_or whole k no_lists) (at t below)
+          ∙ get_or_append_left table (row ∷ []) no_lists (get_or firsts t 0) low
+          ∙ h.same t below
+          ∙ sym (get_or_append_left table (row ∷ []) no_lists t (omega (arith, below, all))))
+          (λ above.
+          let is : t ≡ length firsts = omega (arith, lt, size, above) in
+          ap (λ k. get_or whole k no_lists) (last t is) ∙ same ∙ sym (get_or_push table row no_lists t (omega (arith, is, all))))
+          (cases_lt t (length firsts));
+    }
+
+-- and where it is not known of all before it
+pub firsts_kept : (table : List MoveLists) (firsts : List ℕ) (row : MoveLists) → AreFirsts table firsts → AreFirsts (table ++ row ∷ []) firsts
+firsts_kept table firsts row h = record {
+  known = omega (arith, h.known, length_push table row);
+  before = h.before;
+  same = λ t lt.
+      get_or_append_left table (row ∷ []) no_lists (get_or firsts t 0) (omega (arith, h.before t lt, lt, h.known))
+      ∙ h.same t lt
+      ∙ sym (get_or_append_left table (row ∷ []) no_lists t (omega (arith, lt, h.known)));
+}
+
+-- nothing is known of the first trains
+pub no_firsts : (table : List MoveLists) → AreFirsts table []
+no_firsts table = record { known = omega arith; before = λ t lt. absurd (omega (arith, lt)); same = λ t lt. absurd (omega (arith, lt)) }

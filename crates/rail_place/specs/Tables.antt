@@ -58,3 +58,9 @@ pub record IsTable (table : List MoveLists) : Type 0 where
   pub short : (t : ℕ) → (moves_in table).moves t ≤ ITINERARY_ROUTES
   pub narrow : (t m : ℕ) → length ((moves_in table).claim t m) ≤ ROUTE_SECTIONS + OVERLAP_SECTIONS
   pub in_range : (t m x : ℕ) → IsTrue (is_in x ((moves_in table).claim t m)) → x < SECTIONS
+
+-- each of the first so many trains has its first one: no later train, with the same moves
+pub record AreFirsts (table : List MoveLists) (firsts : List ℕ) : Type 0 where
+  pub known : length firsts ≤ length table
+  pub before : (t : ℕ) → t < length firsts → get_or firsts t 0 ≤ t
+  pub same : (t : ℕ) → t < length firsts → get_or table (get_or firsts t 0) no_lists ≡ get_or table t no_lists

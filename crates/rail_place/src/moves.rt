@@ -1,18 +1,20 @@
-ghost use Rattle.std.specs.Prelude.{◌≡◌, ℕ, ◌+◌, ◌-◌, ◌<◌, ◌≤◌, ◌&&◌, [], ◌∷◌, ◌++◌, nat_le, length, get_or, set, IsTrue, OnOk, OnErr};
+ghost use Rattle.std.specs.Prelude.{◌≡◌, ℕ, List, ◌+◌, ◌-◌, ◌<◌, ◌≤◌, ◌&&◌, [], ◌∷◌, ◌++◌, nat_le, length, get_or, set, IsTrue, OnOk, OnErr};
 ghost use Rattle.rail_rules.specs.Numbers.{any_below, is_in};
 ghost use Rattle.rail_rules.specs.Moves.{is_valid, stand};
-ghost use Rattle.rail_place.specs.Lasts.{last_claim};
+ghost use Rattle.rail_place.specs.Lasts.{TellsLasts, last_claim};
+ghost use Rattle.rail_place.specs.Tables.{AreFirsts, MoveLists, no_lists};
 
 use crate::claims::claims_of;
 use crate::lasts::last_claims;
 use crate::section_lists::SectionLists;
 use rail_base::limits::{ITINERARY_ROUTES, OVERLAP_SECTIONS, ROUTE_SECTIONS, SECTIONS, TRAINS};
 use rail_base::{OutOfMemory, SectionNo, TrainNo};
-use std::alloc::Global;
+use std::alloc::{AllocError, Global};
 use std::marker::Model;
 use std::mem;
+use std::rc::Rc;
 
-/// The moves of one train.
+/// The moves of one train, or of several that make the same ones.
 #[derive(Debug, Drop)]
 struct Row {
     claims: SectionLists,
@@ -24,15 +26,20 @@ struct Row {
 
 /// The moves of all trains: the sections that each move claims, its route's in order and then those of the overlap, and
 /// the sections on which the train stands after it. Trains count from 0, places and moves from 1: the train at place
-/// `i` has made its moves 1 to `i`.
+/// `i` has made its moves 1 to `i`. Trains that make the same moves share them.
 #[derive(Debug)]
 pub struct Moves {
-    rows: Vec<Row>,
+    rows: Vec<Rc<Row>>,
+    /// For each train the first one whose moves it shares, or itself. It is empty once moves were exchanged.
+    firsts: Vec<u16>,
 }
 
 impl Drop for Moves {
     fn drop(self) {
-        let Moves { rows: _rows } = self;
+        let Moves {
+            rows: _rows,
+            firsts: _firsts,
+        } = self;
     }
 }
 
@@ -41,19 +48,20 @@ impl Model for Moves {
     ghost use Rattle.std.specs.Prelude.{map};
     ghost use Rattle.std.specs.List.{All};
     ghost use Rattle.rail_place.specs.Lasts.{TellsLasts};
-    ghost use Rattle.rail_place.specs.Tables.{EndWith, IsTable, MoveLists, row_lists};
+    ghost use Rattle.rail_place.specs.Tables.{AreFirsts, EndWith, IsTable, MoveLists, row_lists};
 
     ghost Value = { List MoveLists };
 
-    ghost view = { λ moves. map (λ row. row_lists row.claims row.overs row.stands) moves.rows.items };
+    ghost view = { λ moves. map (λ row. row_lists row.value.claims row.value.overs row.value.stands) moves.rows.items };
 
-    ghost invariant = { λ moves. IsTable (map (λ row. row_lists row.claims row.overs row.stands) moves.rows.items)
-        × All (λ row. TellsLasts row.claims row.lasts.items) moves.rows.items
-        × All (λ row. EndWith row.claims row.overs) moves.rows.items };
+    ghost invariant = { λ moves. IsTable (map (λ row. row_lists row.value.claims row.value.overs row.value.stands) moves.rows.items)
+        × All (λ row. TellsLasts row.value.claims row.value.lasts.items) moves.rows.items
+        × All (λ row. EndWith row.value.claims row.value.overs) moves.rows.items
+        × AreFirsts (map (λ row. row_lists row.value.claims row.value.overs row.value.stands) moves.rows.items) moves.firsts.items };
 }
 
 impl Moves {
-    ghost use Rattle.rail_place.specs.Tables.{EndsWith, IsTable, joined, lists_of, moves_in, no_lists, over_of};
+    ghost use Rattle.rail_place.specs.Tables.{EndWith, EndsWith, IsTable, joined, lists_of, moves_in, over_of, row_lists};
 
     /// No trains. It takes no memory.
     pub fn new(alloc: Global) -> Moves
@@ -61,6 +69,7 @@ impl Moves {
     {
         Moves {
             rows: Vec::new(alloc),
+            firsts: Vec::new(alloc),
         }
     }
 
@@ -89,16 +98,68 @@ impl Moves {
         let Ok(lasts) = last_claims(alloc, &claims) else {
             return Err(OutOfMemory);
         };
-        let Ok(()) = self.rows.push(Row {
-            claims,
-            overs: over,
-            stands: stand,
-            lasts,
-        })
-        else {
+        let Ok(row) = Rc::new(
+            alloc,
+            Row {
+                claims,
+                overs: over,
+                stands: stand,
+                lasts,
+            },
+        ) else {
             return Err(OutOfMemory);
         };
+        let first = self.rows.len() as u16;
+        self.push_row(row, first)
+    }
+
+    /// Adds a train as the last one that makes the moves of this one, and shares them. Where memory is not found nothing is
+    /// changed.
+    pub fn push_like(&mut self, train: TrainNo) -> Result<(), OutOfMemory>
+        requires room { length self.old < TRAINS }
+        requires train { train < length self.old }
+        ensures ok { OnOk result (self.new ≡ self.old ++ get_or self.old train no_lists ∷ []) }
+        ensures err { OnErr result (self.new ≡ self.old) }
+    {
+        let Ok(row) = self.rows[usize::from(train.0)].clone() else {
+            return Err(OutOfMemory);
+        };
+        let first = self.first_like(train);
+        self.push_row(row, first.0)
+    }
+
+    /// Adds a train as the last one with this row, which is that of the train `first` where it is not its own.
+    fn push_row(&mut self, row: Rc<Row>, first: u16) -> Result<(), OutOfMemory>
+        requires table { IsTable (self.old ++ row_lists row.value.claims row.value.overs row.value.stands ∷ []) }
+        requires lasts { TellsLasts row.value.claims row.value.lasts.items }
+        requires ends { EndWith row.value.claims row.value.overs }
+        requires before { first ≤ length self.old }
+        requires same { get_or (self.old ++ row_lists row.value.claims row.value.overs row.value.stands ∷ []) first no_lists
+            ≡ row_lists row.value.claims row.value.overs row.value.stands }
+        ensures ok { OnOk result (self.new ≡ self.old ++ row_lists row.value.claims row.value.overs row.value.stands ∷ []) }
+        ensures err { OnErr result (self.new ≡ self.old) }
+    {
+        if self.rows.reserve(1).is_err() {
+            return Err(OutOfMemory);
+        }
+        let Ok(()) = note_first(&mut self.firsts, self.rows.len(), first) else {
+            return Err(OutOfMemory);
+        };
+        self.rows.push_reserved(row);
         Ok(())
+    }
+
+    /// The first train that shares its moves with this one, which is the train itself where no earlier one does. Once moves
+    /// were exchanged, it is not known which trains share theirs, and each is its own first one.
+    pub fn first_like(&self, train: TrainNo) -> TrainNo
+        requires { train < length self.now }
+        ensures before { result ≤ train }
+        ensures same { get_or self.now result no_lists ≡ get_or self.now train no_lists }
+    {
+        match self.firsts.get(usize::from(train.0)) {
+            Some(first) => TrainNo(*first),
+            None => train,
+        }
     }
 
     /// Exchanges the moves of the train with those of the first train of the other table. It takes no memory.
@@ -108,6 +169,8 @@ impl Moves {
         ensures here { self.new ≡ set self.old train (get_or others.old 0 no_lists) }
         ensures there { others.new ≡ set others.old 0 (get_or self.old train no_lists) }
     {
+        self.firsts.clear();
+        others.firsts.clear();
         mem::swap(&mut self.rows[usize::from(train.0)], &mut others.rows[0]);
     }
 
@@ -124,7 +187,7 @@ impl Moves {
         requires { train < length self.now }
         ensures { result ≡ (moves_in self.now).moves train }
     {
-        self.rows[usize::from(train.0)].claims.len() as u16
+        self.row(train).claims.len() as u16
     }
 
     /// The sections that the train's move to this place claims, in order: those that it needs, and then its overlap.
@@ -135,9 +198,7 @@ impl Moves {
         ensures sections { result.now ≡ (moves_in self.now).claim train (place - 1) }
         ensures in_range { (x : ℕ) → IsTrue (is_in x result.now) → x < SECTIONS }
     {
-        self.rows[usize::from(train.0)]
-            .claims
-            .at(usize::from(place) - 1)
+        self.row(train).claims.at(usize::from(place) - 1)
     }
 
     /// The sections that the train's move to this place needs, in route order: what it claims without its overlap.
@@ -161,9 +222,7 @@ impl Moves {
         ensures fits { length result.now ≤ length ((moves_in self.now).claim train (place - 1)) }
         ensures ends { EndsWith ((moves_in self.now).claim train (place - 1)) result.now }
     {
-        self.rows[usize::from(train.0)]
-            .overs
-            .at(usize::from(place) - 1)
+        self.row(train).overs.at(usize::from(place) - 1)
     }
 
     /// The sections on which the train stands at this place: none at place 0 and at the last one.
@@ -173,7 +232,7 @@ impl Moves {
         ensures sections { result.now ≡ stand (moves_in self.now) train place }
         ensures in_range { (x : ℕ) → IsTrue (is_in x result.now) → x < SECTIONS }
     {
-        let row = &self.rows[usize::from(train.0)];
+        let row = self.row(train);
         let place = usize::from(place);
         if 0 < place && place < row.claims.len() {
             row.stands.at(place - 1)
@@ -214,6 +273,31 @@ impl Moves {
         requires section { section < SECTIONS }
         ensures { result ≡ last_claim (moves_in self.now) train section }
     {
-        self.rows[usize::from(train.0)].lasts[usize::from(section.0)]
+        self.row(train).lasts[usize::from(section.0)]
     }
+
+    /// What is kept of the train.
+    fn row(&self, train: TrainNo) -> &Row
+        requires { train < length self.now }
+        ensures table { IsTable self.now }
+        ensures lists { get_or self.now train no_lists ≡ row_lists result.now.claims result.now.overs result.now.stands }
+        ensures lasts { TellsLasts result.now.claims result.now.lasts.items }
+        ensures ends { EndWith result.now.claims result.now.overs }
+    {
+        &self.rows[usize::from(train.0)]
+    }
+}
+
+/// Notes the first train that shares its moves with one that comes behind so many others, unless it is not known of all
+/// of these. Where memory is not found nothing is changed.
+fn note_first(firsts: &mut Vec<u16>, trains: usize, first: u16) -> Result<(), AllocError>
+    requires { first ≤ trains }
+    ensures ok { (table : List MoveLists) (row : MoveLists) → length table ≡ trains → AreFirsts table firsts.old.items
+        → get_or (table ++ row ∷ []) first no_lists ≡ row → OnOk result (AreFirsts (table ++ row ∷ []) firsts.new.items) }
+    ensures err { OnErr result (firsts.new.items ≡ firsts.old.items) }
+{
+    if firsts.len() == trains {
+        firsts.push(first)?;
+    }
+    Ok(())
 }
