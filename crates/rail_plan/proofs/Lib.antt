@@ -8,5 +8,6 @@ mod Valid
 mod Spelled
 mod Naming
 mod OtherRows
+mod AlikeTrains
 mod CallRows
 mod Accepting

@@ -10,6 +10,7 @@
 //! may not change is that only `Plant::new`, `Calls::new` and `moves_over` take memory.
 #![tactic(auto)]
 
+mod alike;
 mod bounds;
 mod calls;
 mod faults;

@@ -1,6 +1,7 @@
 //! What a plant keeps beside its tables: the moves and the names that they spell.
 
-ghost use Rattle.std.specs.Prelude.{◌≡◌, ℕ, ◌-◌, ◌<◌, ◌^◌, ◌++◌, ◌∷◌, [], OnOk, get_or, None, IsTrue, IfErr, IfOk, length, map, min, sum_by};
+ghost use Rattle.std.specs.Prelude.{◌≡◌, ℕ, ◌+◌, ◌-◌, ◌<◌, ◌^◌, ◌++◌, ◌∷◌, [], OnOk, get_or, None, IsTrue, IfErr, IfOk, length, map, min, sum_by};
+ghost use Rattle.std.specs.List.{All};
 ghost use Rattle.rail_base.specs.declared.plant.MoveRow.{MoveRow};
 ghost use Rattle.rail_base.specs.declared.plant.SectionRow.{SectionRow};
 ghost use Rattle.rail_base.specs.declared.plant.TrainRow.{TrainRow};
@@ -9,8 +10,10 @@ ghost use Rattle.rail_rules.specs.Plant.{moves_of, no_move, no_train};
 ghost use Rattle.rail_rules.specs.Accepted.{are_distinct_names, is_move_in_range};
 ghost use Rattle.rail_place.specs.Tables.{moves_in};
 ghost use Rattle.rail_plan.specs.PlanFaults.{IsAnswer, IsPlannable, bare, fault_of, fault_of_train, standing_of};
+ghost use Rattle.rail_plan.specs.Alike.{IsMadeTo};
 ghost use Rattle.rail_plan.specs.MoveTables.{row_with, spelled, table_of, with_moves};
 
+use crate::alike::train_like;
 use crate::faults::{PlanFault, first_fault};
 use crate::lent::{LentMove, lent_rows};
 use crate::rows::train_row;
@@ -19,6 +22,9 @@ use indexmap::IndexSet;
 use rail_base::{Name, Names, OutOfMemory, SectionRow, Tables, TrainNo, TrainRow};
 use rail_place::{Moves, SectionLists};
 use std::alloc::{AllocError, Global};
+
+/// So many trains at most are kept, whose moves are compared with those of each train behind them.
+const KEPT_TRAINS: usize = 8;
 
 /// The moves of the trains: the sections that each needs, its overlap, and where the train stands after it. Nothing is
 /// said of a standing set after a train's last move, so it is kept as for the others. Refused is the first fault of the
@@ -31,10 +37,50 @@ pub fn moves_of(alloc: Global, tables: &Tables) -> Result<Moves, PlanFault>
     ensures refused { IfErr result (IsAnswer (fault_of tables.now)) }
 {
     let mut moves = Moves::new(alloc);
+    let mut kept = Vec::with_capacity(alloc, KEPT_TRAINS)?;
     for index in 0..tables.trains.as_slice().len() {
-        push_moves_of(alloc, tables, TrainNo(index as u16), &mut moves)?;
+        let train = TrainNo(index as u16);
+        push_moves_behind(alloc, tables, train, &mut kept, &mut moves)?;
     }
     Ok(moves)
+}
+
+/// Adds the moves of the train behind those of all trains before it, or tells its first fault. It shares them with one of
+/// the kept trains that is like it; where none is, it is kept too as long as there is room.
+fn push_moves_behind(
+    alloc: Global,
+    tables: &Tables,
+    train: TrainNo,
+    kept: &mut Vec<TrainNo>,
+    moves: &mut Moves,
+) -> Result<(), PlanFault>
+    requires tables { IsPlannable tables.now }
+    requires train { train < length tables.now.trains }
+    requires made { IsMadeTo tables.now train moves.old }
+    requires kept { All (λ k. k < train) kept.old.items }
+    ensures accepted { OnOk result (fault_of_train (bare tables.now) train ≡ None) }
+    ensures made { OnOk result (IsMadeTo tables.now (train + 1) moves.new) }
+    ensures kept { OnOk result (All (λ k. k < train + 1) kept.new.items) }
+    ensures refused { IfErr result (IsAnswer (fault_of_train (bare tables.now) train)) }
+{
+    if let Some(first) = train_like(tables, kept, train) {
+        moves.push_like(first)?;
+        return Ok(());
+    }
+    push_moves_of(alloc, tables, train, moves)?;
+    keep(kept, train)?;
+    Ok(())
+}
+
+/// Keeps the train as long as there is room.
+fn keep(kept: &mut Vec<TrainNo>, train: TrainNo) -> Result<(), AllocError>
+    requires { All (λ k. k < train) kept.old.items }
+    ensures { OnOk result (All (λ k. k < train + 1) kept.new.items) }
+{
+    if kept.len() < KEPT_TRAINS {
+        kept.push(train)?;
+    }
+    Ok(())
 }
 
 /// Adds the moves of the train behind those of others, or tells its first fault.

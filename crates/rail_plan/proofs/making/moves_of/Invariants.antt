@@ -1,10 +1,10 @@
-use Rattle.std.proofs.Common.{◌≡◌, None, map, take}
-use Rattle.rail_plan.specs.PlanFaults.{bare, fault_of_train, first_answer}
-use Rattle.rail_plan.specs.MoveTables.{spelled}
+use Rattle.std.proofs.Common.{◌<◌}
+use Rattle.std.specs.List.{All}
+use Rattle.rail_plan.specs.Alike.{IsMadeTo}
 use Rattle.rail_plan.proofs.making.moves_of.Given as goal
 
 abbrev pub invariant-loop-index : goal.invariant-loop-index
 invariant-loop-index l = record {
-  table : l.moves ≡ map (spelled (bare l.tables)) (take l.index l.tables.trains);
-  none : first_answer (fault_of_train (bare l.tables)) l.index ≡ None;
+  made : IsMadeTo l.tables l.index l.moves;
+  kept : All (λ k. k < l.index) l.kept.items;
 }
