@@ -7,6 +7,7 @@ mod Played
 mod Walks
 mod Counts
 mod SetLemmas
+mod SharedRows
 mod Holding
 mod Clear
 mod Backward

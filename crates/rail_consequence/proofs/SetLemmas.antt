@@ -1,7 +1,7 @@
 -- Sets of sections: what they have, and how those of one place follow from those of the next.
-use Rattle.std.proofs.Common.{◌≡◌, ℕ, zero, suc, ◌+◌, ◌*◌, ◌-◌, ◌<◌, ◌≤◌, Bool, true, false, ◌||◌, ◌&&◌, List, [], ◌∷◌, ◌++◌, length, get_or, sym, ap, ◌∙◌, subst, ⊎_elim, arith}
+use Rattle.std.proofs.Common.{cond, ltb, refl, ◌≡◌, ℕ, zero, suc, ◌+◌, ◌*◌, ◌-◌, ◌<◌, ◌≤◌, Bool, true, false, ◌||◌, ◌&&◌, List, [], ◌∷◌, ◌++◌, length, get_or, sym, ap, ◌∙◌, subst, ⊎_elim, arith}
 use Rattle.std.proofs.lemmas.Bool.{and_from, and_left, and_parts, cases_Bool, cases_lt, false≢true, le-leb, lt-leb}
-use Rattle.rail_rules.specs.Numbers.{is_in}
+use Rattle.rail_rules.specs.Numbers.{any_below, is_in}
 use Rattle.rail_rules.specs.Moves.{Moves, is_valid, stand}
 use Rattle.std.proofs.lemmas.List.{get_or_append_left, get_or_default, get_or_past, get_or_push, get_or-reverse, length_push, length-reverse}
 use Rattle.std.specs.Prelude.{nat_le, reverse}
@@ -132,3 +132,23 @@ place_of_row plan t p i row sets told within at is =
     get_or_default row p no_sets sets (omega (arith, told.long, within)) ∙ ap (λ k. get_or row k sets) (sym at) ∙ sym is in
     let P : PlaceSets → Type 0 = λ s. IsPlaceSets plan t p s in
     subst P same (told.told p (omega (arith, within)))
+
+-- trains with the same moves stand on the same sections
+stand_alike : (table : List MoveLists) (t u i : ℕ) → get_or table t no_lists ≡ get_or table u no_lists → stand (moves_in table) t i ≡ stand (moves_in table) u i
+stand_alike table t u zero same = refl
+stand_alike table t u (suc m) same = ap (λ (r : MoveLists). cond (ltb (suc m) (length r.claims)) (get_or r.stands m []) []) same
+
+-- what a row tells of a train it tells of another one with the same moves
+pub row_alike : (table : List MoveLists) (t u : ℕ) (row : List PlaceSets) → get_or table t no_lists ≡ get_or table u no_lists → IsSetRow (moves_in table) t ((moves_in table).moves t + 1) row → IsSetRow (moves_in table) u ((moves_in table).moves u + 1) row
+row_alike table t u row same told =
+    let count : (moves_in table).moves t ≡ (moves_in table).moves u = ap (λ (r : MoveLists). length r.claims) same in
+    record {
+      long = told.long ∙ ap (λ n. n + 1) count;
+      told = λ i lt.
+          let here = told.told i (omega (arith, lt, count)) in
+          record {
+            need = λ x. here.need x ∙ ap (λ (r : MoveLists). is_in x (get_or r.claims i [])) same;
+            rest = λ x. here.rest x ∙ ap (λ (r : MoveLists). any_below (λ m. nat_le i m && is_in x (get_or r.claims m [])) (length r.claims)) same;
+            stand = λ x. here.stand x ∙ ap (is_in x) (stand_alike table t u i same);
+          };
+    }

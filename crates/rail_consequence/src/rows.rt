@@ -1,6 +1,6 @@
 //! What each train needs and where it stands, as sets: for each of its places.
 
-ghost use Rattle.std.specs.Prelude.{◌≡◌, ℕ, ◌+◌, ◌*◌, ◌<◌, ◌≤◌, [], get_or, length, IfOk, IsTrue};
+ghost use Rattle.std.specs.Prelude.{◌≡◌, ℕ, ◌+◌, ◌*◌, ◌<◌, ◌≤◌, [], get_or, length, map, IfOk, IsTrue};
 ghost use Rattle.rail_rules.specs.Moves.{stand};
 ghost use Rattle.rail_rules.specs.Numbers.{is_in};
 ghost use Rattle.rail_place.specs.Tables.{IsTable, moves_in};
@@ -15,6 +15,7 @@ use rail_sets::{WORDS, add_all, join, width_of};
 use std::alloc::{AllocError, Global};
 use std::marker::Model;
 use std::mem;
+use std::rc::Rc;
 
 /// The sections of a train at one of its places, as sets.
 #[derive(Clone, Copy, Debug)]
@@ -27,7 +28,7 @@ pub struct PlaceSets {
     stand: [u64; WORDS],
 }
 
-/// The sets of one train, from place 0 to its last place.
+/// The sets of one train, or of several that make the same moves, from place 0 to its last place.
 #[derive(Debug, Drop)]
 struct Row {
     places: Vec<PlaceSets>,
@@ -44,11 +45,11 @@ impl Model for Row {
     ghost invariant = { λ row. vec_capacity row.places ≡ length row.places.items };
 }
 
-/// The sets of all trains, and the words that such a set takes.
+/// The sets of all trains, and the words that such a set takes. Trains that share their moves share their sets.
 #[derive(Debug)]
 pub struct Rows {
     width: usize,
-    rows: Vec<Row>,
+    rows: Vec<Rc<Row>>,
 }
 
 impl Drop for Rows {
@@ -61,12 +62,12 @@ impl Drop for Rows {
 }
 
 impl Model for Rows {
-    ghost use Rattle.std.specs.Prelude.{◌≡◌, length, vec_capacity};
+    ghost use Rattle.std.specs.Prelude.{◌≡◌, length, map, vec_capacity};
     ghost use Rattle.rail_consequence.specs.Needs.{SetRows};
 
     ghost Value = { SetRows };
 
-    ghost view = { λ rows. record { width = rows.width; rows = rows.rows.items } };
+    ghost view = { λ rows. record { width = rows.width; rows = map (λ row. row.value) rows.rows.items } };
 
     ghost invariant = { λ rows. vec_capacity rows.rows ≡ length rows.rows.items };
 }
@@ -79,7 +80,7 @@ impl Rows {
         let mut rows = Vec::with_capacity(alloc, usize::from(moves.trains()))?;
         let mut width = 0;
         for number in 0..moves.trains() {
-            let row = Row::new(alloc, moves, TrainNo(number))?;
+            let row = row_behind(alloc, moves, TrainNo(number), rows.as_slice())?;
             width = row.width(moves, TrainNo(number)).max(width);
             rows.push_reserved(row);
         }
@@ -156,6 +157,31 @@ impl Rows {
         ensures { IsPlaceSets (moves_in moves.now) train place result.now }
     {
         &self.rows[usize::from(train.0)].places[usize::from(place)]
+    }
+}
+
+/// The row of the train behind those of all trains before it: that of the first one with its moves, or its own.
+fn row_behind(
+    alloc: Global,
+    moves: &Moves,
+    train: TrainNo,
+    rows: &[Rc<Row>],
+) -> Result<Rc<Row>, OutOfMemory>
+    requires table { IsTable moves.now }
+    requires train { train < length moves.now }
+    requires rows { length rows.now ≡ train }
+    requires told { (t : ℕ) → t < train
+        → IsSetRow (moves_in moves.now) t ((moves_in moves.now).moves t + 1) (get_or (map (λ row. row.value) rows.now) t []) }
+    ensures { IfOk result (λ row. IsSetRow (moves_in moves.now) train ((moves_in moves.now).moves train + 1) row.value) }
+{
+    let first = moves.first_like(train);
+    if first.0 < train.0 {
+        return Ok(rows[usize::from(first.0)].clone()?);
+    }
+    let row = Row::new(alloc, moves, train)?;
+    match Rc::new(alloc, row) {
+        Ok(row) => Ok(row),
+        Err(_) => Err(OutOfMemory),
     }
 }
 
