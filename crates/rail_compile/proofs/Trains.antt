@@ -1,5 +1,6 @@
 -- The tests of the trains, train by train.
-use Rattle.std.proofs.Common.{◌≡◌, ℕ, zero, suc, ◌+◌, ◌-◌, ◌<◌, ◌≤◌, Bool, true, false, not, cond, List, [], ◌∷◌, ◌++◌, length, get_or, drop, map, take, is_some, Option, Some, None, refl, sym, ap, ◌∙◌, subst, arith}
+use Rattle.std.proofs.Common.{◌≡◌, ℕ, zero, suc, ◌+◌, ◌-◌, ◌<◌, ◌≤◌, Bool, true, false, not, cond, List, [], ◌∷◌, ◌++◌, length, get_or, drop, map, take, is_some, Option, Some, None, refl, sym, ap, ◌∙◌, subst, ⊎_elim, arith}
+use Rattle.std.proofs.lemmas.Bool.{cases_lt}
 use Rattle.std.specs.List.{list_any}
 use Rattle.std.specs.Option.{option_or}
 use Rattle.std.proofs.lemmas.List.{drop_more, drop_all, get_or-take, get_or_default, length-take}
@@ -139,18 +140,23 @@ passed_behind scene item train before kind same none =
     let P : List (List ℕ) → Type 0 = λ names. AllPassed (train_refused reason.Unknown item 5 (not (are_known scene.network names)) ∷ route_tests scene.network item (routes_of scene.network names)) in
     none_failing (train_tests scene item train) (ap not kind, subst P same (all_passed (train_tests scene item before) none).1)
 
--- the last of the rows is that of the train before
-pub row_before : (scene : Scene) (rows : List TrainRow) (i : ℕ) (before : SceneTrain) (row : TrainRow) → rows ≡ map (train_row scene) (take i scene.trains) →
-    0 < i → i < length scene.trains → before ≡ get_or scene.trains (i - 1) before → row ≡ get_or rows (i - 1) row → row ≡ train_row scene before
-row_before scene rows i before row are some within is here =
+-- the row of a train before
+pub row_before : (scene : Scene) (rows : List TrainRow) (i k : ℕ) (before : SceneTrain) (row : TrainRow) → rows ≡ map (train_row scene) (take i scene.trains) →
+    k < i → i < length scene.trains → before ≡ get_or scene.trains k before → row ≡ get_or rows k row → row ≡ train_row scene before
+row_before scene rows i k before row are some within is here =
     here
-    ∙ ap (λ rs. get_or rs (i - 1) row) are
-    ∙ mapped_read (train_row scene) (take i scene.trains) (i - 1) before row (omega (arith, length-take i scene.trains)) (is ∙ sym (get_or-take i scene.trains (i - 1) before (omega arith)))
+    ∙ ap (λ rs. get_or rs k row) are
+    ∙ mapped_read (train_row scene) (take i scene.trains) k before row (omega (arith, length-take i scene.trains)) (is ∙ sym (get_or-take i scene.trains k before some))
 
--- the train that was looked at last is not refused
-pub last_passed : (scene : Scene) (i : ℕ) (train before : SceneTrain) → i < length scene.trains → train ≡ get_or scene.trains i train →
-    first_failing (train_tests scene (i + 1) train) ≡ None → before ≡ get_or scene.trains (i + 1 - 1) before → first_failing (train_tests scene (i + 1 + 1) before) ≡ None
-last_passed scene i train before within here none is =
-    let back : i + 1 - 1 ≡ i = omega arith in
-    let same : before ≡ train = is ∙ ap (λ k. get_or scene.trains k before) back ∙ get_or_default scene.trains i before train within ∙ sym here in
-    ap (λ t. first_failing (train_tests scene (i + 1 + 1) t)) same ∙ passed_under scene (i + 1) (i + 1 + 1) train none
+-- no train that was looked at is refused
+pub each_passed : (scene : Scene) (i : ℕ) (train : SceneTrain) → i < length scene.trains → train ≡ get_or scene.trains i train → first_failing (train_tests scene (i + 1) train) ≡ None
+    → ((k : ℕ) (before : SceneTrain) → k < i → before ≡ get_or scene.trains k before → first_failing (train_tests scene (k + 1) before) ≡ None)
+    → (k : ℕ) (before : SceneTrain) → k < i + 1 → before ≡ get_or scene.trains k before → first_failing (train_tests scene (k + 1) before) ≡ None
+each_passed scene i train within here none each k before lt is =
+    ⊎_elim
+    (λ earlier. each k before earlier is)
+    (λ last.
+    let back : k ≡ i = omega (arith, lt, last) in
+    let same : before ≡ train = is ∙ ap (λ n. get_or scene.trains n before) back ∙ get_or_default scene.trains i before train within ∙ sym here in
+    ap (λ t. first_failing (train_tests scene (k + 1) t)) same ∙ passed_under scene (i + 1) (k + 1) train none)
+    (cases_lt k i)

@@ -1,6 +1,6 @@
 //! The trains of the plant, or which of them is refused for its kind or its itinerary.
 
-ghost use Rattle.std.specs.Prelude.{◌≡◌, ◌+◌, ◌-◌, ◌<◌, get_or, length, map, take, None, IsTrue, IfOk, IfErr, OnOk};
+ghost use Rattle.std.specs.Prelude.{◌≡◌, ℕ, ◌+◌, ◌<◌, get_or, length, map, take, None, IsTrue, IfOk, IfErr, IfSome, OnOk};
 ghost use Rattle.std.specs.Bool.{Decides};
 ghost use Rattle.std.specs.List.{list_all};
 ghost use Rattle.rail_base.specs.declared.plant.TrainKind.{TrainKind};
@@ -22,6 +22,9 @@ use rail_base::{Fault, MoveRow, Name, Reason, Seq, Time, TrainKind, TrainRow};
 use rail_plan::LentMove;
 use rail_scene::{Scene, SceneTrain};
 use std::alloc::Global;
+
+/// So many trains before a train are looked at for one with its itinerary.
+const TRAINS_BEFORE: usize = 8;
 
 /// The rows of the trains, or the first refusal of one, train by train. The names are those of the kinds.
 pub fn train_rows(
@@ -75,24 +78,38 @@ fn row_at(
     requires train { IsTrue (is_fit_train train.now) }
     requires within { index < length trains.now }
     requires rows { rows.now ≡ map (train_row (with_trains scene.now trains.now)) (take index trains.now) }
-    requires passed { (before : SceneTrain) → 0 < index → before ≡ get_or trains.now (index - 1) before →
-        first_failing (train_tests (with_trains scene.now trains.now) (index + 1) before) ≡ None }
+    requires passed { (k : ℕ) (before : SceneTrain) → k < index → before ≡ get_or trains.now k before →
+        first_failing (train_tests (with_trains scene.now trains.now) (k + 1) before) ≡ None }
     ensures accepted { OnOk result (first_failing (train_tests (with_trains scene.now trains.now) (index + 1) train.now) ≡ None) }
     ensures row { IfOk result (λ row. row ≡ train_row (with_trains scene.now trains.now) train.now) }
     ensures typed { IfOk result (λ row. IsTrue (is_typed_row row)) }
     ensures refused { IfErr result (AnswersFirst (first_failing (train_tests (with_trains scene.now trains.now) (index + 1) train.now))) }
 {
     let item = index as u32 + 1;
-    if index > 0 {
-        let before = &trains[index - 1];
-        if are_same(before.routes.as_slice(), train.routes.as_slice()) {
-            return row_behind(alloc, scene, kinds, item, train, before, &rows[index - 1]);
-        }
+    if let Some(number) = train_before(trains, index, train.routes.as_slice()) {
+        let before = &trains[number];
+        let row = &rows[number];
+        return row_behind(alloc, scene, kinds, item, train, before, row);
     }
     train_row(alloc, scene, kinds, ways, item, train)
 }
 
-/// The row of a train that has the itinerary and so the moves of the one before it, or its first refusal.
+/// The nearest train before the one at the index that has this itinerary, among the last few of them.
+fn train_before(trains: &[SceneTrain], index: usize, routes: &[Name]) -> Option<usize>
+    requires { index < length trains.now }
+    ensures before { IfSome result (λ before. before < index) }
+    ensures same { IfSome result (λ before. (train : SceneTrain) → train ≡ get_or trains.now before train → train.routes ≡ routes.now) }
+{
+    for back in 0..index.min(TRAINS_BEFORE) {
+        let before = index - 1 - back;
+        if are_same(trains[before].routes.as_slice(), routes) {
+            return Some(before);
+        }
+    }
+    None
+}
+
+/// The row of a train that has the itinerary and so the moves of one before it, or its first refusal.
 fn row_behind(
     alloc: Global,
     scene: &Scene,

@@ -10,7 +10,7 @@ use Rattle.rail_base.proofs.CallerLemmas.{passed_up}
 use Rattle.rail_compile.specs.Itineraries.{train_row, with_trains}
 use Rattle.rail_compile.specs.Refusals.{trains_tests}
 use Rattle.rail_compile.specs.RowTypes.{is_typed_row}
-use Rattle.rail_compile.proofs.Trains.{answers_at, last_passed, train_passed_at}
+use Rattle.rail_compile.proofs.Trains.{answers_at, each_passed, train_passed_at}
 use Rattle.rail_compile.proofs.compiling.trains.train_rows.Goals as goal
 
 pub returns-in_err-row-clause-refused : goal.returns-in_err-row-clause-refused
@@ -41,7 +41,7 @@ loop-index-preserved c =
           ∙ sym (map-append (train_row scene) (take i scene.trains) (train ∷ []))
           ∙ ap (λ t. map (train_row scene) (take i scene.trains ++ t ∷ [])) here
           ∙ sym (ap (map (train_row scene)) (take_more scene.trains i train within));
-      last = λ before some is. last_passed scene i train before within here c.in_ok-row.ensures.accepted is;
+      each = λ k before lt is. each_passed scene i train within here c.in_ok-row.ensures.accepted c.loop-index.invariant.each k before lt is;
       typed = ap (list_all is_typed_row) more
           ∙ list_all-append is_typed_row rows (row ∷ [])
           ∙ and_from (list_all is_typed_row rows) (list_all is_typed_row (row ∷ [])) c.loop-index.invariant.typed (and_from (is_typed_row row) true c.in_ok-row.ensures.typed refl);

@@ -1,4 +1,4 @@
-use Rattle.std.proofs.Common.{◌≡◌, ◌+◌, ◌-◌, ◌<◌, true, drop, get_or, map, take, None}
+use Rattle.std.proofs.Common.{◌≡◌, ℕ, ◌+◌, ◌<◌, true, drop, get_or, map, take, None}
 use Rattle.std.specs.List.{list_all}
 use Rattle.rail_base.specs.FirstRefusals.{first_failing}
 use Rattle.rail_scene.specs.declared.scene.SceneTrain.{SceneTrain}
@@ -11,6 +11,6 @@ abbrev pub invariant-loop-index : goal.invariant-loop-index
 invariant-loop-index l = record {
   passed : first_failing (trains_tests (with_trains l.scene l.trains) (l.index + 1) (drop l.index l.trains)) ≡ first_failing (trains_tests (with_trains l.scene l.trains) 1 l.trains);
   rows : l.rows.items ≡ map (train_row (with_trains l.scene l.trains)) (take l.index l.trains);
-  last : (before : SceneTrain) → 0 < l.index → before ≡ get_or l.trains (l.index - 1) before → first_failing (train_tests (with_trains l.scene l.trains) (l.index + 1) before) ≡ None;
+  each : (k : ℕ) (before : SceneTrain) → k < l.index → before ≡ get_or l.trains k before → first_failing (train_tests (with_trains l.scene l.trains) (k + 1) before) ≡ None;
   typed : list_all is_typed_row l.rows.items ≡ true;
 }
