@@ -121,6 +121,7 @@ fn go_on(ledger: &mut Ledger, round: &mut Round, desk: &mut Desk) -> Entry
 }
 
 /// The desk is told the order of the command that a line tells. Commands count from 1.
+#[inline(always)]
 pub(crate) fn tell_desk(desk: &mut Desk, commands: &[Command], what: &What)
     requires { (k : ℕ) → what.now ≡ Told k → 1 ≤ k }
     ensures { let table = ⟦<Desk as Seen>⟧.table in

@@ -72,6 +72,7 @@ pub(crate) fn put_what(line: &mut LineBuffer, names: &Names, entry: &Entry)
 }
 
 /// Puts the name of a train and the number of its move.
+#[inline(always)]
 fn put_move(line: &mut LineBuffer, names: &Names, train: TrainNo, place: u16)
     requires { length line.old + 58 ≤ ROOM }
     ensures text { (plant : Plant) → HasNames plant names.now

@@ -91,6 +91,7 @@ impl<S: Sink + Drop> Sink for GatheredSink<S> {
     ghost faults = { λ sink. S.faults (behind_of sink) };
 
     /// Takes what there is room for. Where the room is full, what is gathered is handed on before.
+    #[inline(always)]
     fn write(&mut self, piece: &[u8]) -> Result<usize, Failed>
         requires { 0 < length piece.now }
 

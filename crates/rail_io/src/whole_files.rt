@@ -146,6 +146,7 @@ fn make_room(bytes: &mut Vec<u8>, filled: usize) -> Result<(), AllocError>
 }
 
 /// Writes the whole piece, in as many calls as the sink needs. An empty piece takes no call.
+#[inline(always)]
 pub fn write_whole<O: Sink>(sink: &mut O, piece: &[u8]) -> Result<(), Failed>
     ensures adds { OnOk result (Adds (O.written sink.old) (O.written sink.new) piece.now) }
     ensures failed_adds_prefix { OnErr result

@@ -4,7 +4,7 @@ use Rattle.std.specs.Option.{unwrap_or, option_or, option_map_or}
 use Rattle.std.specs.Vec.{with_item}
 use Rattle.std.specs.Global.{Vec}
 use Rattle.std.proofs.lemmas.Bool.{cases_eq}
-use Rattle.std.proofs.lemmas.List.{map-set, get_or-map, length-map, length-set, get_or-set_same, get_or-set_other, length-replicate}
+use Rattle.std.proofs.lemmas.List.{map-set, get_or-map, length-map, length-set, get_or-set_same, get_or-set_other, get_or_past, length-replicate}
 use Rattle.rail_base.specs.declared.plant.Call.{Call}
 use Rattle.rail_base.specs.declared.plant.Tables.{Tables}
 use Rattle.rail_base.specs.declared.plant.TrainRow.{TrainRow}
@@ -20,6 +20,13 @@ use Rattle.rail_plan.proofs.Spelled.{get_or-map_all}
 -- the calls of a row as contracts see them
 abbrev pub calls_in : Vec (Option Call) → List (Option Call)
 calls_in row = row.items
+
+-- a train that has no list of calls has no departure
+pub no_departure : (calls : List (List (Option Call))) (t m places : ℕ) → length calls ≤ t → departure_within calls t m places ≡ None
+no_departure calls t m zero past = refl
+no_departure calls t m (suc places) past =
+    ap (λ row. or_else (call_departure (get_or row m None)) (departure_within calls t (suc m) places)) (get_or_past calls t [] past)
+    ∙ no_departure calls t (suc m) places past
 
 -- the table after a call is written
 pub set_view : (rows : List (Vec (Option Call))) (k t : ℕ) (row : Vec (Option Call)) (q place : ℕ) (call : Call)

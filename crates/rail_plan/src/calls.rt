@@ -92,6 +92,9 @@ impl Calls {
         requires { 1 ≤ from }
         ensures { result ≡ departure_within self.now train (from - 1) (to - from) }
     {
+        if usize::from(train.0) >= self.rows.len() {
+            return None;
+        }
         for place in from..to {
             let departure = self.departure(train, place);
             if departure.is_some() {

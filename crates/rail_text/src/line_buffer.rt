@@ -97,6 +97,7 @@ impl LineBuffer {
     }
 
     /// Puts the bytes at the end.
+    #[inline(always)]
     pub fn put(&mut self, bytes: &[u8])
         requires { length self.old + length bytes.now ≤ ROOM }
         ensures { self.new ≡ self.old ++ bytes.now }
@@ -107,6 +108,7 @@ impl LineBuffer {
     }
 
     /// Puts a space and the word at the end.
+    #[inline(always)]
     pub fn put_word(&mut self, word: &[u8])
         requires { length self.old + length word.now + 1 ≤ ROOM }
         ensures { self.new ≡ self.old ++ 32 ∷ word.now }
@@ -116,6 +118,7 @@ impl LineBuffer {
     }
 
     /// Puts a space and the number in decimal digits at the end.
+    #[inline(always)]
     pub fn put_number(&mut self, number: u64)
         requires { length self.old + 21 ≤ ROOM }
         ensures text { self.new ≡ self.old ++ 32 ∷ decimal number }
@@ -187,17 +190,21 @@ impl LineBuffer {
         }
     }
 
-    /// Puts a space and the name at the end. Most names have two to four bytes, which are put at once.
+    /// Puts a space and the name at the end. Most names have two to four bytes, which are put at
+    /// once: how many they are is known there where the code is compiled.
+    #[inline(always)]
     pub fn put_name(&mut self, name: &Name)
         requires { length self.old + 17 ≤ ROOM }
         ensures text { self.new ≡ self.old ++ 32 ∷ name.now }
         ensures short { length self.new ≤ length self.old + 17 }
     {
-        match name.as_bytes() {
-            [a, b] => self.put(&[b' ', *a, *b]),
-            [a, b, c] => self.put(&[b' ', *a, *b, *c]),
-            [a, b, c, d] => self.put(&[b' ', *a, *b, *c, *d]),
-            word => self.put_word(word),
+        let word = name.as_bytes();
+        self.put(b" ");
+        match word.len() {
+            2 => self.put(&word[..2]),
+            3 => self.put(&word[..3]),
+            4 => self.put(&word[..4]),
+            _ => self.put(word),
         }
     }
 }

@@ -11,6 +11,7 @@ use rail_base::{Names, SectionNo, TrainNo};
 
 impl LineBuffer {
     /// Puts a space and the name of the train at the end; nothing but the space where no train has the number.
+    #[inline(always)]
     pub fn put_train(&mut self, names: &Names, train: TrainNo)
         requires { length self.old + 17 ≤ ROOM }
         ensures text { self.new ≡ self.old ++ 32 ∷ train_name (names_in names.now) train }
@@ -24,6 +25,7 @@ impl LineBuffer {
     }
 
     /// Puts a space and the name of the section at the end; nothing but the space where no section has the number.
+    #[inline(always)]
     pub fn put_section(&mut self, names: &Names, section: SectionNo)
         requires { length self.old + 17 ≤ ROOM }
         ensures text { self.new ≡ self.old ++ 32 ∷ section_name (names_in names.now) section }
