@@ -28,6 +28,8 @@ pub struct KeptList {
     /// For how many entries memory was taken.
     room: usize,
     looked: u64,
+    /// The last train inside that needed what an entering one would have stood on; at first any.
+    pub(crate) needer: TrainNo,
 }
 
 /// Entries of one train that stand side by side.
@@ -53,6 +55,7 @@ impl Drop for KeptList {
             front: _front,
             room: _room,
             looked: _looked,
+            needer: _,
         } = self;
     }
 }
@@ -83,6 +86,7 @@ impl KeptList {
             front: 0,
             room,
             looked: 0,
+            needer: TrainNo(0),
         };
         Ok((kept, Reader { _made: () }))
     }

@@ -61,7 +61,7 @@ impl KeptList {
         ensures room { self.new.room ≡ self.old.room }
         ensures looked { self.new.looked ≡ self.old.looked }
     {
-        if is_needed_inside(moves, places, moves.stand(train, 1)) {
+        if is_needed_inside(moves, places, moves.stand(train, 1), &mut self.needer) {
             return false;
         }
         self.add(train, moves.places(train) - 1);
@@ -83,7 +83,7 @@ impl KeptList {
         let place = places.position(train);
         let sections = moves.stand(train, place + 1);
         if place == 0 {
-            return !is_needed_inside(moves, places, sections);
+            return !is_needed_inside(moves, places, sections, &mut self.needer);
         }
         free_entries_before(moves, places, self, train, sections).is_some()
     }

@@ -10,14 +10,24 @@ ghost use Rattle.rail_place.specs.Tables.{moves_in};
 use rail_base::{SectionNo, TrainNo};
 use rail_place::{Moves, Places};
 
-/// Whether a train inside needs one of the sections for a move that it has left.
-pub fn is_needed_inside(moves: &Moves, places: &Places, sections: &[SectionNo]) -> bool
+/// Whether a train inside needs one of the sections for a move that it has left. `last` is the train of which the answer was
+/// yes before: it is asked first, since it mostly is the one again, and is then the one of which it was now.
+pub fn is_needed_inside(
+    moves: &Moves,
+    places: &Places,
+    sections: &[SectionNo],
+    last: &mut TrainNo,
+) -> bool
     requires made { IsMadeFor moves.now places.now }
     requires in_range { (x : ℕ) → IsTrue (is_in x sections.now) → x < SECTIONS }
     ensures { result ≡ any_below (needs_later (moves_in moves.now) places.now.positions sections.now) (length places.now.positions) }
 {
+    if last.0 < moves.trains() && does_need_later(moves, places, *last, sections) {
+        return true;
+    }
     for number in 0..moves.trains() {
         if does_need_later(moves, places, TrainNo(number), sections) {
+            *last = TrainNo(number);
             return true;
         }
     }

@@ -4,7 +4,6 @@ ghost use Rattle.std.specs.Prelude.{◌≡◌, ℕ, List, ◌∷◌, suc, ◌+�
 ghost use Rattle.std.specs.List.{remove};
 ghost use Rattle.rail_list.specs.KeptLists.{AreRuns, before_first, counts_of_run, entries_at_start};
 
-use crate::kept_list::Run;
 use rail_base::{TrainNo, add_copies};
 
 /// Adds the counts for a run of so many entries at the end.
@@ -19,36 +18,34 @@ pub fn add_run(runs: &mut Vec<u16>, count: u16)
     }
 }
 
-/// Counts the runs of the list: from each entry on how many entries of its train stand side by side, at most 2^16 - 1.
+/// Counts the runs of the list: at the first entry of each how many entries it has, at most 2^16 - 1. All other counts are 1.
 pub fn count_runs(list: &[TrainNo], runs: &mut [u16])
     requires { length runs.old ≡ length list.now }
     ensures runs { AreRuns list.now runs.new }
     ensures len { length runs.new ≡ length runs.old }
 {
-    let mut index = list.len();
-    let mut run = Run {
-        train: TrainNo(0),
-        count: 0,
-    };
-    while index > 0 {
-        index -= 1;
-        run = run_from(list[index], run);
-        runs[index] = run.count;
+    runs.fill(1);
+    let mut start = 0;
+    while start < list.len() {
+        let count = run_at_start(&list[start..]);
+        runs[start] = count;
+        start += usize::from(count);
     }
 }
 
-/// The run that begins with an entry of this train, where that one stands behind it.
-fn run_from(train: TrainNo, behind: Run) -> Run
-    ensures train { result.train ≡ train }
-    ensures some { 1 ≤ result.count }
-    ensures few { (list : List ℕ) → behind.count ≤ entries_at_start behind.train list → result.count ≤ entries_at_start train (train ∷ list) }
+/// Of how many entries the list, which has one, begins with a run, at most 2^16 - 1.
+fn run_at_start(list: &[TrainNo]) -> u16
+    requires { 1 ≤ length list.now }
+    ensures some { 1 ≤ result }
+    ensures run { result ≤ entries_at_start (slice_index list.now 0) list.now }
+    ensures within { result ≤ length list.now }
 {
-    let count = if train == behind.train {
-        behind.count.saturating_add(1)
-    } else {
-        1
-    };
-    Run { train, count }
+    let train = list[0];
+    let mut count = 1;
+    while count < u16::MAX && usize::from(count) < list.len() && list[usize::from(count)] == train {
+        count += 1;
+    }
+    count
 }
 
 /// There are then so many counts: those that there were are kept, and others are 1.

@@ -1,14 +1,12 @@
-use Rattle.std.proofs.Common.{◌≡◌, ◌≤◌, drop, length}
-use Rattle.rail_list.specs.KeptLists.{AreRuns, entries_at_start}
+use Rattle.std.proofs.Common.{◌≡◌, ◌-◌, length}
+use Rattle.rail_list.specs.KeptLists.{AreRuns}
 use Rattle.rail_list.proofs.runs.count_runs.Given as goal
 
-abbrev pub invariant-loop-index : goal.invariant-loop-index
-invariant-loop-index l = record {
-  within : l.index ≤ length l.list;
+abbrev pub invariant-loop-start : goal.invariant-loop-start
+invariant-loop-start l = record {
   long : length l.runs ≡ length l.list;
-  runs : AreRuns (drop l.index l.list) (drop l.index l.runs);
-  behind : l.run.count ≤ entries_at_start l.run.train (drop l.index l.list);
+  runs : AreRuns l.list l.runs;
 }
 
-abbrev pub decreases-loop-index : goal.decreases-loop-index
-decreases-loop-index l = l.index
+abbrev pub decreases-loop-start : goal.decreases-loop-start
+decreases-loop-start l = length l.list - l.start

@@ -7,6 +7,7 @@ use Rattle.rail_rules.specs.Places.{place_of, is_legal, after, completes}
 use Rattle.rail_place.specs.Tables.{moves_in, MoveLists}
 use Rattle.rail_place.specs.PlaceStates.{State, IsMadeFor}
 use Rattle.rail_place.proofs.CallerLemmas.{legal_ahead, made_long}
+use Rattle.rail_list.specs.KeptLists.{Kept}
 use Rattle.rail_list.proofs.Appending.{appended_where_unneeded, completing_fits}
 use Rattle.rail_list.proofs.kept_list.KeptList.append.Goals as goal
 
@@ -46,4 +47,6 @@ add-requires c =
     let fits = completing_fits plan (after now.positions t) (list ++ rest) done in
     let trains : length (after now.positions t) ≡ length table = length-set now.positions t (suc (place_of now.positions t)) ∙ made_long table now c.requires.made in
     let all : sum_below plan.moves (length (after now.positions t)) ≡ sum_below plan.moves (length table) = ap (sum_below plan.moves) trains in
-    omega (arith, fits, all, c.requires.room, length-append list rest, length-replicate (plan.moves t - 1) t, c.places.ensures)
+    let trains_are = ap (λ (kept : Kept). length kept.trains) c.self.view_is in
+    let room_is = ap (λ (kept : Kept). kept.room) c.self.view_is in
+    omega (arith, fits, all, trains_are, room_is, c.requires.room, length-append list rest, length-replicate (plan.moves t - 1) t, c.places.ensures)
