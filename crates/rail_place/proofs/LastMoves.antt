@@ -29,6 +29,23 @@ noted_on claims lasts sections n wide told here x lt =
     ∙ ap (last_below test) (sym next))
     (cases_Bool (is_in x sections))
 
+-- going back by a move, whose sections are noted
+pub noted_back : (claims : List (List ℕ)) (firsts sections : List ℕ) (n : ℕ) → length firsts ≡ SECTIONS
+    → ((m x : ℕ) → suc n ≤ m → x < SECTIONS → suc m < get_or firsts x 0 → is_in x (get_or claims m []) ≡ false)
+    → sections ≡ get_or claims n []
+    → (m x : ℕ) → n ≤ m → x < SECTIONS → suc m < get_or (given firsts sections (suc n)) x 0 → is_in x (get_or claims m []) ≡ false
+noted_back claims firsts sections n wide none here m x from lt below =
+    ⊎_elim
+    (λ is. absurd (omega (arith, from, below, given-named firsts sections (suc n) 0 x is (omega (arith, wide, lt)))))
+    (λ out.
+    ⊎_elim
+    (λ later. none m x later lt (omega (arith, below, given-other firsts sections (suc n) 0 x out)))
+    (λ same.
+    let at : m ≡ n = omega (arith, from, same) in
+    ap (λ k. is_in x (get_or claims k [])) at ∙ ap (is_in x) (sym here) ∙ out)
+    (cases_lt n m))
+    (cases_Bool (is_in x sections))
+
 -- it is no greater than the bound
 last_bound : (test : ℕ → Bool) (n : ℕ) → last_below test n ≤ n
 last_bound test zero = omega arith

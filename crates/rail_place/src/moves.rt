@@ -1,11 +1,11 @@
-ghost use Rattle.std.specs.Prelude.{◌≡◌, ℕ, List, ◌+◌, ◌-◌, ◌<◌, ◌≤◌, ◌&&◌, [], ◌∷◌, ◌++◌, nat_le, length, get_or, set, IsTrue, OnOk, OnErr};
+ghost use Rattle.std.specs.Prelude.{◌≡◌, ℕ, suc, false, List, ◌+◌, ◌-◌, ◌<◌, ◌≤◌, ◌&&◌, [], ◌∷◌, ◌++◌, nat_le, length, get_or, set, IsTrue, OnOk, OnErr};
 ghost use Rattle.rail_rules.specs.Numbers.{any_below, is_in};
 ghost use Rattle.rail_rules.specs.Moves.{is_valid, stand};
-ghost use Rattle.rail_place.specs.Lasts.{TellsLasts, last_claim};
+ghost use Rattle.rail_place.specs.Lasts.{TellsEnds, last_claim};
 ghost use Rattle.rail_place.specs.Tables.{AreFirsts, MoveLists, no_lists};
 
 use crate::claims::claims_of;
-use crate::lasts::last_claims;
+use crate::lasts::{first_claims, last_claims};
 use crate::section_lists::SectionLists;
 use rail_base::limits::{ITINERARY_ROUTES, OVERLAP_SECTIONS, ROUTE_SECTIONS, SECTIONS, TRAINS};
 use rail_base::{OutOfMemory, SectionNo, TrainNo};
@@ -22,6 +22,8 @@ struct Row {
     stands: SectionLists,
     /// For each section the last move that claims it, so that no moves are looked through for it.
     lasts: Vec<u16>,
+    /// For each section the first move that claims it.
+    firsts: Vec<u16>,
 }
 
 /// The moves of all trains: the sections that each move claims, its route's in order and then those of the overlap, and
@@ -47,7 +49,7 @@ impl Model for Moves {
     ghost use Rattle.std.specs.Prelude.{ℕ, List};
     ghost use Rattle.std.specs.Prelude.{map};
     ghost use Rattle.std.specs.List.{All};
-    ghost use Rattle.rail_place.specs.Lasts.{TellsLasts};
+    ghost use Rattle.rail_place.specs.Lasts.{TellsEnds};
     ghost use Rattle.rail_place.specs.Tables.{AreFirsts, EndWith, IsTable, MoveLists, row_lists};
 
     ghost Value = { List MoveLists };
@@ -55,7 +57,7 @@ impl Model for Moves {
     ghost view = { λ moves. map (λ row. row_lists row.value.claims row.value.overs row.value.stands) moves.rows.items };
 
     ghost invariant = { λ moves. IsTable (map (λ row. row_lists row.value.claims row.value.overs row.value.stands) moves.rows.items)
-        × All (λ row. TellsLasts row.value.claims row.value.lasts.items) moves.rows.items
+        × All (λ row. TellsEnds row.value.claims row.value.lasts.items row.value.firsts.items) moves.rows.items
         × All (λ row. EndWith row.value.claims row.value.overs) moves.rows.items
         × AreFirsts (map (λ row. row_lists row.value.claims row.value.overs row.value.stands) moves.rows.items) moves.firsts.items };
 }
@@ -98,6 +100,9 @@ impl Moves {
         let Ok(lasts) = last_claims(alloc, &claims) else {
             return Err(OutOfMemory);
         };
+        let Ok(firsts) = first_claims(alloc, &claims) else {
+            return Err(OutOfMemory);
+        };
         let Ok(row) = Rc::new(
             alloc,
             Row {
@@ -105,6 +110,7 @@ impl Moves {
                 overs: over,
                 stands: stand,
                 lasts,
+                firsts,
             },
         ) else {
             return Err(OutOfMemory);
@@ -131,7 +137,7 @@ impl Moves {
     /// Adds a train as the last one with this row, which is that of the train `first` where it is not its own.
     fn push_row(&mut self, row: Rc<Row>, first: u16) -> Result<(), OutOfMemory>
         requires table { IsTable (self.old ++ row_lists row.value.claims row.value.overs row.value.stands ∷ []) }
-        requires lasts { TellsLasts row.value.claims row.value.lasts.items }
+        requires told { TellsEnds row.value.claims row.value.lasts.items row.value.firsts.items }
         requires ends { EndWith row.value.claims row.value.overs }
         requires before { first ≤ length self.old }
         requires same { get_or (self.old ++ row_lists row.value.claims row.value.overs row.value.stands ∷ []) first no_lists
@@ -242,7 +248,7 @@ impl Moves {
     }
 
     /// Whether the train's move to this place claims the section. The sections of the move are looked at only
-    /// where the train makes this or a later move over the section.
+    /// where the train makes this or an earlier move over the section, and this or a later one.
     pub fn claims(&self, train: TrainNo, place: u16, section: SectionNo) -> bool
         requires train { train < length self.now }
         requires first { 1 ≤ place }
@@ -250,6 +256,9 @@ impl Moves {
         requires section { section < SECTIONS }
         ensures { result ≡ is_in section ((moves_in self.now).claim train (place - 1)) }
     {
+        if place < self.first_claim(train, section) {
+            return false;
+        }
         place <= self.last_claim(train, section)
             && self
                 .claim(train, place)
@@ -276,12 +285,21 @@ impl Moves {
         self.row(train).lasts[usize::from(section.0)]
     }
 
+    /// The first move of the train that claims the section, counted from 1, and 0 where none does.
+    fn first_claim(&self, train: TrainNo, section: SectionNo) -> u16
+        requires train { train < length self.now }
+        requires section { section < SECTIONS }
+        ensures { (m : ℕ) → suc m < result → is_in section ((moves_in self.now).claim train m) ≡ false }
+    {
+        self.row(train).firsts[usize::from(section.0)]
+    }
+
     /// What is kept of the train.
     fn row(&self, train: TrainNo) -> &Row
         requires { train < length self.now }
         ensures table { IsTable self.now }
         ensures lists { get_or self.now train no_lists ≡ row_lists result.now.claims result.now.overs result.now.stands }
-        ensures lasts { TellsLasts result.now.claims result.now.lasts.items }
+        ensures told { TellsEnds result.now.claims result.now.lasts.items result.now.firsts.items }
         ensures ends { EndWith result.now.claims result.now.overs }
     {
         &self.rows[usize::from(train.0)]

@@ -4,5 +4,5 @@ use Rattle.rail_place.proofs.lasts.note.Goals as goal
 
 pub index_mut-requires : goal.index_mut-requires
 index_mut-requires c =
-    let range : c.section-item.result < length c.args.lasts.now.items = range_at c.args.sections.now c.loop-section.section-index c.section-item.result (length c.args.lasts.now.items) c.requires c.loop-section-test.true c.section-item.is in
-    omega (arith, range, c.from.ensures, c.section.view_is, c.loop-section.invariant.same_length, c.loop-section.lasts.ok)
+    let range : c.section-item.result < length c.args.noted.now.items = range_at c.args.sections.now c.loop-section.section-index c.section-item.result (length c.args.noted.now.items) c.requires c.loop-section-test.true c.section-item.is in
+    omega (arith, range, c.from.ensures, c.section.view_is, c.loop-section.invariant.same_length, c.loop-section.noted.ok)

@@ -1,13 +1,13 @@
 use Rattle.std.proofs.Common.{◌≡◌, ℕ, ◌<◌, List, length, map, get_or, set, sym, ap, ◌∙◌, subst, arith}
 use Rattle.std.proofs.lemmas.List.{get_or_default, length-map, map-set}
 use Rattle.std.proofs.lemmas.List.Elements.{All-set}
-use Rattle.rail_place.specs.Lasts.{TellsLasts}
+use Rattle.rail_place.specs.Lasts.{TellsEnds}
 use Rattle.rail_place.specs.Tables.{AreFirsts, EndWith, IsTable, MoveLists, no_lists}
 use Rattle.rail_place.proofs.Tables.{Kept, kept_of, no_firsts, row_read, row_set, table_exchanged}
 use Rattle.rail_place.proofs.moves.Moves.exchange.Goals as goal
 
-abbrev Lasts : Kept → Type 0
-Lasts row = TellsLasts row.value.claims row.value.lasts.items
+abbrev Told : Kept → Type 0
+Told row = TellsEnds row.value.claims row.value.lasts.items row.value.firsts.items
 
 abbrev Ends : Kept → Type 0
 Ends row = EndWith row.value.claims row.value.overs
@@ -24,7 +24,7 @@ invariant_of-self c =
     let known : List ℕ → Type 0 = λ n. AreFirsts table n in (
       subst IsTable (ap (λ n. set (map kept_of rows) c.from.result n) lists ∙ sym (map-set kept_of rows c.from.result row))
           (table_exchanged (map kept_of rows) (map kept_of others) c.from.result 0 c.self.invariant.0 c.others.invariant.0 (omega (arith, some, length-map others kept_of))),
-      All-set Lasts rows c.from.result row (subst Lasts (sym is) (c.others.invariant.1 0 row some)) c.self.invariant.1,
+      All-set Told rows c.from.result row (subst Told (sym is) (c.others.invariant.1 0 row some)) c.self.invariant.1,
       All-set Ends rows c.from.result row (subst Ends (sym is) (c.others.invariant.2 0 row some)) c.self.invariant.2,
       subst known (sym c.clear.ensures.items) (no_firsts table),
     )
@@ -42,7 +42,7 @@ invariant_of-others c =
     let known : List ℕ → Type 0 = λ n. AreFirsts table n in (
       subst IsTable (ap (λ n. set (map kept_of others) 0 n) lists ∙ sym (map-set kept_of others 0 row))
           (table_exchanged (map kept_of others) (map kept_of rows) 0 c.from.result c.others.invariant.0 c.self.invariant.0 (omega (arith, some, length-map rows kept_of))),
-      All-set Lasts others 0 row (subst Lasts (sym is) (c.self.invariant.1 c.from.result row some)) c.others.invariant.1,
+      All-set Told others 0 row (subst Told (sym is) (c.self.invariant.1 c.from.result row some)) c.others.invariant.1,
       All-set Ends others 0 row (subst Ends (sym is) (c.self.invariant.2 c.from.result row some)) c.others.invariant.2,
       subst known (sym c.clear-2.ensures.items) (no_firsts table),
     )

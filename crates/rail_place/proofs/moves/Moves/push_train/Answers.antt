@@ -15,6 +15,14 @@ last_claims-requires-clause-in_range c =
     let P : List (List ℕ) → Type 0 = λ n. (m x : ℕ) → is_in x (get_or n m []) ≡ true → x < SECTIONS in
     subst P (sym c.in-Ok.ensures) c.requires.in_range
 
+pub first_claims-requires-clause-short : goal.first_claims-requires-clause-short
+first_claims-requires-clause-short c = omega (arith, ap length c.in-Ok.ensures, length-joined c.args.need c.args.over, c.requires.short)
+
+pub first_claims-requires-clause-in_range : goal.first_claims-requires-clause-in_range
+first_claims-requires-clause-in_range c =
+    let P : List (List ℕ) → Type 0 = λ n. (m x : ℕ) → is_in x (get_or n m []) ≡ true → x < SECTIONS in
+    subst P (sym c.in-Ok.ensures) c.requires.in_range
+
 pub push_row-requires-clause-table : goal.push_row-requires-clause-table
 push_row-requires-clause-table c =
     let now : List MoveLists = c.args.self.now in
