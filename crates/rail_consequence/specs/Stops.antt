@@ -8,7 +8,7 @@ use Rattle.rail_sets.specs.Sets.{has}
 use Rattle.rail_consequence.specs.Needs.{needs_left}
 use Rattle.rail_consequence.specs.Searches.{HasNoSafeLegOf}
 use Rattle.rail_consequence.specs.declared.analyst.closing.Look.{Look}
-use Rattle.rail_consequence.specs.declared.analyst.closing.Look.TheVariants.{Idle, Leads, Stopped}
+use Rattle.rail_consequence.specs.declared.analyst.closing.Look.TheVariants.{Leads, Stopped}
 use Rattle.rail_consequence.specs.declared.notes.Notes.{Notes}
 use Rattle.rail_consequence.specs.declared.notes.Stop.{Stop}
 use Rattle.rail_consequence.specs.declared.notes.Stop.TheVariants.{Unknown, Free, Next, Later}
@@ -79,6 +79,10 @@ pub record IsSettledTrain (plan : Moves) (s : List ℕ) (stops : List Stop) (t :
 abbrev pub AreSettledFrom : Moves → List ℕ → List Stop → List ℕ → ℕ → Type 0
 AreSettledFrom plan s stops trains from = (i : ℕ) → from ≤ i → i < length trains → IsSettledTrain plan s stops (get_or trains i 0)
 
+-- the trains of the list before an index are settled
+abbrev pub AreSettledBelow : Moves → List ℕ → List Stop → List ℕ → ℕ → Type 0
+AreSettledBelow plan s stops trains end = (i : ℕ) → i < end → IsSettledTrain plan s stops (get_or trains i 0)
+
 -- what a look at a train may note of it
 abbrev pub ShowsStop : Moves → List ℕ → ℕ → Stop → Type 0
 ShowsStop plan s t Unknown = ⊥
@@ -86,9 +90,8 @@ ShowsStop plan s t Free = ⊥
 ShowsStop plan s t (Next x) = IsStopped plan s t x × IsTrue (is_in x (plan.claim t (place_of s t)))
 ShowsStop plan s t (Later x) = IsStopped plan s t x
 
--- what looking at a train shows: it is not inside, a leg to the place is safe, or a section stops it
+-- what looking at a train that is inside shows: a leg to the place is safe, or a section stops it
 abbrev pub Shows : Moves → List ℕ → ℕ → Look → Type 0
-Shows plan s t Idle = is_inside plan s t ≡ false
 Shows plan s t (Leads p) = IsTrue (is_leg plan s (record { train = t; place = p }))
     × IsTrue (is_safe plan s (record { train = t; place = p }))
 Shows plan s t (Stopped stop) = ShowsStop plan s t stop

@@ -27,6 +27,7 @@ use rail_place::{Moves, Places};
 use rail_sets::{Counts, TrainSet, WORDS, join, replace};
 use std::alloc::Global;
 use std::marker::Model;
+use std::mem;
 
 mod closing;
 mod freeing;
@@ -215,10 +216,10 @@ impl Analyst {
         let inside = self.inside.as_slice();
         self.sheet
             .begin::<W>(moves, places, self.tally.needs(), inside);
-        self.sheet.look_again::<W>(moves, inside, &mut self.notes);
+        let settled = self.sheet.look_again::<W>(moves, inside, &mut self.notes);
         let mut notes = self.notes;
         let mut ahead = Lookahead::new();
-        self.sheet.close::<W>(moves, inside, &mut notes);
+        self.sheet.close::<W>(moves, inside, &mut notes, settled);
         if self
             .sheet
             .search_on::<W>(moves, inside, &notes, &mut ahead, depth)
@@ -362,7 +363,11 @@ impl Worksheet {
     {
         let count = place - self.places.position(train);
         self.put::<W>(moves, train, place);
-        add_copies(&mut self.list, train, usize::from(count));
+        // The list is taken out, so that its length is written once and not at each move.
+        let alloc = *self.list.allocator();
+        let mut list = mem::replace(&mut self.list, Vec::new(alloc));
+        add_copies(&mut list, train, usize::from(count));
+        self.list = list;
     }
 
     /// Takes the moves back that were made since the list had this length.

@@ -9,7 +9,7 @@ ghost use Rattle.rail_sets.specs.TrainSets.{has_train};
 ghost use Rattle.rail_consequence.specs.Cores.{LeadsAhead};
 ghost use Rattle.rail_consequence.specs.Needs.{AreWords};
 ghost use Rattle.rail_consequence.specs.Searches.{FindsSame, HasNoSafeLeg, HasNoSafeLegOf, leg_to};
-ghost use Rattle.rail_consequence.specs.Stops.{AreSettledFrom, IsTakenByOther, IsNotedTo, IsSettled, IsStopped, IsUntouched, Shows, section_of, stop_of};
+ghost use Rattle.rail_consequence.specs.Stops.{AreSettledBelow, AreSettledFrom, IsTakenByOther, IsNotedTo, IsSettled, IsStopped, IsUntouched, Shows, section_of, stop_of};
 ghost use Rattle.rail_consequence.specs.Workspace.{GoesOn, IsBack, IsListing, IsReady};
 
 use super::Worksheet;
@@ -23,8 +23,6 @@ use rail_sets::{TrainSet, first_common, meet, meet_beyond};
 /// What looking at a train shows.
 #[derive(Clone, Copy)]
 pub enum Look {
-    /// It is not inside.
-    Idle,
     /// A leg to this place is safe.
     Leads(u16),
     /// It has no safe leg, and this stops it: another train holds the section.
@@ -32,12 +30,20 @@ pub enum Look {
 }
 
 impl Worksheet {
-    /// Makes safe legs until there is none, and leaves what stops each train that is inside.
-    pub(super) fn close<W: Width>(&mut self, moves: &Moves, inside: &[TrainNo], notes: &mut Notes)
+    /// Makes safe legs until there is none, and leaves what stops each train that is inside. The first so many trains of the
+    /// list have none where it begins.
+    pub(super) fn close<W: Width>(
+        &mut self,
+        moves: &Moves,
+        inside: &[TrainNo],
+        notes: &mut Notes,
+        settled: usize,
+    )
         requires words { AreWords (moves_in moves.now) W.WORDS }
         requires ready { IsReady moves.now self.old }
         requires listed { IsListing (moves_in moves.now) self.old.places.positions inside.now }
         requires noted { IsNotedTo (moves_in moves.now) self.old.places.positions notes.old }
+        requires settled { AreSettledBelow (moves_in moves.now) self.old.places.positions notes.old.stops inside.now settled }
         ensures ready { IsReady moves.now self.new }
         ensures moves { GoesOn (moves_in moves.now) self.old self.new }
         ensures same { FindsSame (moves_in moves.now) self.old.places.positions self.new.places.positions }
@@ -45,22 +51,25 @@ impl Worksheet {
         ensures none { HasNoSafeLeg (moves_in moves.now) self.new.places.positions }
         ensures settled { IsSettled (moves_in moves.now) self.new.places.positions notes.new.stops }
     {
+        let mut from = settled;
         let mut upto = inside.len();
         // The trains behind the one that made the last leg were looked at since.
-        while upto > 0 {
-            upto = self.make_safe_legs::<W>(moves, inside, notes, upto);
+        while from < upto {
+            upto = self.make_safe_legs::<W>(moves, inside, notes, from, upto);
+            from = 0;
         }
     }
 
-    /// Goes over the first so many trains of the list, and over those behind them, too, once a leg is made: makes a
-    /// safe leg of each that has one at its turn. Only the first so many, as it says, may have a safe leg then;
-    /// none, where no leg was made.
+    /// Goes over the trains of the list from one index up to another, and over those behind them, too, once a leg is made:
+    /// makes a safe leg of each that has one at its turn. Those before and behind have none. Only the first so many, as
+    /// it says, may have a safe leg then; none, where no leg was made.
     #[inline(never)]
     fn make_safe_legs<W: Width>(
         &mut self,
         moves: &Moves,
         inside: &[TrainNo],
         notes: &mut Notes,
+        from: usize,
         upto: usize,
     ) -> usize
         requires words { AreWords (moves_in moves.now) W.WORDS }
@@ -68,6 +77,7 @@ impl Worksheet {
         requires listed { IsListing (moves_in moves.now) self.old.places.positions inside.now }
         requires noted { IsNotedTo (moves_in moves.now) self.old.places.positions notes.old }
         requires within { upto ≤ length inside.now }
+        requires looked_at { AreSettledBelow (moves_in moves.now) self.old.places.positions notes.old.stops inside.now from }
         requires settled { AreSettledFrom (moves_in moves.now) self.old.places.positions notes.old.stops inside.now upto }
         ensures ready { IsReady moves.now self.new }
         ensures moves { GoesOn (moves_in moves.now) self.old self.new }
@@ -81,7 +91,7 @@ impl Worksheet {
     {
         let mut settled_from = 0;
         let mut end = upto;
-        let mut index = 0;
+        let mut index = from;
         while index < end {
             let train = inside[index];
             index += 1;
@@ -119,8 +129,10 @@ impl Worksheet {
         if self.is_stopped::<W>(moves, notes, train) {
             return false;
         }
+        if !stands_inside(moves, &self.places, train) {
+            return false;
+        }
         match self.look::<W>(moves, train) {
-            Look::Idle => false,
             Look::Stopped(stop) => {
                 notes.set(train, stop);
                 false
@@ -149,22 +161,34 @@ impl Worksheet {
     }
 
     /// Looks at the trains inside that nothing of what is noted stops, and notes what does. No section has fallen
-    /// since.
-    pub(super) fn look_again<W: Width>(&self, moves: &Moves, inside: &[TrainNo], notes: &mut Notes)
+    /// since. So many first trains of the list, as it says, have no safe leg.
+    pub(super) fn look_again<W: Width>(
+        &self,
+        moves: &Moves,
+        inside: &[TrainNo],
+        notes: &mut Notes,
+    ) -> usize
         requires words { AreWords (moves_in moves.now) W.WORDS }
         requires ready { IsReady moves.now self.now }
         requires listed { IsListing (moves_in moves.now) self.now.places.positions inside.now }
         requires noted { IsNotedTo (moves_in moves.now) self.now.places.positions notes.old }
-        ensures { IsNotedTo (moves_in moves.now) self.now.places.positions notes.new }
+        ensures noted { IsNotedTo (moves_in moves.now) self.now.places.positions notes.new }
+        ensures within { result ≤ length inside.now }
+        ensures settled { AreSettledBelow (moves_in moves.now) self.now.places.positions notes.new.stops inside.now result }
     {
-        for train in inside {
-            self.look_at::<W>(moves, *train, notes);
+        let mut settled = 0;
+        for (index, train) in inside.iter().enumerate() {
+            if !self.look_at::<W>(moves, *train, notes) || settled < index {
+                continue;
+            }
+            settled = index + 1;
         }
         notes.forget_falls();
+        settled
     }
 
-    /// Looks at the train if nothing of what is noted stops it, and notes what does.
-    fn look_at<W: Width>(&self, moves: &Moves, train: TrainNo, notes: &mut Notes)
+    /// Looks at the train if nothing of what is noted stops it, and notes what does. Whether it has no safe leg.
+    fn look_at<W: Width>(&self, moves: &Moves, train: TrainNo, notes: &mut Notes) -> bool
         requires words { AreWords (moves_in moves.now) W.WORDS }
         requires ready { IsReady moves.now self.now }
         requires train { train < length moves.now }
@@ -172,16 +196,28 @@ impl Worksheet {
         ensures stopped { (x : ℕ) → IsTrue (is_inside (moves_in moves.now) self.now.places.positions train)
             → section_of (stop_of notes.new.stops train) ≡ Some x
             → IsStopped (moves_in moves.now) self.now.places.positions train x }
+        ensures none { IsTrue result → HasNoSafeLegOf (moves_in moves.now) self.now.places.positions train }
         ensures others { (u : ℕ) → u ≢ train → stop_of notes.new.stops u ≡ stop_of notes.old.stops u }
         ensures noted { IsNotedTo (moves_in moves.now) self.now.places.positions notes.new }
     {
-        if notes.stop(train).is_free() || self.is_stopped::<W>(moves, notes, train) {
-            return;
+        if notes.stop(train).is_free() {
+            return false;
+        }
+        if self.is_stopped::<W>(moves, notes, train) {
+            return true;
+        }
+        if !stands_inside(moves, &self.places, train) {
+            return true;
         }
         match self.look::<W>(moves, train) {
-            Look::Stopped(stop) => notes.set(train, stop),
-            Look::Leads(_) => notes.set(train, Stop::Free),
-            Look::Idle => notes.set(train, Stop::Unknown),
+            Look::Stopped(stop) => {
+                notes.set(train, stop);
+                true
+            }
+            Look::Leads(_) => {
+                notes.set(train, Stop::Free);
+                false
+            }
         }
     }
 
@@ -248,20 +284,18 @@ impl Worksheet {
             )
     }
 
-    /// Looks how far the train can go on while all others stand, and for the last place on its way to which
-    /// a leg is safe.
+    /// Looks how far the train, which is inside, can go on while all others stand, and for the last place on its
+    /// way to which a leg is safe.
     #[inline(always)]
     fn look<W: Width>(&self, moves: &Moves, train: TrainNo) -> Look
         requires words { AreWords (moves_in moves.now) W.WORDS }
         requires ready { IsReady moves.now self.now }
         requires train { train < length moves.now }
+        requires inside { IsTrue (is_inside (moves_in moves.now) self.now.places.positions train) }
         ensures { Shows (moves_in moves.now) self.now.places.positions train result }
     {
         let place = self.places.position(train);
         let last = moves.places(train);
-        if place == 0 || place >= last {
-            return Look::Idle;
-        }
         if let Some(section) = self.stop_of::<W>(moves, train, place) {
             return Look::Stopped(Stop::Next(section));
         }

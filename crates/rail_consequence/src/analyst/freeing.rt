@@ -21,7 +21,7 @@ use crate::tally::stands_inside;
 use crate::width::Width;
 use rail_base::TrainNo;
 use rail_place::Moves;
-use rail_sets::{fill_replaced, meet, meet_beyond};
+use rail_sets::{WORDS, fill_replaced, meet, meet_beyond};
 
 /// Where a train has more places before it than this, it is first asked whether it can go out, and then place by place.
 const FAR: u16 = 24;
@@ -84,7 +84,7 @@ impl Worksheet {
             return;
         }
         let last = moves.places(train);
-        self.look_ahead::<W>(moves, train, last, ahead);
+        self.look_without::<W>(moves, train, ahead);
         if !self.is_kept_from_legs::<W>(moves, ahead, other, train, last) {
             openers.add(train);
         }
@@ -132,7 +132,7 @@ impl Worksheet {
             return;
         }
         let last = moves.places(train);
-        self.look_ahead::<W>(moves, train, last, ahead);
+        self.look_without::<W>(moves, train, ahead);
         if !self.falls_are_in_vain::<W>(moves, inside, notes, ahead, train, last) {
             openers.add(train);
         }
@@ -206,6 +206,32 @@ impl Worksheet {
             &self.taken,
             self.rows.stand::<W>(moves, train, from),
             self.rows.stand::<W>(moves, train, place),
+        );
+    }
+
+    /// Looks at the same where the train goes out: it needs nothing then, and stands on nothing.
+    fn look_without<W: Width>(&self, moves: &Moves, train: TrainNo, ahead: &mut Lookahead)
+        requires words { AreWords (moves_in moves.now) W.WORDS }
+        requires ready { IsReady moves.now self.now }
+        requires train { train < length moves.now }
+        requires inside { IsTrue (is_inside (moves_in moves.now) self.now.places.positions train) }
+        ensures sets { IsLookahead (moves_in moves.now) self.now.places.positions self.now.needs W.WORDS train ((moves_in moves.now).moves train) ahead.new }
+        ensures fell { HasFalls (moves_in moves.now) self.now.places.positions self.now.needs W.WORDS train ((moves_in moves.now).moves train) ahead.new.fell }
+        ensures none { ahead.new.has_fallen ≡ false → (x : ℕ) → x < 64 * W.WORDS → has ahead.new.fell x ≡ false }
+    {
+        let from = self.places.position(train);
+        let none = [0u64; WORDS];
+        ahead.has_fallen = self.needs.fill_falls(
+            &mut ahead.fell,
+            &mut ahead.shared,
+            self.rows.rest::<W>(moves, train, from),
+            &none[..W::WORDS],
+        );
+        fill_replaced(
+            &mut ahead.taken,
+            &self.taken,
+            self.rows.stand::<W>(moves, train, from),
+            &none[..W::WORDS],
         );
     }
 

@@ -45,7 +45,7 @@ impl Worksheet {
             → IsBack self.old self.new × (Finds (moves_in moves.now) depth self.old.places.positions → ⊥) }
     {
         let mark = self.list.len();
-        self.close::<W>(moves, inside, notes);
+        self.close::<W>(moves, inside, notes, 0);
         if self.search_on::<W>(moves, inside, notes, ahead, depth) {
             return true;
         }

@@ -3,7 +3,7 @@ use Rattle.std.proofs.lemmas.Bool.{eqb-true, false≢true}
 use Rattle.std.proofs.lemmas.Option.{none-some, same_Some}
 use Rattle.rail_rules.specs.Moves.{Moves}
 use Rattle.rail_place.specs.Tables.{moves_in}
-use Rattle.rail_consequence.specs.Freeing.{MayWaitFor, WaitsFor, is_marked}
+use Rattle.rail_consequence.specs.Freeing.{IsLookahead, MayWaitFor, WaitsFor, is_marked}
 use Rattle.rail_consequence.specs.Searches.{HasNoSafeLegOf}
 use Rattle.rail_consequence.specs.Stops.{stop_of}
 use Rattle.rail_consequence.specs.declared.notes.Stop.{Stop}
@@ -17,6 +17,13 @@ the_one plan s stops u t h o exact is may =
     (λ none. absurd (none-some h (exact None none ∙ is)))
     (λ waits. same_Some t h (exact (Some t) waits ∙ is))
     may
+
+pub is_kept_from_legs-requires-clause-ahead : goal.is_kept_from_legs-requires-clause-ahead
+is_kept_from_legs-requires-clause-ahead g c =
+    let plan : Moves = moves_in c.args.moves.now in
+    let w = c.args.self.now in
+    let P : ℕ → Type 0 = λ p. IsLookahead plan w.places.positions w.needs g.W.Width.WORDS c.in-Some.train p c.look_without.new.ahead in
+    subst P (sym c.places-last.ensures) c.look_without.ensures.sets
 
 pub returns-then-has-clause-here : goal.returns-then-has-clause-here
 returns-then-has-clause-here g c = λ t unmarked ne here may.

@@ -4,10 +4,17 @@ use Rattle.rail_rules.specs.Moves.{Moves}
 use Rattle.rail_rules.specs.Places.{is_inside}
 use Rattle.rail_place.specs.Tables.{moves_in}
 use Rattle.rail_sets.proofs.CallerLemmas.{none_in_zeros}
-use Rattle.rail_consequence.specs.Freeing.{FallsInVain}
+use Rattle.rail_consequence.specs.Freeing.{FallsInVain, HasFalls, IsLookahead}
 use Rattle.rail_consequence.specs.Workspace.{Work}
 use Rattle.rail_consequence.proofs.analyst.Worksheet.add_by_falls.Goals as goal
 use Rattle.rail_consequence.proofs.analyst.Worksheet.add_by_falls.Goals.{then-has-via-then-has, then-has-via-else-has+then-is_next, then-has-via-else-has+else-is_next+then-not-stands_inside, then-has-via-else-has+else-is_next+else-not-stands_inside+then-not-has_pairs}
+
+pub falls_are_in_vain-requires-clause-ahead : goal.falls_are_in_vain-requires-clause-ahead
+falls_are_in_vain-requires-clause-ahead g c =
+    let plan : Moves = moves_in c.args.moves.now in
+    let w = c.args.self.now in
+    let P : ℕ → Type 0 = λ p. IsLookahead plan w.places.positions w.needs g.W.Width.WORDS c.args.train p c.look_without.new.ahead in
+    subst P (sym c.places-last.ensures) c.look_without.ensures.sets
 
 pub returns-then-has-clause-here : goal.returns-then-has-clause-here
 returns-then-has-clause-here g c = λ unmarked here.
@@ -26,8 +33,9 @@ returns-else-not-falls_are_in_vain-clause-here g c = λ unmarked here.
     let plan : Moves = moves_in c.args.moves.now in
     let w = c.args.self.now in
     let F : ℕ → Type 0 = λ p. FallsInVain plan w.places.positions w.needs g.W.Width.WORDS c.args.notes.now.stops c.args.inside.now c.args.train p in
+    let G : ℕ → Type 0 = λ p. HasFalls plan w.places.positions w.needs g.W.Width.WORDS c.args.train p c.look_without.new.ahead.fell in
     inr (subst F c.places-last.ensures (record {
-      fell = c.look_ahead.new.ahead.fell;
-      falls = c.look_ahead.ensures.fell;
+      fell = c.look_without.new.ahead.fell;
+      falls = subst G (sym c.places-last.ensures) c.look_without.ensures.fell;
       vain = λ u x listed ne later. c.falls_are_in_vain.ensures c.if-not-falls_are_in_vain.false u x listed ne later;
     }))

@@ -1,4 +1,5 @@
-use Rattle.std.proofs.Common.{◌≡◌, ℕ, ◌+◌, ◌-◌, ◌++◌, List, length, replicate, set, sym, ap, ◌∙◌, subst, arith}
+use Rattle.std.proofs.Common.{◌≡◌, ℕ, ◌+◌, ◌-◌, ◌++◌, List, length, replicate, set, vec_capacity, sym, ap, ◌∙◌, subst, arith}
+use Rattle.std.specs.Global.{Vec}
 use Rattle.std.proofs.lemmas.List.{length-append, length-replicate}
 use Rattle.rail_rules.specs.Moves.{Moves}
 use Rattle.rail_rules.specs.Places.{place_of}
@@ -36,7 +37,7 @@ add_copies-requires g c =
     let at : c.position.result ≡ place_of s t = c.position.ensures ∙ ap (λ (w : Work). place_of w.places.positions t) c.self.view_is in
     let goes = goes_parts plan s (record { train = t; place = c.args.place }) c.requires.leg in
     let fewer = moves_left_at plan s t c.args.place (c.args.place - place_of s t) (inside_listed plan s t goes.inside) (omega (arith, goes.ahead)) goes.within in
-    omega (arith, c.requires.ready.few, fewer, at, ap length c.put.ensures.list, ap (λ (w : Work). length w.list) c.self-2.view_is, c.self-2.inside.list.ok, c.self-2.invariant)
+    omega (arith, c.requires.ready.few, fewer, at, ap length c.put.ensures.list, ap (λ (w : Work). length w.list) c.self-2.view_is, c.self-2.inside.list.ok, c.self-2.invariant, ap (λ (v : Vec ℕ). length v.items) c.replace-list.ensures.value, ap (λ (v : Vec ℕ). vec_capacity v) c.replace-list.ensures.value)
 
 pub returns-clause-ready : goal.returns-clause-ready
 returns-clause-ready g c =
@@ -51,7 +52,7 @@ returns-clause-ready g c =
     let w = c.put.new.self in
     let long : length (w.list ++ replicate k t) ≡ length c.args.self.now.list + k = length-append w.list (replicate k t) ∙ omega (arith, ap length c.put.ensures.list, length-replicate {A = ℕ} k t) in
     let own : Work = record { rows = c.self-2.inside.rows; places = c.self-2.inside.places; taken = c.self-2.inside.taken; needs = c.self-2.inside.needs; list = c.self-2.inside.list.items } in
-    let items : c.add_copies.new.table.items ≡ w.list ++ replicate k t = c.add_copies.ensures.rows ∙ ap (λ n. c.self-2.inside.list.items ++ replicate {A = ℕ} n t) c.from.ensures ∙ ap (λ (v : Work). v.list ++ replicate k t) c.self-2.view_is in
+    let items : c.add_copies.new.table.items ≡ w.list ++ replicate k t = c.add_copies.ensures.rows ∙ ap (λ (v : Vec ℕ). v.items ++ replicate c.from.result t) c.replace-list.ensures.value ∙ ap (λ n. c.self-2.inside.list.items ++ replicate {A = ℕ} n t) c.from.ensures ∙ ap (λ (v : Work). v.list ++ replicate k t) c.self-2.view_is in
     let own_ready = ready_as table own w c.self-2.view_is c.put.ensures.ready in
     record {
       rows = own_ready.rows;
@@ -74,6 +75,6 @@ returns-clause-moves g c =
     let P : List ℕ → Type 0 = λ q. IsPlayed plan s (replicate k t) q in
     record {
       more = replicate k t;
-      list = c.add_copies.ensures.rows ∙ ap (λ n. c.self-2.inside.list.items ++ replicate {A = ℕ} n t) c.from.ensures ∙ ap (λ (w : Work). w.list ++ replicate k t) c.self-2.view_is ∙ ap (λ xs. xs ++ replicate k t) c.put.ensures.list;
+      list = c.add_copies.ensures.rows ∙ ap (λ (v : Vec ℕ). v.items ++ replicate c.from.result t) c.replace-list.ensures.value ∙ ap (λ n. c.self-2.inside.list.items ++ replicate {A = ℕ} n t) c.from.ensures ∙ ap (λ (w : Work). w.list ++ replicate k t) c.self-2.view_is ∙ ap (λ xs. xs ++ replicate k t) c.put.ensures.list;
       played = subst P (sym there) (leg_played plan s t c.args.place k c.requires.leg (omega (arith, at, goes.ahead)));
     }

@@ -8,6 +8,7 @@ use Rattle.rail_consequence.specs.Workspace.{Work}
 use Rattle.rail_consequence.specs.Needs.{IsSet}
 use Rattle.rail_consequence.specs.Stops.{IsTakenByOther}
 use Rattle.rail_consequence.proofs.Holding.{no_bar}
+use Rattle.rail_consequence.proofs.Legs.{inside_parts}
 use Rattle.rail_consequence.proofs.Played.{ready_as}
 use Rattle.rail_consequence.proofs.SetLemmas.{needs_where}
 use Rattle.rail_consequence.proofs.Stopping.{leads_out_free, open_more}
@@ -21,9 +22,9 @@ returns g c =
     let plan : Moves = moves_in c.args.moves.now in
     let s = c.args.self.now.places.positions in
     let t = c.args.train in
-    let at : c.position-place.result ≡ place_of s t = c.position-place.ensures ∙ ap (λ (w : Work). place_of w.places.positions t) c.self.view_is in
     let listed : t < length s = omega (arith, c.requires.train, (state_parts plan s c.requires.ready.made.valid).long) in
-    leads_out_free plan s t c.places-last.result c.requires.ready.made.moves.valid c.requires.train listed (omega (arith, at, c.if-place-eq0.false)) (omega (arith, at, c.if-place-last.false)) c.places-last.ensures
+    let parts = inside_parts plan s t c.requires.inside in
+    leads_out_free plan s t c.places-last.result c.requires.ready.made.moves.valid c.requires.train listed parts.0 (omega (arith, parts.1, c.places-last.ensures)) c.places-last.ensures
     (λ i from below. c.loop-made.invariant i from (omega (arith, below, c.loop-made-test.false)))
 
 pub returns-then-not-meet_beyond : goal.returns-then-not-meet_beyond
@@ -36,10 +37,11 @@ returns-then-not-meet_beyond g c =
     let s = c.args.self.now.places.positions in
     let at : c.position-place.result ≡ place_of s t = c.position-place.ensures ∙ ap (λ (w : Work). place_of w.places.positions t) c.self.view_is in
     let listed : t < length s = omega (arith, c.requires.train, (state_parts plan s c.requires.ready.made.valid).long) in
+    let parts = inside_parts plan s t c.requires.inside in
     let G : ℕ → Type 0 = λ q. IsSet c.stand-own.result.now (λ x. is_in x (stand plan t q)) in
     let stands = subst G c.position-place.ensures c.stand-own.ensures.set in
     let H : Work → ℕ → Type 0 = λ w x. IsTakenByOther plan w.places.positions t x in
-    leads_out_free plan s t c.places-last.result c.requires.ready.made.moves.valid c.requires.train listed (omega (arith, at, c.if-place-eq0.false)) (omega (arith, at, c.if-place-last.false)) c.places-last.ensures
+    leads_out_free plan s t c.places-last.result c.requires.ready.made.moves.valid c.requires.train listed parts.0 (omega (arith, parts.1, c.places-last.ensures)) c.places-last.ensures
     (λ i from below x needed bar.
     no_bar table own.places ready.made own.taken ready.taken t x
     (λ is. sym (stands x) ∙ c.meet_beyond.ensures.none c.if-not-meet_beyond.true x (c.rest.ensures.set x ∙ needs_where plan t c.position-place.result i x (omega (arith, from, at)) (omega (arith, below, c.places-last.ensures)) needed) is)

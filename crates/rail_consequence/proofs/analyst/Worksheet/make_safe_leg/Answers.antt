@@ -1,9 +1,12 @@
-use Rattle.std.proofs.Common.{ℕ, ◌<◌, List, length, refl, sym, ap, subst, arith}
+use Rattle.std.proofs.Common.{ℕ, ◌<◌, List, length, refl, sym, ap, ◌∙◌, subst, arith}
+use Rattle.std.proofs.lemmas.Bool.{false≢true}
 use Rattle.rail_rules.specs.Moves.{Moves}
 use Rattle.rail_rules.specs.Analysis.{Leg, moves_left}
+use Rattle.rail_rules.specs.Places.{is_inside}
 use Rattle.rail_rules.proofs.CallerLemmas.{state_parts}
 use Rattle.rail_place.specs.Tables.{moves_in}
 use Rattle.rail_consequence.specs.Cores.{IsAhead}
+use Rattle.rail_consequence.specs.Workspace.{Work}
 use Rattle.rail_consequence.proofs.Legs.{goes_parts}
 use Rattle.rail_consequence.proofs.Played.{fewer_at}
 use Rattle.rail_consequence.proofs.Walks.{leg_finds}
@@ -23,6 +26,25 @@ returns-then-is_stopped-clause-none g c =
           let stop = c.is_stopped.ensures c.if-is_stopped.true (goes_parts plan s (record { train = t; place = p }) is).inside in
           stopped_unsafe plan s t stop.0 p stop.2 is,
     )
+
+pub returns-then-not-stands_inside-clause-none : goal.returns-then-not-stands_inside-clause-none
+returns-then-not-stands_inside-clause-none g c =
+    let plan : Moves = moves_in c.args.moves.now in
+    let s = c.args.self.now.places.positions in
+    let t = c.args.train in
+    let out = sym c.if-not-stands_inside.true ∙ c.stands_inside.ensures ∙ ap (λ (w : Work). is_inside plan w.places.positions t) c.self.view_is in
+    λ _. (
+      record { list = refl; positions = refl },
+      λ p is. absurd (false≢true (out ∙ (goes_parts plan s (record { train = t; place = p }) is).inside)),
+    )
+
+pub returns-then-not-stands_inside-clause-stopped : goal.returns-then-not-stands_inside-clause-stopped
+returns-then-not-stands_inside-clause-stopped g c = λ _ x inside.
+    absurd (false≢true (sym c.if-not-stands_inside.true ∙ c.stands_inside.ensures ∙ ap (λ (w : Work). is_inside (moves_in c.args.moves.now) w.places.positions c.args.train) c.self.view_is ∙ inside))
+
+pub look-requires-clause-inside : goal.look-requires-clause-inside
+look-requires-clause-inside g c =
+    sym (ap (λ (w : Work). is_inside (moves_in c.args.moves.now) w.places.positions c.args.train) c.self.view_is) ∙ sym c.stands_inside.ensures ∙ c.if-not-stands_inside.false
 
 pub returns-in-Stopped-clause-none : goal.returns-in-Stopped-clause-none
 returns-in-Stopped-clause-none g c = λ _. (record { list = refl; positions = refl }, shown_unsafe (moves_in c.args.moves.now) c.args.self.now.places.positions c.args.train c.in-Stopped.stop c.in-Stopped.ensures)

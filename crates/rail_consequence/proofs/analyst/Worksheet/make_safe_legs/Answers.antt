@@ -1,4 +1,4 @@
-use Rattle.std.proofs.Common.{◌≡◌, ◌≢◌, ℕ, List, get_or, sym, ap, ◌∙◌, subst, ⊎_elim, arith}
+use Rattle.std.proofs.Common.{◌≡◌, ◌≢◌, ℕ, List, get_or, refl, sym, ap, ◌∙◌, subst, ⊎_elim, arith}
 use Rattle.std.proofs.lemmas.Bool.{cases_lt, cases_eq}
 use Rattle.std.proofs.lemmas.Grind.{get_or_default_zero}
 use Rattle.rail_rules.specs.Moves.{Moves}
@@ -10,7 +10,7 @@ use Rattle.rail_consequence.specs.Stops.{IsSettledTrain, IsStopped, section_of, 
 use Rattle.rail_consequence.specs.Workspace.{Work, IsBack}
 use Rattle.rail_consequence.proofs.Counts.{in_at}
 use Rattle.rail_consequence.proofs.Played.{goes_further}
-use Rattle.rail_consequence.proofs.Walks.{both_ways, left_back}
+use Rattle.rail_consequence.proofs.Walks.{both_ways, goes_back, left_back}
 use Rattle.rail_consequence.proofs.analyst.Worksheet.make_safe_legs.Goals as goal
 
 -- a train that is settled still is where one more is, and no move was made
@@ -33,6 +33,21 @@ pub make_safe_leg-requires-clause-train : goal.make_safe_leg-requires-clause-tra
 make_safe_leg-requires-clause-train g c =
     c.requires.listed.trains c.index-inside-index.result
     (in_at c.index-inside-index.result c.args.inside.now c.loop-index.index (omega arith) c.index-inside-index.is)
+
+pub loop-index-init : goal.loop-index-init
+loop-index-init g c = record {
+  ready = c.requires.ready;
+  noted = c.requires.noted;
+  goes = goes_back (moves_in c.args.moves.now) c.args.self.now c.args.self.now (record { list = refl; positions = refl });
+  same = λ k. (λ found. found, λ found. found);
+  ahead = λ start ahead. ahead;
+  no_more = omega arith;
+  fewer = λ e. absurd (omega (arith, e));
+  in_list = omega arith;
+  within = c.requires.within;
+  looked_at = λ i from below. c.requires.looked_at i below;
+  behind = c.requires.settled;
+}
 
 pub loop-index-preserved-then-make_safe_leg : goal.loop-index-preserved-then-make_safe_leg
 loop-index-preserved-then-make_safe_leg g c =
