@@ -1,5 +1,5 @@
 -- The lines of a history that is read, from the first on.
-use Rattle.std.proofs.Common.{◌≡◌, ℕ, suc, ◌+◌, ◌<◌, ◌≤◌, Bool, true, false, ◌&&◌, cond, List, [], ◌∷◌, ◌++◌, length, drop, get_or, refl, sym, ap, ◌∙◌, subst, arith, append_assoc, length-append}
+use Rattle.std.proofs.Common.{◌≡◌, ℕ, suc, ◌+◌, ◌<◌, ◌≤◌, Bool, true, false, ◌&&◌, cond, List, [], ◌∷◌, ◌++◌, length, drop, get_or, refl, sym, ap, ◌∙◌, arith, append_assoc, length-append}
 use Rattle.std.specs.List.{count_by, list_all, list_any}
 use Rattle.std.proofs.lemmas.Bool.{and_parts, and_from}
 use Rattle.std.proofs.lemmas.List.{append-nil, reverse-append}
@@ -10,21 +10,16 @@ use Rattle.rail_base.specs.declared.history.What.{What}
 use Rattle.rail_base.specs.declared.history.What.TheVariants.{Free, Arrive, Enter, Out, Ready, Told, Untold, Admit, Hold, End}
 use Rattle.rail_base.specs.declared.history.Note.TheVariants.{Pulled, Appended, Fresh}
 use Rattle.rail_base.specs.declared.limits.TheConstants.{FRESH_LINES}
-use Rattle.rail_base.specs.declared.names.Names.{Names}
-use Rattle.rail_base.specs.declared.refusals.Fault.{Fault}
-use Rattle.rail_base.specs.declared.refusals.Fault.TheVariants.{Refused, OutOfMemory}
-use Rattle.rail_base.specs.declared.refusals.Refusal.{Refusal}
 use Rattle.rail_rules.specs.Plant.{Plant}
 use Rattle.rail_rules.specs.Fronts.{Line}
 use Rattle.rail_rules.specs.Texts.{line_text, line_words, text}
 use Rattle.rail_rules.specs.WritableLines.{IsNamed, is_writable}
 use Rattle.rail_laws_text.proofs.CallerLemmas.{text_same}
-use Rattle.rail_text.specs.Names.{HasNames}
-use Rattle.rail_history.specs.HistoryLines.{IsFirstWrong, IsHistory, IsRefusedFor, IsSpelled, does_list, is_fresh, is_history_line, lines_in, lines_text, refusal_at}
-use Rattle.rail_history.specs.LineReads.{IsWrongLine}
+use Rattle.rail_history.specs.HistoryLines.{IsFirstWrong, IsHistory, IsSpelled, does_list, is_fresh, is_history_line, lines_in, lines_text}
 use Rattle.rail_history.specs.Lines.{brought, line_of}
+use Rattle.rail_history.specs.ReadFiles.{IsFront}
 use Rattle.rail_history.specs.ReadWords.{joined}
-use Rattle.rail_history.proofs.FileLines.{is_feed}
+use Rattle.rail_history.proofs.LineFeeds.{is_feed}
 use Rattle.rail_history.proofs.LineRead.{can_write, one_feed, text_is}
 
 -- counting one more
@@ -99,11 +94,6 @@ pub length-lines_in : (entries : List Entry) (lists_of : List (List ℕ)) → le
 length-lines_in [] ls = refl
 length-lines_in (e ∷ es) ls = ap suc (length-lines_in es (cond (does_list e.what) (drop 1 ls) ls))
 
--- the lines so far, and what is left of the bytes
-pub record IsFront (plant : Plant) (bytes : List ℕ) (lines : List Line) (rest : List ℕ) : Type 0 where
-  pub each : list_all (is_history_line plant) lines ≡ true
-  pub whole : bytes ≡ lines_text plant lines ++ rest
-
 text_push : (plant : Plant) (lines : List Line) (line : Line) → lines_text plant (lines ++ line ∷ []) ≡ lines_text plant lines ++ line_text plant line
 text_push plant lines line = ap (text plant) (reverse-append lines (line ∷ []))
 
@@ -159,12 +149,3 @@ first_wrong plant named bytes lines left piece fresh number front counted few nu
       let many = wrong line (record { is_line = is; spelled = spelled }) in
       omega (arith, many, counted, are.few_fresh, count_push Line (λ (l : Line). is_fresh l.entry.what) lines line);
 }
-
--- the refusal of a line that is none is that of the bytes
-pub refused_for : (names : Names) (bytes piece : List ℕ) (fresh number : ℕ)
-    → ((plant : Plant) → HasNames plant names → IsNamed plant → ((line : Line) → IsSpelled plant line piece → FRESH_LINES < fresh + cond (is_fresh line.entry.what) 1 0) → IsFirstWrong plant bytes number)
-    → (fault : Fault) → IsWrongLine names fresh number piece fault → IsRefusedFor names bytes fault
-refused_for names bytes piece fresh number first (Refused refusal) wrong =
-    let item : number ≡ refusal.item = sym (ap (λ (r : Refusal). r.item) wrong.0) in
-    (wrong.0 ∙ ap refusal_at item, λ plant has named. subst (IsFirstWrong plant bytes) item (first plant has named (wrong.1 plant has named)))
-refused_for names bytes piece fresh number first OutOfMemory wrong = tt

@@ -83,7 +83,7 @@ fresh_few (line ∷ front) =
     )
 
 module _ (input : Input) (accepted : is_accepted_input input ≡ true) where
-  line_known : (line : Line) (front : Front) → is_lawful input (line ∷ front) ≡ true → is_history_line input.plant line ≡ true
+  pub line_known : (line : Line) (front : Front) → is_lawful input (line ∷ front) ≡ true → is_history_line input.plant line ≡ true
   line_known line front lawful =
       let written = and_parts (does_fit_counter line.entry.at) (is_writable_what input.plant line line.entry.what) (line_writable input accepted line front lawful) in
       let limited = line_limited input accepted line front lawful in

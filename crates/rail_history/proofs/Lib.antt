@@ -14,8 +14,9 @@ mod TrainsRead
 mod Listed
 mod LineRead
 mod Histories
+mod ReadOn
 -- Lemmas on lines and files.
-mod FileLines
+mod LineFeeds
 -- Lawful histories.
 mod Lawful
 -- The bytes of one history.

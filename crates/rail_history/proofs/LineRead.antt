@@ -23,7 +23,7 @@ use Rattle.rail_history.specs.LineReads.{line_read}
 use Rattle.rail_history.specs.HistoryLines.{IsSpelled, is_history_line, is_list_within, is_history_what}
 use Rattle.rail_history.specs.Lines.{brought, line_of}
 use Rattle.rail_history.specs.ReadWords.{is_small_what, is_spaceless, joined}
-use Rattle.rail_history.proofs.FileLines.{is_feed}
+use Rattle.rail_history.proofs.LineFeeds.{is_feed}
 use Rattle.rail_history.proofs.Spelled.{what_spaceless}
 use Rattle.rail_history.proofs.Times.{front_at, time_free}
 

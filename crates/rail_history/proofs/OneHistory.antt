@@ -12,7 +12,7 @@ use Rattle.rail_rules.specs.Texts.{line_text, line_words, text}
 use Rattle.rail_rules.specs.WritableLines.{IsNamed}
 use Rattle.rail_history.specs.HistoryLines.{AreHistoryLines, IsFirstWrong, IsHistory, is_fresh, is_history_line, lines_text}
 use Rattle.rail_history.specs.ReadWords.{joined}
-use Rattle.rail_history.proofs.FileLines.{is_feed}
+use Rattle.rail_history.proofs.LineFeeds.{is_feed}
 use Rattle.rail_history.proofs.Histories.{one_line}
 use Rattle.rail_history.proofs.LineRead.{one_feed, text_is}
 

@@ -117,6 +117,11 @@ IsRefusedFor names bytes (Refused refusal) = (refusal ≡ refusal_at refusal.ite
     × ((plant : Plant) → HasNames plant names → IsNamed plant → IsFirstWrong plant bytes refusal.item)
 IsRefusedFor names bytes OutOfMemory = Unit {0}
 
+-- the same for the names of a plant
+abbrev pub IsRefusedIn : Plant → List ℕ → Fault → Type 0
+IsRefusedIn plant bytes (Refused refusal) = (refusal ≡ refusal_at refusal.item) × IsFirstWrong plant bytes refusal.item
+IsRefusedIn plant bytes OutOfMemory = Unit {0}
+
 -- the list may stand behind the note: a fresh one within its limits, of trains of the plant
 abbrev pub does_fit_note : Plant → Note → List ℕ → Bool
 does_fit_note plant Fresh list = is_fresh_list list && list_all (is_known_train plant) list

@@ -4,6 +4,7 @@ pub mod Pieces
 -- Lines of a history that are read.
 pub mod HistoryLines
 pub mod LineReads
+pub mod ReadFiles
 pub mod ListItems
 pub mod LinesLeft
 pub mod ReadWords

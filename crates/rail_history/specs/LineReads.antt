@@ -1,5 +1,5 @@
 -- What the reading of a line answers.
-use Rattle.std.specs.Prelude.{◌≡◌, ℕ, ◌+◌, ◌<◌, ◌≤◌, true, cond, List, [], ◌∷◌, ◌++◌, count_by, drop, length, map, Option, IsSomeAnd}
+use Rattle.std.specs.Prelude.{◌≡◌, ℕ, ◌+◌, ◌<◌, true, cond, List, count_by, drop, length, map, Option, IsSomeAnd}
 use Rattle.rail_base.specs.declared.history.Entry.{Entry}
 use Rattle.rail_base.specs.declared.history.Note.{Note}
 use Rattle.rail_base.specs.declared.history.What.{What}
@@ -14,7 +14,7 @@ use Rattle.rail_rules.specs.WritableLines.{IsNamed, is_writable_note, is_writabl
 use Rattle.rail_text.specs.Names.{HasNames}
 use Rattle.rail_history.specs.declared.read_line.ReadLine.{ReadLine}
 use Rattle.rail_history.specs.declared.files.History.{History}
-use Rattle.rail_history.specs.HistoryLines.{IsLine, IsSpelled, does_list, is_fresh, is_fresh_list, is_fresh_note, is_history_line, is_list_within, lines_in, refusal_at}
+use Rattle.rail_history.specs.HistoryLines.{IsSpelled, does_list, is_fresh, is_fresh_list, is_fresh_note, is_history_line, is_list_within, lines_in, refusal_at}
 use Rattle.rail_history.specs.Lines.{brought, brought_by_note, line_of}
 use Rattle.rail_history.specs.ListItems.{spelled_by}
 use Rattle.rail_history.specs.ReadWords.{joined}
@@ -51,15 +51,6 @@ lines_of history = lines_in history.entries.items (lists_of history)
 -- there are as many lists as lines that have one
 abbrev pub IsPaired : History → Type 0
 IsPaired history = count_by (λ (entry : Entry). does_list entry.what) history.entries.items ≡ length (lists_of history)
-
--- the bytes are a line, which was added to the history, and is counted where its list is fresh
-pub record TakesLine (names : Names) (old new : History) (bytes : List ℕ) (fresh more : ℕ) : Type 0 where
-  pub line : Line
-  pub is_line : IsLine names bytes line
-  pub added : IsPaired old → lines_of new ≡ lines_of old ++ line ∷ []
-  pub paired : IsPaired old → IsPaired new
-  pub counted : more ≡ cond (is_fresh line.entry.what) 1 0
-  pub within : fresh + more ≤ most FreshLines
 
 -- behind so many fresh lists the bytes are no line, or one fresh list too many
 abbrev pub IsWrongLine : Names → ℕ → ℕ → List ℕ → Fault → Type 0

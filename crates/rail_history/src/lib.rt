@@ -9,7 +9,9 @@
 //! of other bytes anything; whoever reads writes the line back and compares.
 #![tactic(auto)]
 
+mod bare_lines;
 mod cutting;
+mod file_lines;
 mod files;
 mod history_lines;
 mod items;
@@ -26,6 +28,8 @@ mod words;
 mod writing;
 mod written_text;
 
+pub use bare_lines::put_bare_line;
+pub use file_lines::FileLines;
 pub use files::{History, read_history};
 pub use items::ListItem;
 pub use laws::{
@@ -34,6 +38,7 @@ pub use laws::{
     a_lawful_history_may_stand_in_a_file,
 };
 pub use lines::Lines;
+pub use read_line::ReadLine;
 pub use read_what::likely_what;
 pub use read_words::{Reason, Verb};
 pub use writing::write_entry;

@@ -22,9 +22,9 @@ use std::alloc::Global;
 
 /// A line of a history: its entry, and the trains of a fresh list or those that an end line names.
 #[derive(Drop)]
-pub(crate) struct ReadLine {
-    pub(crate) entry: Entry,
-    pub(crate) trains: Vec<TrainNo>,
+pub struct ReadLine {
+    pub entry: Entry,
+    pub trains: Vec<TrainNo>,
 }
 
 /// The line whose text these bytes are, with the line feed: `None` exactly where they are the text of none.

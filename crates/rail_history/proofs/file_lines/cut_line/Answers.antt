@@ -1,6 +1,6 @@
 use Rattle.std.proofs.Common.{◌∙◌, sym}
-use Rattle.rail_history.proofs.FileLines.{line_cut, line_found}
-use Rattle.rail_history.proofs.files.cut_line.Goals as goal
+use Rattle.rail_history.proofs.LineFeeds.{line_cut, line_found}
+use Rattle.rail_history.proofs.file_lines.cut_line.Goals as goal
 
 pub returns-in-Some-clause-line : goal.returns-in-Some-clause-line
 returns-in-Some-clause-line c = λ body more free same. line_cut body more free c.args.text.now c.in-Some.end same (sym c.line_feed.ensures ∙ c.in-Some.is)
