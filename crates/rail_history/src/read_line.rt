@@ -5,11 +5,13 @@ ghost use Rattle.std.specs.List.{list_all};
 ghost use Rattle.rail_text.specs.Names.{HasNames};
 ghost use Rattle.rail_history.specs.HistoryLines.{IsLine, IsNoLine, IsSpelled, is_history_line};
 ghost use Rattle.rail_history.specs.LineReads.{AreLikelyTrains, AreNotedTrains, IsLikelyLine, line_read};
+ghost use Rattle.rail_history.specs.Lines.{brought};
 ghost use Rattle.rail_history.specs.ReadWords.{is_spaceless, joined};
 ghost use Rattle.rail_rules.specs.Plant.{Plant};
 
 use crate::cutting::cut;
 use crate::history_lines::is_history_line;
+use crate::lists::does_list;
 use crate::read_time::likely_time;
 use crate::read_trains::likely_trains;
 use crate::read_what::likely_what;
@@ -24,7 +26,20 @@ use std::alloc::Global;
 #[derive(Drop)]
 pub struct ReadLine {
     pub entry: Entry,
-    pub trains: Vec<TrainNo>,
+    pub(crate) trains: Vec<TrainNo>,
+}
+
+impl ReadLine {
+    /// The trains beside the entry: those of a fresh list, or those that an end line names, and none at other lines.
+    pub fn beside(&self) -> &[TrainNo]
+        ensures { result.now ≡ brought self.now.entry.what self.now.trains.items }
+    {
+        if does_list(&self.entry.what) {
+            self.trains.as_slice()
+        } else {
+            &[]
+        }
+    }
 }
 
 /// The line whose text these bytes are, with the line feed: `None` exactly where they are the text of none.

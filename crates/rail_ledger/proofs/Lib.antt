@@ -12,5 +12,6 @@ mod Deciding
 mod Ordered
 mod Commands
 mod Judged
+mod DueNow
 mod Missing
 mod Admissions

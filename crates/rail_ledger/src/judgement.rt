@@ -77,7 +77,7 @@ impl Ledger {
 
     /// What is left to decide at this instant, at which nothing is pending. No line is given. Where the last line
     /// was a hold line each train that waits has a known cause.
-    fn left_to_decide(&mut self, after_hold: bool) -> Left
+    pub(crate) fn left_to_decide(&mut self, after_hold: bool) -> Left
         requires running { IsSomewhere self.old }
         requires known { after_hold ≡ true → AreAllKnown self.old.input.plant self.old.state.trains }
         requires going { self.old.state.has_ended ≡ false }

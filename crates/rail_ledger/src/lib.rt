@@ -11,10 +11,12 @@
 //! touches: no scan of all events, sections or trains.
 #![tactic(auto)]
 
+mod due;
 mod input;
 mod judgement;
 mod ledger;
 
+pub use due::Due;
 pub use input::RunInput;
 pub use judgement::Left;
 pub use ledger::{Ledger, Listed};

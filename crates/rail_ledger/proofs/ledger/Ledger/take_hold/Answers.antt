@@ -1,32 +1,18 @@
-use Rattle.std.proofs.Common.{◌≡◌, ◌+◌, ℕ, Some, ◌∷◌, true, sym, ap, ◌∙◌, subst, arith}
+use Rattle.std.proofs.Common.{◌≡◌, ◌∷◌, true, sym, ap, ◌∙◌, subst, arith}
 use Rattle.std.proofs.lemmas.Bool.{and_parts, false≢true}
-use Rattle.rail_base.specs.declared.history.Cause.{Cause}
-use Rattle.rail_base.specs.declared.history.What.{What}
-use Rattle.rail_base.specs.declared.history.What.TheVariants.{Hold}
 use Rattle.rail_judging.proofs.CallerLemmas.{one_other, refused_held}
-use Rattle.rail_rules.specs.Fronts.{Front, Line, is_hold}
+use Rattle.rail_rules.specs.Fronts.{Line}
 use Rattle.rail_rules.specs.Lawful.{is_lawful, may_follow}
 use Rattle.rail_state.specs.Representation.{bare_at}
-use Rattle.rail_state.specs.TrainStates.{state_of}
-use Rattle.rail_state.proofs.CallerLemmas.{cause_known}
 use Rattle.rail_ledger.specs.Inputs.{input_in}
-use Rattle.rail_ledger.specs.Ledgers.{IsAt, IsHoldDue, line_in, line_with, listed_in}
+use Rattle.rail_ledger.specs.Ledgers.{IsAt, line_in, line_with, listed_in}
 use Rattle.rail_ledger.specs.declared.input.RunInput.{RunInput}
 use Rattle.rail_ledger.specs.declared.ledger.Ledger.{Ledger}
 use Rattle.rail_ledger.specs.declared.ledger.Listed.{Listed}
-use Rattle.rail_ledger.proofs.Holding.{hold_next, known_why}
+use Rattle.rail_ledger.proofs.DueNow.{due_lawful}
 use Rattle.rail_ledger.proofs.Judged.{hold_none}
 use Rattle.rail_ledger.proofs.Room.{place_fits}
 use Rattle.rail_ledger.proofs.ledger.Ledger.take_hold.Goals as goal
-
--- the hold line that is due may follow
-due_lawful : (front : Front) (ledger : Ledger) → IsAt front ledger → (t : ℕ) → IsHoldDue ledger t → (said : What)
-    → ((why : Cause) → (state_of ledger.state.trains t).known ≡ Some why → said ≡ Hold t ((state_of ledger.state.trains t).place + 1) why)
-    → (is_hold said ≡ true) × (is_lawful (input_in ledger.input) (bare_at ledger.state.instant said ∷ front) ≡ true)
-due_lawful front ledger at t due said says =
-    let known = known_why (state_of ledger.state.trains t).known (cause_known (state_of ledger.state.trains t) due.lacks) in
-    let is = says known.0 known.1 in
-    (ap is_hold is, subst (λ (w : What). is_lawful (input_in ledger.input) (bare_at ledger.state.instant w ∷ front) ≡ true) (sym is) (hold_next front ledger at t due known.0 known.1))
 
 pub hold_line-requires-clause-place : goal.hold_line-requires-clause-place
 hold_line-requires-clause-place c = omega (
