@@ -3,3 +3,5 @@ pub mod CallerLemmas
 mod SoFar
 mod TakenLines
 mod Printed
+mod Passed
+mod Following

@@ -1,4 +1,4 @@
-//! A history is checked line by line.
+//! A history that was read is checked line by line.
 
 ghost use Rattle.std.specs.Prelude.{◌≡◌, ◌-◌, ◌<◌, ◌^◌, IfOk, length, true};
 ghost use Rattle.rail_check.specs.Answers.{judged_in};
@@ -6,22 +6,13 @@ ghost use Rattle.rail_history.specs.LineReads.{IsPaired, lines_of};
 ghost use Rattle.rail_judging.specs.Verdicts.{verdict};
 ghost use Rattle.rail_ledger.specs.Inputs.{input_in};
 ghost use Rattle.rail_rules.specs.Accepted.{is_accepted_input};
-ghost use Rattle.rail_rules.specs.Fronts.{is_hold};
 
-use rail_base::{OutOfMemory, What};
+use crate::checker::Checker;
+use crate::verdict::Verdict;
+use rail_base::OutOfMemory;
 use rail_history::History;
-use rail_ledger::{Ledger, RunInput};
+use rail_ledger::RunInput;
 use std::alloc::Global;
-
-/// What is answered to a history.
-#[derive(Clone, Copy, Debug, PartialEq, Eq)]
-pub enum Verdict {
-    /// It is lawful to its end.
-    Yes,
-    /// The first line that may not follow the lines before it, counted from 1, and the law that it breaks, from 1 to
-    /// 7. Where the end line is missing the line is one past the last.
-    No { line: u32, law: u8 },
-}
 
 /// Whether the history is lawful to its end: a history of the plant with its calls, under the commands, and with
 /// the names of the deck, of which one is in force first. The input is handed over, since the ledger that is
@@ -47,29 +38,12 @@ pub fn check(alloc: Global, input: RunInput, history: &History) -> Result<Verdic
     requires short { length history.now.entries.items < 2 ^ 32 - 1 }
     ensures verdict { IfOk result (λ answer. judged_in answer ≡ verdict (input_in input) (lines_of history.now)) }
 {
-    let mut ledger = Ledger::begin(alloc, input)?;
+    let mut checker = Checker::begin(alloc, input)?;
     let mut lines = history.lines(alloc)?;
-    let mut after_hold = false;
-    let mut line = 0;
     while let Some(entry) = lines.next_entry() {
-        line += 1;
-        if let Some(law) = ledger.take(entry, lines.trains(), after_hold) {
-            return Ok(Verdict::No { line, law });
+        if let Some(verdict) = checker.take(entry, lines.trains()) {
+            return Ok(verdict);
         }
-        after_hold = is_hold(&entry.what);
     }
-    match ledger.judge_end() {
-        Some(law) => Ok(Verdict::No {
-            line: line + 1,
-            law,
-        }),
-        None => Ok(Verdict::Yes),
-    }
-}
-
-/// Whether this is a hold line.
-fn is_hold(what: &What) -> bool
-    ensures { result ≡ is_hold what.now }
-{
-    matches!(what, What::Hold { .. })
+    Ok(checker.end())
 }
