@@ -1,12 +1,10 @@
 -- What a check answers to a history.
 use Rattle.std.proofs.Common.{◌≡◌, ℕ, List, length, map, true, Option, Some, None, refl, sym, ap, ◌∙◌, subst}
 use Rattle.rail_base.specs.Refusals.{AnswersFirst}
-use Rattle.rail_base.specs.declared.names.Names.{Names}
 use Rattle.rail_base.specs.declared.refusals.Fault.{Fault}
 use Rattle.rail_base.specs.declared.refusals.Fault.TheVariants as fault
 use Rattle.rail_base.specs.declared.refusals.Refusal.{Refusal}
-use Rattle.rail_text.specs.Names.{HasNames}
-use Rattle.rail_history.specs.HistoryLines.{IsHistory, IsRefusedFor, refusal_at}
+use Rattle.rail_history.specs.HistoryLines.{IsHistory, IsRefusedIn, refusal_at}
 use Rattle.rail_history.proofs.CallerLemmas.{no_history, one_history, one_wrong}
 use Rattle.rail_io.specs.Writes.{Adds, AddsPrefix}
 use Rattle.rail_judging.specs.Verdicts.{Verdict, verdict}
@@ -68,12 +66,12 @@ input_refused first input text before now status (fault.Refused refusal) is answ
 -- the other files were read
 module _ (first : Option Refusal) (none : first ≡ None) (input : Input) (named : IsNamed input.plant) (text : List ℕ) (before now : Option (List ℕ)) (status : Status) where
   -- but the history was not
-  pub history_refused : (names : Names) → HasNames input.plant names → (why : Fault) → status ≡ status_of why → IsRefusedFor names text why → AnswersHistory first input text before now status
-  history_refused names has fault.OutOfMemory is refused = no_memory first input text before now status is
-  history_refused names has (fault.Refused refusal) is refused = subst (AnswersHistory first input text before now) (sym is) (record {
-    read = λ lines history. absurd (no_history input.plant named text refusal.item lines (refused.1 input.plant has named) history);
+  pub history_refused : (why : Fault) → status ≡ status_of why → IsRefusedIn input.plant text why → AnswersHistory first input text before now status
+  history_refused fault.OutOfMemory is refused = no_memory first input text before now status is
+  history_refused (fault.Refused refusal) is refused = subst (AnswersHistory first input text before now) (sym is) (record {
+    read = λ lines history. absurd (no_history input.plant named text refusal.item lines refused.1 history);
     wrong = λ number wrong. ap (λ (o : Option Refusal). or_else o (Some (refusal_at number))) none
-        ∙ ap (λ (n : ℕ). Some (refusal_at n)) (one_wrong input.plant named text number refusal.item wrong (refused.1 input.plant has named)) ∙ ap Some (sym refused.0);
+        ∙ ap (λ (n : ℕ). Some (refusal_at n)) (one_wrong input.plant named text number refusal.item wrong refused.1) ∙ ap Some (sym refused.0);
     of_first = none_decides first (Refused refusal) none;
   })
 
@@ -143,8 +141,8 @@ module _ (input : Input) (run : RunInput) (read : IsRead input run) where
   pub named_input : IsNamed input.plant
   named_input = accepted_named input.plant (input_parts input read.accepted).0
 
-  pub names_input : (names : Names) → HasNames run.plant names → HasNames input.plant names
-  names_input names has = subst (λ (plant : Plant). HasNames plant names) read.plant has
+  pub refused_input : (text : List ℕ) (why : Fault) → IsRefusedIn run.plant text why → IsRefusedIn input.plant text why
+  refused_input text why is = subst (λ (plant : Plant). IsRefusedIn plant text why) read.plant is
 
   pub history_input : (text : List ℕ) (lines : List Line) → IsHistory run.plant text lines → IsHistory input.plant text lines
   history_input text lines is = subst (λ (plant : Plant). IsHistory plant text lines) read.plant is

@@ -9,8 +9,7 @@ ghost use Rattle.rail_forms.specs.Promises.{WritesAnswer, ended, is_of_bytes};
 ghost use Rattle.rail_text.specs.Writes.{WritesText};
 
 use crate::status::Status;
-use rail_check::{Verdict, check};
-use rail_history::read_history;
+use rail_check::{Verdict, check_file};
 use rail_input::{ReadInput, read_input};
 use rail_io::{Failed, Sink, write_whole};
 use rail_ledger::RunInput;
@@ -46,14 +45,13 @@ pub fn check_files<O: Sink>(
         commands,
         force,
     } = read_input(alloc, scene, timetable, commands, &names)?;
-    let history = read_history(alloc, plant.names(), history)?;
     let input = RunInput {
         plant,
         commands,
         deck: names,
         force,
     };
-    let verdict = check(alloc, input, &history)?;
+    let verdict = check_file(alloc, input, history)?;
     write_verdict(verdict, out)?;
     end_with(verdict)
 }

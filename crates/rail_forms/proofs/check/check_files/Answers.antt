@@ -1,8 +1,6 @@
 use Rattle.std.proofs.Common.{◌≡◌, ◌∙◌, List, ℕ, None, true, length, map, sym, ap, subst, arith}
 use Rattle.std.specs.Option.{option_copied}
 use Rattle.rail_check.specs.Answers.{judged_in}
-use Rattle.rail_text.specs.Names.{HasNames}
-use Rattle.rail_history.specs.LineReads.{lines_of}
 use Rattle.rail_judging.specs.Verdicts.{Verdict}
 use Rattle.rail_rules.specs.Fronts.{Line}
 use Rattle.rail_forms.proofs.Writes.{ended-failed}
@@ -14,7 +12,7 @@ use Rattle.rail_forms.specs.Answers.{status_of}
 use Rattle.rail_forms.specs.Checks.{AnswersHistory}
 use Rattle.rail_forms.specs.Promises.{ended}
 use Rattle.rail_forms.proofs.Answers.{ended_with}
-use Rattle.rail_forms.proofs.CheckAnswers.{IsRead, accepted_run, fine_shown, history_cut, history_input, history_judged, history_refused, input_refused, named_input, names_input, no_memory, verdict_input}
+use Rattle.rail_forms.proofs.CheckAnswers.{IsRead, accepted_run, fine_shown, history_cut, history_input, history_judged, history_refused, input_refused, named_input, no_memory, refused_input, verdict_input}
 use Rattle.rail_forms.proofs.check.check_files.Goals as goal
 
 pub returns-in_err-plant-clause-answer : goal.returns-in_err-plant-clause-answer
@@ -26,8 +24,8 @@ returns-in_err-plant-clause-answer g c =
     subst (λ names. AnswersHistory (input_refusal scene calls orders names) (input_in scene calls orders names) c.args.history.now (g.O.Sink.written c.args.out.now) (g.O.Sink.written c.args.out.now) (ended c.from_residual-in_err-plant.result)) names_are
     (input_refused (input_refusal scene calls orders c.deref.result.now) (input_in scene calls orders c.deref.result.now) c.args.history.now (g.O.Sink.written c.args.out.now) (g.O.Sink.written c.args.out.now) (ended c.from_residual-in_err-plant.result) c.in_err-plant.field-0.0 (ended_with c.from_residual-in_err-plant.result (status_of c.in_err-plant.field-0.0) c.from_residual-in_err-plant.ensures.1) c.in_err-plant.ensures.refused)
 
-pub returns-in_err-history-clause-answer : goal.returns-in_err-history-clause-answer
-returns-in_err-history-clause-answer g c =
+pub returns-in_err-verdict-clause-answer : goal.returns-in_err-verdict-clause-answer
+returns-in_err-verdict-clause-answer g c =
     let scene : List ℕ = c.args.scene.now in
     let calls = option_copied c.args.timetable in
     let orders = option_copied c.args.commands in
@@ -40,13 +38,12 @@ returns-in_err-history-clause-answer g c =
     let run : RunInput = record { plant = c.in_ok-plant.field-0.plant; commands = c.in_ok-plant.field-0.commands; deck = c.in_ok-names.names; force = c.in_ok-plant.field-0.force } in
     let accepted = ok.fine fine.0 fine.1 in
     let read : IsRead input run = record { plant = ok.plant; commands = ok.commands; deck = sym c.deref.ensures.value; force = ok.force; accepted = accepted } in
-    let has : HasNames run.plant c.names.result.now = record { sections = c.names.ensures.sections; trains = c.names.ensures.trains } in
-    subst (λ (shown : List (List ℕ)). AnswersHistory (input_refusal scene calls orders shown) (input_in scene calls orders shown) text (g.O.Sink.written c.args.out.now) (g.O.Sink.written c.args.out.now) (ended c.from_residual-in_err-history.result)) names_are
-    (history_refused (input_refusal scene calls orders names) ok.accepted input (named_input input run read) text (g.O.Sink.written c.args.out.now) (g.O.Sink.written c.args.out.now) (ended c.from_residual-in_err-history.result) c.names.result.now (names_input input run read c.names.result.now has) c.in_err-history.field-0.0
-    (ended_with c.from_residual-in_err-history.result (status_of c.in_err-history.field-0.0) c.from_residual-in_err-history.ensures.1) c.in_err-history.ensures.refused)
+    subst (λ (shown : List (List ℕ)). AnswersHistory (input_refusal scene calls orders shown) (input_in scene calls orders shown) text (g.O.Sink.written c.args.out.now) (g.O.Sink.written c.args.out.now) (ended c.from_residual-in_err-verdict.result)) names_are
+    (history_refused (input_refusal scene calls orders names) ok.accepted input (named_input input run read) text (g.O.Sink.written c.args.out.now) (g.O.Sink.written c.args.out.now) (ended c.from_residual-in_err-verdict.result) c.in_err-verdict.field-0.0
+    (ended_with c.from_residual-in_err-verdict.result (status_of c.in_err-verdict.field-0.0) c.from_residual-in_err-verdict.ensures.1) (refused_input input run read text c.in_err-verdict.field-0.0 c.in_err-verdict.ensures.refused))
 
-pub check-requires : goal.check-requires
-check-requires g c =
+pub check_file-requires-clause-accepted : goal.check_file-requires-clause-accepted
+check_file-requires-clause-accepted g c =
     let scene : List ℕ = c.args.scene.now in
     let calls = option_copied c.args.timetable in
     let orders = option_copied c.args.commands in
@@ -59,11 +56,7 @@ check-requires g c =
     let run : RunInput = record { plant = c.in_ok-plant.field-0.plant; commands = c.in_ok-plant.field-0.commands; deck = c.in_ok-names.names; force = c.in_ok-plant.field-0.force } in
     let accepted = ok.fine fine.0 fine.1 in
     let read : IsRead input run = record { plant = ok.plant; commands = ok.commands; deck = sym c.deref.ensures.value; force = ok.force; accepted = accepted } in
-    record {
-      accepted = accepted_run input run read;
-      paired = c.in_ok-history.ensures.paired;
-      short = omega (arith, c.in_ok-history.ensures.short, c.requires.short_history);
-    }
+    accepted_run input run read
 
 pub returns-in_err-write_verdict-clause-answer : goal.returns-in_err-write_verdict-clause-answer
 returns-in_err-write_verdict-clause-answer g c =
@@ -79,11 +72,11 @@ returns-in_err-write_verdict-clause-answer g c =
     let run : RunInput = record { plant = c.in_ok-plant.field-0.plant; commands = c.in_ok-plant.field-0.commands; deck = c.in_ok-names.names; force = c.in_ok-plant.field-0.force } in
     let accepted = ok.fine fine.0 fine.1 in
     let read : IsRead input run = record { plant = ok.plant; commands = ok.commands; deck = sym c.deref.ensures.value; force = ok.force; accepted = accepted } in
-    let has : HasNames run.plant c.names.result.now = record { sections = c.names.ensures.sections; trains = c.names.ensures.trains } in
-    let lines : List Line = lines_of c.in_ok-history.history in
-    let history = history_input input run read text lines (c.in_ok-history.ensures.read run.plant has) in
+    let checked = c.in_ok-verdict.ensures.verdict in
+    let lines : List Line = checked.lines in
+    let history = history_input input run read text lines checked.is_history in
     let said : Verdict = judged_in c.in_ok-verdict.verdict in
-    let is = verdict_input input run read said lines c.in_ok-verdict.ensures.verdict in
+    let is = verdict_input input run read said lines checked.judged in
     subst (λ (shown : List (List ℕ)). AnswersHistory (input_refusal scene calls orders shown) (input_in scene calls orders shown) text (g.O.Sink.written c.args.out.now) (g.O.Sink.written c.write_verdict.new.out) (ended c.from_residual-in_err-write_verdict.result)) names_are
     (history_cut (input_refusal scene calls orders names) ok.accepted input (named_input input run read) text (g.O.Sink.written c.args.out.now) (g.O.Sink.written c.write_verdict.new.out) (ended c.from_residual-in_err-write_verdict.result) lines history said is
     (ended-failed c.from_residual-in_err-write_verdict.result c.from_residual-in_err-write_verdict.ensures.1) c.in_err-write_verdict.ensures.failed_adds_prefix)
@@ -102,10 +95,10 @@ returns-clause-answer g c =
     let run : RunInput = record { plant = c.in_ok-plant.field-0.plant; commands = c.in_ok-plant.field-0.commands; deck = c.in_ok-names.names; force = c.in_ok-plant.field-0.force } in
     let accepted = ok.fine fine.0 fine.1 in
     let read : IsRead input run = record { plant = ok.plant; commands = ok.commands; deck = sym c.deref.ensures.value; force = ok.force; accepted = accepted } in
-    let has : HasNames run.plant c.names.result.now = record { sections = c.names.ensures.sections; trains = c.names.ensures.trains } in
-    let lines : List Line = lines_of c.in_ok-history.history in
-    let history = history_input input run read text lines (c.in_ok-history.ensures.read run.plant has) in
+    let checked = c.in_ok-verdict.ensures.verdict in
+    let lines : List Line = checked.lines in
+    let history = history_input input run read text lines checked.is_history in
     let said : Verdict = judged_in c.in_ok-verdict.verdict in
-    let is = verdict_input input run read said lines c.in_ok-verdict.ensures.verdict in
+    let is = verdict_input input run read said lines checked.judged in
     subst (λ (shown : List (List ℕ)). AnswersHistory (input_refusal scene calls orders shown) (input_in scene calls orders shown) text (g.O.Sink.written c.args.out.now) (g.O.Sink.written c.write_verdict.new.out) (ended c.end_with.result)) names_are
     (history_judged (input_refusal scene calls orders names) ok.accepted input (named_input input run read) text (g.O.Sink.written c.args.out.now) (g.O.Sink.written c.write_verdict.new.out) (ended c.end_with.result) lines history said is c.end_with.ensures c.in_ok-write_verdict.ensures.adds)
