@@ -16,7 +16,9 @@ mod numbers;
 mod orders;
 mod plant;
 mod refusals;
+mod runs;
 mod sequence;
+mod shared;
 mod tables;
 mod text;
 
@@ -32,6 +34,8 @@ pub use numbers::{SectionNo, Time, TrainNo, ceil_div};
 pub use orders::{Command, Order, PolicyKind};
 pub use plant::{Call, MoveRow, SectionRow, Tables, TrainKind, TrainRow, TurnRow};
 pub use refusals::{Fault, OutOfMemory, Part, Reason, Refusal};
+pub use runs::repeats;
 pub use sequence::Seq;
+pub use shared::Shared;
 pub use tables::{add_copies, add_rows, copies, replace_rows};
 pub use text::{Name, Word};

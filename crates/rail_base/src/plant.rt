@@ -1,5 +1,6 @@
 use crate::numbers::{SectionNo, Time};
 use crate::sequence::Seq;
+use crate::shared::Shared;
 use crate::text::Name;
 
 /// The numbers of a plant: its sections and its trains with their moves, in the order of the scene.
@@ -37,7 +38,7 @@ pub struct SectionRow {
     pub speed: u32,
 }
 
-/// A train with its moves in order, one for each route of its itinerary.
+/// A train with its moves in order, one for each route of its itinerary. Trains with the same itinerary may share them.
 #[derive(Debug)]
 pub struct TrainRow {
     pub name: Name,
@@ -46,7 +47,7 @@ pub struct TrainRow {
     pub entry: Time,
     /// 0 is the most important.
     pub priority: u8,
-    pub moves: Seq<MoveRow>,
+    pub moves: Shared<MoveRow>,
 }
 
 impl Drop for TrainRow {

@@ -1,10 +1,10 @@
 //! A list of trains as items: what takes memory grows with the line that spells it, and not with the list.
 
-ghost use Rattle.std.specs.Prelude.{◌≡◌, ◌≤◌, IfOk, IfSome, length, nat_eq, vec_capacity};
-ghost use Rattle.std.specs.List.{All, prefix_len};
+ghost use Rattle.std.specs.Prelude.{◌≡◌, ◌≤◌, IfOk, IfSome, length, vec_capacity};
+ghost use Rattle.std.specs.List.{All};
 ghost use Rattle.rail_history.specs.ListItems.{spelled_by};
 
-use rail_base::{Seq, TrainNo, add_copies};
+use rail_base::{Seq, TrainNo, add_copies, repeats};
 use std::alloc::{AllocError, Global};
 
 /// A train, taken so many times in a row.
@@ -29,14 +29,6 @@ pub(crate) fn items_of(alloc: Global, list: &[TrainNo]) -> Result<Vec<ListItem>,
         left = &others[more..];
     }
     Ok(items)
-}
-
-/// How often the train stands at the front of the list without another between.
-pub(crate) fn repeats(train: TrainNo, list: &[TrainNo]) -> usize
-    ensures count { result ≡ prefix_len (nat_eq train) list.now }
-    ensures few { result ≤ length list.now }
-{
-    list.iter().take_while(|other| **other == train).count()
 }
 
 /// The list is then that which the items spell, for which there is room. It takes no memory.

@@ -11,8 +11,7 @@ ghost use Rattle.rail_history.specs.Pieces.{IsHandedOn};
 ghost use Rattle.rail_text.specs.declared.line_buffer.TheConstants.{ROOM};
 ghost use Rattle.rail_history.specs.declared.trains.TheConstants.{FULL};
 
-use crate::items::repeats;
-use rail_base::{Entry, Names, Note, TrainNo, What};
+use rail_base::{Entry, Names, Note, TrainNo, What, repeats};
 use rail_io::{Failed, Sink, write_whole};
 use rail_text::LineBuffer;
 

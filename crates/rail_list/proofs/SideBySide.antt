@@ -1,5 +1,6 @@
 -- Entries of one train that stand side by side.
-use Rattle.std.proofs.Common.{◌≡◌, ◌≢◌, ℕ, zero, suc, ◌+◌, ◌-◌, ◌<◌, ◌≤◌, eqb, List, [], ◌∷◌, ◌++◌, length, replicate, get_or, drop, set, refl, sym, ap, ◌∙◌, subst, ⊎_elim, arith}
+use Rattle.std.proofs.Common.{◌≡◌, ◌≢◌, ℕ, zero, suc, ◌+◌, ◌-◌, ◌<◌, ◌≤◌, eqb, List, [], ◌∷◌, ◌++◌, length, nat_eq, replicate, get_or, drop, set, refl, sym, ap, ◌∙◌, subst, ⊎_elim, arith}
+use Rattle.std.specs.List.{prefix_len}
 use Rattle.std.proofs.lemmas.Bool.{cases_eq, cond-true, cond-false, eq-eqb, ne_eqb}
 use Rattle.std.proofs.lemmas.List.{drop-drop, drop_more, get_or-drop, get_or-set_other, get_or-set_same, length-drop, length-replicate}
 use Rattle.rail_list.specs.KeptLists.{AreRuns, counts_of_run, entries_at_start}
@@ -10,6 +11,20 @@ start_same u rest = cond-true (eqb u u) (suc (entries_at_start u rest)) 0 (eq-eq
 
 pub start_other : (u v : ℕ) (rest : List ℕ) → v ≢ u → entries_at_start u (v ∷ rest) ≡ 0
 start_other u v rest ne = cond-false (eqb v u) (suc (entries_at_start u rest)) 0 (ne_eqb v u ne)
+
+-- the entries at the start are those that equal the train
+pub start_equal : (u : ℕ) (list : List ℕ) → entries_at_start u list ≡ prefix_len (nat_eq u) list
+start_equal u [] = refl
+start_equal u (v ∷ rest) =
+    ⊎_elim
+    (λ same.
+    let more : suc (entries_at_start u rest) ≡ 1 + prefix_len (nat_eq u) rest = omega (arith, start_equal u rest) in
+    ap (λ k. entries_at_start u (k ∷ rest)) same
+    ∙ start_same u rest
+    ∙ more
+    ∙ sym (cond-true (nat_eq u v) (1 + prefix_len (nat_eq u) rest) 0 (eq-eqb u v (sym same))))
+    (λ other. start_other u v rest other ∙ sym (cond-false (nat_eq u v) (1 + prefix_len (nat_eq u) rest) 0 (ne_eqb u v (λ is. other (sym is)))))
+    (cases_eq v u)
 
 -- some entries of the train at the start begin with one of it
 pub start_head : (u : ℕ) (list : List ℕ) → 1 ≤ entries_at_start u list → (get_or list 0 0 ≡ u) × (1 ≤ length list)

@@ -4,7 +4,7 @@ ghost use Rattle.std.specs.Prelude.{◌≡◌, ℕ, List, ◌∷◌, suc, ◌+�
 ghost use Rattle.std.specs.List.{remove};
 ghost use Rattle.rail_list.specs.KeptLists.{AreRuns, before_first, counts_of_run, entries_at_start};
 
-use rail_base::{TrainNo, add_copies};
+use rail_base::{TrainNo, add_copies, repeats};
 
 /// Adds the counts for a run of so many entries at the end.
 pub fn add_run(runs: &mut Vec<u16>, count: u16)
@@ -40,12 +40,8 @@ fn run_at_start(list: &[TrainNo]) -> u16
     ensures run { result ≤ entries_at_start (slice_index list.now 0) list.now }
     ensures within { result ≤ length list.now }
 {
-    let train = list[0];
-    let mut count = 1;
-    while count < u16::MAX && usize::from(count) < list.len() && list[usize::from(count)] == train {
-        count += 1;
-    }
-    count
+    let count = repeats(list[0], list).min(usize::from(u16::MAX));
+    count as u16
 }
 
 /// There are then so many counts: those that there were are kept, and others are 1.

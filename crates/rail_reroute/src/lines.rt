@@ -1,7 +1,6 @@
 //! The line that is written for an answer.
 
-ghost use Rattle.std.specs.Prelude.{◌≡◌, ◌+◌, ◌≤◌, ◌++◌, ◌∷◌, [], codes, decimal, length, map, nat_eq};
-ghost use Rattle.std.specs.List.{prefix_len};
+ghost use Rattle.std.specs.Prelude.{◌≡◌, ◌+◌, ◌≤◌, ◌++◌, ◌∷◌, [], codes, decimal, length, map};
 ghost use Rattle.rail_rules.specs.Texts.{behind, items_of};
 ghost use Rattle.rail_text.specs.Names.{section_name, train_name};
 ghost use Rattle.rail_text.specs.Writes.{WritesText};
@@ -9,7 +8,7 @@ ghost use Rattle.rail_text.specs.declared.line_buffer.TheConstants.{ROOM};
 ghost use Rattle.rail_reroute.specs.Lines.{head_words, item_word, judged_line, list_words, scene_names};
 
 use crate::judgements::Judged;
-use rail_base::{SectionNo, TrainNo};
+use rail_base::{SectionNo, TrainNo, repeats};
 use rail_io::{Failed, Sink, write_whole};
 use rail_scene::Scene;
 use rail_text::LineBuffer;
@@ -94,14 +93,6 @@ fn write_items<O: Sink>(scene: &Scene, list: &[TrainNo], out: &mut O) -> Result<
         left = &others[more..];
     }
     Ok(())
-}
-
-/// How often the train stands at the front of the list without another between.
-fn repeats(train: TrainNo, list: &[TrainNo]) -> usize
-    ensures count { result ≡ prefix_len (nat_eq train) list.now }
-    ensures few { result ≤ length list.now }
-{
-    list.iter().take_while(|other| **other == train).count()
 }
 
 /// Writes the name of the train, and how often it is taken in a row from two times on.

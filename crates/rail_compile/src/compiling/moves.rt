@@ -51,17 +51,6 @@ pub fn lent_over<'a>(
     Ok(moves)
 }
 
-/// A copy of the moves.
-pub fn copied(alloc: Global, rows: &[MoveRow]) -> Result<Vec<MoveRow>, AllocError>
-    ensures { IfOk result (λ moves. moves.items ≡ rows.now) }
-{
-    let mut moves = Vec::with_capacity(alloc, rows.len())?;
-    for row in rows {
-        moves.push(with_turn(alloc, row, row.turn)?)?;
-    }
-    Ok(moves)
-}
-
 /// The turn at the end of the route at the index, where there is one.
 fn turn_after(network: &Network, numbers: &[usize], index: usize) -> Option<TurnRow>
     requires numbers { IsTrue (are_numbers network.now numbers.now) }

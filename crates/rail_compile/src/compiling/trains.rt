@@ -15,10 +15,10 @@ ghost use Rattle.rail_compile.specs.Ways.{AreWays, are_numbers, routes_at};
 
 use crate::compiling::itineraries::{of_train, route_numbers, route_refusal};
 use crate::compiling::kinds::kind_of;
-use crate::compiling::moves::{copied, lent_over, moves_over};
+use crate::compiling::moves::{lent_over, moves_over};
 use crate::compiling::ways::Ways;
 use indexmap::IndexSet;
-use rail_base::{Fault, MoveRow, Name, Reason, Seq, Time, TrainKind, TrainRow};
+use rail_base::{Fault, MoveRow, Name, Reason, Shared, Time, TrainKind, TrainRow};
 use rail_plan::LentMove;
 use rail_scene::{Scene, SceneTrain};
 use std::alloc::Global;
@@ -89,7 +89,7 @@ fn row_at(
     if let Some(number) = train_before(trains, index, train.routes.as_slice()) {
         let before = &trains[number];
         let row = &rows[number];
-        return row_behind(alloc, scene, kinds, item, train, before, row);
+        return row_behind(scene, kinds, item, train, before, row);
     }
     train_row(alloc, scene, kinds, ways, item, train)
 }
@@ -111,7 +111,6 @@ fn train_before(trains: &[SceneTrain], index: usize, routes: &[Name]) -> Option<
 
 /// The row of a train that has the itinerary and so the moves of one before it, or its first refusal.
 fn row_behind(
-    alloc: Global,
     scene: &Scene,
     kinds: &IndexSet<Name>,
     item: u32,
@@ -132,7 +131,7 @@ fn row_behind(
         return Err(Fault::Refused(of_train(Reason::Unknown, item, 2)));
     }
     let kind = kind_of(scene.kinds.as_slice(), kinds, train.kind);
-    let moves = copied(alloc, row.moves.as_slice())?;
+    let moves = row.moves.share()?;
     Ok(typed_row(train.name, kind, train.entry, train.priority, moves))
 }
 
@@ -162,7 +161,7 @@ pub fn train_row(
 {
     let numbers = itinerary_of(alloc, scene, kinds, ways, item, train)?;
     let kind = kind_of(scene.kinds.as_slice(), kinds, train.kind);
-    let moves = moves_over(alloc, &scene.network, ways, &numbers)?;
+    let moves = Shared::from_vec(alloc, moves_over(alloc, &scene.network, ways, &numbers)?)?;
     Ok(typed_row(train.name, kind, train.entry, train.priority, moves))
 }
 
@@ -224,9 +223,9 @@ fn typed_row(
     kind: TrainKind,
     entry: Time,
     priority: u8,
-    moves: Vec<MoveRow>,
+    moves: Shared<MoveRow>,
 ) -> TrainRow
-    ensures row { result ≡ record { name = name; kind = kind; entry = entry; priority = priority; moves = moves.items } }
+    ensures row { result ≡ record { name = name; kind = kind; entry = entry; priority = priority; moves = moves } }
     ensures typed { IsTrue (is_typed_row result) }
 {
     prove!(!name.as_bytes().is_empty());
@@ -235,6 +234,6 @@ fn typed_row(
         kind,
         entry,
         priority,
-        moves: Seq::from_vec(moves),
+        moves,
     }
 }
