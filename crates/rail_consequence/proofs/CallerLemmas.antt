@@ -14,3 +14,5 @@ pub use Rattle.rail_consequence.proofs.Counts.{in_at}
 pub use Rattle.rail_consequence.proofs.Aside.{rows_for}
 -- Cores: nothing is found from the state of a core, nor behind a move of a train that is none of it.
 pub use Rattle.rail_consequence.proofs.Cores.{core_behind, core_none}
+-- Lasting: a core is one behind a safe leg, too.
+pub use Rattle.rail_consequence.proofs.Lasting.{core_leg}

@@ -1,18 +1,18 @@
 -- The list with the moves that are left to an entering train at its end: it completes exactly where the first move ended safely. How long a list that completes is.
-use Rattle.std.proofs.Common.{◌≡◌, ◌≢◌, ℕ, zero, suc, ◌+◌, ◌-◌, ◌<◌, ◌≤◌, Bool, true, false, not, ◌&&◌, ◌||◌, ltb, leb, eqb, List, [], ◌∷◌, ◌++◌, length, replicate, refl, sym, ap, ◌∙◌, subst, ⊎_elim, arith}
+use Rattle.std.proofs.Common.{◌≡◌, ◌≢◌, ℕ, zero, suc, ◌+◌, ◌-◌, ◌<◌, ◌≤◌, Bool, true, false, not, ◌&&◌, ltb, leb, List, [], ◌∷◌, ◌++◌, length, replicate, refl, sym, ap, ◌∙◌, subst, ⊎_elim, arith}
 use Rattle.std.specs.List.{All, list_any, list_all}
-use Rattle.std.proofs.lemmas.Bool.{and_parts, and_from, and_left, and_right, le-ltb, cases_eq, cases_lt, cases_Bool, cond-false, eqb-true, lt-ltb, ltb-true, ne_eqb, not-true, not_from_false, false≢true, and_cases}
+use Rattle.std.proofs.lemmas.Bool.{and_parts, and_from, and_left, and_right, le-ltb, cases_eq, cases_lt, cases_Bool, cond-false, lt-ltb, ltb-true, not-true, not_from_false, false≢true, and_cases}
 use Rattle.std.proofs.lemmas.List.{get_or-set_same, length-set}
 use Rattle.std.proofs.lemmas.List.Elements.{All-nil, All-cons}
 use Rattle.rail_rules.specs.Numbers.{any_below, sum_below, is_in, are_apart}
 use Rattle.rail_rules.specs.Moves.{Moves, stand, is_valid}
 use Rattle.rail_rules.specs.Places.{place_of, holds, has_holder, is_inside, is_legal, after, completes}
-use Rattle.rail_rules.specs.Analysis.{Leg, is_safe, needs_later}
+use Rattle.rail_rules.specs.Analysis.{Leg, is_safe}
 use Rattle.rail_rules.proofs.CallerLemmas.{any_below_at, any_below_found, any_below_none, apart_at, apart_from, apart_sym, list_any_at, list_any_none, sum_below-le}
 use Rattle.rail_place.specs.Plays.{IsPlayed}
 use Rattle.rail_place.proofs.CallerLemmas.{move_valid, inside_listed, played_left}
 use Rattle.rail_consequence.specs.Cores.{IsClear}
-use Rattle.rail_consequence.proofs.CallerLemmas.{apart_none, clear_from_safe, inside_from, inside_parts, inside_same, nobody_at, safe_from_clear, stand_out}
+use Rattle.rail_consequence.proofs.CallerLemmas.{clear_from_safe, inside_from, inside_parts, inside_same, nobody_at, safe_from_clear}
 use Rattle.rail_list.proofs.Pulling.{place_kept, inside_kept, after_comm}
 use Rattle.rail_consequence.specs.Needs.{times}
 use Rattle.rail_list.proofs.Beside.{legal_beside}
@@ -182,51 +182,6 @@ appended_where_safe plan s list t valid lt listed some out done =
     (λ stopped. stopped ∙ sym free)
     (cases_Bool (plays plan (after s t) list)))
     (cases_Bool (is_safe plan s (entering t)))
-
--- a train that stands outside needs nothing later
-outside_needs : (plan : Moves) (s : List ℕ) (t n : ℕ) (sections : List ℕ) → place_of s t ≡ 0
-    → any_below (λ u. not (eqb u t) && needs_later plan s sections u) n ≡ any_below (needs_later plan s sections) n
-outside_needs plan s t zero sections out = refl
-outside_needs plan s t (suc n) sections out =
-    let others : Bool = any_below (λ u. not (eqb u t) && needs_later plan s sections u) n in
-    let needs : ℕ → Bool = needs_later plan s sections in
-    let step : (not (eqb n t) && needs n) ≡ needs n =
-    ⊎_elim
-    (λ same.
-    let none : needs n ≡ false = and_left (is_inside plan s n) (any_below (λ i. leb (place_of s n) i && not (are_apart (plan.claim n i) sections)) (plan.moves n))
-    (and_left (ltb 0 (place_of s n)) (ltb (place_of s n) (plan.moves n)) (ap (λ k. ltb 0 (place_of s k)) same ∙ ap (ltb 0) out)) in
-    and_right (not (eqb n t)) (needs n) none ∙ sym none)
-    (λ other. ap (λ b. not b && needs n) (ne_eqb n t other))
-    (cases_eq n t) in
-    ap (λ b. others || b) step ∙ ap (λ b. b || needs n) (outside_needs plan s t n sections out)
-
--- nothing needs a section of none
-none_needed : (plan : Moves) (s : List ℕ) (n : ℕ) → any_below (needs_later plan s []) n ≡ false
-none_needed plan s n = any_below_none (needs_later plan s []) n (λ u _.
-    let left : ℕ → Bool = λ i. leb (place_of s u) i && not (are_apart (plan.claim u i) []) in
-    and_right (is_inside plan s u) (any_below left (plan.moves u))
-    (any_below_none left (plan.moves u) (λ i _. and_right (leb (place_of s u) i) (not (are_apart (plan.claim u i) [])) (ap not (apart_none (plan.claim u i))))))
-
--- the first move of a train that stands outside ends safely exactly where no train inside needs later what it then stands on
-safe_where_unneeded : (plan : Moves) (s : List ℕ) (t : ℕ) → place_of s t ≡ 0
-    → is_safe plan s (record { train = t; place = 1 }) ≡ not (any_below (needs_later plan s (stand plan t 1)) (length s))
-safe_where_unneeded plan s t out =
-    let sections : List ℕ = stand plan t 1 in
-    ap (λ b. eqb 1 (plan.moves t) || not b) (outside_needs plan s t (length s) sections out)
-    ∙ ⊎_elim
-    (λ last.
-    let none : sections ≡ [] = stand_out plan t 1 (omega (arith, eqb-true 1 (plan.moves t) last)) in
-    let unneeded : any_below (needs_later plan s sections) (length s) ≡ false = ap (λ xs. any_below (needs_later plan s xs) (length s)) none ∙ none_needed plan s (length s) in
-    ap (λ b. b || not (any_below (needs_later plan s sections) (length s))) last ∙ sym (ap not unneeded))
-    (λ more. ap (λ b. b || not (any_below (needs_later plan s sections) (length s))) more)
-    (cases_Bool (eqb 1 (plan.moves t)))
-
--- so the appended list completes exactly where no train inside needs later what the train then stands on
-pub appended_where_unneeded : (plan : Moves) (s list : List ℕ) (t : ℕ) → is_valid plan ≡ true → t < plan.trains
-    → t < length s → 0 < plan.moves t → place_of s t ≡ 0 → completes plan s list ≡ true
-    → completes plan (after s t) (list ++ replicate (plan.moves t - 1) t) ≡ not (any_below (needs_later plan s (stand plan t 1)) (length s))
-appended_where_unneeded plan s list t valid lt listed some out done =
-    appended_where_safe plan s list t valid lt listed some out done ∙ safe_where_unneeded plan s t out
 
 -- some section is needed for a move left exactly where some move left needs one of the sections
 pub needed_either_way : (claim : ℕ → List ℕ) (sections : List ℕ) (p n : ℕ)

@@ -14,4 +14,5 @@ mod Remaining
 mod Finding
 mod Knowing
 mod Unfound
+mod Behind
 mod Failing

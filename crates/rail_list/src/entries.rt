@@ -95,7 +95,7 @@ fn does_need_one_of(
 }
 
 /// Whether the train's move to this place needs one of the sections.
-fn does_need_one(moves: &Moves, train: TrainNo, place: u16, sections: &[SectionNo]) -> bool
+pub fn does_need_one(moves: &Moves, train: TrainNo, place: u16, sections: &[SectionNo]) -> bool
     requires train { train < length moves.now }
     requires first { 1 ≤ place }
     requires last { place ≤ (moves_in moves.now).moves train }

@@ -48,7 +48,7 @@ pub fn admit_given(
         Note::Fresh => admit_listed(moves, places, kept, train, list),
     };
     if admitted {
-        failures.forget(train);
+        failures.forget(moves, places, train);
     }
     admitted
 }

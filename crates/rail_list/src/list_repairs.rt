@@ -10,7 +10,7 @@ ghost use Rattle.rail_list.specs.Repairs.{is_repairable_for};
 
 use crate::KeptList;
 use crate::entries::free_entries_before;
-use crate::needers::is_needed_inside;
+use crate::needers::is_leg_safe;
 use rail_base::TrainNo;
 use rail_place::{Moves, Places};
 
@@ -61,7 +61,7 @@ impl KeptList {
         ensures room { self.new.room ≡ self.old.room }
         ensures looked { self.new.looked ≡ self.old.looked }
     {
-        if is_needed_inside(moves, places, moves.stand(train, 1), &mut self.needer) {
+        if !is_leg_safe(moves, places, train, 1, &mut self.needer) {
             return false;
         }
         self.add(train, moves.places(train) - 1);
@@ -81,10 +81,10 @@ impl KeptList {
         ensures looked { self.new.looked ≤ self.old.looked + length (before_first train self.old.trains) + 1 }
     {
         let place = places.position(train);
-        let sections = moves.stand(train, place + 1);
         if place == 0 {
-            return !is_needed_inside(moves, places, sections, &mut self.needer);
+            return is_leg_safe(moves, places, train, 1, &mut self.needer);
         }
+        let sections = moves.stand(train, place + 1);
         free_entries_before(moves, places, self, train, sections).is_some()
     }
 }

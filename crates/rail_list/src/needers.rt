@@ -1,8 +1,8 @@
 //! Which trains inside need sections for the moves that they have left.
 
-ghost use Rattle.std.specs.Prelude.{◌≡◌, ℕ, ◌<◌, ◌&&◌, length, nat_le, not, IsTrue};
+ghost use Rattle.std.specs.Prelude.{◌≡◌, ℕ, ◌<◌, ◌≤◌, ◌==◌, ◌&&◌, length, nat_le, not, IsTrue};
 ghost use Rattle.rail_base.specs.declared.limits.TheConstants.{SECTIONS};
-ghost use Rattle.rail_rules.specs.Analysis.{needs_later};
+ghost use Rattle.rail_rules.specs.Analysis.{is_safe, needs_later};
 ghost use Rattle.rail_rules.specs.Numbers.{any_below, are_apart, is_in};
 ghost use Rattle.rail_place.specs.PlaceStates.{IsMadeFor};
 ghost use Rattle.rail_place.specs.Tables.{moves_in};
@@ -10,39 +10,55 @@ ghost use Rattle.rail_place.specs.Tables.{moves_in};
 use rail_base::{SectionNo, TrainNo};
 use rail_place::{Moves, Places};
 
-/// Whether a train inside needs one of the sections for a move that it has left. `last` is the train of which the answer was
-/// yes before: it is asked first, since it mostly is the one again, and is then the one of which it was now.
-pub fn is_needed_inside(
+/// Whether a leg of the train that ends at this place is safe: it ends out, or no other train inside needs for a move that
+/// it has left what the train then stands on. `last` is the train of which the answer was yes before: it is asked first, since
+/// it mostly is the one again, and is then the one of which it was now.
+pub fn is_leg_safe(
     moves: &Moves,
     places: &Places,
-    sections: &[SectionNo],
+    train: TrainNo,
+    place: u16,
     last: &mut TrainNo,
 ) -> bool
     requires made { IsMadeFor moves.now places.now }
-    requires in_range { (x : ℕ) → IsTrue (is_in x sections.now) → x < SECTIONS }
-    ensures { result ≡ any_below (needs_later (moves_in moves.now) places.now.positions sections.now) (length places.now.positions) }
+    requires train { train < length moves.now }
+    requires within { place ≤ (moves_in moves.now).moves train }
+    ensures { result ≡ is_safe (moves_in moves.now) places.now.positions (record { train = train; place = place }) }
 {
-    if last.0 < moves.trains() && does_need_later(moves, places, *last, sections) {
+    if place == moves.places(train) {
         return true;
     }
+    let sections = moves.stand(train, place);
+    if last.0 < moves.trains() && does_other_need(moves, places, train, *last, sections) {
+        return false;
+    }
     for number in 0..moves.trains() {
-        if does_need_later(moves, places, TrainNo(number), sections) {
+        if does_other_need(moves, places, train, TrainNo(number), sections) {
             *last = TrainNo(number);
-            return true;
+            return false;
         }
     }
-    false
+    true
 }
 
-/// Whether the train is inside and needs one of the sections for a move that it has left.
-fn does_need_later(moves: &Moves, places: &Places, train: TrainNo, sections: &[SectionNo]) -> bool
+/// Whether the other train is another one than the first, is inside, and needs one of the sections for a move that it has left.
+fn does_other_need(
+    moves: &Moves,
+    places: &Places,
+    train: TrainNo,
+    other: TrainNo,
+    sections: &[SectionNo],
+) -> bool
     requires made { IsMadeFor moves.now places.now }
-    requires train { train < length moves.now }
+    requires other { other < length moves.now }
     requires in_range { (x : ℕ) → IsTrue (is_in x sections.now) → x < SECTIONS }
-    ensures { result ≡ needs_later (moves_in moves.now) places.now.positions sections.now train }
+    ensures { result ≡ (not (other == train) && needs_later (moves_in moves.now) places.now.positions sections.now other) }
 {
-    let place = places.position(train);
-    0 < place && place < moves.places(train) && does_need_from(moves, train, place, sections)
+    let place = places.position(other);
+    other != train
+        && 0 < place
+        && place < moves.places(other)
+        && does_need_from(moves, other, place, sections)
 }
 
 /// Whether the train needs one of the sections for a move that it has left at this place.

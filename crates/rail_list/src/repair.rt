@@ -50,7 +50,7 @@ pub fn admit_by_list(
 {
     if let Some(note) = repair(moves, places, kept, train) {
         places.advance(moves, train);
-        failures.forget(train);
+        failures.forget(moves, places, train);
         return Some(note);
     }
     if failures.has(train) {
@@ -120,7 +120,7 @@ fn admit_afresh(
     places.advance(moves, train);
     if analyst.search(moves, places, depth) {
         kept.replace(analyst.list());
-        failures.forget(train);
+        failures.forget(moves, places, train);
         true
     } else {
         failures.note(train, analyst.core());

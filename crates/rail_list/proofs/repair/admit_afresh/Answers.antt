@@ -8,6 +8,7 @@ use Rattle.rail_place.proofs.CallerLemmas.{made_long}
 use Rattle.rail_list.specs.Failures.{AreFailures}
 use Rattle.rail_list.proofs.Appending.{completing_fits}
 use Rattle.rail_list.proofs.Trying.{way}
+use Rattle.rail_list.proofs.Behind.{has_begun}
 use Rattle.rail_list.proofs.Failing.{failure_noted, failures_behind, others_forgotten, others_noted}
 use Rattle.rail_list.proofs.Finding.{finds_none, finds_some}
 use Rattle.rail_list.proofs.repair.admit_afresh.Goals as goal
@@ -32,7 +33,7 @@ returns-then-search-clause-exact c =
 
 pub returns-then-search-clause-failures : goal.returns-then-search-clause-failures
 returns-then-search-clause-failures c =
-    failures_behind (moves_in c.args.moves.now) c.args.depth c.args.places.now.positions c.advance.new.self.positions c.args.train c.args.failures.now c.forget.new.self c.advance.ensures.positions c.forget.ensures.cores c.forget.ensures.kept c.requires.failures
+    failures_behind (moves_in c.args.moves.now) c.args.depth c.args.places.now.positions c.advance.new.self.positions c.args.train c.args.failures.now c.forget.new.self (c.advance.ensures.positions, c.requires.legal) c.forget.ensures.cores c.forget.ensures.kept c.requires.failures
 
 pub returns-else-search-clause-exact : goal.returns-else-search-clause-exact
 returns-else-search-clause-exact c =
@@ -59,7 +60,12 @@ returns-else-search-clause-failures c =
     c.note.ensures.kept c.note.ensures.core c.note.ensures.others c.requires.failures)
 
 pub returns-then-search-clause-others : goal.returns-then-search-clause-others
-returns-then-search-clause-others c = others_forgotten c.args.train c.args.failures.now c.forget.new.self c.forget.ensures.cores c.forget.ensures.kept
+returns-then-search-clause-others c =
+    others_forgotten (moves_in c.args.moves.now) c.args.places.now.positions c.advance.new.self.positions c.args.train c.args.failures.now c.forget.new.self (c.advance.ensures.positions, c.requires.legal) c.forget.ensures.cores c.forget.ensures.kept
+
+pub forget-requires-clause-begun : goal.forget-requires-clause-begun
+forget-requires-clause-begun c =
+    has_begun c.args.places.now.positions c.advance.new.self.positions c.args.train (omega (arith, c.requires.train, made_long c.args.moves.now c.args.places.now c.requires.made)) c.advance.ensures.positions
 
 pub returns-else-search-clause-others : goal.returns-else-search-clause-others
 returns-else-search-clause-others c = others_noted c.args.train c.args.failures.now c.note.new.self c.note.ensures.kept c.note.ensures.others

@@ -7,6 +7,7 @@ use Rattle.rail_place.specs.PlaceStates.{State}
 use Rattle.rail_place.specs.Tables.{moves_in}
 use Rattle.rail_place.proofs.CallerLemmas.{made_long}
 use Rattle.rail_list.specs.Repairs.{is_repairable_for}
+use Rattle.rail_list.proofs.Behind.{has_begun}
 use Rattle.rail_list.proofs.Failing.{failure_finds_none, failures_behind, others_forgotten}
 use Rattle.rail_list.proofs.Remaining.{fresh_some, noted_completes}
 use Rattle.rail_list.proofs.repair.admit_by_list.Goals as goal
@@ -37,7 +38,7 @@ returns-then-admit_afresh-clause-note c =
 
 pub returns-in-Some-clause-failures : goal.returns-in-Some-clause-failures
 returns-in-Some-clause-failures c =
-    failures_behind (moves_in c.args.moves.now) c.args.depth c.args.places.now.positions c.advance.new.self.positions c.args.train c.args.failures.now c.forget.new.self c.advance.ensures.positions c.forget.ensures.cores c.forget.ensures.kept c.requires.failures
+    failures_behind (moves_in c.args.moves.now) c.args.depth c.args.places.now.positions c.advance.new.self.positions c.args.train c.args.failures.now c.forget.new.self (c.advance.ensures.positions, c.requires.legal) c.forget.ensures.cores c.forget.ensures.kept c.requires.failures
 
 pub returns-then-has-clause-none : goal.returns-then-has-clause-none
 returns-then-has-clause-none c = λ none.
@@ -52,4 +53,9 @@ returns-then-has-clause-none c = λ none.
     )
 
 pub returns-in-Some-clause-others : goal.returns-in-Some-clause-others
-returns-in-Some-clause-others c = others_forgotten c.args.train c.args.failures.now c.forget.new.self c.forget.ensures.cores c.forget.ensures.kept
+returns-in-Some-clause-others c =
+    others_forgotten (moves_in c.args.moves.now) c.args.places.now.positions c.advance.new.self.positions c.args.train c.args.failures.now c.forget.new.self (c.advance.ensures.positions, c.requires.legal) c.forget.ensures.cores c.forget.ensures.kept
+
+pub forget-requires-clause-begun : goal.forget-requires-clause-begun
+forget-requires-clause-begun c =
+    has_begun c.args.places.now.positions c.advance.new.self.positions c.args.train (omega (arith, c.requires.train, made_long c.args.moves.now c.args.places.now c.requires.made)) c.advance.ensures.positions

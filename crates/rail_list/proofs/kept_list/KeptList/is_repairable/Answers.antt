@@ -1,16 +1,14 @@
-use Rattle.std.proofs.Common.{◌≡◌, ℕ, suc, ◌+◌, ltb, not, true, List, length, sym, ap, ◌∙◌, arith}
+use Rattle.std.proofs.Common.{◌≡◌, ℕ, suc, ◌+◌, ltb, true, List, length, sym, ap, ◌∙◌, arith}
 use Rattle.std.specs.Prelude.{◌==◌}
 use Rattle.std.proofs.lemmas.Bool.{and_from, cond-false, cond-true, eq-eqb, lt-ltb, ne_eqb}
-use Rattle.rail_rules.specs.Analysis.{needs_later}
 use Rattle.rail_rules.specs.Fronts.{without_first}
 use Rattle.rail_rules.specs.Moves.{Moves, stand}
-use Rattle.rail_rules.specs.Numbers.{any_below}
 use Rattle.rail_rules.specs.Places.{after, completes, is_inside, is_legal, place_of}
 use Rattle.rail_place.specs.PlaceStates.{State}
 use Rattle.rail_place.specs.Tables.{moves_in, MoveLists}
 use Rattle.rail_place.proofs.CallerLemmas.{legal_ahead, made_long}
 use Rattle.rail_list.specs.KeptLists.{is_free_before, with_moves_left}
-use Rattle.rail_list.proofs.Appending.{appended_where_unneeded, completing_listed}
+use Rattle.rail_list.proofs.Appending.{appended_where_safe, completing_listed}
 use Rattle.rail_list.proofs.Turns.{pulled_where_free}
 use Rattle.rail_list.proofs.kept_list.KeptList.is_repairable.Goals as goal
 
@@ -28,10 +26,15 @@ returns-then-place-eq0-clause-exact c =
     let list : List ℕ = c.args.self.now.trains in
     let t : ℕ = c.args.train in
     let out : place_of s t ≡ 0 = sym c.position-place.ensures ∙ c.if-place-eq0.true in
-    let first : c.position-place.result + 1 ≡ 1 = omega (arith, c.if-place-eq0.true) in
-    ap not (c.is_needed_inside.ensures ∙ ap (λ xs. any_below (needs_later plan s xs) (length s)) (c.stand-sections.ensures.sections ∙ ap (stand plan t) first))
-    ∙ sym (appended_where_unneeded plan s list t c.requires.made.moves.valid c.requires.train (omega (arith, c.requires.train, made_long table now c.requires.made)) (omega (arith, legal_ahead plan s t c.requires.legal, out)) out c.requires.completes)
+    c.is_leg_safe.ensures
+    ∙ sym (appended_where_safe plan s list t c.requires.made.moves.valid c.requires.train (omega (arith, c.requires.train, made_long table now c.requires.made)) (omega (arith, legal_ahead plan s t c.requires.legal, out)) out c.requires.completes)
     ∙ ap (completes plan (after s t)) (sym (cond-true (place_of s t == 0) (with_moves_left plan t list) (without_first t list) (eq-eqb (place_of s t) 0 out)))
+
+pub is_leg_safe-requires-clause-within : goal.is_leg_safe-requires-clause-within
+is_leg_safe-requires-clause-within c =
+    let plan : Moves = moves_in c.args.moves.now in
+    let s : List ℕ = c.args.places.now.positions in
+    omega (arith, legal_ahead plan s c.args.train c.requires.legal, c.position-place.ensures, c.if-place-eq0.true)
 
 pub free_entries_before-requires-clause-known : goal.free_entries_before-requires-clause-known
 free_entries_before-requires-clause-known c =
