@@ -11,7 +11,7 @@ use Rattle.rail_history.specs.declared.file_lines.FileLines.{FileLines}
 use Rattle.rail_history.specs.declared.read_line.ReadLine.{ReadLine}
 use Rattle.rail_history.specs.HistoryLines.{IsRefusedIn}
 use Rattle.rail_history.specs.Lines.{brought}
-use Rattle.rail_history.specs.LineReads.{line_read}
+use Rattle.rail_history.specs.LineReads.{line_read, trains_read}
 use Rattle.rail_history.specs.ReadFiles.{GoesOn, IsReadTo, IsRefusedBehind}
 use Rattle.rail_judging.specs.Verdicts.{verdict}
 use Rattle.rail_laws_events.proofs.CallerLemmas.{input_parts}
@@ -45,10 +45,10 @@ brought_again (Hold t m why) trains = refl
 brought_again End trains = refl
 
 -- the line that is judged is the one that was read
-read_taken : (line : ReadLine) (trains : List ℕ) → trains ≡ brought line.entry.what line.trains.items → line_taken line.entry trains ≡ line_read line
+read_taken : (line : ReadLine) (trains : List ℕ) → trains ≡ brought line.entry.what (trains_read line) → line_taken line.entry trains ≡ line_read line
 read_taken line trains is =
-    let all : List ℕ = brought line.entry.what line.trains.items in
-    let again = brought_again line.entry.what line.trains.items in
+    let all : List ℕ = brought line.entry.what (trains_read line) in
+    let again = brought_again line.entry.what (trains_read line) in
     ap (line_taken line.entry) is ∙ taken_line line.entry all again ∙ (λ i. record { entry = line.entry; trains = again i })
 
 -- the plant of the input has these names
@@ -81,7 +81,7 @@ module _ (old : Checker) (before : FileLines) (middle : Checker) (file : FileLin
       let accepted = subst (λ (i : RunInput). is_accepted_input (input_in i) ≡ true) now.checked.input_is now.checked.at.accepted in
       refused_in input accepted names (has_for middle input now.checked.input_is names has) bytes now.lines file now.read fault refused
 
-  module _ (left : FileLines) (line : ReadLine) (trains : List ℕ) (beside : trains ≡ brought line.entry.what line.trains.items)
+  module _ (left : FileLines) (line : ReadLine) (trains : List ℕ) (beside : trains ≡ brought line.entry.what (trains_read line))
       (read : (plant : Plant) → HasNames plant names → GoesOn plant file left (line_read line)) where
     -- a line that decides
     pub decided_at : (answer : Option Verdict) → IfSome answer (IsDecidedAt middle (line_taken line.entry trains)) → IfSome answer (Decides old before left)
@@ -100,7 +100,7 @@ module _ (old : Checker) (before : FileLines) (middle : Checker) (file : FileLin
         }
 
   -- a line that may follow
-  pub kept_up : (new : Checker) (left : FileLines) (line : ReadLine) (trains : List ℕ) → trains ≡ brought line.entry.what line.trains.items
+  pub kept_up : (new : Checker) (left : FileLines) (line : ReadLine) (trains : List ℕ) → trains ≡ brought line.entry.what (trains_read line)
       → ((plant : Plant) → HasNames plant names → GoesOn plant file left (line_read line))
       → (answer : Option Verdict) → (IsNone answer → ChecksLine middle new (line_taken line.entry trains)) → IfNone answer (KeepsUp old before new left)
   kept_up new left line trains beside read None checks = λ input bytes so_far.

@@ -4,7 +4,7 @@ ghost use Rattle.std.specs.Prelude.{◌≡◌, ◌≢◌, ◌-◌, ◌<◌, ◌^
 ghost use Rattle.rail_check.specs.Answers.{IsVerdictOn};
 ghost use Rattle.rail_check.specs.Checkers.{Decides, IsFollowing, KeepsUp, ReachesEnd, Refuses};
 ghost use Rattle.rail_history.specs.HistoryLines.{IsRefusedIn};
-ghost use Rattle.rail_history.specs.ReadFiles.{IsReading};
+ghost use Rattle.rail_history.specs.ReadFiles.{IsReading, text_left};
 ghost use Rattle.rail_ledger.specs.Inputs.{input_in};
 ghost use Rattle.rail_rules.specs.Accepted.{is_accepted_input};
 
@@ -63,10 +63,10 @@ impl Checker {
     fn follow_line(&mut self, alloc: Global, file: &mut FileLines) -> Result<Option<Verdict>, Fault>
         requires following { IsFollowing self.old file.old }
         requires reading { IsReading file.old }
-        requires some { file.old.text.now ≢ [] }
+        requires some { text_left file.old ≢ [] }
         ensures input { self.new.ledger.input ≡ self.old.ledger.input }
         ensures reading { OnOk result (IsReading file.new) }
-        ensures less { OnOk result (length file.new.text.now < length file.old.text.now) }
+        ensures less { OnOk result (length (text_left file.new) < length (text_left file.old)) }
         ensures followed { IfOk result (λ answer. IfNone answer (KeepsUp self.old file.old self.new file.new)) }
         ensures decided { IfOk result (λ answer. IfSome answer (Decides self.old file.old file.new)) }
         ensures refused { IfErr result (Refuses self.old file.old) }
@@ -84,7 +84,7 @@ impl Checker {
         requires reading { IsReading file.old }
         ensures input { self.new.ledger.input ≡ self.old.ledger.input }
         ensures reading { IsReading file.new }
-        ensures less { IsTrue result → length file.new.text.now < length file.old.text.now }
+        ensures less { IsTrue result → length (text_left file.new) < length (text_left file.old) }
         ensures followed { KeepsUp self.old file.old self.new file.new }
         ensures stays { result ≡ false → file.new ≡ file.old }
     {

@@ -19,9 +19,13 @@ use Rattle.rail_history.specs.Lines.{brought, brought_by_note, line_of}
 use Rattle.rail_history.specs.ListItems.{spelled_by}
 use Rattle.rail_history.specs.ReadWords.{joined}
 
+-- the trains that were read beside the entry
+abbrev pub trains_read : ReadLine → List ℕ
+trains_read read = read.trains.items
+
 -- the line that was read
 abbrev pub line_read : ReadLine → Line
-line_read read = line_of read.entry read.trains.items
+line_read read = line_of read.entry (trains_read read)
 
 -- where the text is that of a line before its line feed, this line is read
 abbrev pub IsLikelyLine : Names → List ℕ → Option ReadLine → Type 0

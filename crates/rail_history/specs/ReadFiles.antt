@@ -12,6 +12,18 @@ use Rattle.rail_text.specs.Names.{HasNames}
 use Rattle.rail_history.specs.declared.file_lines.FileLines.{FileLines}
 use Rattle.rail_history.specs.HistoryLines.{IsFirstWrong, is_fresh, is_history_line, lines_text, refusal_at}
 
+-- what is left of the file
+abbrev pub text_left : FileLines → List ℕ
+text_left file = file.text.now
+
+-- how many lines were read
+abbrev pub lines_read : FileLines → ℕ
+lines_read file = file.number
+
+-- how many of them have a fresh list
+abbrev pub fresh_read : FileLines → ℕ
+fresh_read file = file.fresh
+
 -- the bytes begin with the text of these lines of the file, and this is what is left of them
 pub record IsFront (plant : Plant) (bytes : List ℕ) (lines : List Line) (rest : List ℕ) : Type 0 where
   pub each : list_all (is_history_line plant) lines ≡ true
@@ -19,11 +31,11 @@ pub record IsFront (plant : Plant) (bytes : List ℕ) (lines : List Line) (rest 
 
 -- of a file of these bytes these lines were read
 pub record IsReadTo (plant : Plant) (bytes : List ℕ) (lines : List Line) (file : FileLines) : Type 0 where
-  pub front : IsFront plant bytes lines file.text.now
-  pub counted : file.fresh ≡ count_by (λ (line : Line). is_fresh line.entry.what) lines
-  pub few : file.fresh ≤ most FreshLines
-  pub numbered : file.number ≡ length lines
-  pub short : file.number + length file.text.now ≤ length bytes
+  pub front : IsFront plant bytes lines (text_left file)
+  pub counted : fresh_read file ≡ count_by (λ (line : Line). is_fresh line.entry.what) lines
+  pub few : fresh_read file ≤ most FreshLines
+  pub numbered : lines_read file ≡ length lines
+  pub short : lines_read file + length (text_left file) ≤ length bytes
 
 -- one line more was read, this one
 abbrev pub GoesOn : Plant → FileLines → FileLines → Line → Type 0
@@ -31,8 +43,8 @@ GoesOn plant old new line = (bytes : List ℕ) (lines : List Line) → IsReadTo 
 
 -- the lines of the file can be numbered, and no more of those that were read have a fresh list than may
 pub record IsReading (file : FileLines) : Type 0 where
-  pub short : file.number + length file.text.now < 2 ^ 32 - 1
-  pub few : file.fresh ≤ most FreshLines
+  pub short : lines_read file + length (text_left file) < 2 ^ 32 - 1
+  pub few : fresh_read file ≤ most FreshLines
 
 -- behind the lines that were read a line is none, and the fault names it, unless memory was not found
 abbrev pub IsRefusedBehind : Names → FileLines → Fault → Type 0

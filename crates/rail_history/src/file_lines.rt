@@ -7,7 +7,7 @@ ghost use Rattle.rail_base.specs.declared.refusals.Fault.TheVariants.{Refused};
 ghost use Rattle.rail_text.specs.Names.{HasNames};
 ghost use Rattle.rail_history.specs.HistoryLines.{IsHistory, IsLine, IsSpelled, is_fresh, refusal_at};
 ghost use Rattle.rail_history.specs.LineReads.{IsWrongLine, line_read};
-ghost use Rattle.rail_history.specs.ReadFiles.{GoesOn, IsReadTo, IsReading, IsRefusedBehind};
+ghost use Rattle.rail_history.specs.ReadFiles.{GoesOn, IsReadTo, IsReading, IsRefusedBehind, text_left};
 ghost use Rattle.rail_rules.specs.Fronts.{Line};
 ghost use Rattle.rail_rules.specs.Plant.{Plant};
 
@@ -43,8 +43,8 @@ impl<'a> FileLines<'a> {
 
     /// Whether all lines were read.
     pub fn is_empty(&self) -> bool
-        ensures empty { IsTrue result → self.now.text.now ≡ [] }
-        ensures some { result ≡ false → self.now.text.now ≢ [] }
+        ensures empty { IsTrue result → text_left self.now ≡ [] }
+        ensures some { result ≡ false → text_left self.now ≢ [] }
         ensures whole { IsTrue result → (plant : Plant) (bytes : List ℕ) (lines : List Line)
             → IsReadTo plant bytes lines self.now → IsHistory plant bytes lines }
     {
@@ -53,7 +53,7 @@ impl<'a> FileLines<'a> {
 
     /// What is left of the file.
     pub fn text(&self) -> &[u8]
-        ensures { result.now ≡ self.now.text.now }
+        ensures { result.now ≡ text_left self.now }
     {
         self.text
     }
@@ -64,11 +64,11 @@ impl<'a> FileLines<'a> {
         requires trains { length names.now.trains.keys ≤ 2 ^ 16 }
         requires sections { length names.now.sections.keys ≤ 2 ^ 16 }
         requires reading { IsReading self.old }
-        requires some { self.old.text.now ≢ [] }
+        requires some { text_left self.old ≢ [] }
         ensures read { IfOk result (λ line. (plant : Plant) → HasNames plant names.now
             → GoesOn plant self.old self.new (line_read line)) }
         ensures reading { OnOk result (IsReading self.new) }
-        ensures less { OnOk result (length self.new.text.now < length self.old.text.now) }
+        ensures less { OnOk result (length (text_left self.new) < length (text_left self.old)) }
         ensures refused { IfErr result (IsRefusedBehind names.now self.old) }
     {
         self.number += 1;
@@ -86,7 +86,7 @@ impl<'a> FileLines<'a> {
         ensures passed { IsTrue result → (plant : Plant) (line : Line) → IsSpelled plant line bytes.now
             → is_fresh line.entry.what ≡ false → GoesOn plant self.old self.new line }
         ensures reading { IsReading self.new }
-        ensures less { IsTrue result → length self.new.text.now < length self.old.text.now }
+        ensures less { IsTrue result → length (text_left self.new) < length (text_left self.old) }
         ensures stays { result ≡ false → self.new ≡ self.old }
     {
         let Some(rest) = self.text.strip_prefix(bytes) else {

@@ -4,7 +4,7 @@ ghost use Rattle.std.specs.Prelude.{◌≡◌, ◌↔◌, ◌≤◌, ◌^◌, �
 ghost use Rattle.std.specs.List.{list_all};
 ghost use Rattle.rail_text.specs.Names.{HasNames};
 ghost use Rattle.rail_history.specs.HistoryLines.{IsLine, IsNoLine, IsSpelled, is_history_line};
-ghost use Rattle.rail_history.specs.LineReads.{AreLikelyTrains, AreNotedTrains, IsLikelyLine, line_read};
+ghost use Rattle.rail_history.specs.LineReads.{AreLikelyTrains, AreNotedTrains, IsLikelyLine, line_read, trains_read};
 ghost use Rattle.rail_history.specs.Lines.{brought};
 ghost use Rattle.rail_history.specs.ReadWords.{is_spaceless, joined};
 ghost use Rattle.rail_rules.specs.Plant.{Plant};
@@ -32,7 +32,7 @@ pub struct ReadLine {
 impl ReadLine {
     /// The trains beside the entry: those of a fresh list, or those that an end line names, and none at other lines.
     pub fn beside(&self) -> &[TrainNo]
-        ensures { result.now ≡ brought self.now.entry.what self.now.trains.items }
+        ensures { result.now ≡ brought self.now.entry.what (trains_read self.now) }
     {
         if does_list(&self.entry.what) {
             self.trains.as_slice()

@@ -8,6 +8,10 @@ use Rattle.rail_ledger.specs.declared.due.Due.{Due}
 use Rattle.rail_ledger.specs.declared.ledger.Ledger.{Ledger}
 use Rattle.rail_ledger.specs.declared.ledger.Listed.TheVariants as listed
 
+-- the train of the hold line that is due; none where the line is that of an event
+abbrev pub held_in : Due → Option ℕ
+held_in due = due.train
+
 -- the hold line of this train is due, or nothing is left to decide at the instant
 abbrev pub IsDueFor : Ledger → Option ℕ → Type 0
 IsDueFor ledger (Some t) = IsHoldDue ledger t
@@ -20,7 +24,7 @@ pub record IsDue (ledger : Ledger) (due : Due) : Type 0 where
   pub unlisted : ledger.listed ≡ listed.Nothing
   pub other : is_admission due.entry.what ≡ false
   pub lawful : (front : Front) → IsAt front ledger → is_lawful (input_in ledger.input) (line_with due.entry [] ∷ front) ≡ true
-  pub next : IsDueFor ledger due.train
+  pub next : IsDueFor ledger (held_in due)
 
 -- the last line is the end line, or some train could be admitted, or no event is pending
 abbrev pub IsNoneDue : Ledger → Ledger → Type 0

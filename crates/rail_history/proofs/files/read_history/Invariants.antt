@@ -1,7 +1,7 @@
 use Rattle.rail_rules.specs.Plant.{Plant}
 use Rattle.rail_text.specs.Names.{HasNames}
 use Rattle.rail_history.specs.LineReads.{IsPaired, lines_of}
-use Rattle.rail_history.specs.ReadFiles.{IsReadTo, IsReading}
+use Rattle.rail_history.specs.ReadFiles.{IsReadTo, IsReading, text_left}
 use Rattle.std.specs.Prelude.{length}
 use Rattle.rail_history.proofs.files.read_history.Given as goal
 
@@ -13,4 +13,4 @@ invariant-loop-file l = record {
 }
 
 abbrev pub decreases-loop-file : goal.decreases-loop-file
-decreases-loop-file l = length l.file.text.now
+decreases-loop-file l = length (text_left l.file)

@@ -1,5 +1,5 @@
 use Rattle.std.proofs.Common.{◌≡◌, length}
-use Rattle.rail_history.specs.ReadFiles.{IsReading}
+use Rattle.rail_history.specs.ReadFiles.{IsReading, text_left}
 use Rattle.rail_check.specs.Checkers.{IsFollowing, KeepsUp}
 use Rattle.rail_check.proofs.checker.Checker.follow.Given as goal
 
@@ -12,4 +12,4 @@ invariant-loop-alloc l = record {
 }
 
 abbrev pub decreases-loop-alloc : goal.decreases-loop-alloc
-decreases-loop-alloc l = length l.file.text.now
+decreases-loop-alloc l = length (text_left l.file)

@@ -2,7 +2,7 @@ use Rattle.std.specs.Prelude.{◌++◌, ℕ, List, length}
 use Rattle.rail_rules.specs.Fronts.{Line}
 use Rattle.rail_rules.specs.Plant.{Plant}
 use Rattle.rail_text.specs.Names.{HasNames}
-use Rattle.rail_history.specs.ReadFiles.{IsReadTo, IsReading}
+use Rattle.rail_history.specs.ReadFiles.{IsReadTo, IsReading, text_left}
 use Rattle.rail_history.proofs.file_lines.FileLines.read_rest.Given as goal
 
 abbrev pub invariant-loop-alloc : goal.invariant-loop-alloc
@@ -13,4 +13,4 @@ invariant-loop-alloc l = record {
 }
 
 abbrev pub decreases-loop-alloc : goal.decreases-loop-alloc
-decreases-loop-alloc l = length l.self.text.now
+decreases-loop-alloc l = length (text_left l.self)
