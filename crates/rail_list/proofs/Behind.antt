@@ -1,5 +1,5 @@
 -- Safe moves: which of them are safe legs behind the next move of another train, too.
-use Rattle.std.proofs.Common.{◌≡◌, ◌≢◌, ℕ, suc, ◌+◌, ◌-◌, ◌<◌, ◌≤◌, Bool, true, false, not, ◌&&◌, ◌||◌, ltb, leb, List, length, set, refl, sym, ap, ◌∙◌, ⊎_elim, arith}
+use Rattle.std.proofs.Common.{◌≡◌, ◌≢◌, ℕ, suc, ◌+◌, ◌-◌, ◌<◌, ◌≤◌, Bool, true, false, not, ◌&&◌, ◌||◌, ltb, leb, List, length, set, refl, sym, ap, ◌∙◌, subst, ⊎_elim, arith}
 use Rattle.std.proofs.lemmas.Bool.{and_from, and_left, and_parts, and_right, cases_Bool, cases_eq, cases_lt, false≢true, le-leb, lt-leb, lt-ltb, not-true, not_from_false, or_left, or_right}
 use Rattle.std.proofs.lemmas.List.{get_or-set_same, set-get_or, set_past}
 use Rattle.rail_rules.specs.Numbers.{all_below, any_below, are_apart}
@@ -10,10 +10,11 @@ use Rattle.rail_rules.proofs.CallerLemmas.{all_below_from, any_below_at, any_bel
 use Rattle.rail_place.specs.PlaceStates.{IsMadeFor, State}
 use Rattle.rail_place.specs.Tables.{moves_in, MoveLists}
 use Rattle.rail_place.proofs.CallerLemmas.{legal_ahead, made_long}
-use Rattle.rail_consequence.proofs.CallerLemmas.{clear_from_safe, inside_from, inside_same, safe_from_clear, stand_out}
-use Rattle.rail_list.specs.Failures.{HasMoved, is_safe_move}
+use Rattle.rail_consequence.proofs.CallerLemmas.{clear_from_safe, core_leg, inside_from, inside_same, safe_from_clear, stand_out}
+use Rattle.rail_consequence.specs.Cores.{IsCore}
+use Rattle.rail_list.specs.Failures.{HasMoved, is_core_kept, is_safe_move}
 use Rattle.rail_list.proofs.Beside.{legal_beside}
-use Rattle.rail_list.proofs.Pulling.{inside_kept, place_kept}
+use Rattle.rail_list.proofs.Pulling.{after_comm, inside_kept, place_kept}
 
 -- two answers are one where each is yes where the other is
 both_ways : (a b : Bool) → (a ≡ true → b ≡ true) → (b ≡ true → a ≡ true) → a ≡ b
@@ -45,11 +46,19 @@ leg_of_move plan s t inside legal =
     (cases_lt i p)))
 
 -- a safe move is a safe leg
-pub leg_of_safe_move : (plan : Moves) (s : List ℕ) (t : ℕ) → is_safe_move plan s t ≡ true → (is_leg plan s (next s t) ≡ true) × (is_safe plan s (next s t) ≡ true)
+leg_of_safe_move : (plan : Moves) (s : List ℕ) (t : ℕ) → is_safe_move plan s t ≡ true → (is_leg plan s (next s t) ≡ true) × (is_safe plan s (next s t) ≡ true)
 leg_of_safe_move plan s t safe =
     let two = and_parts (is_inside plan s t && is_legal plan s t) (is_safe plan s (next s t)) safe in
     let one = and_parts (is_inside plan s t) (is_legal plan s t) two.0 in
     (leg_of_move plan s t one.0 one.1, two.1)
+
+-- where the move is a safe leg also behind the next move of the waiting train, a core of which its train is one lasts
+pub core_kept : (plan : Moves) (depth : ℕ) (s : List ℕ) (moved waiting : ℕ) (core : ℕ → Bool) → waiting ≢ moved → is_core_kept plan s moved waiting ≡ true
+    → IsCore plan depth (after s waiting) core → IsCore plan depth (after (after s moved) waiting) core
+core_kept plan depth s moved waiting core ne kept is =
+    let safe = leg_of_safe_move plan (after s waiting) moved (and_parts (is_safe_move plan s moved) (is_safe_move plan (after s waiting) moved) kept).1 in
+    let P : List ℕ → Type 0 = λ r. IsCore plan depth r core in
+    subst P (after_comm s waiting moved ne) (core_leg plan depth (after s waiting) core (next (after s waiting) moved) safe.0 safe.1 is)
 
 -- a leg is as safe where the other trains stand at the same places
 safe_alike : (plan : Moves) (s r : List ℕ) (leg : Leg) → ((u : ℕ) → u ≢ leg.train → place_of r u ≡ place_of s u) → is_safe plan s leg ≡ true → is_safe plan r leg ≡ true

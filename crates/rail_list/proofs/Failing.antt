@@ -4,24 +4,14 @@ use Rattle.std.proofs.lemmas.Bool.{and_cases, and_from, and_left, and_parts, and
 use Rattle.std.proofs.lemmas.List.{length-set}
 use Rattle.rail_rules.specs.Moves.{Moves}
 use Rattle.rail_rules.specs.Places.{after, place_of}
-use Rattle.rail_rules.specs.Analysis.{Leg, finds}
+use Rattle.rail_rules.specs.Analysis.{finds}
 use Rattle.rail_sets.specs.declared.train_set.TrainSet.{TrainSet}
 use Rattle.rail_sets.specs.TrainSets.{has_train}
 use Rattle.rail_consequence.specs.Cores.{IsCore}
-use Rattle.rail_consequence.proofs.CallerLemmas.{core_behind, core_leg, core_none}
-use Rattle.rail_list.specs.Failures.{AreFailures, AreKept, AreOthersKept, Failed, HasMoved, TellsKept, TellsSafe, core_at, is_core_kept, is_forgotten, is_kept, is_safe_move}
-use Rattle.rail_list.proofs.Behind.{leg_of_safe_move}
+use Rattle.rail_consequence.proofs.CallerLemmas.{core_behind, core_none}
+use Rattle.rail_list.specs.Failures.{AreFailures, AreKept, AreOthersKept, Failed, HasMoved, TellsKept, TellsSafe, core_at, is_core_kept, is_forgotten, is_kept}
+use Rattle.rail_list.proofs.Behind.{core_kept}
 use Rattle.rail_list.proofs.Finding.{finds_none}
-use Rattle.rail_list.proofs.Pulling.{after_comm}
-
--- where the move is a safe leg also behind the next move of the train, its core lasts
-core_kept : (plan : Moves) (depth : ℕ) (s : List ℕ) (moved t : ℕ) (core : ℕ → Bool) → t ≢ moved → is_core_kept plan s moved t ≡ true
-    → IsCore plan depth (after s t) core → IsCore plan depth (after (after s moved) t) core
-core_kept plan depth s moved t core ne kept is =
-    let leg : Leg = record { train = moved; place = suc (place_of (after s t) moved) } in
-    let safe = leg_of_safe_move plan (after s t) moved (and_parts (is_safe_move plan s moved) (is_safe_move plan (after s t) moved) kept).1 in
-    let P : List ℕ → Type 0 = λ r. IsCore plan depth r core in
-    subst P (after_comm s t moved ne) (core_leg plan depth (after s t) core leg safe.0 safe.1 is)
 
 -- the failures that a move leaves are failures behind it
 pub failures_behind : (plan : Moves) (depth : ℕ) (s r : List ℕ) (moved : ℕ) (old new : Failed)

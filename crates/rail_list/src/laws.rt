@@ -5,6 +5,7 @@ ghost use Rattle.rail_rules.specs.Moves.{Moves, is_valid, stand};
 ghost use Rattle.rail_rules.specs.Numbers.{sum_below};
 ghost use Rattle.rail_rules.specs.Places.{after, completes, is_inside, place_of};
 ghost use Rattle.rail_consequence.specs.Cores.{IsCore};
+ghost use Rattle.rail_list.specs.Failures.{is_core_kept};
 ghost use Rattle.rail_list.specs.KeptLists.{is_free_before, with_moves_left};
 ghost use Rattle.rail_list.specs.Repairs.{is_known, is_repairable_for};
 
@@ -39,6 +40,16 @@ pub fn a_pulled_list_completes_exactly_where_no_earlier_entry_needs_what_the_tra
 pub fn no_list_is_known_until_one_of_the_core_moves()
     ensures { (plan : Moves) (depth : ℕ) (s list : List ℕ) (waiting moved : ℕ) (core : ℕ → Bool)
         → waiting < length s → moved ≢ waiting → core moved ≡ false
+        → IsCore plan depth (after s waiting) core
+        → is_repairable_for plan (after s moved) list waiting ≡ false
+        → is_known plan depth (after s moved) list waiting ≡ false }
+{}
+
+/// Nor is one known after the move of a train of the core, where it is a safe leg before the next move of the waiting train,
+/// and behind it.
+pub fn no_list_is_known_behind_a_safe_move_of_one_of_the_core()
+    ensures { (plan : Moves) (depth : ℕ) (s list : List ℕ) (waiting moved : ℕ) (core : ℕ → Bool)
+        → moved ≢ waiting → IsTrue (is_core_kept plan s moved waiting)
         → IsCore plan depth (after s waiting) core
         → is_repairable_for plan (after s moved) list waiting ≡ false
         → is_known plan depth (after s moved) list waiting ≡ false }

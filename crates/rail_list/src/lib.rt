@@ -10,8 +10,8 @@
 //! each look is counted, and none behind the train's first entry is made. Only where the list
 //! can't be repaired is the analysis asked for a fresh one, and a move is made only where a list is known. So
 //! wherever the kept list completes before a call, it does so after it. Where the analysis fails, the core of its search
-//! is kept for the train; until the train or one of the core moves, the answer is no without a search. `specs/` says for which moves a list has
-//! room, what the repaired list is, when a list is known, and which list goes with each note.
+//! is kept for the train; until the train moves, or one of the core but by a safe leg, the answer is no without a search.
+//! `specs/` says for which moves a list has room, what the repaired list is, when a list is known, and which list goes with each note.
 //!
 //! How the repaired list is tested and how a fresh one is found may be changed. That the answer is true exactly
 //! where it completes may not, nor how much of the list a repair looks at, that repair goes before a fresh list, that a
@@ -36,6 +36,7 @@ pub use laws::{
     a_completing_list_fits,
     a_pulled_list_completes_exactly_where_no_earlier_entry_needs_what_the_train_stands_on,
     an_appended_list_completes_exactly_where_the_train_entered_safely,
+    no_list_is_known_behind_a_safe_move_of_one_of_the_core,
     no_list_is_known_until_one_of_the_core_moves,
 };
 pub use notes::the_list_of_a_note_completes;

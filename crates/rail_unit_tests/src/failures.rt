@@ -19,18 +19,21 @@ use std::alloc::Global;
 const DEPTH: u8 = 1;
 
 /// Train 0 stands on section 3, and goes over 0 and 2. Train 1 would stand on 2 and needs 0 and 3 at once, so that neither
-/// goes on where both are inside. So it is with the trains 2 and 3 at the sections 8, 5 and 7. Train 4 meets nobody.
-const TRAINS: &str = "3 0 2/3 0, 2 03/2, 8 5 7/8 5, 7 58/7, 9 a/9";
+/// goes on where both are inside. So it is with the trains 2 and 3 at the sections 8, 5 and 7. Train 4 meets nobody. Train 5
+/// stands on b and goes after train 2, over c and 8, so that it is one of the core of train 3; but nobody else needs c.
+const TRAINS: &str = "3 0 2/3 0, 2 03/2, 8 5 7/8 5, 7 58/7, 9 a/9, b c 8/b c";
 
 /// The train that is asked for, how it is admitted, the trains of the core of the last search that failed, and the trains of
-/// which a failure is kept. The core shows which search was the last: in the fourth line it is still that of train 3, so
-/// nothing was searched for train 1 again; in the sixth, once train 0 has moved, it is that of train 1 again.
+/// which a failure is kept. The core shows which search was the last: in the fifth line it is still that of train 3, so
+/// nothing was searched for train 1 again; in the seventh, once train 0 has moved, it is that of train 1 again. In the third
+/// line train 5 moves safely, and the failure of train 3 lasts, though train 5 is one of its core.
 const STEPS: &str = "\
 1 none 01 1
-3 none 23 13
-4 appended 23 13
-1 none 23 13
-0 pulled 23 3
+3 none 235 13
+5 pulled 235 13
+4 appended 235 13
+1 none 235 13
+0 pulled 235 3
 1 none 01 13
 3 none 01 13
 0 pulled 01 3
@@ -52,7 +55,7 @@ fn first_other(alloc: Global) -> Option<&'static str> {
 }
 
 fn first_other_on(alloc: Global, moves: &Moves) -> Option<&'static str> {
-    match places_at(alloc, moves, "10100") {
+    match places_at(alloc, moves, "101001") {
         Ok(mut places) => match KeptList::new(alloc, moves) {
             Ok((mut kept, _reader)) => match Failures::new(alloc) {
                 Ok(mut failures) => first_other_by(
@@ -82,10 +85,10 @@ fn first_other_by(
     requires room { HasRoomFor moves.now kept.old }
     requires failures { AreFailures (moves_in moves.now) DEPTH places.old.positions failures.old }
 {
-    match trains_of(alloc, "0022") {
+    match trains_of(alloc, "002255") {
         Ok(list) => {
             if !are_there(moves, &list) || places.play(moves, &list) != Played::Completes {
-                return Some("0022");
+                return Some("002255");
             }
             a_completing_list_fits();
             kept.replace(&list);
@@ -188,9 +191,9 @@ fn note_of(word: &str) -> Option<Note> {
     }
 }
 
-/// Whether of the five trains the set has those of the digits.
+/// Whether of the six trains the set has those of the digits.
 fn are_all(set: TrainSet, digits: &str) -> bool {
-    for number in 0..5u8 {
+    for number in 0..6u8 {
         if set.has(TrainNo(u16::from(number))) != is_named(digits, number) {
             return false;
         }
@@ -198,9 +201,9 @@ fn are_all(set: TrainSet, digits: &str) -> bool {
     true
 }
 
-/// Whether of the five trains the failures of those of the digits are kept.
+/// Whether of the six trains the failures of those of the digits are kept.
 fn are_kept(failures: &Failures, digits: &str) -> bool {
-    for number in 0..5u8 {
+    for number in 0..6u8 {
         if failures.has(TrainNo(u16::from(number))) != is_named(digits, number) {
             return false;
         }
@@ -209,7 +212,7 @@ fn are_kept(failures: &Failures, digits: &str) -> bool {
 }
 
 fn is_named(digits: &str, number: u8) -> bool
-    requires { number < 5 }
+    requires { number < 6 }
 {
     digits.as_bytes().contains(&(b'0' + number))
 }
