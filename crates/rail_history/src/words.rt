@@ -12,6 +12,7 @@ use rail_base::{Cause, Entry, Names, Note, TrainNo, What};
 use rail_text::LineBuffer;
 
 /// Puts the words of an entry behind its time.
+#[inline(always)]
 pub(crate) fn put_what(line: &mut LineBuffer, names: &Names, entry: &Entry)
     requires { length line.old + 128 ≤ ROOM }
     ensures text { (plant : Plant) → HasNames plant names.now

@@ -52,19 +52,35 @@ impl Room {
         ensures kept { kept_in self.new ≡ kept_in self.old ++ take result piece.now }
         ensures size { size_of self.new ≡ size_of self.old }
     {
+        let count = piece.len();
+        if count > self.bytes.len() - self.kept {
+            return self.put_past(piece);
+        }
+        let end = self.kept + count;
+        copy_piece(&mut self.bytes[self.kept..end], piece);
+        self.kept = end;
+        count
+    }
+
+    /// Keeps bytes from the front of the piece on where those behind the kept ones that were cleared are too few.
+    #[cold]
+    #[inline(never)]
+    fn put_past(&mut self, piece: &[u8]) -> usize
+        ensures count { result ≡ min (length piece.now) (size_of self.old - length (kept_in self.old)) }
+        ensures kept { kept_in self.new ≡ kept_in self.old ++ take result piece.now }
+        ensures size { size_of self.new ≡ size_of self.old }
+    {
         let count = piece.len().min(self.size - self.kept);
         let end = self.kept + count;
         if self.bytes.len() < end {
             self.clear_past(end);
         }
-        copy_piece(&mut self.bytes[self.kept..end], &piece[..count]);
+        self.bytes[self.kept..end].copy_from_slice(&piece[..count]);
         self.kept = end;
         count
     }
 
     /// Clears the room as far as `end`, and a block more where there is one.
-    #[cold]
-    #[inline(never)]
     fn clear_past(&mut self, end: usize)
         requires beyond { vec_len self.old.bytes < end }
         requires within { end ≤ size_of self.old }
@@ -96,21 +112,26 @@ fn copy_piece(bytes: &mut [u8], piece: &[u8])
     ensures { bytes.new ≡ piece.now }
 {
     match piece.len() {
-        16..=32 => copy_ends(bytes, piece, 16),
-        33..=64 => copy_ends(bytes, piece, 32),
+        16..=32 => copy_ends::<16>(bytes, piece),
+        33..=64 => copy_ends::<32>(bytes, piece),
         _ => bytes.copy_from_slice(piece),
     }
 }
 
-/// Copies the first and the last `end` bytes of the piece over as many bytes, which are all that it has.
+/// Copies the first and the last `END` bytes of the piece over as many bytes, which are all that it has. They are read before
+/// the first is written, so that nothing is asked of where both lie.
 #[inline(always)]
-fn copy_ends(bytes: &mut [u8], piece: &[u8], end: usize)
+fn copy_ends<const END: usize>(bytes: &mut [u8], piece: &[u8])
     requires same { length bytes.old ≡ length piece.now }
-    requires within { end ≤ length piece.now }
-    requires all { length piece.now ≤ end + end }
+    requires within { END ≤ length piece.now }
+    requires all { length piece.now ≤ END + END }
     ensures { bytes.new ≡ piece.now }
 {
-    let rest = piece.len() - end;
-    bytes[..end].copy_from_slice(&piece[..end]);
-    bytes[rest..].copy_from_slice(&piece[rest..]);
+    let rest = piece.len() - END;
+    let mut first = [0; END];
+    let mut last = [0; END];
+    first.copy_from_slice(&piece[..END]);
+    last.copy_from_slice(&piece[rest..]);
+    bytes[..END].copy_from_slice(&first);
+    bytes[rest..].copy_from_slice(&last);
 }

@@ -62,6 +62,7 @@ impl LineBuffer {
 
     /// Takes all bytes away, and puts the time. Where the line began with a time of the same minute, only what
     /// follows the minute is written.
+    #[inline(always)]
     pub fn begin(&mut self, time: Time)
         ensures text { self.new ≡ time_text time }
         ensures short { length self.new ≤ 32 }
@@ -199,12 +200,17 @@ impl LineBuffer {
         ensures short { length self.new ≤ length self.old + 17 }
     {
         let word = name.as_bytes();
-        self.put(b" ");
         match word.len() {
-            2 => self.put(&word[..2]),
-            3 => self.put(&word[..3]),
-            4 => self.put(&word[..4]),
-            _ => self.put(word),
+            2 => self.put(&[b' ', word[0], word[1]]),
+            3 => {
+                self.put(&[b' ', word[0]]);
+                self.put(&[word[1], word[2]]);
+            }
+            4 => {
+                self.put(b" ");
+                self.put(&[word[0], word[1], word[2], word[3]]);
+            }
+            _ => self.put_word(word),
         }
     }
 }
@@ -214,12 +220,12 @@ fn tenths_text(tenths: u64) -> [u8; 4]
     requires { tenths < 600 }
     ensures { result ≡ tenths_text tenths }
 {
-    let seconds = tenths / 10;
+    let rest = tenths % 100;
     [
-        digit(seconds / 10),
-        digit(seconds % 10),
+        digit(tenths / 100),
+        digit(rest / 10),
         b'.',
-        digit(tenths % 10),
+        digit(rest % 10),
     ]
 }
 
