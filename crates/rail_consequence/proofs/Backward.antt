@@ -20,7 +20,7 @@ use Rattle.rail_consequence.proofs.Played.{moves_left_at, played_parts, played_v
 use Rattle.rail_consequence.proofs.Walks.{within_at}
 
 -- a list begins with a number as often as it stands there without another between
-front_repeats : (t : ℕ) (xs : List ℕ) → (rest : List ℕ) × (xs ≡ replicate (prefix_len (nat_eq t) xs) t ++ rest)
+pub front_repeats : (t : ℕ) (xs : List ℕ) → (rest : List ℕ) × (xs ≡ replicate (prefix_len (nat_eq t) xs) t ++ rest)
 front_repeats t [] = ([], refl)
 front_repeats t (x ∷ xs) =
     let k : ℕ = prefix_len (nat_eq t) xs in

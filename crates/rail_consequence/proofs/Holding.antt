@@ -34,27 +34,34 @@ pub one_holds : (plan : Moves) (s : List ℕ) (u v x : ℕ) → is_valid_state p
 one_holds plan s u v x state first second ne =
     false≢true (sym (apart_at (stand plan u (place_of s u)) (stand plan v (place_of s v)) x (state_apart plan s u v state (holder_listed plan s u x first) (λ same. ne (sym same))) first) ∙ second)
 
-module _ (table : List MoveLists) (state : State) (made : IsMadeFor table state) (taken : List ℕ) (taken_is : IsSet taken (λ x. is_some (get_or state.owners x None))) where
-  abbrev plan : Moves
-  plan = moves_in table
+-- the set has what the trains hold, and nothing that no train holds
+pub record AreTaken (plan : Moves) (s set : List ℕ) : Type 0 where
+  pub only : (x : ℕ) → has set x ≡ true → (v : ℕ) × (holds plan s v x ≡ true)
+  pub all : (v x : ℕ) → holds plan s v x ≡ true → has set x ≡ true
 
-  abbrev s : List ℕ
-  s = state.positions
+-- so it has what the owners tell
+pub are_owned : (table : List MoveLists) (state : State) → IsMadeFor table state → (set : List ℕ) → IsSet set (λ x. is_some (get_or state.owners x None)) → AreTaken (moves_in table) state.positions set
+are_owned table state made set is_set = record {
+  only = λ x is.
+      let owner = some_of (get_or state.owners x None) (sym (is_set x) ∙ is) in
+      (owner.0, (made.told x owner.0).0 owner.1);
+  all = λ v x holder. is_set x ∙ ap is_some ((made.told x v).1 holder);
+}
 
-  -- a section of the set has a holder
-  pub taken_holder : (x : ℕ) → has taken x ≡ true → (v : ℕ) × (holds plan s v x ≡ true)
-  taken_holder x is =
-      let owner = some_of (get_or state.owners x None) (sym (taken_is x) ∙ is) in
-      (owner.0, (made.told x owner.0).0 owner.1)
+-- and the owners tell what it has
+pub owned_from : (table : List MoveLists) (state : State) → IsMadeFor table state → (set : List ℕ) → AreTaken (moves_in table) state.positions set → IsSet set (λ x. is_some (get_or state.owners x None))
+owned_from table state made set taken x =
+    same_truth (has set x) (is_some (get_or state.owners x None))
+    (λ is. let v = taken.only x is in ap is_some ((made.told x v.0).1 v.1))
+    (λ owned.
+    let v = some_of (get_or state.owners x None) owned in
+    taken.all v.0 x ((made.told x v.0).0 v.1))
 
-  -- and what a train holds is in the set
-  pub holder_taken : (v x : ℕ) → holds plan s v x ≡ true → has taken x ≡ true
-  holder_taken v x holder = taken_is x ∙ ap is_some ((made.told x v).1 holder)
-
-  -- so a section of the set on which a train does not stand is taken by another
+module _ (plan : Moves) (s taken : List ℕ) (state : is_valid_state plan s ≡ true) (are : AreTaken plan s taken) where
+  -- a section of the set on which a train does not stand is taken by another
   pub other_bar : (t x : ℕ) → has taken x ≡ true → is_in x (stand plan t (place_of s t)) ≡ false → IsTakenByOther plan s t x
   other_bar t x is out =
-      let v = taken_holder x is in
+      let v = are.only x is in
       record {
         holder = v.0;
         other = λ same. false≢true (sym out ∙ ap (λ u. holds plan s u x) (sym same) ∙ v.1);
@@ -64,7 +71,7 @@ module _ (table : List MoveLists) (state : State) (made : IsMadeFor table state)
   -- and one that is not taken by another is not in the set, or the train stands on it
   pub no_bar : (t x : ℕ) → (has taken x ≡ true → is_in x (stand plan t (place_of s t)) ≡ true) → IsTakenByOther plan s t x → ⊥
   no_bar t x own bar =
-      one_holds plan s t bar.holder x made.valid (own (holder_taken bar.holder x bar.taken)) bar.taken (λ same. bar.other (sym same))
+      one_holds plan s t bar.holder x state (own (are.all bar.holder x bar.taken)) bar.taken (λ same. bar.other (sym same))
 
   -- a section that stays, or comes, where a train goes to another place is taken there by a train
   pub then_holder_at : (t p : ℕ) → t < length s → (gone come new : List ℕ) → IsSet gone (λ x. is_in x (stand plan t (place_of s t))) → IsSet come (λ x. is_in x (stand plan t p))
@@ -73,48 +80,29 @@ module _ (table : List MoveLists) (state : State) (made : IsMadeFor table state)
       ⊎_elim
       (λ stays.
       let parts = and_parts (has taken x) (not (has gone x)) stays in
-      let v = taken_holder x parts.0 in
+      let v = are.only x parts.0 in
       let other : v.0 ≢ t = λ same. false≢true (sym (not-true (has gone x) parts.1) ∙ is_gone x ∙ ap (λ u. holds plan s u x) (sym same) ∙ v.1) in
       (v.0, ap (λ q. is_in x (stand plan v.0 q)) (get_or-set_other s t v.0 p 0 other) ∙ v.1))
       (λ comes. (t, ap (λ q. is_in x (stand plan t q)) (get_or-set_same s t p 0 known) ∙ sym (is_come x) ∙ comes))
       (or_cases (has taken x && not (has gone x)) (has come x) (sym replaced ∙ is))
 
   -- after a train went to another place: what it gives free is taken away, and what it then holds is added
-  module _ (t p : ℕ) (known : t < length s) (gone come new : List ℕ) (is_gone : IsSet gone (λ x. is_in x (stand plan t (place_of s t)))) (is_come : IsSet come (λ x. is_in x (stand plan t p)))
-      (replaced : (x : ℕ) → has new x ≡ ((has taken x && not (has gone x)) || has come x)) where
-    abbrev next : List ℕ
-    next = set s t p
-
-    here : place_of next t ≡ p
-    here = get_or-set_same s t p 0 known
-
-    there : (v : ℕ) → v ≢ t → place_of next v ≡ place_of s v
-    there v other = get_or-set_other s t v p 0 other
-
-    pub then_holder : (x : ℕ) → has new x ≡ true → (v : ℕ) × (holds plan next v x ≡ true)
-    then_holder x is = then_holder_at t p known gone come new is_gone is_come x (replaced x) is
-
-    pub then_taken : (x v : ℕ) → holds plan next v x ≡ true → has new x ≡ true
-    then_taken x v holder =
-        replaced x
-        ∙ ⊎_elim
-        (λ same. or_right (has taken x && not (has gone x)) (has come x) (is_come x ∙ ap (λ q. is_in x (stand plan t q)) (sym here) ∙ ap (λ u. holds plan next u x) (sym same) ∙ holder))
-        (λ ne.
-        let was : holds plan s v x ≡ true = ap (λ q. is_in x (stand plan v q)) (sym (there v ne)) ∙ holder in
-        let kept : has gone x ≡ false = is_gone x ∙ ⊎_elim (λ own. absurd (one_holds plan s t v x made.valid own was (λ same. ne (sym same)))) (λ out. out) (cases_Bool (is_in x (stand plan t (place_of s t)))) in
-        or_left (has taken x && not (has gone x)) (has come x) (and_from (has taken x) (not (has gone x)) (holder_taken v x was) (not_from_false (has gone x) kept)))
-        (cases_eq v t)
-
-    -- the set of the places then
-    pub taken_then : (later : State) → IsMadeFor table later → later.positions ≡ next → IsSet new (λ x. is_some (get_or later.owners x None))
-    taken_then later made_later at x =
-        same_truth (has new x) (is_some (get_or later.owners x None))
-        (λ is.
-        let v = then_holder x is in
-        ap is_some ((made_later.told x v.0).1 (ap (λ q. holds plan q v.0 x) at ∙ v.1)))
-        (λ owned.
-        let v = some_of (get_or later.owners x None) owned in
-        then_taken x v.0 (ap (λ q. holds plan q v.0 x) (sym at) ∙ (made_later.told x v.0).0 v.1))
+  pub taken_then : (t p : ℕ) → t < length s → (gone come new : List ℕ) → IsSet gone (λ x. is_in x (stand plan t (place_of s t))) → IsSet come (λ x. is_in x (stand plan t p))
+      → ((x : ℕ) → has new x ≡ ((has taken x && not (has gone x)) || has come x)) → AreTaken plan (set s t p) new
+  taken_then t p known gone come new is_gone is_come replaced =
+      let next : List ℕ = set s t p in
+      record {
+        only = λ x is. then_holder_at t p known gone come new is_gone is_come x (replaced x) is;
+        all = λ v x holder.
+            replaced x
+            ∙ ⊎_elim
+            (λ same. or_right (has taken x && not (has gone x)) (has come x) (is_come x ∙ ap (λ q. is_in x (stand plan t q)) (sym (get_or-set_same s t p 0 known)) ∙ ap (λ u. holds plan next u x) (sym same) ∙ holder))
+            (λ ne.
+            let was : holds plan s v x ≡ true = ap (λ q. is_in x (stand plan v q)) (sym (get_or-set_other s t v p 0 ne)) ∙ holder in
+            let kept : has gone x ≡ false = is_gone x ∙ ⊎_elim (λ own. absurd (one_holds plan s t v x state own was (λ same. ne (sym same)))) (λ out. out) (cases_Bool (is_in x (stand plan t (place_of s t)))) in
+            or_left (has taken x && not (has gone x)) (has come x) (and_from (has taken x) (not (has gone x)) (are.all v x was) (not_from_false (has gone x) kept)))
+            (cases_eq v t);
+      }
 
 -- each train stands at one of its places
 pub place_within : (table : List MoveLists) (state : State) (t : ℕ) → IsMadeFor table state → t < length table → place_of state.positions t ≤ (moves_in table).moves t
@@ -161,12 +149,10 @@ holder_inside plan s v x holder = by (place_of s v) refl holder
 -- what the trains inside hold is all that is taken
 pub all_taken : (table : List MoveLists) (state : State) → IsMadeFor table state → (inside : List ℕ) → IsListing (moves_in table) state.positions inside → (set : List ℕ) (n : ℕ) → length inside ≤ n
     → HasTaken (moves_in table) state.positions (take n inside) set → IsSet set (λ x. is_some (get_or state.owners x None))
-all_taken table state made inside listed set n whole taken x =
+all_taken table state made inside listed set n whole taken =
     let plan : Moves = moves_in table in
     let s = state.positions in
-    same_truth (has set x) (is_some (get_or state.owners x None))
-    (λ is. let v = taken.only x is in ap is_some ((made.told x v.0).1 v.1))
-    (λ owned.
-    let v = some_of (get_or state.owners x None) owned in
-    let holder = (made.told x v.0).0 v.1 in
-    taken.all v.0 x (in_take_all v.0 inside n whole (listed.all v.0 (holder_inside plan s v.0 x holder))) holder)
+    owned_from table state made set (record {
+      only = taken.only;
+      all = λ v x holder. taken.all v x (in_take_all v inside n whole (listed.all v (holder_inside plan s v x holder))) holder;
+    })

@@ -24,3 +24,4 @@ mod Marks
 mod Aside
 mod Cores
 mod Lasting
+mod Playing

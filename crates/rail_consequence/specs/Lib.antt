@@ -7,3 +7,4 @@ pub mod Stops
 pub mod Freeing
 pub mod Analysts
 pub mod Cores
+pub mod Ways

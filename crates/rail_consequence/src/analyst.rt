@@ -31,6 +31,7 @@ use std::mem;
 
 mod closing;
 mod freeing;
+mod playing;
 mod searching;
 
 /// Finds lists of moves that bring every train inside to its exit. It keeps places of its own and room

@@ -25,11 +25,14 @@
 //! stands where it stood, nothing is found, wherever the others are. So nobody needs to search again until one of
 //! them has moved.
 //!
+//! Whether a list that somebody made completes is told by the same sets: it is looked at run by run, a run being entries of
+//! one train side by side, and each has to be a leg.
+//!
 //! An analyst belongs to the moves for which it was made. The counts are kept from one search to the
 //! next, and brought to the new places train by train where the place differs.
 //!
 //! The order in which legs are tried, and so which list is found, may be changed. That no list is
-//! answered exactly where none can be found may not.
+//! answered exactly where none can be found may not, nor that a list is told to complete exactly where it does.
 #![tactic(auto)]
 
 mod analyst;

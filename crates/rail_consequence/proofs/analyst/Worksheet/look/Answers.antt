@@ -7,7 +7,7 @@ use Rattle.rail_place.specs.Tables.{moves_in}
 use Rattle.rail_consequence.specs.Workspace.{Work}
 use Rattle.rail_consequence.specs.Needs.{IsSet}
 use Rattle.rail_consequence.specs.Stops.{IsTakenByOther}
-use Rattle.rail_consequence.proofs.Holding.{no_bar}
+use Rattle.rail_consequence.proofs.Holding.{are_owned, no_bar}
 use Rattle.rail_consequence.proofs.Legs.{inside_parts}
 use Rattle.rail_consequence.proofs.Played.{ready_as}
 use Rattle.rail_consequence.proofs.SetLemmas.{needs_where}
@@ -43,6 +43,6 @@ returns-then-not-meet_beyond g c =
     let H : Work → ℕ → Type 0 = λ w x. IsTakenByOther plan w.places.positions t x in
     leads_out_free plan s t c.places-last.result c.requires.ready.made.moves.valid c.requires.train listed parts.0 (omega (arith, parts.1, c.places-last.ensures)) c.places-last.ensures
     (λ i from below x needed bar.
-    no_bar table own.places ready.made own.taken ready.taken t x
+    no_bar plan own.places.positions own.taken ready.made.valid (are_owned table own.places ready.made own.taken ready.taken) t x
     (λ is. sym (stands x) ∙ c.meet_beyond.ensures.none c.if-not-meet_beyond.true x (c.rest.ensures.set x ∙ needs_where plan t c.position-place.result i x (omega (arith, from, at)) (omega (arith, below, c.places-last.ensures)) needed) is)
     (subst (λ w. H w x) (sym c.self.view_is) bar))

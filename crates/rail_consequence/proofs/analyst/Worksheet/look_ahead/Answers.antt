@@ -10,7 +10,7 @@ use Rattle.rail_consequence.specs.Freeing.{HasFalls, IsLookahead}
 use Rattle.rail_consequence.specs.Needs.{IsSet, count_of, needs_from}
 use Rattle.rail_consequence.specs.Workspace.{Work}
 use Rattle.rail_consequence.proofs.Freeing.{shared_then}
-use Rattle.rail_consequence.proofs.Holding.{then_holder_at}
+use Rattle.rail_consequence.proofs.Holding.{are_owned, then_holder_at}
 use Rattle.rail_consequence.proofs.Played.{ready_as}
 use Rattle.rail_consequence.proofs.analyst.Worksheet.look_ahead.Goals as goal
 
@@ -52,7 +52,7 @@ returns-clause-sets g c =
     ∙ fallen _ _ (needs_from plan t (place_of s t) x) (needs_from plan t p x) (count_of own.needs x) (count_of own.needs x) (from x) (c.rest-2.ensures.set x) refl in
     subst P c.self.view_is (record {
       taken = λ x low is.
-          then_holder_at table own.places ready.made own.taken ready.taken t p known c.stand.result.now c.stand-2.result.now c.fill_replaced.new.set (subst G c.position-from.ensures c.stand.ensures.set) c.stand-2.ensures.set
+          then_holder_at plan s own.taken ready.made.valid (are_owned table own.places ready.made own.taken ready.taken) t p known c.stand.result.now c.stand-2.result.now c.fill_replaced.new.set (subst G c.position-from.ensures c.stand.ensures.set) c.stand-2.ensures.set
           x (c.fill_replaced.ensures.set x (omega (arith, low, c.stand-2.ensures.long))) is;
       shared = λ x u low is.
           let parts = and_parts (leb 2 (count_of own.needs x)) (not (has fell x)) (sym (c.fill_falls-ahead.ensures.shared x (omega (arith, low, c.rest.ensures.long))) ∙ is) in

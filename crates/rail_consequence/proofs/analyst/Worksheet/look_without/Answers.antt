@@ -13,7 +13,7 @@ use Rattle.rail_consequence.specs.Freeing.{HasFalls, IsLookahead}
 use Rattle.rail_consequence.specs.Needs.{IsSet, count_of, needs_from}
 use Rattle.rail_consequence.specs.Workspace.{Work}
 use Rattle.rail_consequence.proofs.Freeing.{shared_then}
-use Rattle.rail_consequence.proofs.Holding.{then_holder_at}
+use Rattle.rail_consequence.proofs.Holding.{are_owned, then_holder_at}
 use Rattle.rail_consequence.proofs.Played.{ready_as}
 use Rattle.rail_consequence.proofs.Safe.{stand_out}
 use Rattle.rail_consequence.proofs.SetLemmas.{needs_past}
@@ -66,7 +66,7 @@ returns-clause-sets g c =
     none_in_taken c.WORDS-2.result x (omega (arith, c.WORDS-2.ensures, c.requires.words.few)) ∙ sym (ap (λ xs. is_in x xs) (stand_out plan t p (omega arith))) in
     subst P c.self.view_is (record {
       taken = λ x low is.
-          then_holder_at table own.places ready.made own.taken ready.taken t p known c.stand.result.now (take c.WORDS-2.result (replicate WORDS 0)) c.fill_replaced.new.set (subst G c.position-from.ensures c.stand.ensures.set) stands
+          then_holder_at plan s own.taken ready.made.valid (are_owned table own.places ready.made own.taken ready.taken) t p known c.stand.result.now (take c.WORDS-2.result (replicate WORDS 0)) c.fill_replaced.new.set (subst G c.position-from.ensures c.stand.ensures.set) stands
           x (c.fill_replaced.ensures.set x (omega (arith, low, c.stand.ensures.long, c.WORDS-2.ensures, long_taken c.WORDS-2.result (omega (arith, c.WORDS-2.ensures, c.requires.words.few))))) is;
       shared = λ x u low is.
           let parts = and_parts (leb 2 (count_of own.needs x)) (not (has fell x)) (sym (c.fill_falls-ahead.ensures.shared x (omega (arith, low, c.rest.ensures.long))) ∙ is) in

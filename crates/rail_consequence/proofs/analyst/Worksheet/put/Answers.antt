@@ -8,7 +8,7 @@ use Rattle.rail_place.specs.Tables.{moves_in}
 use Rattle.rail_consequence.specs.Needs.{IsAmong, IsCounted, IsRecounted, IsSet}
 use Rattle.rail_consequence.specs.Workspace.{Work}
 use Rattle.rail_consequence.proofs.Counts.{among_counted, counted_on}
-use Rattle.rail_consequence.proofs.Holding.{taken_then, place_within}
+use Rattle.rail_consequence.proofs.Holding.{AreTaken, are_owned, owned_from, taken_then, place_within}
 use Rattle.rail_consequence.proofs.Played.{ready_as}
 use Rattle.rail_consequence.proofs.analyst.Worksheet.put.Goals as goal
 
@@ -48,10 +48,13 @@ returns-clause-ready g c =
     let G : ℕ → Type 0 = λ q. IsSet c.stand-gone.result.now (λ x. is_in x (stand plan t q)) in
     let C : List ℕ → Type 0 = λ q. IsCounted plan q c.recount.new.needs in
     let R : ℕ → Type 0 = λ q. IsRecounted plan t q p own.needs c.recount.new.needs in
+    let H : List ℕ → Type 0 = λ q. AreTaken plan q c.replace.new.set in
+    let taken : H (set own.places.positions t p) =
+    taken_then plan own.places.positions own.taken ready.made.valid (are_owned table own.places ready.made own.taken ready.taken) t p known c.stand-gone.result.now c.stand-come.result.now c.replace.new.set (subst G c.position-from.ensures c.stand-gone.ensures.set) c.stand-come.ensures.set c.replace.ensures.set in
     record {
       rows = ready.rows;
       made = made;
-      taken = taken_then table own.places ready.made own.taken ready.taken t p known c.stand-gone.result.now c.stand-come.result.now c.replace.new.set (subst G c.position-from.ensures c.stand-gone.ensures.set) c.stand-come.ensures.set c.replace.ensures.set later made c.put.ensures.positions;
+      taken = owned_from table later made c.replace.new.set (subst H (sym c.put.ensures.positions) taken);
       wide = omega (arith, c.replace.ensures.long, ready.wide);
       counted = subst C (sym c.put.ensures.positions) (counted_on plan own.places.positions own.needs ready.counted t known p c.recount.new.needs (subst R c.position-from.ensures c.recount.ensures));
       few = omega (arith, c.requires.few, ap length (ap (λ (w : Work). w.list) c.self.view_is), ap (moves_left plan) c.put.ensures.positions, ap (λ (w : Work). moves_left plan (set w.places.positions t p)) c.self.view_is);

@@ -8,7 +8,7 @@ use Rattle.rail_sets.specs.Sets.{has}
 use Rattle.rail_consequence.specs.Needs.{IsSet}
 use Rattle.rail_consequence.specs.Stops.{IsTakenByOther}
 use Rattle.rail_consequence.specs.Workspace.{Work}
-use Rattle.rail_consequence.proofs.Holding.{no_bar, other_bar, place_within}
+use Rattle.rail_consequence.proofs.Holding.{are_owned, no_bar, other_bar, place_within}
 use Rattle.rail_consequence.proofs.Played.{ready_as}
 use Rattle.rail_consequence.proofs.analyst.Worksheet.stop_of.Goals as goal
 
@@ -29,6 +29,7 @@ returns g c =
     let m = c.args.made in
     let own : Work = record { rows = c.self.inside.rows; places = c.self.inside.places; taken = c.self.inside.taken; needs = c.self.inside.needs; list = c.self.inside.list.items } in
     let ready = ready_as table own c.args.self.now c.self.view_is c.requires.ready in
+    let taken = are_owned table own.places ready.made own.taken ready.taken in
     let G : ℕ → Type 0 = λ q. IsSet c.stand-own.result.now (λ x. is_in x (stand plan t q)) in
     let stands = subst G c.position.ensures c.stand-own.ensures.set in
     let H : Work → ℕ → Type 0 = λ w x. IsTakenByOther plan w.places.positions t x in
@@ -38,6 +39,6 @@ returns g c =
     (λ x. (has c.need.result.now x ≡ true) × (has own.taken x ≡ true) × (has c.stand-own.result.now x ≡ false))
     (λ x. (is_in x (plan.claim t m) ≡ true) × IsTakenByOther plan c.args.self.now.places.positions t x)
     c.first_common.result
-    (λ none x needed bar. no_bar table own.places ready.made own.taken ready.taken t x (λ is. sym (stands x) ∙ none x (c.need.ensures.set x ∙ needed) is) (subst (λ w. H w x) (sym c.self.view_is) bar))
-    (λ x some. (sym (c.need.ensures.set x) ∙ some.0, subst (λ w. H w x) c.self.view_is (other_bar table own.places ready.made own.taken ready.taken t x some.1 (sym (stands x) ∙ some.2))))
+    (λ none x needed bar. no_bar plan own.places.positions own.taken ready.made.valid taken t x (λ is. sym (stands x) ∙ none x (c.need.ensures.set x ∙ needed) is) (subst (λ w. H w x) (sym c.self.view_is) bar))
+    (λ x some. (sym (c.need.ensures.set x) ∙ some.0, subst (λ w. H w x) c.self.view_is (other_bar plan own.places.positions own.taken ready.made.valid taken t x some.1 (sym (stands x) ∙ some.2))))
     c.first_common.ensures
