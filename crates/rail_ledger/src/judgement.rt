@@ -349,6 +349,7 @@ impl Ledger {
             moves,
             &mut self.places,
             &mut self.kept,
+            &self.analyst,
             &mut self.failures,
             train,
             note,

@@ -12,7 +12,6 @@ mod Trying
 -- Lemmas on fresh lists and on taking the move back, and the law that a public function states.
 mod Remaining
 mod Finding
-mod Knowing
 mod Unfound
 mod Behind
 mod Failing

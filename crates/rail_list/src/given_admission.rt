@@ -1,9 +1,10 @@
 //! An admission with a given note and list.
 
 ghost use Rattle.std.specs.Prelude.{◌≡◌, ℕ, ◌+◌, ◌<◌, ◌≤◌, [], true, false, length, nat_lt, IsTrue};
-ghost use Rattle.std.specs.List.{All, list_all};
+ghost use Rattle.std.specs.List.{list_all};
 ghost use Rattle.rail_base.specs.declared.history.Note.TheVariants.{Appended, Fresh, Pulled};
 ghost use Rattle.rail_rules.specs.Places.{after, completes, is_inside, is_legal, place_of};
+ghost use Rattle.rail_consequence.specs.AnalystStates.{IsAnalystFor};
 ghost use Rattle.rail_place.specs.PlaceStates.{IsMadeFor};
 ghost use Rattle.rail_place.specs.Tables.{moves_in};
 ghost use Rattle.rail_list.specs.KeptLists.{HasRoomFor, before_first};
@@ -12,7 +13,8 @@ ghost use Rattle.rail_list.specs.GivenLists.{given_list, may_be_given};
 
 use crate::{Failures, KeptList};
 use rail_base::{Note, TrainNo};
-use rail_place::{Moves, Places, Played};
+use rail_consequence::Analyst;
+use rail_place::{Moves, Places};
 
 /// Makes the train's next move on the places, and keeps the list that an admission with this note keeps,
 /// where the note fits the train's place and the list completes after the move. False exactly where not; then
@@ -21,6 +23,7 @@ pub fn admit_given(
     moves: &Moves,
     places: &mut Places,
     kept: &mut KeptList,
+    analyst: &Analyst,
     failures: &mut Failures,
     train: TrainNo,
     note: Note,
@@ -31,6 +34,7 @@ pub fn admit_given(
     requires completes { IsTrue (completes (moves_in moves.now) places.old.positions kept.old.trains) }
     requires train { train < length moves.now }
     requires legal { IsTrue (is_legal (moves_in moves.now) places.old.positions train) }
+    requires own { IsAnalystFor (moves_in moves.now) analyst.now }
     ensures made { IsMadeFor moves.now places.new }
     ensures room { kept.new.room ≡ kept.old.room }
     ensures exact { result ≡ may_be_given (moves_in moves.now) places.old.positions kept.old.trains train note list.now }
@@ -45,7 +49,7 @@ pub fn admit_given(
     let admitted = match note {
         Note::Pulled => admit_pulled(moves, places, kept, train),
         Note::Appended => admit_appended(moves, places, kept, train),
-        Note::Fresh => admit_listed(moves, places, kept, train, list),
+        Note::Fresh => admit_listed(moves, places, kept, analyst, train, list),
     };
     if admitted {
         failures.forget(moves, places, train);
@@ -102,6 +106,7 @@ fn admit_listed(
     moves: &Moves,
     places: &mut Places,
     kept: &mut KeptList,
+    analyst: &Analyst,
     train: TrainNo,
     list: &[TrainNo],
 ) -> bool
@@ -109,6 +114,7 @@ fn admit_listed(
     requires room { HasRoomFor moves.now kept.old }
     requires train { train < length moves.now }
     requires legal { IsTrue (is_legal (moves_in moves.now) places.old.positions train) }
+    requires own { IsAnalystFor (moves_in moves.now) analyst.now }
     ensures made { IsMadeFor moves.now places.new }
     ensures room { kept.new.room ≡ kept.old.room }
     ensures exact { result ≡ may_be_given (moves_in moves.now) places.old.positions kept.old.trains train Fresh list.now }
@@ -119,34 +125,12 @@ fn admit_listed(
     if list.is_empty() {
         return false;
     }
-    if !are_known(moves, list) {
-        return false;
-    }
     places.advance(moves, train);
-    if does_complete(moves, places, list) {
+    if analyst.does_complete(moves, places, list) {
         kept.replace(list);
         true
     } else {
         places.retreat(moves, train);
         false
     }
-}
-
-/// Whether each train of the list is one of these moves.
-fn are_known(moves: &Moves, list: &[TrainNo]) -> bool
-    ensures { result ≡ list_all (λ t. nat_lt t (length moves.now)) list.now }
-{
-    let trains = moves.trains();
-    list.iter().all(|train| train.0 < trains)
-}
-
-/// Whether the list completes from these places, which are as before.
-fn does_complete(moves: &Moves, places: &mut Places, list: &[TrainNo]) -> bool
-    requires made { IsMadeFor moves.now places.old }
-    requires known { All (λ t. t < length moves.now) list.now }
-    ensures made { IsMadeFor moves.now places.new }
-    ensures positions { places.new.positions ≡ places.old.positions }
-    ensures exact { result ≡ completes (moves_in moves.now) places.old.positions list.now }
-{
-    matches!(places.play(moves, list), Played::Completes)
 }

@@ -14,6 +14,9 @@ admit_given-requires-clause-legal c =
     let next = c.requires.next in
     legal_admissible c.moves-moves.result.now next.front c.args.self.now c.moves-moves.ensures.moves next.at next.deciding c.args.train next.admissible
 
+pub admit_given-requires-clause-own : goal.admit_given-requires-clause-own
+admit_given-requires-clause-own c = analyst_for c.moves-moves.result.now c.requires.next.front c.args.self.now c.moves-moves.ensures.moves c.requires.next.at
+
 pub returns-clause-exact : goal.returns-clause-exact
 returns-clause-exact c = λ front at. c.admit_given.ensures.exact ∙ given_exact c.moves-moves.result.now front c.args.self.now c.moves-moves.ensures.moves at c.args.train c.args.note c.args.list.now
 
