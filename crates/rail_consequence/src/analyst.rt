@@ -20,7 +20,7 @@ use crate::notes::Notes;
 use crate::rows::Rows;
 use crate::tally::{Tally, stands_inside};
 use crate::train_list::TrainList;
-use crate::width::{All, Four, One, Two, Width};
+use crate::width::{All, Four, One, Three, Two, Width};
 use rail_base::limits::LIST_TRAINS;
 use rail_base::{OutOfMemory, TrainNo, add_copies};
 use rail_place::{Moves, Places};
@@ -192,6 +192,8 @@ impl Analyst {
             self.search_in::<One>(moves, places, depth)
         } else if words <= Two::WORDS {
             self.search_in::<Two>(moves, places, depth)
+        } else if words <= Three::WORDS {
+            self.search_in::<Three>(moves, places, depth)
         } else if words <= Four::WORDS {
             self.search_in::<Four>(moves, places, depth)
         } else {

@@ -20,6 +20,9 @@ pub struct One;
 /// Two words: 128 sections.
 pub struct Two;
 
+/// Three words: 192 sections.
+pub struct Three;
+
 /// Four words: 256 sections.
 pub struct Four;
 
@@ -36,6 +39,12 @@ impl Width for Two {
     const WORDS: usize = 2;
 
     ghost WORDS = { 2 };
+}
+
+impl Width for Three {
+    const WORDS: usize = 3;
+
+    ghost WORDS = { 3 };
 }
 
 impl Width for Four {

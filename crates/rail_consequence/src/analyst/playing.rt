@@ -1,7 +1,6 @@
 //! Whether a given list completes, told by the sets of the trains, with no move made.
 
-ghost use Rattle.std.specs.Prelude.{◌≡◌, ℕ, ◌+◌, ◌<◌, ◌≤◌, ◌↔◌, length, nat_eq, set, IsTrue};
-ghost use Rattle.std.specs.List.{prefix_len};
+ghost use Rattle.std.specs.Prelude.{◌≡◌, ℕ, ◌+◌, ◌<◌, ◌≤◌, ◌↔◌, length, set, IsTrue};
 ghost use Rattle.rail_rules.specs.Analysis.{is_leg};
 ghost use Rattle.rail_rules.specs.Places.{completes, has_holder, is_valid_state, place_of};
 ghost use Rattle.rail_place.specs.PlaceStates.{IsMadeFor};
@@ -13,9 +12,9 @@ ghost use Rattle.rail_consequence.specs.Ways.{IsWayFree};
 
 use super::Analyst;
 use crate::rows::Rows;
-use crate::width::{All, Four, One, Two, Width};
-use rail_base::TrainNo;
+use crate::width::{All, Four, One, Three, Two, Width};
 use rail_base::limits::TRAINS;
+use rail_base::{TrainNo, repeats};
 use rail_place::{Moves, Places};
 use rail_sets::{WORDS, is_empty, join, meet_beyond, replace};
 
@@ -36,6 +35,8 @@ impl Analyst {
             does_complete_in::<One>(moves, rows, places, list)
         } else if words <= Two::WORDS {
             does_complete_in::<Two>(moves, rows, places, list)
+        } else if words <= Three::WORDS {
+            does_complete_in::<Three>(moves, rows, places, list)
         } else if words <= Four::WORDS {
             does_complete_in::<Four>(moves, rows, places, list)
         } else {
@@ -57,7 +58,7 @@ fn does_complete_in<W: Width>(moves: &Moves, rows: &Rows, places: &Places, list:
     let mut taken = taken_by_all::<W>(moves, rows, positions);
     let mut left = list;
     while let Some(train) = left.first() {
-        let count = repeats_at_start(*train, left);
+        let count = repeats(*train, left);
         if !goes_on::<W>(moves, rows, *train, count, positions, &mut taken) {
             return false;
         }
@@ -82,14 +83,6 @@ fn taken_by_all<W: Width>(moves: &Moves, rows: &Rows, positions: &[u16]) -> [u64
         );
     }
     taken
-}
-
-/// How often the train stands at the start of the list without another between.
-fn repeats_at_start(train: TrainNo, list: &[TrainNo]) -> usize
-    ensures count { result ≡ prefix_len (nat_eq train) list.now }
-    ensures few { result ≤ length list.now }
-{
-    list.iter().take_while(|other| **other == train).count()
 }
 
 /// Goes on with the train by so many moves, where that is a leg: whether it is one.

@@ -20,9 +20,9 @@ returns-then-not-goes_on g c =
     let t = c.in-Some.train.now in
     let first = c.in-Some.ensures.item.3 in
     let some = starts_run t c.loop-train.left.now first.0 (first.1 t) in
-    let n = c.repeats_at_start-count.result in
+    let n = c.repeats-count.result in
     let barred : is_leg plan s (leg_to t (place_of s t + n)) ≡ false = sym c.goes_on.ensures.exact ∙ c.if-not-goes_on.true in
-    sym (run_barred plan s c.loop-train.left.now t n c.repeats_at_start-count.ensures.count (omega (arith, some, c.repeats_at_start-count.ensures.count)) barred)
+    sym (run_barred plan s c.loop-train.left.now t n c.repeats-count.ensures.count (omega (arith, some, c.repeats-count.ensures.count)) barred)
     ∙ c.loop-train.invariant.rest
 
 pub loop-train-preserved : goal.loop-train-preserved
@@ -30,13 +30,13 @@ loop-train-preserved g c =
     let plan : Moves = moves_in c.args.moves.now in
     let s = c.loop-train.positions in
     let t = c.in-Some.train.now in
-    let n = c.repeats_at_start-count.result in
+    let n = c.repeats-count.result in
     let leg : is_leg plan s (leg_to t (place_of s t + n)) ≡ true = sym c.goes_on.ensures.exact ∙ c.if-not-goes_on.false in
     let at = c.goes_on.ensures.positions c.if-not-goes_on.false in
     record {
       state = ap (is_valid_state plan) at ∙ leg_state plan s t n c.trains.ensures.table.valid c.loop-train.invariant.state leg;
       taken = c.goes_on.ensures.taken c.if-not-goes_on.false;
-      rest = rw take_rest (ap (λ q. completes plan q (drop n c.loop-train.left.now)) at ∙ sym (run_on plan s c.loop-train.left.now t n c.repeats_at_start-count.ensures.count leg) ∙ c.loop-train.invariant.rest);
+      rest = rw take_rest (ap (λ q. completes plan q (drop n c.loop-train.left.now)) at ∙ sym (run_on plan s c.loop-train.left.now t n c.repeats-count.ensures.count leg) ∙ c.loop-train.invariant.rest);
     }
 
 pub returns : goal.returns
