@@ -75,6 +75,29 @@ fn played_from(alloc: Global, moves: &Moves, digits: &str, list: &[TrainNo]) -> 
 }
 
 #[test]
+fn tells_which_lists_complete_at_a_loop(rt: HostRuntime) {
+    assert!(rt; told_at_a_loop(rt.alloc()) == Some([true, false, false, false]));
+}
+
+/// Which of these lists complete at the loop line where both trains are inside: one of the moves that both have left, one that
+/// leaves a train inside, one that names a train too often, and one of a third train.
+fn told_at_a_loop(alloc: Global) -> Option<[bool; 4]> {
+    let moves = moves_of(alloc, "012 45/2, 543 10/3")?;
+    match places_at(alloc, &moves, "11") {
+        Ok(places) => match Analyst::new(alloc, &moves) {
+            Ok(analyst) => Some([
+                analyst.does_complete(&moves, &places, &[A, B]),
+                analyst.does_complete(&moves, &places, &[B]),
+                analyst.does_complete(&moves, &places, &[A, A]),
+                analyst.does_complete(&moves, &places, &[A, B, TrainNo(2)]),
+            ]),
+            Err(_) => None,
+        },
+        Err(_) => None,
+    }
+}
+
+#[test]
 fn names_the_first_holder(rt: HostRuntime) {
     let held = Played::Illegal {
         index: 1,
