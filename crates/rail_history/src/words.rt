@@ -26,7 +26,7 @@ pub(crate) fn put_what(line: &mut LineBuffer, names: &Names, entry: &Entry)
             line.put_train(names, train);
         }
         What::Arrive { train, place } => {
-            line.put_word(b"arrive");
+            put_verb(line, b"arrive");
             put_move(line, names, train, place);
         }
         What::Enter {
@@ -34,7 +34,7 @@ pub(crate) fn put_what(line: &mut LineBuffer, names: &Names, entry: &Entry)
             place,
             section,
         } => {
-            line.put_word(b"enter");
+            put_verb(line, b"enter");
             put_move(line, names, train, place);
             line.put_section(names, section);
         }
@@ -43,7 +43,7 @@ pub(crate) fn put_what(line: &mut LineBuffer, names: &Names, entry: &Entry)
             line.put_train(names, train);
         }
         What::Ready { train, place } => {
-            line.put_word(b"ready");
+            put_verb(line, b"ready");
             put_move(line, names, train, place);
         }
         What::Told { command } => {
@@ -55,7 +55,7 @@ pub(crate) fn put_what(line: &mut LineBuffer, names: &Names, entry: &Entry)
             line.put_number(u64::from(command));
         }
         What::Admit { train, place, note } => {
-            line.put_word(b"admit");
+            put_verb(line, b"admit");
             put_move(line, names, train, place);
             put_note(line, note);
         }
@@ -69,6 +69,24 @@ pub(crate) fn put_what(line: &mut LineBuffer, names: &Names, entry: &Entry)
             put_cause(line, names, cause);
         }
         What::End => line.put_word(b"end"),
+    }
+}
+
+/// Puts a word of five or six letters, in two pieces of which each is moved at once.
+#[inline(always)]
+fn put_verb(line: &mut LineBuffer, word: &[u8])
+    requires long { 5 ≤ length word.now }
+    requires room { length line.old + length word.now + 1 ≤ ROOM }
+    ensures { line.new ≡ line.old ++ 32 ∷ word.now }
+{
+    line.put(&[b' ', word[0], word[1], word[2]]);
+    match word.len() {
+        5 => line.put(&[word[3], word[4]]),
+        6 => {
+            line.put(&[word[3], word[4]]);
+            line.put(&[word[5]]);
+        }
+        _ => line.put(&word[3..]),
     }
 }
 
@@ -91,7 +109,7 @@ fn put_note(line: &mut LineBuffer, note: Note)
     ensures short { length line.new ≤ length line.old + 9 }
 {
     match note {
-        Note::Pulled => line.put_word(b"pulled"),
+        Note::Pulled => put_verb(line, b"pulled"),
         Note::Appended => line.put_word(b"appended"),
         Note::Fresh => line.put_word(b"fresh"),
     }
