@@ -72,7 +72,7 @@ pub(crate) fn put_what(line: &mut LineBuffer, names: &Names, entry: &Entry)
     }
 }
 
-/// Puts a word of five or six letters, in two pieces of which each is moved at once.
+/// Puts a space and a word of five or six letters, in pieces of which each is moved at once.
 #[inline(always)]
 fn put_verb(line: &mut LineBuffer, word: &[u8])
     requires long { 5 ≤ length word.now }
