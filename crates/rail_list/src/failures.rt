@@ -81,6 +81,19 @@ impl Failures {
         ensures kept { AreKept (moves_in moves.now) moved places.now.positions self.old self.new }
         ensures cores { self.new.cores ≡ self.old.cores }
     {
+        if self.kept.first_from(0).is_some() {
+            self.forget_kept(moves, places, moved);
+        }
+    }
+
+    /// The same where a failure is kept.
+    fn forget_kept(&mut self, moves: &Moves, places: &Places, moved: TrainNo)
+        requires made { IsMadeFor moves.now places.now }
+        requires moved { moved < length moves.now }
+        requires begun { 0 < place_of places.now.positions moved }
+        ensures kept { AreKept (moves_in moves.now) moved places.now.positions self.old self.new }
+        ensures cores { self.new.cores ≡ self.old.cores }
+    {
         let mut kept = self.kept;
         kept.remove(moved);
         let mut left = kept;

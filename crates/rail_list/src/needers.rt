@@ -55,9 +55,9 @@ fn does_other_need(
     ensures { result ≡ (not (other == train) && needs_later (moves_in moves.now) places.now.positions sections.now other) }
 {
     let place = places.position(other);
-    other != train
-        && 0 < place
+    0 < place
         && place < moves.places(other)
+        && other != train
         && does_need_from(moves, other, place, sections)
 }
 

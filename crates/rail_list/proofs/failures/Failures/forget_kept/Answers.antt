@@ -5,8 +5,8 @@ use Rattle.rail_sets.specs.declared.train_set.TrainSet.{TrainSet}
 use Rattle.rail_sets.specs.TrainSets.{has_train}
 use Rattle.rail_list.specs.Failures.{Failed, core_at, no_core}
 use Rattle.rail_list.proofs.Failing.{IsForgetting, forgetting_apart, forgetting_ended, forgetting_kept}
-use Rattle.rail_list.proofs.failures.Failures.forget.Goals as goal
-use Rattle.rail_list.proofs.failures.Failures.forget.Goals.{else-has-via-then-has+else-not-does_last, else-has-via-else-has}
+use Rattle.rail_list.proofs.failures.Failures.forget_kept.Goals as goal
+use Rattle.rail_list.proofs.failures.Failures.forget_kept.Goals.{else-has-via-then-has+else-not-does_last, else-has-via-else-has}
 
 pub loop-train-preserved-then-not-does_last : goal.loop-train-preserved-then-not-does_last
 loop-train-preserved-then-not-does_last c =
