@@ -6,6 +6,7 @@ mod SideBySide
 mod MovedBack
 mod Beside
 mod MovesLeft
+mod Needing
 mod Turns
 mod Appending
 mod Trying

@@ -86,8 +86,30 @@ fn does_need_one_of(
     requires in_range { (x : ℕ) → IsTrue (is_in x sections.now) → x < SECTIONS }
     ensures { result ≡ any_below (λ m. not (are_apart sections.now ((moves_in moves.now).claim train (place + m)))) count }
 {
+    for section in sections {
+        if does_claim_within(moves, train, place, count, *section) {
+            return true;
+        }
+    }
+    false
+}
+
+/// Whether one of so many moves of the train, in turn from the one at this place on, claims the section.
+fn does_claim_within(
+    moves: &Moves,
+    train: TrainNo,
+    place: u16,
+    count: u16,
+    section: SectionNo,
+) -> bool
+    requires train { train < length moves.now }
+    requires last { place + count ≤ (moves_in moves.now).moves train }
+    requires short { (moves_in moves.now).moves train ≤ ITINERARY_ROUTES }
+    requires section { section < SECTIONS }
+    ensures { result ≡ any_below (λ m. is_in section ((moves_in moves.now).claim train (place + m))) count }
+{
     for step in 0..count {
-        if does_need_one(moves, train, place + step + 1, sections) {
+        if moves.claims(train, place + step + 1, section) {
             return true;
         }
     }
