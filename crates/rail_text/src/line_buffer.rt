@@ -125,13 +125,24 @@ impl LineBuffer {
         ensures text { self.new ≡ self.old ++ 32 ∷ decimal number }
         ensures short { length self.new ≤ length self.old + 21 }
     {
+        self.put_behind(b' ', number);
+    }
+
+    /// Puts the mark and the number in decimal digits at the end.
+    #[inline(always)]
+    fn put_behind(&mut self, mark: u8, number: u64)
+        requires { length self.old + 21 ≤ ROOM }
+        ensures text { self.new ≡ self.old ++ mark ∷ decimal number }
+        ensures short { length self.new ≤ length self.old + 21 }
+    {
         if number < 10 {
-            self.put(&[b' ', digit(number)]);
+            self.put(&[mark, digit(number)]);
         } else if number < 100 {
-            self.put(&[b' ', digit(number / 10), digit(number % 10)]);
+            self.put(&[mark, digit(number / 10), digit(number % 10)]);
         } else {
             let mut digits = Buffer::new();
-            self.put_word(digits.format(number).as_bytes());
+            self.put(&[mark]);
+            self.put(digits.format(number).as_bytes());
         }
     }
 
@@ -163,9 +174,7 @@ impl LineBuffer {
         ensures text { self.new ≡ self.old ++ 42 ∷ decimal count }
         ensures short { length self.new ≤ length self.old + 41 }
     {
-        let mut digits = Buffer::new();
-        self.put(b"*");
-        self.put(digits.format(count).as_bytes());
+        self.put_behind(b'*', count);
     }
 
     /// Puts a space and the time at the end, in its canonical form.
