@@ -14,7 +14,6 @@ ghost use Rattle.rail_consequence.specs.Needs.{AreRowsFor, AreWords, IsCounted, 
 ghost use Rattle.rail_consequence.specs.Searches.{leg_to};
 ghost use Rattle.rail_consequence.specs.Workspace.{GoesOn, IsListing, IsPlayedFrom, IsReady};
 
-use crate::lookahead::Lookahead;
 use crate::needs::recount;
 use crate::notes::Notes;
 use crate::rows::Rows;
@@ -221,12 +220,8 @@ impl Analyst {
             .begin::<W>(moves, places, self.tally.needs(), inside);
         let settled = self.sheet.look_again::<W>(moves, inside, &mut self.notes);
         let mut notes = self.notes;
-        let mut ahead = Lookahead::new();
         self.sheet.close::<W>(moves, inside, &mut notes, settled);
-        if self
-            .sheet
-            .search_on::<W>(moves, inside, &notes, &mut ahead, depth)
-        {
+        if self.sheet.search_on::<W>(moves, inside, &notes, depth) {
             return true;
         }
         self.core = self.sheet.trains_inside(moves, inside);

@@ -22,12 +22,12 @@ impl Model for Openers {
 }
 
 impl Openers {
-    /// All trains.
-    pub fn all() -> Openers
-        ensures { (t : ℕ) → is_marked result t ≡ true }
+    /// No trains.
+    pub fn none() -> Openers
+        ensures { (t : ℕ) → t < TRAINS → is_marked result t ≡ false }
     {
         Openers {
-            marks: [true; TRAINS],
+            marks: [false; TRAINS],
         }
     }
 
@@ -37,11 +37,6 @@ impl Openers {
         ensures { result ≡ is_marked self.now train }
     {
         self.marks[usize::from(train.0)]
-    }
-
-    /// Takes all trains away.
-    pub fn clear(&mut self) {
-        self.marks = [false; TRAINS];
     }
 
     /// Adds the train.

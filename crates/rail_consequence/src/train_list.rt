@@ -1,6 +1,7 @@
 //! A list of trains by number.
 
 ghost use Rattle.std.specs.Prelude.{◌≡◌, ℕ, ◌<◌, ◌≤◌, ◌&&◌, ◌||◌, ◌==◌, [], not, get_or, length, IfOk};
+ghost use Rattle.std.specs.List.Sorted.{IsStrictlyIncreasing};
 ghost use Rattle.rail_rules.specs.Numbers.{is_in};
 
 use rail_base::limits::TRAINS;
@@ -67,16 +68,18 @@ impl TrainList {
 }
 
 /// The position of the first train whose number is not below this one, counted from 0; that behind the last train where there
-/// is none.
+/// is none. It is sought from the end, since trains that enter have later numbers, mostly.
 fn position_in(trains: &[TrainNo], train: TrainNo) -> usize
+    requires sorted { IsStrictlyIncreasing trains.now }
     ensures bound { result ≤ length trains.now }
     ensures front { (k d : ℕ) → k < result → get_or trains.now k d < train }
     ensures here { (d : ℕ) → result < length trains.now → train ≤ get_or trains.now result d }
 {
-    for (position, other) in trains.iter().enumerate() {
-        if other.0 >= train.0 {
-            return position;
+    for position in (0..trains.len()).rev() {
+        let other = trains[position];
+        if other.0 < train.0 {
+            return position + 1;
         }
     }
-    trains.len()
+    0
 }

@@ -176,18 +176,19 @@ impl Worksheet {
         ensures within { result ≤ length inside.now }
         ensures settled { AreSettledBelow (moves_in moves.now) self.now.places.positions notes.new.stops inside.now result }
     {
-        let mut settled = 0;
+        let mut settled = inside.len();
         for (index, train) in inside.iter().enumerate() {
-            if !self.look_at::<W>(moves, *train, notes) || settled < index {
+            if self.look_at::<W>(moves, *train, notes) || settled < index {
                 continue;
             }
-            settled = index + 1;
+            settled = index;
         }
         notes.forget_falls();
         settled
     }
 
     /// Looks at the train if nothing of what is noted stops it, and notes what does. Whether it has no safe leg.
+    #[inline(always)]
     fn look_at<W: Width>(&self, moves: &Moves, train: TrainNo, notes: &mut Notes) -> bool
         requires words { AreWords (moves_in moves.now) W.WORDS }
         requires ready { IsReady moves.now self.now }

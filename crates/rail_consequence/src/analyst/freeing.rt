@@ -37,7 +37,6 @@ impl Worksheet {
         moves: &Moves,
         inside: &[TrainNo],
         notes: &Notes,
-        ahead: &mut Lookahead,
         openers: &mut Openers,
     )
         requires words { AreWords (moves_in moves.now) W.WORDS }
@@ -47,12 +46,11 @@ impl Worksheet {
         requires several { AreSeveral (moves_in moves.now) self.now.places.positions }
         ensures { (t : ℕ) → is_marked openers.new t ≡ false → FindsByNoLegOf (moves_in moves.now) 0 self.now.places.positions t }
     {
-        openers.clear();
         for other in inside {
-            self.add_awaited::<W>(moves, notes, ahead, *other, openers);
+            self.add_awaited::<W>(moves, notes, *other, openers);
         }
         for train in inside {
-            self.add_by_falls::<W>(moves, inside, notes, ahead, *train, openers);
+            self.add_by_falls::<W>(moves, inside, notes, *train, openers);
         }
     }
 
@@ -62,7 +60,6 @@ impl Worksheet {
         &self,
         moves: &Moves,
         notes: &Notes,
-        ahead: &mut Lookahead,
         other: TrainNo,
         openers: &mut Openers,
     )
@@ -84,8 +81,8 @@ impl Worksheet {
             return;
         }
         let last = moves.places(train);
-        self.look_without::<W>(moves, train, ahead);
-        if !self.is_kept_from_legs::<W>(moves, ahead, other, train, last) {
+        let ahead = self.look_without::<W>(moves, train);
+        if !self.is_kept_from_legs::<W>(moves, &ahead, other, train, last) {
             openers.add(train);
         }
     }
@@ -111,7 +108,6 @@ impl Worksheet {
         moves: &Moves,
         inside: &[TrainNo],
         notes: &Notes,
-        ahead: &mut Lookahead,
         train: TrainNo,
         openers: &mut Openers,
     )
@@ -126,14 +122,14 @@ impl Worksheet {
     {
         if openers.has(train)
             || notes.stop(train).is_next()
-            || !stands_inside(moves, &self.places, train)
             || !self.has_pairs::<W>(moves, train)
+            || !stands_inside(moves, &self.places, train)
         {
             return;
         }
         let last = moves.places(train);
-        self.look_without::<W>(moves, train, ahead);
-        if !self.falls_are_in_vain::<W>(moves, inside, notes, ahead, train, last) {
+        let ahead = self.look_without::<W>(moves, train);
+        if !self.falls_are_in_vain::<W>(moves, inside, notes, &ahead, train, last) {
             openers.add(train);
         }
     }
@@ -159,7 +155,6 @@ impl Worksheet {
         moves: &Moves,
         inside: &[TrainNo],
         notes: &Notes,
-        ahead: &mut Lookahead,
         train: TrainNo,
         place: u16,
     ) -> bool
@@ -176,25 +171,27 @@ impl Worksheet {
         if !self.has_other_inside(moves, inside, train) {
             return false;
         }
-        self.look_ahead::<W>(moves, train, place, ahead);
-        self.stay_without_leg::<W>(moves, inside, notes, ahead, train, place)
-            && self.falls_are_in_vain::<W>(moves, inside, notes, ahead, train, place)
+        let ahead = self.look_ahead::<W>(moves, train, place);
+        self.stay_without_leg::<W>(moves, inside, notes, &ahead, train, place)
+            && self.falls_are_in_vain::<W>(moves, inside, notes, &ahead, train, place)
     }
 
     /// Looks which sections fall to another train, which are taken and which more than one train needs, where the train,
     /// which is inside, goes on to the place.
-    fn look_ahead<W: Width>(&self, moves: &Moves, train: TrainNo, place: u16, ahead: &mut Lookahead)
+    #[inline(always)]
+    fn look_ahead<W: Width>(&self, moves: &Moves, train: TrainNo, place: u16) -> Lookahead
         requires words { AreWords (moves_in moves.now) W.WORDS }
         requires ready { IsReady moves.now self.now }
         requires train { train < length moves.now }
         requires inside { IsTrue (is_inside (moves_in moves.now) self.now.places.positions train) }
         requires within { place ≤ (moves_in moves.now).moves train }
         requires later { 0 < place }
-        ensures sets { IsLookahead (moves_in moves.now) self.now.places.positions self.now.needs W.WORDS train place ahead.new }
-        ensures fell { HasFalls (moves_in moves.now) self.now.places.positions self.now.needs W.WORDS train place ahead.new.fell }
-        ensures none { ahead.new.has_fallen ≡ false → (x : ℕ) → x < 64 * W.WORDS → has ahead.new.fell x ≡ false }
+        ensures sets { IsLookahead (moves_in moves.now) self.now.places.positions self.now.needs W.WORDS train place result }
+        ensures fell { HasFalls (moves_in moves.now) self.now.places.positions self.now.needs W.WORDS train place result.fell }
+        ensures none { result.has_fallen ≡ false → (x : ℕ) → x < 64 * W.WORDS → has result.fell x ≡ false }
     {
         let from = self.places.position(train);
+        let mut ahead = Lookahead::new();
         ahead.has_fallen = self.needs.fill_falls(
             &mut ahead.fell,
             &mut ahead.shared,
@@ -207,20 +204,23 @@ impl Worksheet {
             self.rows.stand::<W>(moves, train, from),
             self.rows.stand::<W>(moves, train, place),
         );
+        ahead
     }
 
     /// Looks at the same where the train goes out: it needs nothing then, and stands on nothing.
-    fn look_without<W: Width>(&self, moves: &Moves, train: TrainNo, ahead: &mut Lookahead)
+    #[inline(always)]
+    fn look_without<W: Width>(&self, moves: &Moves, train: TrainNo) -> Lookahead
         requires words { AreWords (moves_in moves.now) W.WORDS }
         requires ready { IsReady moves.now self.now }
         requires train { train < length moves.now }
         requires inside { IsTrue (is_inside (moves_in moves.now) self.now.places.positions train) }
-        ensures sets { IsLookahead (moves_in moves.now) self.now.places.positions self.now.needs W.WORDS train ((moves_in moves.now).moves train) ahead.new }
-        ensures fell { HasFalls (moves_in moves.now) self.now.places.positions self.now.needs W.WORDS train ((moves_in moves.now).moves train) ahead.new.fell }
-        ensures none { ahead.new.has_fallen ≡ false → (x : ℕ) → x < 64 * W.WORDS → has ahead.new.fell x ≡ false }
+        ensures sets { IsLookahead (moves_in moves.now) self.now.places.positions self.now.needs W.WORDS train ((moves_in moves.now).moves train) result }
+        ensures fell { HasFalls (moves_in moves.now) self.now.places.positions self.now.needs W.WORDS train ((moves_in moves.now).moves train) result.fell }
+        ensures none { result.has_fallen ≡ false → (x : ℕ) → x < 64 * W.WORDS → has result.fell x ≡ false }
     {
         let from = self.places.position(train);
         let none = [0u64; WORDS];
+        let mut ahead = Lookahead::new();
         ahead.has_fallen = self.needs.fill_falls(
             &mut ahead.fell,
             &mut ahead.shared,
@@ -233,6 +233,7 @@ impl Worksheet {
             self.rows.stand::<W>(moves, train, from),
             &none[..W::WORDS],
         );
+        ahead
     }
 
     /// Whether each other train of the list that waits for this one, or for none, has no safe leg once it has gone on to the
@@ -379,7 +380,7 @@ impl Worksheet {
     /// Whether a look at the way of the one train shows that it has no safe leg once the other one has gone on to the
     /// place: a section that one of its moves needs is taken then, and at each end of a leg up to there it would stand on
     /// a section that another train needs.
-    #[inline(never)]
+    #[inline(always)]
     fn is_kept_from_legs<W: Width>(
         &self,
         moves: &Moves,

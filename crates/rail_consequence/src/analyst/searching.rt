@@ -10,7 +10,6 @@ ghost use Rattle.rail_consequence.specs.Stops.{IsNotedTo, IsSettled};
 ghost use Rattle.rail_consequence.specs.Workspace.{IsBack, IsListing, IsReady};
 
 use super::Worksheet;
-use crate::lookahead::Lookahead;
 use crate::notes::Notes;
 use crate::openers::Openers;
 use crate::width::Width;
@@ -32,7 +31,6 @@ impl Worksheet {
         moves: &Moves,
         inside: &[TrainNo],
         notes: &mut Notes,
-        ahead: &mut Lookahead,
         depth: u8,
     ) -> bool
         requires words { AreWords (moves_in moves.now) W.WORDS }
@@ -46,7 +44,7 @@ impl Worksheet {
     {
         let mark = self.list.len();
         self.close::<W>(moves, inside, notes, 0);
-        if self.search_on::<W>(moves, inside, notes, ahead, depth) {
+        if self.search_on::<W>(moves, inside, notes, depth) {
             return true;
         }
         self.go_back::<W>(moves, mark);
@@ -60,7 +58,6 @@ impl Worksheet {
         moves: &Moves,
         inside: &[TrainNo],
         notes: &Notes,
-        ahead: &mut Lookahead,
         depth: u8,
     ) -> bool
         requires words { AreWords (moves_in moves.now) W.WORDS }
@@ -79,7 +76,7 @@ impl Worksheet {
         if depth == 0 {
             return false;
         }
-        self.try_free_legs::<W>(moves, inside, notes, ahead, depth - 1)
+        self.try_free_legs::<W>(moves, inside, notes, depth - 1)
     }
 
     /// As `search`, with a first leg of any train, from places where no leg is safe.
@@ -89,7 +86,6 @@ impl Worksheet {
         moves: &Moves,
         inside: &[TrainNo],
         notes: &Notes,
-        ahead: &mut Lookahead,
         depth: u8,
     ) -> bool
         requires words { AreWords (moves_in moves.now) W.WORDS }
@@ -102,14 +98,14 @@ impl Worksheet {
         ensures found { IsTrue result → IsCleared (moves_in moves.now) (depth + 1) self.old self.new }
         ensures none { result ≡ false → IsBack self.old self.new × FindsByNoLeg (moves_in moves.now) depth self.old.places.positions }
     {
-        let mut openers = Openers::all();
+        let mut openers = Openers::none();
         if depth == 0 && self.are_several_inside(moves, inside) {
-            self.find_openers::<W>(moves, inside, notes, ahead, &mut openers);
+            self.find_openers::<W>(moves, inside, notes, &mut openers);
+        } else {
+            openers.add_all();
         }
         for train in inside {
-            if openers.has(*train)
-                && self.try_legs_of::<W>(moves, inside, notes, ahead, *train, depth)
-            {
+            if openers.has(*train) && self.try_legs_of::<W>(moves, inside, notes, *train, depth) {
                 return true;
             }
         }
@@ -124,7 +120,6 @@ impl Worksheet {
         moves: &Moves,
         inside: &[TrainNo],
         notes: &Notes,
-        ahead: &mut Lookahead,
         train: TrainNo,
         depth: u8,
     ) -> bool
@@ -140,7 +135,7 @@ impl Worksheet {
         ensures none { result ≡ false
             → IsBack self.old self.new × FindsByNoLegOf (moves_in moves.now) depth self.old.places.positions train }
     {
-        if self.is_hopeless::<W>(moves, inside, notes, ahead, train, depth) {
+        if self.is_hopeless::<W>(moves, inside, notes, train, depth) {
             return false;
         }
         let from = self.places.position(train);
@@ -149,7 +144,7 @@ impl Worksheet {
             if self.stop_of::<W>(moves, train, made).is_some() {
                 return false;
             }
-            if self.try_leg::<W>(moves, inside, notes, ahead, train, made + 1, depth) {
+            if self.try_leg::<W>(moves, inside, notes, train, made + 1, depth) {
                 return true;
             }
         }
@@ -163,7 +158,6 @@ impl Worksheet {
         moves: &Moves,
         inside: &[TrainNo],
         notes: &Notes,
-        ahead: &mut Lookahead,
         train: TrainNo,
         place: u16,
         depth: u8,
@@ -181,15 +175,42 @@ impl Worksheet {
         ensures none { result ≡ false
             → IsBack self.old self.new × (Finds (moves_in moves.now) depth (set self.old.places.positions train place) → ⊥) }
     {
-        if depth == 0 && self.frees_nobody::<W>(moves, inside, notes, ahead, train, place) {
+        if depth == 0 && self.frees_nobody::<W>(moves, inside, notes, train, place) {
             return false;
         }
-        let mark = self.list.len();
+        self.search_behind::<W>(moves, inside, notes, train, place, depth)
+    }
+
+    /// As `search`, behind this leg.
+    #[inline(never)]
+    #[cycle(search)]
+    fn search_behind<W: Width>(
+        &mut self,
+        moves: &Moves,
+        inside: &[TrainNo],
+        notes: &Notes,
+        train: TrainNo,
+        place: u16,
+        depth: u8,
+    ) -> bool
+        requires words { AreWords (moves_in moves.now) W.WORDS }
+        requires ready { IsReady moves.now self.old }
+        requires listed { IsListing (moves_in moves.now) self.old.places.positions inside.now }
+        requires train { train < length moves.now }
+        requires room { depth < 255 }
+        requires settled { IsSettled (moves_in moves.now) self.old.places.positions notes.now.stops }
+        requires leg { IsTrue (is_leg (moves_in moves.now) self.old.places.positions (leg_to train place)) }
+        ensures ready { IsReady moves.now self.new }
+        ensures found { IsTrue result → IsCleared (moves_in moves.now) (depth + 1) self.old self.new }
+        ensures none { result ≡ false
+            → IsBack self.old self.new × (Finds (moves_in moves.now) depth (set self.old.places.positions train place) → ⊥) }
+    {
         let mut then = *notes;
+        let mark = self.list.len();
         then.forget_falls();
         self.note_leg::<W>(moves, train, place, &mut then);
         self.go_to::<W>(moves, train, place);
-        if self.search::<W>(moves, inside, &mut then, ahead, depth) {
+        if self.search::<W>(moves, inside, &mut then, depth) {
             return true;
         }
         self.go_back::<W>(moves, mark);
@@ -205,7 +226,6 @@ impl Worksheet {
         moves: &Moves,
         inside: &[TrainNo],
         notes: &Notes,
-        ahead: &mut Lookahead,
         train: TrainNo,
         depth: u8,
     ) -> bool
@@ -226,7 +246,7 @@ impl Worksheet {
         if !self.has_ends::<W>(moves, train, ends_for(depth)) {
             return false;
         }
-        !self.is_found_without::<W>(moves, inside, notes, ahead, train, depth)
+        !self.is_found_without::<W>(moves, inside, notes, train, depth)
     }
 
     /// Whether, with the train out of the way, nobody is left inside after legs of which at most `depth`
@@ -237,7 +257,6 @@ impl Worksheet {
         moves: &Moves,
         inside: &[TrainNo],
         notes: &Notes,
-        ahead: &mut Lookahead,
         train: TrainNo,
         depth: u8,
     ) -> bool
@@ -260,7 +279,7 @@ impl Worksheet {
         then.forget_falls();
         self.note_leg::<W>(moves, train, last, &mut then);
         self.take_out::<W>(moves, train);
-        let found = self.search::<W>(moves, inside, &mut then, ahead, depth);
+        let found = self.search::<W>(moves, inside, &mut then, depth);
         self.go_back::<W>(moves, mark);
         self.put::<W>(moves, train, place);
         found

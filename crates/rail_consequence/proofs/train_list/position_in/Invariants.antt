@@ -3,6 +3,5 @@ use Rattle.rail_consequence.proofs.train_list.position_in.Given as goal
 
 abbrev pub invariant-loop-position : goal.invariant-loop-position
 invariant-loop-position l = record {
-  front : (k d : ℕ) → k < l.position → get_or l.trains k d < l.fn.train;
-  within : l.position ≤ length l.trains;
+  here : (d : ℕ) → l.position < length l.trains → l.fn.train ≤ get_or l.trains l.position d;
 }

@@ -109,7 +109,7 @@ try_free_legs-loop-train-preserved g t c =
       | try_free_legs-then-depth-eq0+then-are_several_inside w ↦
           let D : ℕ → Type 0 = λ k. FindsByNoLegOf plan k s n in
           subst marked (sym w.openers-is) (λ out. subst D (sym w.if-depth-eq0.true) (w.find_openers.ensures n out))
-      | try_free_legs-else-depth-eq0 w ↦ subst marked (sym w.openers-is) (λ out. absurd (false≢true (sym out ∙ c.all-openers.ensures n)))
+      | try_free_legs-else-depth-eq0 w ↦ subst marked (sym w.openers-is) (λ out. absurd (false≢true (sym out ∙ w.add_all.ensures n)))
     ] in
     let more : (d : List ℕ) → d ≡ s → ((p : ℕ) → is_leg plan d (record { train = n; place = p }) ≡ true → Finds plan c.args.depth (set d n p) → ⊥)
     → (u p : ℕ) → is_in u (take (c.loop-train.train-index + 1) c.args.inside.now) ≡ true → is_leg plan s (record { train = u; place = p }) ≡ true → Finds plan c.args.depth (set s u p) → ⊥ =
@@ -302,8 +302,8 @@ try_leg-returns-then-frees_nobody-clause-none g t c =
     let P : ℕ → Type 0 = λ k. Finds plan k (set s c.args.train c.args.place) in
     λ _. (record { list = refl; positions = refl }, λ found. leg_finds_none plan s c.args.train c.args.place (c.frees_nobody.ensures c.if-frees_nobody.true) c.requires.none c.requires.leg (subst P c.if-depth-eq0.true found))
 
-pub try_leg-returns-then-search-clause-found : goal.try_leg-returns-then-search-clause-found
-try_leg-returns-then-search-clause-found g t c =
+pub search_behind-returns-then-search-clause-found : goal.search_behind-returns-then-search-clause-found
+search_behind-returns-then-search-clause-found g t c =
     let plan : Moves = moves_in c.args.moves.now in
     let a = c.args.self.now in
     let n = c.go_to.new.self in
@@ -315,25 +315,25 @@ try_leg-returns-then-search-clause-found g t c =
       found_front plan (c.args.depth + 1) c.args.depth a.places.positions leg c.requires.leg (omega (arith, cost_most plan a.places.positions leg)) (finds_at plan c.args.depth n.places.positions (after_leg a.places.positions leg) c.go_to.ensures.positions found.2),
     )
 
-pub try_leg-go_back-requires-clause-played : goal.try_leg-go_back-requires-clause-played
-try_leg-go_back-requires-clause-played g t c =
+pub search_behind-go_back-requires-clause-played : goal.search_behind-go_back-requires-clause-played
+search_behind-go_back-requires-clause-played g t c =
     let table = c.args.moves.now in
     let plan : Moves = moves_in table in
     let a = c.args.self.now in
     let n = c.go_to.new.self in
     let d = c.search.new.self in
-    let mark : c.len-mark.result ≡ length a.list = omega (arith, c.len-mark.ensures, c.self-2.inside.list.ok, ap (λ (w : Work). length w.list) c.self-2.view_is) in
+    let mark : c.len-mark.result ≡ length a.list = omega (arith, c.len-mark.ensures, c.self.inside.list.ok, ap (λ (w : Work). length w.list) c.self.view_is) in
     goes_played table a d c.len-mark.result c.requires.ready (goes_further plan a n d c.go_to.ensures.moves (goes_back plan n d (c.search.ensures.none c.if-search.false).0)) mark
 
-pub try_leg-returns-clause-none : goal.try_leg-returns-clause-none
-try_leg-returns-clause-none g t c =
+pub search_behind-returns-clause-none : goal.search_behind-returns-clause-none
+search_behind-returns-clause-none g t c =
     let plan : Moves = moves_in c.args.moves.now in
     let a = c.args.self.now in
     let n = c.go_to.new.self in
     let d = c.search.new.self in
     let none = c.search.ensures.none c.if-search.false in
     λ _. (
-      back_by plan a d c.go_back.new.self c.len-mark.result (goes_further plan a n d c.go_to.ensures.moves (goes_back plan n d none.0)) (omega (arith, c.len-mark.ensures, c.self-2.inside.list.ok, ap (λ (w : Work). length w.list) c.self-2.view_is)) c.go_back.ensures.list c.go_back.ensures.positions,
+      back_by plan a d c.go_back.new.self c.len-mark.result (goes_further plan a n d c.go_to.ensures.moves (goes_back plan n d none.0)) (omega (arith, c.len-mark.ensures, c.self.inside.list.ok, ap (λ (w : Work). length w.list) c.self.view_is)) c.go_back.ensures.list c.go_back.ensures.positions,
       λ found. none.1 (finds_at plan c.args.depth (set a.places.positions c.args.train c.args.place) n.places.positions (sym c.go_to.ensures.positions) found),
     )
 
@@ -430,7 +430,7 @@ is_found_without-note_leg-requires-clause-noted g t c =
     let plan : Moves = moves_in c.args.moves.now in
     noted_anew plan c.args.self.now.places.positions c.args.notes.now.stops c.forget_falls.new.self c.requires.settled c.forget_falls.ensures.stops c.forget_falls.ensures.fell
 
-pub try_leg-note_leg-requires-clause-noted : goal.try_leg-note_leg-requires-clause-noted
-try_leg-note_leg-requires-clause-noted g t c =
+pub search_behind-note_leg-requires-clause-noted : goal.search_behind-note_leg-requires-clause-noted
+search_behind-note_leg-requires-clause-noted g t c =
     let plan : Moves = moves_in c.args.moves.now in
     noted_anew plan c.args.self.now.places.positions c.args.notes.now.stops c.forget_falls.new.self c.requires.settled c.forget_falls.ensures.stops c.forget_falls.ensures.fell

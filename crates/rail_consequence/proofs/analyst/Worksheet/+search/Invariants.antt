@@ -22,6 +22,9 @@ decreases-try_legs_of g l = 6 * l.depth + 4
 abbrev pub decreases-try_leg : goal.decreases-try_leg
 decreases-try_leg g l = 6 * l.depth + 3
 
+abbrev pub decreases-search_behind : goal.decreases-search_behind
+decreases-search_behind g l = 6 * l.depth + 2
+
 abbrev pub decreases-is_hopeless : goal.decreases-is_hopeless
 decreases-is_hopeless g l = 6 * l.depth + 3
 

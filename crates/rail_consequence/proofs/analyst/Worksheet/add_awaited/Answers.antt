@@ -22,8 +22,8 @@ pub is_kept_from_legs-requires-clause-ahead : goal.is_kept_from_legs-requires-cl
 is_kept_from_legs-requires-clause-ahead g c =
     let plan : Moves = moves_in c.args.moves.now in
     let w = c.args.self.now in
-    let P : ℕ → Type 0 = λ p. IsLookahead plan w.places.positions w.needs g.W.Width.WORDS c.in-Some.train p c.look_without.new.ahead in
-    subst P (sym c.places-last.ensures) c.look_without.ensures.sets
+    let P : ℕ → Type 0 = λ p. IsLookahead plan w.places.positions w.needs g.W.Width.WORDS c.in-Some.train p c.look_without-ahead.result in
+    subst P (sym c.places-last.ensures) c.look_without-ahead.ensures.sets
 
 pub returns-then-has-clause-here : goal.returns-then-has-clause-here
 returns-then-has-clause-here g c = λ t unmarked ne here may.

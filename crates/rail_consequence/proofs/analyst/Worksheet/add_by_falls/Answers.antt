@@ -7,14 +7,14 @@ use Rattle.rail_sets.proofs.CallerLemmas.{none_in_zeros}
 use Rattle.rail_consequence.specs.Freeing.{FallsInVain, HasFalls, IsLookahead}
 use Rattle.rail_consequence.specs.Workspace.{Work}
 use Rattle.rail_consequence.proofs.analyst.Worksheet.add_by_falls.Goals as goal
-use Rattle.rail_consequence.proofs.analyst.Worksheet.add_by_falls.Goals.{then-has-via-then-has, then-has-via-else-has+then-is_next, then-has-via-else-has+else-is_next+then-not-stands_inside, then-has-via-else-has+else-is_next+else-not-stands_inside+then-not-has_pairs}
+use Rattle.rail_consequence.proofs.analyst.Worksheet.add_by_falls.Goals.{then-has-via-then-has, then-has-via-else-has+then-is_next, then-has-via-else-has+else-is_next+then-not-has_pairs, then-has-via-else-has+else-is_next+else-not-has_pairs+then-not-stands_inside}
 
 pub falls_are_in_vain-requires-clause-ahead : goal.falls_are_in_vain-requires-clause-ahead
 falls_are_in_vain-requires-clause-ahead g c =
     let plan : Moves = moves_in c.args.moves.now in
     let w = c.args.self.now in
-    let P : ℕ → Type 0 = λ p. IsLookahead plan w.places.positions w.needs g.W.Width.WORDS c.args.train p c.look_without.new.ahead in
-    subst P (sym c.places-last.ensures) c.look_without.ensures.sets
+    let P : ℕ → Type 0 = λ p. IsLookahead plan w.places.positions w.needs g.W.Width.WORDS c.args.train p c.look_without-ahead.result in
+    subst P (sym c.places-last.ensures) c.look_without-ahead.ensures.sets
 
 pub returns-then-has-clause-here : goal.returns-then-has-clause-here
 returns-then-has-clause-here g c = λ unmarked here.
@@ -23,8 +23,8 @@ returns-then-has-clause-here g c = λ unmarked here.
       | then-has-via-else-has+then-is_next w ↦
           let next = w.is_next.ensures.some w.if-is_next.true in
           inl (next.0, sym w.stop.ensures ∙ next.1)
-      | then-has-via-else-has+else-is_next+then-not-stands_inside w ↦ absurd (false≢true (sym w.if-not-stands_inside.true ∙ w.stands_inside.ensures ∙ ap (λ (v : Work). is_inside (moves_in c.args.moves.now) v.places.positions c.args.train) c.self.view_is ∙ here))
-      | then-has-via-else-has+else-is_next+else-not-stands_inside+then-not-has_pairs w ↦
+      | then-has-via-else-has+else-is_next+else-not-has_pairs+then-not-stands_inside w ↦ absurd (false≢true (sym w.if-not-stands_inside.true ∙ w.stands_inside.ensures ∙ ap (λ (v : Work). is_inside (moves_in c.args.moves.now) v.places.positions c.args.train) c.self.view_is ∙ here))
+      | then-has-via-else-has+else-is_next+then-not-has_pairs w ↦
           inr (record { fell = []; falls = w.has_pairs.ensures w.if-not-has_pairs.true; vain = λ u x listed ne later. inl (λ y needed. none_in_zeros 0 y) })
     ]
 
@@ -33,9 +33,9 @@ returns-else-not-falls_are_in_vain-clause-here g c = λ unmarked here.
     let plan : Moves = moves_in c.args.moves.now in
     let w = c.args.self.now in
     let F : ℕ → Type 0 = λ p. FallsInVain plan w.places.positions w.needs g.W.Width.WORDS c.args.notes.now.stops c.args.inside.now c.args.train p in
-    let G : ℕ → Type 0 = λ p. HasFalls plan w.places.positions w.needs g.W.Width.WORDS c.args.train p c.look_without.new.ahead.fell in
+    let G : ℕ → Type 0 = λ p. HasFalls plan w.places.positions w.needs g.W.Width.WORDS c.args.train p c.look_without-ahead.result.fell in
     inr (subst F c.places-last.ensures (record {
-      fell = c.look_without.new.ahead.fell;
-      falls = subst G (sym c.places-last.ensures) c.look_without.ensures.fell;
+      fell = c.look_without-ahead.result.fell;
+      falls = subst G (sym c.places-last.ensures) c.look_without-ahead.ensures.fell;
       vain = λ u x listed ne later. c.falls_are_in_vain.ensures c.if-not-falls_are_in_vain.false u x listed ne later;
     }))

@@ -13,7 +13,7 @@ returns-then-stay_without_leg g c =
       other = c.has_other_inside.ensures c.if-not-has_other_inside.false;
       none = none_freed plan s c.args.notes.now.stops w.needs g.W.Width.WORDS c.args.train made.moves.valid made.valid c.requires.ready.counted c.requires.settled
           (rest_within plan s g.W.Width.WORDS c.args.train c.requires.words made.valid)
-          c.look_ahead.new.ahead.fell c.args.inside.now c.args.place c.requires.inside c.requires.ahead c.look_ahead.ensures.fell c.requires.listed
+          c.look_ahead-ahead.result.fell c.args.inside.now c.args.place c.requires.inside c.requires.ahead c.look_ahead-ahead.ensures.fell c.requires.listed
           (λ u found ne here may. c.stay_without_leg.ensures c.if-stay_without_leg.true u found ne may)
           (λ u found ne x later. c.falls_are_in_vain.ensures yes u x found ne later);
     }

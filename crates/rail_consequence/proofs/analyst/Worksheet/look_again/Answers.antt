@@ -1,14 +1,17 @@
-use Rattle.std.proofs.Common.{◌≡◌, ◌≢◌, ℕ, true, Some, List, get_or, sym, ap, ◌∙◌, subst, ⊎_elim, arith}
+use Rattle.std.proofs.Common.{◌≡◌, ◌≢◌, ℕ, ◌+◌, ◌<◌, true, Some, List, get_or, length, take, sym, ap, ◌∙◌, subst, ⊎_elim, arith}
 use Rattle.std.proofs.lemmas.Bool.{cases_eq, cases_lt}
 use Rattle.std.proofs.lemmas.Grind.{get_or_default_zero}
 use Rattle.rail_rules.specs.Moves.{Moves}
+use Rattle.rail_rules.specs.Numbers.{is_in}
 use Rattle.rail_rules.specs.Places.{is_inside}
 use Rattle.rail_place.specs.Tables.{moves_in}
+use Rattle.rail_consequence.specs.Searches.{HasNoSafeLegOf}
 use Rattle.rail_consequence.specs.Stops.{IsNoted, IsSettledTrain, IsStopped, section_of, stop_of}
 use Rattle.rail_consequence.specs.declared.notes.Stop.{Stop}
 use Rattle.rail_consequence.proofs.Counts.{in_at, in_take_all, in_take_earlier}
 use Rattle.rail_consequence.proofs.Noting.{noted_anew}
 use Rattle.rail_consequence.proofs.analyst.Worksheet.look_again.Goals as goal
+use Rattle.rail_consequence.proofs.analyst.Worksheet.look_again.Goals.{then-look_at-via-then-look_at, then-look_at-via-else-look_at+then-settled-index}
 
 -- a train that is settled still is where one more is
 settled_still : (plan : Moves) (s : List ℕ) (stops later : List Stop) (t u : ℕ) → ((v : ℕ) → v ≢ t → stop_of later v ≡ stop_of stops v)
@@ -26,24 +29,50 @@ settled_still plan s stops later t u others here before = record {
 pub look_at-requires-clause-train : goal.look_at-requires-clause-train
 look_at-requires-clause-train g c = c.requires.listed.trains c.index-inside-index.result (in_at c.index-inside-index.result c.args.inside.now c.loop-index.index c.loop-index-test.true c.index-inside-index.is)
 
-pub loop-index-preserved-then-not-look_at : goal.loop-index-preserved-then-not-look_at
-loop-index-preserved-then-not-look_at g c =
+-- a train that a look shows is settled, with those before it
+settled_one_more : (plan : Moves) (s : List ℕ) (stops later : List Stop) (inside : List ℕ) (index t : ℕ) → index < length inside → t ≡ get_or inside index t
+    → ((v : ℕ) → v ≢ t → stop_of later v ≡ stop_of stops v)
+    → ((x : ℕ) → is_inside plan s t ≡ true → section_of (stop_of later t) ≡ Some x → IsStopped plan s t x)
+    → (i : ℕ) → i < index + 1 → (i < index → IsSettledTrain plan s stops (get_or inside i 0)) → (i ≡ index → HasNoSafeLegOf plan s t) → IsSettledTrain plan s later (get_or inside i 0)
+settled_one_more plan s stops later inside index t lt read others here i below before none =
+    let Q : ℕ → Type 0 = λ u. IsSettledTrain plan s later u in
+    ⊎_elim
+    (λ earlier. settled_still plan s stops later t (get_or inside i 0) others here (before earlier))
+    (λ last.
+    let same : i ≡ index = omega (arith, last, below) in
+    subst Q (read ∙ get_or_default_zero inside index t lt ∙ ap (λ k. get_or inside k 0) (sym same)) (record { none = none same; stopped = here }))
+    (cases_lt i index)
+
+-- what stops each train that was looked at, with one more
+stopped_one_more : (plan : Moves) (s : List ℕ) (stops later : List Stop) (inside : List ℕ) (index t : ℕ) → index < length inside → t ≡ get_or inside index t
+    → ((v : ℕ) → v ≢ t → stop_of later v ≡ stop_of stops v)
+    → ((x : ℕ) → is_inside plan s t ≡ true → section_of (stop_of later t) ≡ Some x → IsStopped plan s t x)
+    → ((u x : ℕ) → is_in u (take index inside) ≡ true → is_inside plan s u ≡ true → section_of (stop_of stops u) ≡ Some x → IsStopped plan s u x)
+    → (u x : ℕ) → is_in u (take (index + 1) inside) ≡ true → is_inside plan s u ≡ true → section_of (stop_of later u) ≡ Some x → IsStopped plan s u x
+stopped_one_more plan s stops later inside index t lt read others here before = λ u x found is noted.
+    let P : ℕ → Type 0 = λ v. is_inside plan s v ≡ true → section_of (stop_of later v) ≡ Some x → IsStopped plan s v x in
+    ⊎_elim
+    (λ same. subst P (sym same) (here x) is noted)
+    (λ ne. before u x (in_take_earlier u t inside index lt read ne found) is (ap section_of (sym (others u ne)) ∙ noted))
+    (cases_eq u t)
+
+pub loop-index-preserved-then-look_at : goal.loop-index-preserved-then-look_at
+loop-index-preserved-then-look_at g c =
     let plan : Moves = moves_in c.args.moves.now in
     let s = c.args.self.now.places.positions in
-    let y = c.index-inside-index.result in
-    let stops : List Stop = c.look_at.new.notes.stops in
+    let inside : List ℕ = c.args.inside.now in
+    let y : ℕ = c.index-inside-index.result in
+    let look = c.look_at.ensures in
     record {
-      noted = c.look_at.ensures.noted;
-      stopped = λ u x found inside noted.
-          let P : ℕ → Type 0 = λ v. is_inside plan s v ≡ true → section_of (stop_of stops v) ≡ Some x → IsStopped plan s v x in
-          ⊎_elim
-          (λ same. subst P (sym same) (c.look_at.ensures.stopped x) inside noted)
-          (λ ne.
-          c.loop-index.invariant.stopped u x (in_take_earlier u y c.args.inside.now c.loop-index.index c.loop-index-test.true c.index-inside-index.is ne found) inside
-          (ap section_of (sym (c.look_at.ensures.others u ne)) ∙ noted))
-          (cases_eq u y);
-      within = omega (arith, c.loop-index.invariant.within);
-      settled = λ i below. settled_still plan s c.loop-index.notes.stops stops y (get_or c.args.inside.now i 0) c.look_at.ensures.others c.look_at.ensures.stopped (c.loop-index.invariant.settled i below);
+      noted = look.noted;
+      stopped = stopped_one_more plan s c.loop-index.notes.stops c.look_at.new.notes.stops inside c.loop-index.index y c.loop-index-test.true c.index-inside-index.is look.others look.stopped c.loop-index.invariant.stopped;
+      within = c.loop-index.invariant.within;
+      settled = λ i below upto. settled_one_more plan s c.loop-index.notes.stops c.look_at.new.notes.stops inside c.loop-index.index y c.loop-index-test.true c.index-inside-index.is look.others look.stopped i below
+          (λ earlier. c.loop-index.invariant.settled i earlier upto)
+          (λ same. elim c.then-look_at.branch [
+            | then-look_at-via-then-look_at w ↦ look.none w.if-look_at.true
+            | then-look_at-via-else-look_at+then-settled-index w ↦ absurd (omega (arith, w.if-settled-index.true, same, upto))
+          ]);
     }
 
 pub loop-index-preserved : goal.loop-index-preserved
@@ -51,30 +80,15 @@ loop-index-preserved g c =
     let plan : Moves = moves_in c.args.moves.now in
     let s = c.args.self.now.places.positions in
     let inside : List ℕ = c.args.inside.now in
-    let index : ℕ = c.loop-index.index in
     let y : ℕ = c.index-inside-index.result in
-    let stops : List Stop = c.look_at.new.notes.stops in
-    let here : IsSettledTrain plan s stops y = record { none = c.look_at.ensures.none c.if-not-look_at.false; stopped = c.look_at.ensures.stopped } in
-    let at : y ≡ get_or inside index 0 = c.index-inside-index.is ∙ get_or_default_zero inside index y (omega arith) in
-    let Q : ℕ → Type 0 = λ u. IsSettledTrain plan s stops u in
+    let look = c.look_at.ensures in
     record {
-      noted = c.look_at.ensures.noted;
-      stopped = λ u x found is noted.
-          let P : ℕ → Type 0 = λ v. is_inside plan s v ≡ true → section_of (stop_of stops v) ≡ Some x → IsStopped plan s v x in
-          ⊎_elim
-          (λ same. subst P (sym same) (c.look_at.ensures.stopped x) is noted)
-          (λ ne.
-          c.loop-index.invariant.stopped u x (in_take_earlier u y inside index c.loop-index-test.true c.index-inside-index.is ne found) is
-          (ap section_of (sym (c.look_at.ensures.others u ne)) ∙ noted))
-          (cases_eq u y);
-      within = omega arith;
-      settled = λ i below.
-          ⊎_elim
-          (λ earlier. settled_still plan s c.loop-index.notes.stops stops y (get_or inside i 0) c.look_at.ensures.others c.look_at.ensures.stopped (c.loop-index.invariant.settled i (omega (arith, earlier))))
-          (λ last.
-          let same : index ≡ i = omega (arith, last, below) in
-          subst Q (at ∙ ap (λ k. get_or inside k 0) same) here)
-          (cases_lt i index);
+      noted = look.noted;
+      stopped = stopped_one_more plan s c.loop-index.notes.stops c.look_at.new.notes.stops inside c.loop-index.index y c.loop-index-test.true c.index-inside-index.is look.others look.stopped c.loop-index.invariant.stopped;
+      within = omega (arith, c.loop-index-test.true);
+      settled = λ i below upto. settled_one_more plan s c.loop-index.notes.stops c.look_at.new.notes.stops inside c.loop-index.index y c.loop-index-test.true c.index-inside-index.is look.others look.stopped i below
+          (λ earlier. c.loop-index.invariant.settled i earlier (omega (arith, earlier, c.if-settled-index.false)))
+          (λ same. absurd (omega (arith, same, upto)));
     }
 
 pub returns-clause-noted : goal.returns-clause-noted
@@ -94,4 +108,4 @@ returns-clause-noted g c =
 pub returns-clause-settled : goal.returns-clause-settled
 returns-clause-settled g c = λ i below.
     let P : List Stop → Type 0 = λ stops. IsSettledTrain (moves_in c.args.moves.now) c.args.self.now.places.positions stops (get_or c.args.inside.now i 0) in
-    subst P (sym c.forget_falls.ensures.stops) (c.loop-index.invariant.settled i below)
+    subst P (sym c.forget_falls.ensures.stops) (c.loop-index.invariant.settled i (omega (arith, below, c.loop-index.invariant.within, c.loop-index-test.false)) below)

@@ -24,7 +24,7 @@ returns-clause-fell g c = λ x low.
     let t = c.args.train in
     let w = c.args.self.now in
     let at = c.position-from.ensures ∙ ap (λ (v : Work). place_of v.places.positions t) c.self.view_is in
-    c.fill_falls-ahead.ensures.fell x (omega (arith, low, c.rest.ensures.long))
+    c.fill_falls.ensures.fell x (omega (arith, low, c.rest.ensures.long))
     ∙ fallen _ _ (needs_from plan t (place_of w.places.positions t) x) (needs_from plan t c.args.place x) (count_of c.self.inside.needs x) (count_of w.needs x)
     (c.rest.ensures.set x ∙ ap (λ q. needs_from plan t q x) at)
     (c.rest-2.ensures.set x)
@@ -39,22 +39,22 @@ returns-clause-sets g c =
     let own : Work = record { rows = c.self.inside.rows; places = c.self.inside.places; taken = c.self.inside.taken; needs = c.self.inside.needs; list = c.self.inside.list.items } in
     let ready = ready_as table own c.args.self.now c.self.view_is c.requires.ready in
     let s = own.places.positions in
-    let fell = c.fill_falls-ahead.new.fell in
+    let fell = c.fill_falls.new.fell in
     let G : ℕ → Type 0 = λ q. IsSet c.stand.result.now (λ x. is_in x (stand plan t q)) in
-    let P : Work → Type 0 = λ w. IsLookahead plan w.places.positions w.needs g.W.Width.WORDS t p (record { taken = c.fill_replaced.new.set; shared = c.fill_falls-ahead.new.shared; fell = fell; has_fallen = c.fill_falls-ahead.result }) in
+    let P : Work → Type 0 = λ w. IsLookahead plan w.places.positions w.needs g.W.Width.WORDS t p (record { taken = c.fill_replaced.new.set; shared = c.fill_falls.new.shared; fell = fell; has_fallen = c.fill_falls.result }) in
     let I : Work → Type 0 = λ w. is_inside plan w.places.positions t ≡ true in
     let inside = subst I (sym c.self.view_is) c.requires.inside in
     let known : t < length s = omega (arith, c.requires.train, (state_parts plan s ready.made.valid).long) in
     let R : ℕ → Type 0 = λ q. IsSet c.rest.result.now (needs_from plan t q) in
     let from : R (place_of s t) = subst R c.position-from.ensures c.rest.ensures.set in
     let falls : HasFalls plan s own.needs g.W.Width.WORDS t p fell = λ x low.
-    c.fill_falls-ahead.ensures.fell x (omega (arith, low, c.rest.ensures.long))
+    c.fill_falls.ensures.fell x (omega (arith, low, c.rest.ensures.long))
     ∙ fallen _ _ (needs_from plan t (place_of s t) x) (needs_from plan t p x) (count_of own.needs x) (count_of own.needs x) (from x) (c.rest-2.ensures.set x) refl in
     subst P c.self.view_is (record {
       taken = λ x low is.
           then_holder_at plan s own.taken ready.made.valid (are_owned table own.places ready.made own.taken ready.taken) t p known c.stand.result.now c.stand-2.result.now c.fill_replaced.new.set (subst G c.position-from.ensures c.stand.ensures.set) c.stand-2.ensures.set
           x (c.fill_replaced.ensures.set x (omega (arith, low, c.stand-2.ensures.long))) is;
       shared = λ x u low is.
-          let parts = and_parts (leb 2 (count_of own.needs x)) (not (has fell x)) (sym (c.fill_falls-ahead.ensures.shared x (omega (arith, low, c.rest.ensures.long))) ∙ is) in
+          let parts = and_parts (leb 2 (count_of own.needs x)) (not (has fell x)) (sym (c.fill_falls.ensures.shared x (omega (arith, low, c.rest.ensures.long))) ∙ is) in
           shared_then plan s own.needs g.W.Width.WORDS t p u x fell inside low falls (leb-true 2 (count_of own.needs x) parts.0) (not-true (has fell x) parts.1);
     })
