@@ -79,6 +79,7 @@ module _ (plan : Moves) (s : List ℕ) (counts : Columns) (t p : ℕ) (old new :
       let behind : IsBehind plan s u x = told (λ y needs.
       ⊎_elim (λ fallen. absurd (false≢true (sym (before y needs) ∙ kept y fallen))) (λ out. out) (cases_Bool (has old.fell y))) in
       record {
+        apart = ap (λ q. is_in x (stand plan u q)) at ∙ behind.apart;
         place = behind.place;
         from = omega (arith, at, behind.from);
         below = behind.below;

@@ -60,6 +60,16 @@ free_legal plan s t (suc m) valid known listed low high free =
     (ap (λ k. ltb k (plan.moves t)) at ∙ lt-ltb i (plan.moves t) high)
     (not_from_false (list_any (has_holder plan r) (plan.claim t (place_of r t))) (ap (λ k. list_any (has_holder plan r) (plan.claim t k)) at ∙ none))
 
+-- a train does not stand on what its next move needs
+pub claim_apart : (plan : Moves) (s : List ℕ) (t x : ℕ) → is_valid plan ≡ true → t < plan.trains → is_inside plan s t ≡ true → is_in x (plan.claim t (place_of s t)) ≡ true → is_in x (stand plan t (place_of s t)) ≡ false
+claim_apart plan s t x valid known inside needed =
+    let parts = inside_parts plan s t inside in
+    at_place (place_of s t) parts.0 parts.1 needed
+  where
+    at_place : (i : ℕ) → 0 < i → i < plan.moves t → is_in x (plan.claim t i) ≡ true → is_in x (stand plan t i) ≡ false
+    at_place zero low high needed = absurd (omega arith)
+    at_place (suc m) low high needed = apart_at (plan.claim t (suc m)) (stand plan t (suc m)) x (and_parts _ (are_apart (plan.claim t (suc m)) (stand plan t (suc m))) (move_valid plan t m valid known high)).1 needed
+
 -- the moves of the train up to the place are free: no other train holds a section that they need
 abbrev pub IsOpen : Moves → List ℕ → ℕ → ℕ → Type 0
 IsOpen plan s t made = (i : ℕ) → place_of s t ≤ i → i < made → (x : ℕ) → is_in x (plan.claim t i) ≡ true → IsTakenByOther plan s t x → ⊥
@@ -222,6 +232,7 @@ module _ (plan : Moves) (s : List ℕ) (t to u : ℕ) (valid : is_valid plan ≡
     behind_still x inside behind =
         let at : place_of next u ≡ place_of s u = there u ne in
         record {
+          apart = ap (λ q. is_in x (stand plan u q)) at ∙ behind.apart;
           place = behind.place;
           from = omega (arith, at, behind.from);
           below = behind.below;

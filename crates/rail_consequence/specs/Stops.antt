@@ -1,7 +1,7 @@
 -- Trains that have no safe leg, and what stops them.
 use Rattle.std.specs.Prelude.{◌≡◌, ◌≢◌, ℕ, ◌<◌, ◌≤◌, false, List, Option, Some, None, get_or, length, IsTrue}
 use Rattle.rail_rules.specs.Numbers.{is_in}
-use Rattle.rail_rules.specs.Moves.{Moves}
+use Rattle.rail_rules.specs.Moves.{Moves, stand}
 use Rattle.rail_rules.specs.Places.{place_of, is_inside, holds}
 use Rattle.rail_rules.specs.Analysis.{is_leg, is_safe}
 use Rattle.rail_sets.specs.Sets.{has}
@@ -30,8 +30,9 @@ pub record IsTakenByOther (plan : Moves) (s : List ℕ) (t x : ℕ) : Type 0 whe
   pub other : holder ≢ t
   pub taken : IsTrue (holds plan s holder x)
 
--- the train needs the section for a move that it has left, and no leg up to that move is safe
+-- the train, which does not stand on the section, needs it for a move that it has left, and no leg up to that move is safe
 pub record IsBehind (plan : Moves) (s : List ℕ) (u x : ℕ) : Type 0 where
+  pub apart : is_in x (stand plan u (place_of s u)) ≡ false
   pub place : ℕ
   pub from : place_of s u ≤ place
   pub below : place < plan.moves u

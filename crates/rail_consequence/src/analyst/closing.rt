@@ -1,11 +1,13 @@
 //! Safe legs, made until there is none.
 
-ghost use Rattle.std.specs.Prelude.{◌≡◌, ℕ, ◌<◌, ◌≤◌, ◌≢◌, Some, None, false, get_or, length, set, IsTrue, MatchOption};
+ghost use Rattle.std.specs.Prelude.{◌≡◌, ℕ, ◌*◌, ◌/◌, ◌<◌, ◌≤◌, ◌≢◌, Some, false, length, set, IsTrue, MatchOption};
 ghost use Rattle.rail_rules.specs.Analysis.{is_leg, is_safe, moves_left};
 ghost use Rattle.rail_rules.specs.Numbers.{is_in};
 ghost use Rattle.rail_rules.specs.Places.{is_inside, place_of};
 ghost use Rattle.rail_place.specs.Tables.{moves_in};
+ghost use Rattle.rail_sets.specs.Sets.{has};
 ghost use Rattle.rail_sets.specs.TrainSets.{has_train};
+ghost use Rattle.rail_sets.specs.declared.sets.TheConstants.{WORDS};
 ghost use Rattle.rail_consequence.specs.Cores.{LeadsAhead};
 ghost use Rattle.rail_consequence.specs.Needs.{AreWords};
 ghost use Rattle.rail_consequence.specs.Searches.{FindsSame, HasNoSafeLeg, HasNoSafeLegOf, leg_to};
@@ -18,7 +20,7 @@ use crate::tally::stands_inside;
 use crate::width::Width;
 use rail_base::{SectionNo, TrainNo};
 use rail_place::Moves;
-use rail_sets::{TrainSet, first_common, meet, meet_beyond};
+use rail_sets::{TrainSet, WORDS, first_common, meet, meet_beyond};
 
 /// What looking at a train shows.
 #[derive(Clone, Copy)]
@@ -27,6 +29,19 @@ pub enum Look {
     Leads(u16),
     /// It has no safe leg, and this stops it: another train holds the section.
     Stopped(Stop),
+}
+
+/// The word that has the section, which is one of those that so many words have.
+#[inline(always)]
+fn word_of<W: Width>(section: SectionNo) -> usize
+    requires few { W.WORDS ≤ WORDS }
+    ensures word { section < 64 * W.WORDS → result ≡ section / 64 }
+    ensures bound { result < WORDS }
+{
+    if W::WORDS == 1 {
+        return 0;
+    }
+    usize::from(section.0 / 64) % WORDS
 }
 
 impl Worksheet {
@@ -262,9 +277,9 @@ impl Worksheet {
     {
         match notes.stop(train) {
             Stop::Unknown | Stop::Free => false,
-            Stop::Next(section) => self.is_taken_by_other(train, section),
+            Stop::Next(section) => self.is_taken::<W>(section),
             Stop::Later(section) => {
-                self.is_taken_by_other(train, section) && !self.is_touched::<W>(moves, notes, train)
+                self.is_taken::<W>(section) && !self.is_touched::<W>(moves, notes, train)
             }
         }
     }
@@ -367,17 +382,13 @@ impl Worksheet {
         first_common(self.rows.need::<W>(moves, train, made), &self.taken, own)
     }
 
-    /// Another train holds the section.
-    fn is_taken_by_other(&self, train: TrainNo, section: SectionNo) -> bool
-        ensures taken { IsTrue result
-            → (holder : ℕ) × (holder ≢ train) × (get_or self.now.places.owners section None ≡ Some holder) }
-        ensures free { result ≡ false → (holder : ℕ)
-            → get_or self.now.places.owners section None ≡ Some holder → holder ≡ train }
+    /// A train holds the section, which is one of those that so many words have.
+    #[inline(always)]
+    fn is_taken<W: Width>(&self, section: SectionNo) -> bool
+        requires few { W.WORDS ≤ WORDS }
+        ensures { section < 64 * W.WORDS → result ≡ has self.now.taken section }
     {
-        match self.places.holder(section) {
-            Some(holder) => holder != train,
-            None => false,
-        }
+        self.taken[word_of::<W>(section)] >> (section.0 % 64) & 1 == 1
     }
 
     /// A leg of the train, which is inside, to the place ahead is safe: it ends out, or no other train inside needs its

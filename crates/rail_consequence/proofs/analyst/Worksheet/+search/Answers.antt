@@ -428,9 +428,9 @@ try_legs_of-returns-clause-none g t c =
 pub is_found_without-note_leg-requires-clause-noted : goal.is_found_without-note_leg-requires-clause-noted
 is_found_without-note_leg-requires-clause-noted g t c =
     let plan : Moves = moves_in c.args.moves.now in
-    noted_anew plan c.args.self.now.places.positions c.args.notes.now.stops c.forget_falls.new.self c.requires.settled c.forget_falls.ensures.stops c.forget_falls.ensures.fell
+    noted_anew plan c.args.self.now.places.positions c.args.notes.now.stops c.forget_falls.new.self c.requires.ready.made.valid c.requires.settled c.forget_falls.ensures.stops c.forget_falls.ensures.fell
 
 pub search_behind-note_leg-requires-clause-noted : goal.search_behind-note_leg-requires-clause-noted
 search_behind-note_leg-requires-clause-noted g t c =
     let plan : Moves = moves_in c.args.moves.now in
-    noted_anew plan c.args.self.now.places.positions c.args.notes.now.stops c.forget_falls.new.self c.requires.settled c.forget_falls.ensures.stops c.forget_falls.ensures.fell
+    noted_anew plan c.args.self.now.places.positions c.args.notes.now.stops c.forget_falls.new.self c.requires.ready.made.valid c.requires.settled c.forget_falls.ensures.stops c.forget_falls.ensures.fell

@@ -96,7 +96,7 @@ returns-clause-noted g c =
     let plan : Moves = moves_in c.args.moves.now in
     let s = c.args.self.now.places.positions in
     let notes = c.loop-index.notes in
-    noted_anew plan s notes.stops c.forget_falls.new.self
+    noted_anew plan s notes.stops c.forget_falls.new.self c.requires.ready.made.valid
     (record {
       stopped = λ u x inside noted. c.loop-index.invariant.stopped u x (in_take_all u c.args.inside.now c.loop-index.index c.loop-index-test.false (c.requires.listed.all u inside)) inside noted;
       next = λ u x inside noted.

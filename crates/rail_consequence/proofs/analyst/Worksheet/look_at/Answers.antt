@@ -14,7 +14,7 @@ returns-in-Stopped-clause-noted g c =
     let plan : Moves = moves_in c.args.moves.now in
     let s = c.args.self.now.places.positions in
     let new = c.set.new.self in
-    note_one plan s c.args.notes.now new c.args.train c.in-Stopped.stop c.requires.noted (shown_noted plan s new.fell c.args.train c.in-Stopped.stop c.in-Stopped.ensures)
+    note_one plan s c.args.notes.now new c.args.train c.in-Stopped.stop c.requires.noted (shown_noted plan s new.fell c.args.train c.in-Stopped.stop c.requires.ready.made.valid c.in-Stopped.ensures)
     c.set.ensures.here c.set.ensures.others c.set.ensures.fell c.set.ensures.has_fallen
 
 pub returns-then-is_stopped-clause-none : goal.returns-then-is_stopped-clause-none
