@@ -258,10 +258,12 @@ impl Worksheet {
             → MayWaitFor (moves_in moves.now) self.now.places.positions notes.now.stops u train
             → HasNoSafeLegOf (moves_in moves.now) (set self.now.places.positions train place) u }
     {
-        for other in inside {
-            if *other != train
-                && self.may_wait_for(moves, notes, *other, train)
-                && !self.is_kept_from_legs::<W>(moves, ahead, *other, train, place)
+        // Trains that wait for it entered behind it, mostly, so that they have later numbers.
+        for index in (0..inside.len()).rev() {
+            let other = inside[index];
+            if other != train
+                && self.may_wait_for(moves, notes, other, train)
+                && !self.is_kept_from_legs::<W>(moves, ahead, other, train, place)
             {
                 return false;
             }
