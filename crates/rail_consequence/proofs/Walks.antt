@@ -8,6 +8,7 @@ use Rattle.rail_rules.specs.Places.{place_of, nobody_inside}
 use Rattle.rail_rules.specs.Analysis.{Leg, is_leg, after_leg, is_safe, clears, free_legs, Finds, moves_left}
 use Rattle.rail_rules.proofs.CallerLemmas.{state_parts}
 use Rattle.rail_place.specs.Tables.{moves_in, MoveLists}
+use Rattle.rail_consequence.specs.Searches.{IsCleared}
 use Rattle.rail_consequence.specs.Workspace.{Work, IsReady, GoesOn, IsBack}
 use Rattle.rail_consequence.proofs.Counts.{in_take_more}
 use Rattle.rail_consequence.proofs.Safe.{safe_leg_keeps, found_front, cost, cost-safe, cost-free, free_legs-cons}
@@ -31,6 +32,10 @@ cost_most plan s leg =
 
 pub goes_back : (plan : Moves) (a c : Work) → IsBack a c → GoesOn plan a c
 goes_back plan a c back = record { more = []; list = back.list ∙ sym (append-nil a.list); played = sym back.positions }
+
+-- a search goes on, whether it finds a list or not
+pub goes_searched : (plan : Moves) (depth : ℕ) (b d : Work) (found : Bool) → (found ≡ true → IsCleared plan depth b d) → (found ≡ false → IsBack b d × (Finds plan depth b.places.positions → ⊥)) → GoesOn plan b d
+goes_searched plan depth b d found cleared none = ⊎_elim (λ yes. (cleared yes).0) (λ no. goes_back plan b d (none no).0) (cases_Bool found)
 
 pub within_at : (table : List MoveLists) (w : Work) (t : ℕ) → IsReady table w → place_of w.places.positions t ≤ (moves_in table).moves t
 within_at table w t ready =

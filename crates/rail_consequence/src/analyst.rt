@@ -219,9 +219,10 @@ impl Analyst {
         self.sheet
             .begin::<W>(moves, places, self.tally.needs(), inside);
         let settled = self.sheet.look_again::<W>(moves, inside, &mut self.notes);
-        let mut notes = self.notes;
-        self.sheet.close::<W>(moves, inside, &mut notes, settled);
-        if self.sheet.search_on::<W>(moves, inside, &notes, depth) {
+        if self
+            .sheet
+            .search_from::<W>(moves, inside, &self.notes, settled, depth)
+        {
             return true;
         }
         self.core = self.sheet.trains_inside(moves, inside);

@@ -4,10 +4,11 @@ ghost use Rattle.std.specs.Prelude.{◌≡◌, ℕ, ◌+◌, ◌<◌, ◌≤◌,
 ghost use Rattle.rail_rules.specs.Analysis.{Finds, is_leg};
 ghost use Rattle.rail_rules.specs.Places.{is_inside};
 ghost use Rattle.rail_place.specs.Tables.{moves_in};
+ghost use Rattle.rail_consequence.specs.Cores.{LeadsAhead};
 ghost use Rattle.rail_consequence.specs.Needs.{AreWords};
 ghost use Rattle.rail_consequence.specs.Searches.{FindsByNoLeg, FindsByNoLegOf, HasNoSafeLeg, IsCleared, leg_to};
-ghost use Rattle.rail_consequence.specs.Stops.{IsNotedTo, IsSettled};
-ghost use Rattle.rail_consequence.specs.Workspace.{IsBack, IsListing, IsReady};
+ghost use Rattle.rail_consequence.specs.Stops.{AreSettledBelow, IsNotedTo, IsSettled};
+ghost use Rattle.rail_consequence.specs.Workspace.{GoesOn, IsBack, IsListing, IsReady};
 
 use super::Worksheet;
 use crate::notes::Notes;
@@ -49,6 +50,34 @@ impl Worksheet {
         }
         self.go_back::<W>(moves, mark);
         false
+    }
+
+    /// Makes moves until nobody is inside, as `search` does. The first so many trains of the list have no safe leg. Where it
+    /// can't be done the safe legs are left, and nothing is found from where they lead.
+    #[inline(never)]
+    pub(super) fn search_from<W: Width>(
+        &mut self,
+        moves: &Moves,
+        inside: &[TrainNo],
+        noted: &Notes,
+        settled: usize,
+        depth: u8,
+    ) -> bool
+        requires words { AreWords (moves_in moves.now) W.WORDS }
+        requires ready { IsReady moves.now self.old }
+        requires listed { IsListing (moves_in moves.now) self.old.places.positions inside.now }
+        requires noted { IsNotedTo (moves_in moves.now) self.old.places.positions noted.now }
+        requires settled { AreSettledBelow (moves_in moves.now) self.old.places.positions noted.now.stops inside.now settled }
+        ensures ready { IsReady moves.now self.new }
+        ensures found { IsTrue result → IsCleared (moves_in moves.now) depth self.old self.new }
+        ensures moves { GoesOn (moves_in moves.now) self.old self.new }
+        ensures ahead { result ≡ false → LeadsAhead (moves_in moves.now) self.old.places.positions self.new.places.positions }
+        ensures none { result ≡ false → (Finds (moves_in moves.now) depth self.old.places.positions → ⊥)
+            × (Finds (moves_in moves.now) depth self.new.places.positions → ⊥) }
+    {
+        let mut notes = *noted;
+        self.close::<W>(moves, inside, &mut notes, settled);
+        self.search_on::<W>(moves, inside, &notes, depth)
     }
 
     /// As `search`, from places where no leg is safe.

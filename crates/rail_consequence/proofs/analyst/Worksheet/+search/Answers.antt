@@ -1,13 +1,13 @@
 use Rattle.std.proofs.Common.{◌≡◌, ℕ, ◌+◌, ◌-◌, Bool, List, Option, None, Some, is_some, true, false, length, set, take, refl, sym, ap, ◌∙◌, subst, ⊎_elim, arith}
 use Rattle.std.specs.Prelude.{MatchOption}
-use Rattle.std.proofs.lemmas.Bool.{cases_Bool, cases_lt, false≢true, not-true}
+use Rattle.std.proofs.lemmas.Bool.{cases_lt, false≢true, not-true}
 use Rattle.rail_rules.specs.Numbers.{is_in}
 use Rattle.rail_rules.specs.Moves.{Moves}
 use Rattle.rail_rules.specs.Places.{place_of, nobody_inside}
 use Rattle.rail_rules.specs.Analysis.{Finds, Leg, after_leg, is_leg}
 use Rattle.rail_place.specs.Tables.{moves_in, MoveLists}
 use Rattle.rail_consequence.specs.Freeing.{is_marked}
-use Rattle.rail_consequence.specs.Searches.{FindsByNoLegOf, HasNoSafeLeg, IsCleared}
+use Rattle.rail_consequence.specs.Searches.{FindsByNoLegOf, HasNoSafeLeg}
 use Rattle.rail_consequence.specs.Stops.{IsTakenByOther, IsSettled}
 use Rattle.rail_consequence.specs.declared.notes.Stop.{Stop}
 use Rattle.rail_consequence.specs.Workspace.{Work, GoesOn, IsBack, IsListing, IsReady}
@@ -19,7 +19,7 @@ use Rattle.rail_consequence.proofs.Listing.{listed_at, listed_on}
 use Rattle.rail_consequence.proofs.Played.{back_by, goes_further, goes_played}
 use Rattle.rail_consequence.proofs.Safe.{found_front, found_past_leg}
 use Rattle.rail_consequence.proofs.Stopping.{leg_short, open_leads, open_more}
-use Rattle.rail_consequence.proofs.Walks.{back_twice, cost_most, false_both, finds_at, found_by_free, found_nobody, goes_back, tried_more}
+use Rattle.rail_consequence.proofs.Walks.{back_twice, cost_most, false_both, finds_at, found_by_free, found_nobody, goes_back, goes_searched, tried_more}
 use Rattle.rail_consequence.proofs.Without.{IsOut, out_back, out_entered, out_few, out_free}
 use Rattle.rail_consequence.proofs.analyst.Worksheet.+search.Goals as goal
 use Rattle.rail_consequence.proofs.analyst.Worksheet.+search.Goals.{try_free_legs-then-depth-eq0+then-are_several_inside, try_free_legs-else-depth-eq0, try_free_legs-else-has-via-then-has+else-try_legs_of, try_free_legs-else-has-via-else-has}
@@ -198,10 +198,6 @@ try_free_legs-try_legs_of-requires g t c _ within =
         ),
       ),
     )
-
--- a search goes on, whether it finds a list or not
-pub goes_searched : (plan : Moves) (depth : ℕ) (b d : Work) (found : Bool) → (found ≡ true → IsCleared plan depth b d) → (found ≡ false → IsBack b d × (Finds plan depth b.places.positions → ⊥)) → GoesOn plan b d
-goes_searched plan depth b d found cleared none = ⊎_elim (λ yes. (cleared yes).0) (λ no. goes_back plan b d (none no).0) (cases_Bool found)
 
 pub is_found_without-go_back-requires-clause-played : goal.is_found_without-go_back-requires-clause-played
 is_found_without-go_back-requires-clause-played g t c =
