@@ -4,6 +4,7 @@ use Rattle.std.proofs.lemmas.Bool.{cases_eq, cases_lt, eq-eqb, ne_eqb}
 use Rattle.std.proofs.lemmas.List.Edits.{length-insert, get_or-insert_at, get_or-insert_above, get_or-insert_below, length-remove, get_or-remove_above, get_or-remove_below}
 use Rattle.std.proofs.lemmas.List.Folds.{list_any_none}
 use Rattle.std.proofs.lemmas.List.Kept.{AllPairs-from_increasing}
+use Rattle.std.proofs.lemmas.List.Quantifiers.{all_pairs_remove}
 use Rattle.std.proofs.lemmas.List.Sorted.{IsPermutation-insert, IsPermutation-remove, list_any-IsPermutation}
 use Rattle.std.proofs.lemmas.Grind.{get_or_default_zero}
 use Rattle.std.specs.List.{All, AllPairs, insert, remove}
@@ -132,6 +133,17 @@ module _ (xs : List ℕ) (t p : ℕ) (lt : p < length xs) where
       (λ same. ap (λ v. is_in v (remove xs p)) same ∙ gone rising here ∙ ap (λ b. not b && is_in u xs) (sym (eq-eqb u t same)))
       (λ ne. ap (λ b. b || is_in u (remove xs p)) (sym (ne_eqb t u (λ e. ne (sym e)))) ∙ sym again ∙ ap (λ b. not b && is_in u xs) (sym (ne_eqb u t ne)))
       (cases_eq u t)
+
+  pub rising_remove : IsStrictlyIncreasing xs → IsStrictlyIncreasing (remove xs p)
+  rising_remove rising k within = all_pairs_remove (λ x y. x < y) xs p lt (AllPairs-from_increasing xs rising) k (k + 1) 0 (omega arith) within
+
+  pub below_remove : (n : ℕ) → All (λ u. u < n) xs → All (λ u. u < n) (remove xs p)
+  below_remove n all k d within =
+      let long = length-remove xs p lt in
+      ⊎_elim
+      (λ before. omega (arith, get_or-remove_below xs p d k before lt, all k d (omega (arith, before, lt))))
+      (λ from. omega (arith, get_or-remove_above xs p d k from lt, all (k + 1) d (omega (arith, within, long))))
+      (cases_lt k p)
 
 -- a number that doesn't stand in the list may be taken out
 pub in_absent : (xs : List ℕ) (t : ℕ) → is_in t xs ≡ false → (u : ℕ) → is_in u xs ≡ (not (u == t) && is_in u xs)

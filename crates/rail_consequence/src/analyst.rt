@@ -225,7 +225,7 @@ impl Analyst {
         {
             return true;
         }
-        self.core = self.sheet.trains_inside(moves, inside);
+        self.core = self.sheet.trains_inside(moves, self.inside.set());
         false
     }
 }

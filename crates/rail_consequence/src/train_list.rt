@@ -3,9 +3,11 @@
 ghost use Rattle.std.specs.Prelude.{◌≡◌, ℕ, ◌<◌, ◌≤◌, ◌&&◌, ◌||◌, ◌==◌, [], not, get_or, length, IfOk};
 ghost use Rattle.std.specs.List.Sorted.{IsStrictlyIncreasing};
 ghost use Rattle.rail_rules.specs.Numbers.{is_in};
+ghost use Rattle.rail_sets.specs.TrainSets.{has_train};
 
 use rail_base::limits::TRAINS;
 use rail_base::{OutOfMemory, TrainNo};
+use rail_sets::TrainSet;
 use std::alloc::Global;
 use std::marker::Model;
 
@@ -13,6 +15,8 @@ use std::marker::Model;
 #[derive(Debug, Drop)]
 pub struct TrainList {
     trains: Vec<TrainNo>,
+    /// The same trains.
+    set: TrainSet,
 }
 
 impl Model for TrainList {
@@ -20,12 +24,15 @@ impl Model for TrainList {
     ghost use Rattle.std.specs.List.{All};
     ghost use Rattle.std.specs.List.Sorted.{IsStrictlyIncreasing};
     ghost use Rattle.rail_base.specs.declared.limits.TheConstants.{TRAINS};
+    ghost use Rattle.rail_rules.specs.Numbers.{is_in};
+    ghost use Rattle.rail_sets.specs.TrainSets.{has_train};
 
     ghost Value = { List ℕ };
 
     ghost view = { λ list. list.trains.items };
 
-    ghost invariant = { λ list. IsStrictlyIncreasing list.trains.items × All (λ t. t < TRAINS) list.trains.items × (vec_capacity list.trains ≡ TRAINS) };
+    ghost invariant = { λ list. IsStrictlyIncreasing list.trains.items × All (λ t. t < TRAINS) list.trains.items × (vec_capacity list.trains ≡ TRAINS)
+        × ((t : ℕ) → has_train list.set t ≡ is_in t list.trains.items) };
 }
 
 impl TrainList {
@@ -35,6 +42,7 @@ impl TrainList {
     {
         Ok(TrainList {
             trains: Vec::with_capacity(alloc, TRAINS)?,
+            set: TrainSet::none(),
         })
     }
 
@@ -45,6 +53,13 @@ impl TrainList {
         self.trains.as_slice()
     }
 
+    /// The trains of the list as a set.
+    pub fn set(&self) -> TrainSet
+        ensures { (t : ℕ) → has_train result t ≡ is_in t self.now }
+    {
+        self.set
+    }
+
     /// Puts the train into the list, where it isn't there.
     pub fn include(&mut self, train: TrainNo)
         requires { train < TRAINS }
@@ -53,6 +68,7 @@ impl TrainList {
         let position = position_in(&self.trains, train);
         if position == self.trains.len() || self.trains[position] != train {
             self.trains.insert(position, train).unwrap();
+            self.set.insert(train);
         }
     }
 
@@ -63,6 +79,7 @@ impl TrainList {
         let position = position_in(&self.trains, train);
         if position < self.trains.len() && self.trains[position] == train {
             self.trains.remove(position);
+            self.set.remove(train);
         }
     }
 }

@@ -160,19 +160,19 @@ impl Worksheet {
         }
     }
 
-    /// The trains that are inside.
-    pub(super) fn trains_inside(&self, moves: &Moves, inside: &[TrainNo]) -> TrainSet
+    /// The trains that are inside, which are some of these: those are left out that a move of the list has led out.
+    pub(super) fn trains_inside(&self, moves: &Moves, trains: TrainSet) -> TrainSet
         requires ready { IsReady moves.now self.now }
-        requires listed { IsListing (moves_in moves.now) self.now.places.positions inside.now }
+        requires listed { (t : ℕ) → IsTrue (is_inside (moves_in moves.now) self.now.places.positions t) → IsTrue (has_train trains t) }
         ensures { (t : ℕ) → IsTrue (is_inside (moves_in moves.now) self.now.places.positions t) → IsTrue (has_train result t) }
     {
-        let mut trains = TrainSet::none();
-        for train in inside {
-            if stands_inside(moves, &self.places, *train) {
-                trains.insert(*train);
+        let mut left = trains;
+        for train in &self.list {
+            if train.0 < moves.trains() && !stands_inside(moves, &self.places, *train) {
+                left.remove(*train);
             }
         }
-        trains
+        left
     }
 
     /// Looks at the trains inside that nothing of what is noted stops, and notes what does. No section has fallen

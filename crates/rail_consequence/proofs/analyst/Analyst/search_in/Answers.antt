@@ -22,13 +22,14 @@ search_from-requires-clause-listed g c =
     listed_at plan s c.begin.new.self.places.positions c.as_slice-inside.result.now (sym c.begin.ensures.positions) (subst P (sym c.as_slice-inside.ensures) listed)
 
 pub trains_inside-self-inside-requires-clause-listed : goal.trains_inside-self-inside-requires-clause-listed
-trains_inside-self-inside-requires-clause-listed g c =
+trains_inside-self-inside-requires-clause-listed g c = λ t inside.
     let plan : Moves = moves_in c.args.moves.now in
     let s = c.args.places.now.positions in
     let P : List ℕ → Type 0 = λ xs. IsListing plan s xs in
     let listed : P c.follow.new.inside = listed_at plan c.follow.new.self.positions s c.follow.new.inside c.follow.ensures.positions c.follow.ensures.listed in
-    listed_on plan c.begin.new.self c.search_from.new.self c.as_slice-inside.result.now c.search_from.ensures.moves
-    (listed_at plan s c.begin.new.self.places.positions c.as_slice-inside.result.now (sym c.begin.ensures.positions) (subst P (sym c.as_slice-inside.ensures) listed))
+    let there = listed_on plan c.begin.new.self c.search_from.new.self c.follow.new.inside c.search_from.ensures.moves
+    (listed_at plan s c.begin.new.self.places.positions c.follow.new.inside (sym c.begin.ensures.positions) listed) in
+    c.set.ensures t ∙ there.all t inside
 
 pub returns-then-search_from-clause-answer : goal.returns-then-search_from-clause-answer
 returns-then-search_from-clause-answer g c =

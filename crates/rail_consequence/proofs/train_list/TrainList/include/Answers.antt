@@ -5,6 +5,7 @@ use Rattle.std.specs.List.{All}
 use Rattle.std.specs.List.Sorted.{IsStrictlyIncreasing}
 use Rattle.rail_base.specs.declared.limits.TheConstants.{TRAINS}
 use Rattle.rail_rules.specs.Numbers.{is_in}
+use Rattle.rail_sets.specs.TrainSets.{has_train}
 use Rattle.rail_consequence.proofs.Rising.{IsPositionFor, position_from, in_insert, rising_insert, below_insert, room_for_one}
 use Rattle.rail_consequence.proofs.train_list.TrainList.include.Goals as goal
 use Rattle.rail_consequence.proofs.train_list.TrainList.include.Goals.{After-insert, then-position-len-via-then-position-len, then-position-len-via-else-position-len+then-ne}
@@ -42,10 +43,10 @@ invariant_of-self c =
     let p = c.position_in-position.result in
     let position = position_here (goal.at.invariant_of-self c).After-insert in
     let items = rw c.unwrap.ensures at c.insert.ensures.items in
-    let P : List ℕ → Type 0 = λ ys. IsStrictlyIncreasing ys × All (λ u. u < TRAINS) ys × (vec_capacity c.insert.new.self ≡ TRAINS) in
+    let P : List ℕ → Type 0 = λ ys. IsStrictlyIncreasing ys × All (λ u. u < TRAINS) ys × (vec_capacity c.insert.new.self ≡ TRAINS) × ((u : ℕ) → has_train c.insert-then-position-len.new.self u ≡ is_in u ys) in
     let room = room_for_one xs t p position TRAINS c.requires c.self.invariant.0 c.self.invariant.1 in
     subst P (sym items)
-    (rising_insert xs t p position c.self.invariant.0, below_insert xs t p position TRAINS c.requires c.self.invariant.1, (c.insert.ensures.in_place (omega (arith, room, c.self.invariant.2))).1.0 ∙ c.self.invariant.2)
+    (rising_insert xs t p position c.self.invariant.0, below_insert xs t p position TRAINS c.requires c.self.invariant.1, (c.insert.ensures.in_place (omega (arith, room, c.self.invariant.2))).1.0 ∙ c.self.invariant.2, λ u. c.insert-then-position-len.ensures u ∙ ap (λ b. (u == t) || b) (c.self.invariant.3 u) ∙ sym (in_insert xs t p position u))
 
 pub returns-then-position-len : goal.returns-then-position-len
 returns-then-position-len c = λ u.
