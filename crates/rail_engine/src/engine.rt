@@ -72,6 +72,7 @@ impl Model for Core {
 
 impl Core {
     /// The next line; `None` after the end line.
+    #[inline(always)]
     fn step(&mut self, desk: &mut Desk) -> Option<Entry>
         ensures input { self.new.input ≡ self.old.input }
         ensures ended { IsNone result → (seats : List Seat) (front : Front)
@@ -144,6 +145,8 @@ impl Engine {
 
     /// The next line of the history; `None` after the end line, and then nothing has changed. It takes no
     /// memory. Before an admission the policy in force was asked, whatever its kind.
+    // In line where a run is followed: so a line is not handed on through memory.
+    #[inline(always)]
     pub fn step(&mut self) -> Option<Entry>
         ensures input { self.new.core.input ≡ self.old.core.input }
         ensures ended { IsNone result → (seats : List Seat) (front : Front)

@@ -42,6 +42,7 @@ impl Drop for Round {
 
 /// The next line; `None` after the end line. A custom policy in force is asked at each instant with a round, and
 /// a policy of a built-in kind where some train could go.
+#[inline(always)]
 pub(crate) fn next_line(ledger: &mut Ledger, round: &mut Round, desk: &mut Desk) -> Option<Entry>
     requires running { IsSomewhere ledger.old }
     requires room { TRAINS ≤ vec_capacity round.old.offers }

@@ -19,6 +19,8 @@ use rail_text::LineBuffer;
 const FULL: usize = 448;
 
 /// Puts the trains that the entry brings: the items of a fresh list, or each train of an end line.
+// In line, as most entries bring none; what puts them is not.
+#[inline(always)]
 pub(crate) fn put_brought<O: Sink>(
     line: &mut LineBuffer,
     names: &Names,
@@ -46,6 +48,7 @@ pub(crate) fn put_brought<O: Sink>(
 }
 
 /// Puts the items of a list: neighbouring equal trains are one.
+#[inline(never)]
 fn put_items<O: Sink>(
     line: &mut LineBuffer,
     names: &Names,
@@ -71,6 +74,7 @@ fn put_items<O: Sink>(
 }
 
 /// Puts each train of the list.
+#[inline(never)]
 fn put_trains<O: Sink>(
     line: &mut LineBuffer,
     names: &Names,

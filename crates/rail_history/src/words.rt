@@ -103,6 +103,7 @@ fn put_move(line: &mut LineBuffer, names: &Names, train: TrainNo, place: u16)
 }
 
 /// Puts a note.
+#[inline(always)]
 fn put_note(line: &mut LineBuffer, note: Note)
     requires { length line.old + 9 ≤ ROOM }
     ensures text { line.new ≡ line.old ++ 32 ∷ note_word note }
@@ -116,6 +117,7 @@ fn put_note(line: &mut LineBuffer, note: Note)
 }
 
 /// Puts the words of a cause.
+#[inline(always)]
 fn put_cause(line: &mut LineBuffer, names: &Names, cause: Cause)
     requires { length line.old + 43 ≤ ROOM }
     ensures text { (plant : Plant) → HasNames plant names.now → line.new ≡ line.old ++ behind (cause_words plant cause) }

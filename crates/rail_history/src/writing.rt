@@ -17,6 +17,8 @@ use rail_text::LineBuffer;
 /// names; at another entry it isn't looked at. The trains and sections are those of the names. The line is
 /// put together in `line`, whatever that has before. A line that names no list is one piece. It takes no
 /// memory.
+// In line where a run is followed: so the entry is not handed on through memory.
+#[inline(always)]
 pub fn write_entry<O: Sink>(
     names: &Names,
     entry: Entry,
