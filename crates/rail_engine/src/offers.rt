@@ -14,6 +14,7 @@ use rail_ledger::Ledger;
 use rail_policy::{Desk, Offer, Seen};
 
 /// Looks at the trains that wait, and offers those without a known cause, or all that wait, by number.
+#[inline(always)]
 pub(crate) fn offer(offers: &mut Vec<Offer>, ledger: &mut Ledger, all: bool)
     requires running { IsSomewhere ledger.old }
     requires room { TRAINS ≤ vec_capacity offers.old }
@@ -34,6 +35,7 @@ pub(crate) fn offer(offers: &mut Vec<Offer>, ledger: &mut Ledger, all: bool)
 }
 
 /// Offers the trains that wait without a known cause, or all that wait, by number.
+#[inline(never)]
 fn fill(offers: &mut Vec<Offer>, ledger: &Ledger, all: bool)
     requires running { IsSomewhere ledger.now }
     requires room { TRAINS ≤ vec_capacity offers.old }

@@ -155,6 +155,7 @@ impl Ledger {
     }
 
     /// Looks at the trains that wait: of those that nothing bars the one that was ready first, if there is one.
+    #[inline(always)]
     pub fn look(&mut self) -> Option<TrainNo>
         requires running { IsSomewhere self.old }
         ensures alike { AreAlike self.old self.new }

@@ -20,6 +20,7 @@ use rail_sets::TrainSet;
 
 /// Looks at each untried train. Of those that are untried then, the one that was ready first, and of several that
 /// the one with the least number.
+#[inline(never)]
 pub(crate) fn look_at_each(
     rows: &mut [TrainState],
     plant: &Plant,

@@ -179,6 +179,7 @@ impl TrainStates {
 
     /// Looks at the trains that wait without a known cause: what bars the next move is the cause. Of the
     /// others, the train that was ready first, and of several that with the least number.
+    #[inline(always)]
     pub fn look(&mut self, plant: &Plant, orders: &ToldOrders, holders: &Holders) -> Option<TrainNo>
         requires known { length self.old ≡ trains plant.now }
         requires sections { length holders.now ≡ length plant.now.tables.sections }
@@ -190,6 +191,8 @@ impl TrainStates {
         ensures first { MatchOption result ((t : ℕ) → is_untried (state_of self.new t) ≡ false)
             (λ train. (train < length self.new) × IsReadyFirst self.new train) }
     {
+        // Half of the looks after an admission find nobody.
+        self.next_untried(0)?;
         look_at_each(
             &mut self.rows,
             plant,
