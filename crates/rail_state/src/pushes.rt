@@ -16,7 +16,8 @@ ghost use Rattle.rail_queue.specs.declared.event.Event.{Event};
 ghost use Rattle.rail_rules.specs.Events.{free_lines};
 ghost use Rattle.rail_rules.specs.Fronts.{at_time};
 ghost use Rattle.rail_rules.specs.Intervals.{does_stand, end_of, end_time};
-ghost use Rattle.rail_rules.specs.Plant.{claimed, is_forced, moves, steps, trains};
+ghost use Rattle.rail_rules.specs.Moves.{stand};
+ghost use Rattle.rail_rules.specs.Plant.{claimed, is_forced, moves, moves_of, step_section, steps, trains};
 ghost use Rattle.rail_rules.specs.Times.{enter, stop_time};
 ghost use Rattle.rail_base.specs.declared.history.What.TheVariants.{Free};
 
@@ -57,6 +58,22 @@ pub fn push_entry(queue: &mut EventQueue, train: TrainNo, times: &MoveTimes)
     );
 }
 
+/// The sections on which the train stands after the move. Pushes leave them, so they are looked up once for all steps.
+fn standing_sections<'p>(known: &KnownMove<'p>) -> &'p [SectionNo]
+    ensures { result.now ≡ stand (moves_of known.now.plant.now) known.now.train known.now.place }
+{
+    known.plant.moves().stand(known.train, known.place)
+}
+
+/// Whether the train stands on the section of the step after the move, where it stands on these.
+fn does_stand_on(step: &KnownStep, section: SectionNo, standing: &[SectionNo]) -> bool
+    requires section { section ≡ of_step step_section step.now }
+    requires stand { let known = step.now.of.now in standing.now ≡ stand (moves_of known.plant.now) known.train known.place }
+    ensures { result ≡ of_step does_stand step.now }
+{
+    standing.contains(&section)
+}
+
 /// Pushes the events of the move at each of its steps: the head enters, and the section is given free
 /// unless the train stands on it.
 pub fn push_steps(known: &KnownMove, queue: &mut EventQueue, times: &MoveTimes)
@@ -69,6 +86,7 @@ pub fn push_steps(known: &KnownMove, queue: &mut EventQueue, times: &MoveTimes)
     ensures spare { queue.old.spare ≤ queue.new.spare + 2 * of_move steps known.now }
 {
     let sections = known.row().sections.as_slice();
+    let standing = standing_sections(known);
     let mut entered = times.go;
     for (index, section) in sections.iter().enumerate() {
         let step = KnownStep::new(&*known, index as u16 + 1);
@@ -77,14 +95,22 @@ pub fn push_steps(known: &KnownMove, queue: &mut EventQueue, times: &MoveTimes)
             queue,
             event_of_train(entered, Class::Enter, known.train, known.place),
         );
-        push_left(&step, queue, *section, left);
+        push_left(&step, queue, *section, standing, left);
         entered = left;
     }
 }
 
 /// Pushes the event that gives the section of the step free, unless the train stands on it. The head enters
-/// the section after it at `left`.
-fn push_left(step: &KnownStep, queue: &mut EventQueue, section: SectionNo, left: Time)
+/// the section after it at `left`; after the move it stands on the sections of `standing`.
+fn push_left(
+    step: &KnownStep,
+    queue: &mut EventQueue,
+    section: SectionNo,
+    standing: &[SectionNo],
+    left: Time,
+)
+    requires section { section ≡ of_step step_section step.now }
+    requires stand { let known = step.now.of.now in standing.now ≡ stand (moves_of known.plant.now) known.train known.place }
     requires left { left < 2 ^ 52 }
     requires room { 1 ≤ queue.old.spare }
     ensures counted { (adms : List ℕ) → length adms ≡ step.now.of.now.place
@@ -96,7 +122,7 @@ fn push_left(step: &KnownStep, queue: &mut EventQueue, section: SectionNo, left:
 {
     // Before its last place a train of a plant that may be run stands on the last section of its move, so
     // what is given free here is left as the head enters the next section.
-    if step.does_stand() {
+    if does_stand_on(step, section, standing) {
         return;
     }
     let ended = step.end_when_left(left);
@@ -115,15 +141,24 @@ pub fn push_stood(known: &KnownMove, queue: &mut EventQueue, next: &MoveTimes)
     ensures spare { queue.old.spare ≤ queue.new.spare + of_move steps known.now }
 {
     let sections = known.row().sections.as_slice();
+    let standing = standing_sections(known);
     for (index, section) in sections.iter().enumerate() {
         let step = KnownStep::new(&*known, index as u16 + 1);
-        push_if_stood(&step, queue, *section, next);
+        push_if_stood(&step, queue, *section, standing, next);
     }
 }
 
 /// Pushes the event that gives the section of the step free if the train stood on it; `next` is the times of
-/// the move after that of the step.
-fn push_if_stood(step: &KnownStep, queue: &mut EventQueue, section: SectionNo, next: &MoveTimes)
+/// the move after that of the step. After the move of the step it stands on the sections of `standing`.
+fn push_if_stood(
+    step: &KnownStep,
+    queue: &mut EventQueue,
+    section: SectionNo,
+    standing: &[SectionNo],
+    next: &MoveTimes,
+)
+    requires section { section ≡ of_step step_section step.now }
+    requires stand { let known = step.now.of.now in standing.now ≡ stand (moves_of known.plant.now) known.train known.place }
     requires times { AreBelow (2 ^ 51) next.now }
     requires room { 1 ≤ queue.old.spare }
     ensures counted { (adms : List ℕ) → next.now ≡ times_after step.now.of.now adms → (q : Event → Bool)
@@ -132,7 +167,7 @@ fn push_if_stood(step: &KnownStep, queue: &mut EventQueue, section: SectionNo, n
     ensures room { length queue.new.events + queue.new.spare ≡ length queue.old.events + queue.old.spare }
     ensures spare { queue.old.spare ≤ queue.new.spare + 1 }
 {
-    if !step.does_stand() {
+    if !does_stand_on(step, section, standing) {
         return;
     }
     let ended = step.end_when_stood(next);
