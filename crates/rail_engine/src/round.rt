@@ -147,6 +147,7 @@ pub(crate) fn tell_desk(desk: &mut Desk, commands: &[Command], what: &What)
 }
 
 /// An admission or a hold line, where there is one at this instant, at which nothing is pending.
+#[inline(always)]
 fn decide(ledger: &mut Ledger, round: &mut Round, desk: &mut Desk, all: bool) -> Option<Entry>
     requires running { IsSomewhere ledger.old }
     requires going { ledger.old.state.has_ended ≡ false }

@@ -275,6 +275,7 @@ impl Ledger {
     }
 
     /// The hold line of the first train that was not told why it waits. With none, all is settled.
+    #[inline(always)]
     pub fn hold(&mut self) -> Option<Entry>
         requires running { IsSomewhere self.old }
         requires going { self.old.state.has_ended ≡ false }
@@ -297,6 +298,7 @@ impl Ledger {
     }
 
     /// The hold line of this train, the first that was not told why it waits.
+    #[inline(always)]
     pub(crate) fn hold_train(&mut self, train: TrainNo) -> Entry
         requires running { IsSomewhere self.old }
         requires going { self.old.state.has_ended ≡ false }

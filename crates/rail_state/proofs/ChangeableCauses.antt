@@ -1,6 +1,5 @@
 -- What a section that is free again, an order and an admission make of the trains.
 use Rattle.std.proofs.Common.{◌≡◌, ℕ, ◌<◌, ◌≤◌, ◌==◌, Bool, true, false, not, ◌&&◌, ◌||◌, cond, is_some, List, [], ◌∷◌, length, set, Option, Some, None, refl, sym, ◌∙◌, ap, subst, ⊎_elim, arith, eqb-true, eq-eqb}
-use Rattle.std.specs.Option.{option_map}
 use Rattle.std.proofs.lemmas.Bool.{cases_Bool, cases_eq, cases_lt, cond-false, cond-true, false≢true}
 use Rattle.std.proofs.lemmas.Bool.Decides.{nat_tests}
 use Rattle.std.proofs.lemmas.List.{get_or_past, set-get_or}
@@ -8,13 +7,12 @@ use Rattle.rail_base.specs.declared.history.Cause.{Cause}
 use Rattle.rail_base.specs.declared.history.Cause.TheVariants.{Blocked, NoList, Stopped, Closed}
 use Rattle.rail_base.specs.declared.orders.Order.{Order}
 use Rattle.rail_block.specs.declared.times.MoveTimes.{MoveTimes}
-use Rattle.rail_rules.specs.Numbers.{or_else}
 use Rattle.rail_rules.specs.Orders.{is_cancelled}
 use Rattle.rail_rules.specs.Plant.{Plant, claimed, trains}
 use Rattle.rail_state.specs.declared.train.TrainState.{TrainState}
 use Rattle.rail_sets.specs.declared.train_set.TrainSet.{TrainSet}
 use Rattle.rail_sets.specs.TrainSets.{has_train}
-use Rattle.rail_laws_run.specs.HolderTables.{bar_holder, held_cause, own_overlap}
+use Rattle.rail_laws_run.specs.HolderTables.{bar_holder, own_overlap}
 use Rattle.rail_state.specs.TrainStates.{AreAtFirst, admitted, after_taking, is_at_first, is_blocked, is_blocked_at, is_blocked_before, is_touched, no_state, outlasts_taking, state_admitted, state_of, state_told, without_known}
 use Rattle.rail_state.specs.TrainSearches.{is_changeable}
 use Rattle.rail_state.proofs.Sets.{written}
@@ -115,24 +113,6 @@ same_cond false = refl
 none_before : (holders : List (Option ℕ)) (t : ℕ) (own : List ℕ) (x u : ℕ) (sections : List ℕ) → is_at_first (Some (Blocked x u)) sections ≡ true → is_blocked_before holders t own x sections ≡ false
 none_before holders t own x u [] is = absurd (false≢true is)
 none_before holders t own x u (y ∷ sections) is = ap (λ b. not b && (is_some (bar_holder holders t own y) || is_blocked_before holders t own x sections)) (eq-eqb y x (sym (eqb-true x y is)))
-
--- no section that bars stands before the first one that does
-pub first_bar : (holders : List (Option ℕ)) (t : ℕ) (own : List ℕ) (x : ℕ) (sections : List ℕ) → is_blocked_at x (held_cause holders t own sections) ≡ true → is_blocked_before holders t own x sections ≡ false
-first_bar holders t own x [] is = refl
-first_bar holders t own x (y ∷ sections) is = at (first_bar holders t own x sections) (bar_holder holders t own y) refl is
-  where
-    and_false : (b : Bool) → (b && false) ≡ false
-    and_false true = refl
-    and_false false = refl
-
-    at : (is_blocked_at x (held_cause holders t own sections) ≡ true → is_blocked_before holders t own x sections ≡ false) → (o : Option ℕ) → bar_holder holders t own y ≡ o
-        → is_blocked_at x (or_else (option_map (Blocked y) o) (held_cause holders t own sections)) ≡ true
-        → (not (y == x) && (is_some (bar_holder holders t own y) || is_blocked_before holders t own x sections)) ≡ false
-    at deeper (Some u) bars is' = ap (λ b. not b && (is_some (bar_holder holders t own y) || is_blocked_before holders t own x sections)) is'
-    at deeper None free is' =
-        ap (λ o. not (y == x) && (is_some o || is_blocked_before holders t own x sections)) free
-        ∙ ap (λ b. not (y == x) && b) (deeper is')
-        ∙ and_false (not (y == x))
 
 -- a train whose cause is not changeable is as it was
 pub unchangeable_same : (plant : Plant) (holders : List (Option ℕ)) (t : ℕ) (train_state : TrainState) → (train_state.waits ≡ false → train_state.known ≡ None)

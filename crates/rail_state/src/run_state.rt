@@ -238,6 +238,7 @@ impl RunState {
 
     /// The hold line of the train's next move is given, with its known cause: an arrival that was deferred is
     /// pending, and so are the ends of the overlap there. What the line says.
+    #[inline(always)]
     pub fn hold(&mut self, plant: &Plant, train: TrainNo) -> What
         requires train { train < length self.old.trains }
         requires known { train < trains plant.now }

@@ -1,6 +1,6 @@
 //! One train.
 
-ghost use Rattle.std.specs.Prelude.{◌≡◌, ℕ, ◌-◌, ◌<◌, ◌≤◌, ◌&&◌, ◌||◌, not, [], ◌∷◌, ◌++◌, get_or, length, true, false, None, vec_len, vec_capacity};
+ghost use Rattle.std.specs.Prelude.{◌≡◌, ℕ, ◌-◌, ◌<◌, ◌≤◌, ◌&&◌, ◌||◌, not, List, [], ◌∷◌, ◌++◌, get_or, length, true, false, None, vec_len, vec_capacity};
 ghost use Rattle.std.specs.List.{All};
 ghost use Rattle.rail_base.specs.declared.limits.TheConstants.{ITINERARY_ROUTES, OVERLAP_SECTIONS, SECTIONS, TRAINS};
 ghost use Rattle.rail_sets.specs.TrainSets.{has_train};
@@ -173,8 +173,12 @@ impl TrainState {
             Some(Cause::Blocked { section, .. }) => {
                 has_few_moves(plant, train);
                 let sections = claimed_sections(plant, train, self.place + 1);
+                // Mostly the section still is the first one that is held.
+                if is_first_held(holders, section, sections) {
+                    return true;
+                }
                 let own = overlap_behind(plant, train, self.place);
-                is_unbarred_before(holders, train, own, section, sections)
+                !is_blocked_before(holders, train, own, section, sections)
             }
             Some(Cause::NoList) => false,
             _ => true,
@@ -398,20 +402,18 @@ pub fn held_cause(
     None
 }
 
-/// Whether the holder of no section that stands before this one among these bars the train. Mostly this one still is the
-/// first whose holder does.
-fn is_unbarred_before(
-    holders: &Holders,
-    train: TrainNo,
-    own: &[SectionNo],
-    section: SectionNo,
-    sections: &[SectionNo],
-) -> bool
+/// Whether this section is the first of these that somebody holds. Then no section before it bars any train, whatever the
+/// train's own overlap is.
+fn is_first_held(holders: &Holders, section: SectionNo, sections: &[SectionNo]) -> bool
     requires { All (λ x. x < length holders.now) sections.now }
-    ensures { result ≡ not (is_blocked_before holders.now train own.now section sections.now) }
+    ensures { result ≡ true → (t : ℕ) (own : List ℕ) → is_blocked_before holders.now t own section sections.now ≡ false }
 {
-    let first = held_cause(holders, train, own, sections);
-    is_blocked_at(&first, section) || !is_blocked_before(holders, train, own, section, sections)
+    for other in sections {
+        if holders.holder(*other).is_some() {
+            return *other == section;
+        }
+    }
+    false
 }
 
 /// Whether the holder of a section that stands before this one among these bars the train.
