@@ -147,6 +147,7 @@ impl KnownMove<'_> {
 
     /// When the train is ready for the move, whose beginning it would reach freely at `arrived`. The move
     /// before was admitted at `previous`.
+    #[inline(always)]
     pub(crate) fn ready_time(&self, previous: Time, arrived: Time) -> Time
         requires { arrived < 2 ^ 52 }
         ensures time { result ≡ of_move ready_time self.now previous arrived }

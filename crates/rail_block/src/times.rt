@@ -45,6 +45,7 @@ pub fn entry_times(plant: &Plant, train: TrainNo) -> MoveTimes
 
 /// The times of the train's move to this place, which is admitted at `admitted`. `before` is the times
 /// of the place before: of the move before, or those of the entry.
+#[inline(always)]
 pub fn times_of(
     plant: &Plant,
     train: TrainNo,

@@ -74,6 +74,7 @@ impl Failures {
     /// of each train of whose core it is one. Only where the move was a safe leg, and is one behind the next move of that
     /// train, too, its core lasts. The cost grows with the failures that are kept; only where one has the train in its core
     /// are other trains looked at, and first the one that was in the way before.
+    #[inline(always)]
     pub fn forget(&mut self, moves: &Moves, places: &Places, moved: TrainNo)
         requires made { IsMadeFor moves.now places.now }
         requires moved { moved < length moves.now }
@@ -87,6 +88,7 @@ impl Failures {
     }
 
     /// The same where a failure is kept.
+    #[inline(never)]
     fn forget_kept(&mut self, moves: &Moves, places: &Places, moved: TrainNo)
         requires made { IsMadeFor moves.now places.now }
         requires moved { moved < length moves.now }

@@ -37,6 +37,7 @@ impl TrainSets {
     }
 
     /// What is kept of the train now.
+    #[inline(always)]
     pub(crate) fn note(&mut self, train: TrainNo, train_state: &TrainState)
         requires { train < TRAINS }
         ensures { (states : List TrainState) → train < length states → AreSetsOf states self.old

@@ -126,6 +126,7 @@ impl TrainStates {
     }
 
     /// The section that the train's head enters next, after which the next one is that behind it.
+    #[inline(always)]
     pub fn enter(&mut self, plant: &Plant, train: TrainNo) -> SectionNo
         requires train { train < length self.old }
         requires known { train < trains plant.now }
@@ -166,6 +167,7 @@ impl TrainStates {
     }
 
     /// A section is free: the causes of the trains that were blocked at it are no longer known. Whether there were any.
+    #[inline(always)]
     pub fn look_again_at(&mut self, section: SectionNo) -> bool
         ensures length { length self.new ≡ length self.old }
         ensures trains { (plant : Plant) (u t : ℕ) → state_of self.new t
