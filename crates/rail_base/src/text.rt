@@ -1,4 +1,4 @@
-ghost use Rattle.std.specs.Prelude.{◌≡◌, ◌<◌, ◌≤◌, IsTrue, Some, None, if◌then◌else◌, length};
+ghost use Rattle.std.specs.Prelude.{◌≡◌, ◌-◌, ◌<◌, ◌≤◌, ◌++◌, IsTrue, Some, None, if◌then◌else◌, length, replicate};
 ghost use Rattle.std.specs.List.{list_all};
 ghost use Rattle.std.specs.String.{string_bytes};
 ghost use Rattle.rail_base.specs.NameForms.{is_name, is_name_byte};
@@ -52,6 +52,13 @@ impl Name {
         ensures name { IsTrue (is_name self.now) }
     {
         &self.bytes[..self.len as usize]
+    }
+
+    /// The bytes of the name, and zeros behind them, 16 in all: so that they can be copied at once.
+    pub fn padded(&self) -> [u8; 16]
+        ensures { result ≡ self.now ++ replicate (16 - length self.now) 0 }
+    {
+        self.bytes
     }
 }
 

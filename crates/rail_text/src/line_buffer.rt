@@ -1,4 +1,4 @@
-ghost use Rattle.std.specs.Prelude.{◌≡◌, ◌+◌, ◌<◌, ◌≤◌, [], ◌∷◌, ◌++◌, decimal, length};
+ghost use Rattle.std.specs.Prelude.{◌≡◌, ◌+◌, ◌<◌, ◌≤◌, [], ◌∷◌, ◌++◌, decimal, length, take};
 ghost use Rattle.rail_base.specs.Clock.{time_text};
 ghost use Rattle.rail_text.specs.Minutes.{tenths_text};
 ghost use Rattle.rail_text.specs.Words.{number_word, time_word};
@@ -200,27 +200,28 @@ impl LineBuffer {
         }
     }
 
-    /// Puts a space and the name at the end. Most names have two to four bytes, which are put at
-    /// once: how many they are is known there where the code is compiled.
+    /// Puts a space and the name at the end. All 16 bytes in which a name lies are copied at once; what is behind the
+    /// name is no part of the line.
     #[inline(always)]
     pub fn put_name(&mut self, name: &Name)
         requires { length self.old + 17 ≤ ROOM }
         ensures text { self.new ≡ self.old ++ 32 ∷ name.now }
         ensures short { length self.new ≤ length self.old + 17 }
     {
-        let word = name.as_bytes();
-        match word.len() {
-            2 => self.put(&[b' ', word[0], word[1]]),
-            3 => {
-                self.put(&[b' ', word[0]]);
-                self.put(&[word[1], word[2]]);
-            }
-            4 => {
-                self.put(b" ");
-                self.put(&[word[0], word[1], word[2], word[3]]);
-            }
-            _ => self.put_word(word),
-        }
+        self.put_front(name.padded(), name.as_bytes().len());
+    }
+
+    /// Puts a space and the first of the bytes, so many, at the end.
+    #[inline(always)]
+    fn put_front(&mut self, bytes: [u8; 16], count: usize)
+        requires count { count ≤ 16 }
+        requires room { length self.old + 17 ≤ ROOM }
+        ensures { self.new ≡ self.old ++ 32 ∷ take count bytes }
+    {
+        let begin = self.len + 1;
+        self.bytes[self.len] = b' ';
+        self.bytes[begin..begin + 16].copy_from_slice(&bytes);
+        self.len = begin + count;
     }
 }
 
