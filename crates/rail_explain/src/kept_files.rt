@@ -8,6 +8,9 @@ use std::alloc::{AllocError, Global};
 /// The most bytes of a file that are kept: as many as a scene or a file of lines may have. Of a larger file nothing is kept.
 const MOST_KEPT: usize = 1_048_576;
 
+/// How many bytes of a file room is taken for at first. Most files have fewer, so that they are never moved.
+const FIRST_KEPT: usize = 131_072;
+
 /// A file with what was read of it.
 #[derive(Drop)]
 struct KeptFile {
@@ -57,7 +60,7 @@ impl<S: Shelf + Drop> KeepingShelf<S> {
         ensures { behind_of self.new ≡ behind_of self.old }
     {
         let name = String::from_str(alloc, name)?;
-        let bytes = Vec::new(alloc);
+        let bytes = Vec::with_capacity(alloc, FIRST_KEPT)?;
         self.files.push(KeptFile { name, bytes })?;
         Ok(())
     }

@@ -9,8 +9,11 @@ use crate::sink::{Failed, Sink};
 use std::alloc::{AllocError, Global};
 use thiserror::Error;
 
-/// How many bytes the first read of a file has room for.
-const FIRST_ROOM: usize = 16384;
+/// How many bytes room is taken for at first. Most files have fewer, so that they are never moved.
+const FIRST_ROOM: usize = 131_072;
+
+/// How many bytes a read of a file has room for.
+const PIECE: usize = 2000;
 
 /// Why a file was not read.
 #[derive(Clone, Copy, Debug, PartialEq, Eq, Error)]
@@ -117,7 +120,7 @@ fn read_begun<S: Shelf>(alloc: Global, shelf: &mut S, limit: u64) -> Result<Vec<
     ensures told_stays { S.told shelf.new ≡ S.told shelf.old }
     ensures faults_never_fall { S.faults shelf.old ≤ S.faults shelf.new }
 {
-    let mut bytes = Vec::new(alloc);
+    let mut bytes = Vec::with_capacity(alloc, FIRST_ROOM)?;
     let mut filled = 0;
     while filled as u64 <= limit {
         make_room(&mut bytes, filled)?;
@@ -131,8 +134,8 @@ fn read_begun<S: Shelf>(alloc: Global, shelf: &mut S, limit: u64) -> Result<Vec<
     Err(ReadWhole::TooLarge)
 }
 
-/// Sees that there is room behind the first `filled` bytes. Room is doubled where there is none, so
-/// that a file is moved a few times at most, however long it is.
+/// Sees that there is room behind the first `filled` bytes: for one read at a time, so that little is filled with zeros
+/// for nothing. A vector that has to move doubles.
 fn make_room(bytes: &mut Vec<u8>, filled: usize) -> Result<(), AllocError>
     requires { filled ≤ vec_len bytes.old }
     ensures front { take filled bytes.new.items ≡ take filled bytes.old.items }
@@ -142,7 +145,7 @@ fn make_room(bytes: &mut Vec<u8>, filled: usize) -> Result<(), AllocError>
     if filled < bytes.len() {
         return Ok(());
     }
-    bytes.resize(filled.saturating_mul(2).max(FIRST_ROOM), 0)
+    bytes.resize(filled.saturating_add(PIECE), 0)
 }
 
 /// Writes the whole piece, in as many calls as the sink needs. An empty piece takes no call.
