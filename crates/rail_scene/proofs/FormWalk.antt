@@ -49,7 +49,7 @@ still_some Equal m d some = refl
 still_some Greater m d some = some
 
 -- of distinct items two that are alike are one
-one_place : {X : Type 0} (alike : X → X → Bool) → ((x y : X) → alike x y ≡ alike y x) → (xs : List X) (i j : ℕ) (d : X) → are_distinct alike xs ≡ true
+pub one_place : {X : Type 0} (alike : X → X → Bool) → ((x y : X) → alike x y ≡ alike y x) → (xs : List X) (i j : ℕ) (d : X) → are_distinct alike xs ≡ true
     → i < length xs → j < length xs → alike (get_or xs i d) (get_or xs j d) ≡ true → i ≡ j
 one_place alike both [] i j d apart lt below same = absurd (omega arith)
 one_place alike both (x ∷ xs) zero zero d apart lt below same = refl

@@ -6,6 +6,7 @@ mod Times
 mod Views
 mod FormSteps
 mod FormWalk
+mod MemberWalk
 mod Steps
 mod Drafting
 mod Distinct

@@ -19,6 +19,7 @@ ghost use Rattle.rail_scene.specs.Order.{located, list_forms, forms_of, scene_fo
 
 use crate::fields::{elements_at, value_at};
 use crate::keys::{Form, Key, LIST_PARTS, ListPart, MOST_KEYS, root_keys};
+use crate::members::key_index;
 use crate::places::{item_number, located};
 use crate::versions::Version;
 use rail_base::{Fault, Part, Reason};
@@ -55,8 +56,9 @@ fn check_list(part: ListPart, version: Version, tables: &[Value]) -> Result<(), 
     ensures refused { IfErr result (AnswersFirst (first_failing (list_forms part version 1 (map view tables.now)))) }
 {
     let keys = part.keys(version);
+    let order = part.order(version);
     for (index, table) in tables.iter().enumerate() {
-        if is_of_form(table, keys) {
+        if is_of_form(table, keys, order) {
             continue;
         }
         match form_fault(table, keys) {
@@ -88,27 +90,27 @@ fn form_fault(table: &Value, keys: &[Key]) -> Option<NetFault>
 }
 
 /// Whether the value is a table whose members are those of its form.
-fn is_of_form(value: &Value, keys: &[Key]) -> bool
+fn is_of_form(value: &Value, keys: &[Key], order: &[usize]) -> bool
     requires few { length keys.now ≤ MOST_KEYS }
     requires distinct { IsTrue (are_distinct have_one_text keys.now) }
     ensures { IsTrue result → first_failing (form_tests keys.now (view value.now)) ≡ None }
 {
     match value.as_table() {
-        Some(table) => are_of_form(table, keys),
+        Some(table) => are_of_form(table, keys, order),
         None => false,
     }
 }
 
 /// Whether each member of the table has one of the keys and a value of the kind that its form states, and each
 /// required key is there.
-fn are_of_form(table: &Table, keys: &[Key]) -> bool
+fn are_of_form(table: &Table, keys: &[Key], order: &[usize]) -> bool
     requires few { length keys.now ≤ MOST_KEYS }
     requires distinct { IsTrue (are_distinct have_one_text keys.now) }
     ensures { IsTrue result → first_failing (form_tests keys.now (as_data (table_view table.now))) ≡ None }
 {
     let mut met = [false; MOST_KEYS];
-    for (text, value) in table.iter() {
-        let Some(index) = key_index(keys, text.as_str()) else {
+    for (place, (text, value)) in table.iter().enumerate() {
+        let Some(index) = key_index(keys, order, place, text.as_str()) else {
             return false;
         };
         if !is_of(value, keys[index].form) {
@@ -117,13 +119,6 @@ fn are_of_form(table: &Table, keys: &[Key]) -> bool
         met[index] = true;
     }
     has_required(keys, &met)
-}
-
-/// The index of the key that the text is.
-fn key_index(keys: &[Key], text: &str) -> Option<usize>
-    ensures { result ≡ position (λ (key : Key). same_name (text_of key.name) text.now) keys.now }
-{
-    keys.iter().position(|key| key.name.text() == text)
 }
 
 /// Whether each required key is met.

@@ -202,6 +202,23 @@ impl ListPart {
         }
     }
 
+    /// The indices of the keys of a table in the list as their texts are ordered.
+    pub(crate) fn order(self, version: Version) -> &'static [usize] {
+        match self {
+            ListPart::Section => &SECTION_ORDER,
+            ListPart::Portal => &PORTAL_ORDER,
+            ListPart::Signal => &SIGNAL_ORDER,
+            ListPart::Board => &BOARD_ORDER,
+            ListPart::Turn => &TURN_ORDER,
+            ListPart::Route => match version {
+                Version::One => &FIRST_ROUTE_ORDER,
+                Version::Two => &ROUTE_ORDER,
+            },
+            ListPart::Kind => &KIND_ORDER,
+            ListPart::Train => &TRAIN_ORDER,
+        }
+    }
+
     /// The part of a refusal in the list.
     pub(crate) fn part(self) -> Part
         ensures { result ≡ part_of self }
@@ -453,6 +470,9 @@ pub(crate) const JOINTS: Key = Key {
 /// The keys of a section.
 pub(crate) const SECTION_KEYS: [Key; 5] = [NAME, SECTION_KIND, SECTION_LENGTH, SPEED, JOINTS];
 
+/// The indices of these keys as their texts are ordered.
+const SECTION_ORDER: [usize; 5] = [4, 1, 2, 0, 3];
+
 pub(crate) const JOINT: Key = Key {
     name: KeyName::Joint,
     form: Form::Name,
@@ -492,6 +512,9 @@ pub(crate) const APPROACH: Key = Key {
 /// The keys of a portal.
 pub(crate) const PORTAL_KEYS: [Key; 5] = [NAME, JOINT, SETTING, WATCHING, APPROACH];
 
+/// The indices of these keys as their texts are ordered.
+const PORTAL_ORDER: [usize; 5] = [4, 1, 0, 2, 3];
+
 pub(crate) const AHEAD: Key = Key {
     name: KeyName::Ahead,
     form: Form::Name,
@@ -501,8 +524,14 @@ pub(crate) const AHEAD: Key = Key {
 /// The keys of a signal.
 pub(crate) const SIGNAL_KEYS: [Key; 6] = [NAME, JOINT, AHEAD, SETTING, WATCHING, APPROACH];
 
+/// The indices of these keys as their texts are ordered.
+const SIGNAL_ORDER: [usize; 6] = [2, 5, 1, 0, 3, 4];
+
 /// The keys of a board.
 pub(crate) const BOARD_KEYS: [Key; 2] = [NAME, JOINT];
+
+/// The indices of these keys as their texts are ordered.
+const BOARD_ORDER: [usize; 2] = [1, 0];
 
 pub(crate) const ARRIVING: Key = Key {
     name: KeyName::Arriving,
@@ -528,6 +557,9 @@ pub(crate) const TURN_TIME: Key = Key {
 
 /// The keys of a turn.
 pub(crate) const TURN_KEYS: [Key; 3] = [ARRIVING, LEAVING, TURN_TIME];
+
+/// The indices of these keys as their texts are ordered.
+const TURN_ORDER: [usize; 3] = [0, 1, 2];
 
 pub(crate) const FROM: Key = Key {
     name: KeyName::From,
@@ -556,8 +588,14 @@ pub(crate) const OVERLAP: Key = Key {
 /// The keys of a route in the first version.
 const FIRST_ROUTE_KEYS: [Key; 4] = [NAME, FROM, TO, PATH];
 
+/// The indices of these keys as their texts are ordered.
+const FIRST_ROUTE_ORDER: [usize; 4] = [1, 0, 3, 2];
+
 /// The keys of a route in the second version.
 const ROUTE_KEYS: [Key; 5] = [NAME, FROM, TO, PATH, OVERLAP];
+
+/// The indices of these keys as their texts are ordered.
+const ROUTE_ORDER: [usize; 5] = [1, 0, 4, 3, 2];
 
 pub(crate) const TRAIN_LENGTH: Key = Key {
     name: KeyName::TrainLength,
@@ -592,6 +630,9 @@ pub(crate) const STOP: Key = Key {
 /// The keys of a train kind.
 pub(crate) const KIND_KEYS: [Key; 5] = [NAME, TRAIN_LENGTH, SPEED, START, STOP];
 
+/// The indices of these keys as their texts are ordered.
+const KIND_ORDER: [usize; 5] = [1, 0, 2, 3, 4];
+
 pub(crate) const TRAIN_KIND: Key = Key {
     name: KeyName::TrainKind,
     form: Form::Name,
@@ -622,3 +663,6 @@ pub(crate) const ROUTES: Key = Key {
 
 /// The keys of a train.
 pub(crate) const TRAIN_KEYS: [Key; 5] = [NAME, TRAIN_KIND, ENTRY, PRIORITY, ROUTES];
+
+/// The indices of these keys as their texts are ordered.
+const TRAIN_ORDER: [usize; 5] = [2, 1, 0, 3, 4];

@@ -17,6 +17,7 @@ mod fields;
 mod forms;
 pub mod keys;
 mod laws;
+mod members;
 mod naming;
 mod places;
 mod reading;
