@@ -32,7 +32,7 @@ abbrev pub Entry : Type 0
 Entry = String Global × Value
 
 -- what a text finds in the members, at the first and behind it
-get_here : (k : List ℕ) (e : Entry) (es : List Entry) → k ≡ string_bytes e.0 → get_member k (members_view (e ∷ es)) ≡ Some (view e.1)
+pub get_here : (k : List ℕ) (e : Entry) (es : List Entry) → k ≡ string_bytes e.0 → get_member k (members_view (e ∷ es)) ≡ Some (view e.1)
 get_here k e es is = rw (is, tied_itself nat_list_cmp_total (string_bytes e.0))
 
 passed_by : (o : Ordering) (a b : Option Data) → is_eq o ≡ false → match_ordering o a b a ≡ a
@@ -40,7 +40,7 @@ passed_by Less a b e = refl
 passed_by Equal a b e = absurd (true≢false e)
 passed_by Greater a b e = refl
 
-get_later : (k : List ℕ) (e : Entry) (es : List Entry) → same_name k (string_bytes e.0) ≡ false → get_member k (members_view (e ∷ es)) ≡ get_member k (members_view es)
+pub get_later : (k : List ℕ) (e : Entry) (es : List Entry) → same_name k (string_bytes e.0) ≡ false → get_member k (members_view (e ∷ es)) ≡ get_member k (members_view es)
 get_later k e es other = passed_by (slice_cmp nat_cmp k (string_bytes e.0)) _ _ (is_eq-slice_cmp k (string_bytes e.0) ∙ other)
 
 still_some : (o : Ordering) (m : Option Data) (d : Data) → is_some m ≡ true → is_some (match_ordering o m (Some d) m) ≡ true

@@ -1,15 +1,17 @@
 //! The items of a scene file, each from its table.
-ghost use Rattle.std.specs.Prelude.{◌≡◌, ◌⊎◌, true, false, ◌==◌, ◌++◌, [], ◌∷◌, IsTrue, Some, None, length, map, OnOk, IfOk, IfErr, MatchResult};
+ghost use Rattle.std.specs.Prelude.{◌≡◌, ◌⊎◌, true, false, ◌==◌, ◌++◌, [], ◌∷◌, IsTrue, Some, None, length, map, option_map, option_and_then, OnOk, IfOk, IfErr, MatchResult};
+ghost use Rattle.std.specs.Option.{option_copied, option_map_or};
+ghost use Rattle.toml.specs.Data.{as_str};
 ghost use Rattle.toml.specs.View.{view};
 ghost use Rattle.rail_base.specs.declared.refusals.Reason.TheVariants.{BadName, Range};
 ghost use Rattle.rail_track.specs.declared.section.NetFault.{NetFault};
 ghost use Rattle.rail_track.specs.declared.section.NetFault.TheVariants.{Refused, OutOfMemory};
-ghost use Rattle.rail_base.specs.Limits.{is_from_one};
+ghost use Rattle.rail_base.specs.Limits.{is_from_one, most, InputTime};
 ghost use Rattle.rail_track.specs.SectionRules.{joint_count};
 ghost use Rattle.rail_base.specs.FirstRefusals.{first_failing};
 ghost use Rattle.rail_track.specs.NetFaults.{Answers};
 ghost use Rattle.rail_scene.specs.declared.keys.TheConstants.{SECTION_KEYS, PORTAL_KEYS, SIGNAL_KEYS, BOARD_KEYS, TURN_KEYS, KIND_KEYS, TRAIN_KEYS};
-ghost use Rattle.rail_scene.specs.Fields.{name_in, name_at, number_at, kind_at, time_at, elements_at, are_names, names_in, is_path_count, is_overlap_count};
+ghost use Rattle.rail_scene.specs.Fields.{name_in, number_by, kind_named, time_up_to, elements_of, are_names, names_in, is_path_count, is_overlap_count};
 ghost use Rattle.rail_scene.specs.Entries.{section_of, portal_of, signal_of, board_of, turn_of, route_of, kind_of, train_of, steps_of, steps_from, steps_behind, spelled_names};
 ghost use Rattle.rail_scene.specs.Keys.{first_route_keys, route_keys};
 ghost use Rattle.rail_scene.specs.Values.{value_tests, tests_by, list_tests};
@@ -17,12 +19,14 @@ ghost use Rattle.rail_scene.specs.Scenes.{is_fit_kind, is_fit_train};
 ghost use Rattle.rail_scene.specs.declared.keys.Form.TheVariants as Form;
 ghost use Rattle.rail_scene.specs.declared.versions.Version.TheVariants as version;
 
-use crate::fields::{elements_at, kind_at, name_at, name_in, number_at, time_at};
+use crate::fields::{elements_at, elements_if_any, kind_in, name_in, number_by, time_in};
 use crate::keys::{
-    AHEAD, APPROACH, ARRIVING, ENTRY, FROM, JOINT, JOINTS, Key, LEAVING, NAME, OVERLAP, PATH,
-    PRIORITY, ROUTES, SECTION_KIND, SECTION_LENGTH, SETTING, SPEED, START, STOP, TO, TRAIN_KIND,
-    TRAIN_LENGTH, TURN_TIME, WATCHING,
+    APPROACH, BOARD_KEYS, BOARD_ORDER, FIRST_ROUTE_KEYS, FIRST_ROUTE_ORDER, KIND_KEYS, KIND_ORDER,
+    Key, OVERLAP, PORTAL_KEYS, PORTAL_ORDER, PRIORITY, SECTION_KEYS, SECTION_LENGTH, SECTION_ORDER,
+    SETTING, SIGNAL_KEYS, SIGNAL_ORDER, SPEED, START, STOP, TRAIN_KEYS, TRAIN_LENGTH, TRAIN_ORDER,
+    TURN_KEYS, TURN_ORDER, TURN_TIME, WATCHING,
 };
+use crate::members::values_of;
 use crate::scene::SceneTrain;
 use crate::versions::Version;
 use rail_base::limits::{ITINERARY_ROUTES, OVERLAP_SECTIONS, ROUTE_SECTIONS};
@@ -39,45 +43,52 @@ fn refused(reason: Reason, step: u32) -> NetFault
     NetFault::Refused { reason, step }
 }
 
-/// The name at key number `step`.
-pub(crate) fn read_name(table: &Value, key: Key, step: u32) -> Result<Name, NetFault>
-    ensures { MatchResult result (λ name. name_at key (view table.now) ≡ Some name)
-        (λ fault. (name_at key (view table.now) ≡ None) × (fault ≡ Refused BadName step)) }
+/// The name that the value at key number `step` is.
+fn read_name(value: Option<&Value>, step: u32) -> Result<Name, NetFault>
+    ensures { let read = option_and_then name_in (option_map view (option_copied value.entry)) in
+        MatchResult result (λ name. read ≡ Some name) (λ fault. (read ≡ None) × (fault ≡ Refused BadName step)) }
 {
-    match name_at(table, key) {
+    match name_if_any(value) {
         Some(name) => Ok(name),
         None => Err(refused(Reason::BadName, step)),
     }
 }
 
-/// The number at key number `step`.
-pub(crate) fn read_number(table: &Value, key: Key, step: u32) -> Result<u32, NetFault>
-    ensures { MatchResult result (λ number. number_at key (view table.now) ≡ Some number)
-        (λ fault. (number_at key (view table.now) ≡ None) × (fault ≡ Refused Range step)) }
+/// The name that a value is, where there is one.
+fn name_if_any(value: Option<&Value>) -> Option<Name>
+    ensures { result ≡ option_and_then name_in (option_map view (option_copied value.entry)) }
 {
-    match number_at(table, key) {
+    name_in(value?)
+}
+
+/// The number that the value at key number `step` is.
+pub(crate) fn read_number(value: Option<&Value>, key: Key, step: u32) -> Result<u32, NetFault>
+    ensures { let read = number_by key.form (option_map view (option_copied value.entry)) in
+        MatchResult result (λ number. read ≡ Some number) (λ fault. (read ≡ None) × (fault ≡ Refused Range step)) }
+{
+    match number_by(key.form, value) {
         Some(number) => Ok(number),
         None => Err(refused(Reason::Range, step)),
     }
 }
 
-/// The section kind at key number `step`.
-fn read_kind(table: &Value, key: Key, step: u32) -> Result<SectionKind, NetFault>
-    ensures { MatchResult result (λ kind. kind_at key (view table.now) ≡ Some kind)
-        (λ fault. (kind_at key (view table.now) ≡ None) × (fault ≡ Refused Range step)) }
+/// The section kind that the value at key number `step` names.
+fn read_kind(value: Option<&Value>, step: u32) -> Result<SectionKind, NetFault>
+    ensures { let read = option_and_then kind_named (option_and_then as_str (option_map view (option_copied value.entry))) in
+        MatchResult result (λ kind. read ≡ Some kind) (λ fault. (read ≡ None) × (fault ≡ Refused Range step)) }
 {
-    match kind_at(table, key) {
+    match kind_in(value) {
         Some(kind) => Ok(kind),
         None => Err(refused(Reason::Range, step)),
     }
 }
 
-/// The time at key number `step`.
-fn read_time(table: &Value, key: Key, step: u32) -> Result<Time, NetFault>
-    ensures { MatchResult result (λ time. time_at key (view table.now) ≡ Some time)
-        (λ fault. (time_at key (view table.now) ≡ None) × (fault ≡ Refused Range step)) }
+/// The time that the value at key number `step` spells.
+fn read_time(value: Option<&Value>, step: u32) -> Result<Time, NetFault>
+    ensures { let read = option_and_then (time_up_to (most InputTime)) (option_and_then as_str (option_map view (option_copied value.entry))) in
+        MatchResult result (λ time. read ≡ Some time) (λ fault. (read ≡ None) × (fault ≡ Refused Range step)) }
 {
-    match time_at(table, key) {
+    match time_in(value) {
         Some(time) => Ok(time),
         None => Err(refused(Reason::Range, step)),
     }
@@ -141,16 +152,18 @@ fn joint_count(kind: SectionKind) -> usize
 /// The joints of a section of the kind.
 fn read_joints(
     alloc: Global,
-    table: &Value,
+    value: Option<&Value>,
     kind: SectionKind,
     step: u32,
 ) -> Result<Vec<Name>, NetFault>
-    requires { kind_at SECTION_KIND (view table.now) ≡ Some kind }
-    ensures names { IfOk result (λ names. names.items ≡ spelled_names JOINTS (view table.now)) }
-    ensures accepted { OnOk result (first_failing (tests_by Form.Joints step JOINTS (view table.now)) ≡ None) }
-    ensures refused { IfErr result (Answers (first_failing (tests_by Form.Joints step JOINTS (view table.now)))) }
+    ensures names { let values = option_map_or elements_of (option_map view (option_copied value.entry)) [] in
+        IfOk result (λ names. names.items ≡ names_in values) }
+    ensures accepted { let values = option_map_or elements_of (option_map view (option_copied value.entry)) [] in
+        OnOk result (first_failing (list_tests step (length values == joint_count kind) values) ≡ None) }
+    ensures refused { let values = option_map_or elements_of (option_map view (option_copied value.entry)) [] in
+        IfErr result (Answers (first_failing (list_tests step (length values == joint_count kind) values))) }
 {
-    let values = elements_at(table, JOINTS);
+    let values = elements_if_any(value);
     read_list(alloc, values, values.len() == joint_count(kind), step)
 }
 
@@ -160,11 +173,12 @@ pub(crate) fn section(alloc: Global, table: &Value) -> Result<Section, NetFault>
     ensures spelled { IfOk result (λ section. section ≡ section_of (view table.now)) }
     ensures refused { IfErr result (Answers (first_failing (value_tests 1 SECTION_KEYS (view table.now)))) }
 {
-    let name = read_name(table, NAME, 1)?;
-    let kind = read_kind(table, SECTION_KIND, 2)?;
-    let length = read_number(table, SECTION_LENGTH, 3)?;
-    let speed = read_number(table, SPEED, 4)?;
-    let joints = read_joints(alloc, table, kind, 5)?;
+    let [name, kind, length, speed, joints, ..] = values_of(table, &SECTION_KEYS, &SECTION_ORDER);
+    let name = read_name(name, 1)?;
+    let kind = read_kind(kind, 2)?;
+    let length = read_number(length, SECTION_LENGTH, 3)?;
+    let speed = read_number(speed, SPEED, 4)?;
+    let joints = read_joints(alloc, joints, kind, 5)?;
     Ok(Section {
         name,
         kind,
@@ -180,14 +194,19 @@ pub(crate) fn portal(table: &Value) -> Result<Post, NetFault>
     ensures spelled { IfOk result (λ post. post ≡ portal_of (view table.now)) }
     ensures refused { IfErr result (Answers (first_failing (value_tests 1 PORTAL_KEYS (view table.now)))) }
 {
+    let [name, joint, setting, watching, approach, ..] = values_of(
+        table,
+        &PORTAL_KEYS,
+        &PORTAL_ORDER,
+    );
     Ok(Post {
-        name: read_name(table, NAME, 1)?,
+        name: read_name(name, 1)?,
         role: Role::Portal,
-        joint: read_name(table, JOINT, 2)?,
+        joint: read_name(joint, 2)?,
         ahead: None,
-        setting: read_number(table, SETTING, 3)?,
-        watching: read_number(table, WATCHING, 4)?,
-        approach: read_number(table, APPROACH, 5)?,
+        setting: read_number(setting, SETTING, 3)?,
+        watching: read_number(watching, WATCHING, 4)?,
+        approach: read_number(approach, APPROACH, 5)?,
     })
 }
 
@@ -197,14 +216,19 @@ pub(crate) fn signal(table: &Value) -> Result<Post, NetFault>
     ensures spelled { IfOk result (λ post. post ≡ signal_of (view table.now)) }
     ensures refused { IfErr result (Answers (first_failing (value_tests 1 SIGNAL_KEYS (view table.now)))) }
 {
+    let [name, joint, ahead, setting, watching, approach] = values_of(
+        table,
+        &SIGNAL_KEYS,
+        &SIGNAL_ORDER,
+    );
     Ok(Post {
-        name: read_name(table, NAME, 1)?,
+        name: read_name(name, 1)?,
         role: Role::Signal,
-        joint: read_name(table, JOINT, 2)?,
-        ahead: Some(read_name(table, AHEAD, 3)?),
-        setting: read_number(table, SETTING, 4)?,
-        watching: read_number(table, WATCHING, 5)?,
-        approach: read_number(table, APPROACH, 6)?,
+        joint: read_name(joint, 2)?,
+        ahead: Some(read_name(ahead, 3)?),
+        setting: read_number(setting, SETTING, 4)?,
+        watching: read_number(watching, WATCHING, 5)?,
+        approach: read_number(approach, APPROACH, 6)?,
     })
 }
 
@@ -214,10 +238,11 @@ pub(crate) fn board(table: &Value) -> Result<Post, NetFault>
     ensures spelled { IfOk result (λ post. post ≡ board_of (view table.now)) }
     ensures refused { IfErr result (Answers (first_failing (value_tests 1 BOARD_KEYS (view table.now)))) }
 {
+    let [name, joint, ..] = values_of(table, &BOARD_KEYS, &BOARD_ORDER);
     Ok(Post {
-        name: read_name(table, NAME, 1)?,
+        name: read_name(name, 1)?,
         role: Role::Board,
-        joint: read_name(table, JOINT, 2)?,
+        joint: read_name(joint, 2)?,
         ahead: None,
         setting: 0,
         watching: 0,
@@ -231,10 +256,11 @@ pub(crate) fn turn(table: &Value) -> Result<Turn, NetFault>
     ensures spelled { IfOk result (λ turn. turn ≡ turn_of (view table.now)) }
     ensures refused { IfErr result (Answers (first_failing (value_tests 1 TURN_KEYS (view table.now)))) }
 {
+    let [arriving, leaving, time, ..] = values_of(table, &TURN_KEYS, &TURN_ORDER);
     Ok(Turn {
-        arriving: read_name(table, ARRIVING, 1)?,
-        leaving: read_name(table, LEAVING, 2)?,
-        time: read_number(table, TURN_TIME, 3)?,
+        arriving: read_name(arriving, 1)?,
+        leaving: read_name(leaving, 2)?,
+        time: read_number(time, TURN_TIME, 3)?,
     })
 }
 
@@ -262,10 +288,11 @@ fn route_without_overlap(alloc: Global, table: &Value) -> Result<Route, NetFault
     ensures spelled { IfOk result (λ route. route ≡ route_of version.One (view table.now)) }
     ensures refused { IfErr result (Answers (first_failing (value_tests 1 first_route_keys (view table.now)))) }
 {
-    let name = read_name(table, NAME, 1)?;
-    let from = read_name(table, FROM, 2)?;
-    let to = read_name(table, TO, 3)?;
-    let path = read_path(alloc, table, 4)?;
+    let [name, from, to, path, ..] = values_of(table, &FIRST_ROUTE_KEYS, &FIRST_ROUTE_ORDER);
+    let name = read_name(name, 1)?;
+    let from = read_name(from, 2)?;
+    let to = read_name(to, 3)?;
+    let path = read_path(alloc, path, 4)?;
     Ok(Route {
         name,
         from,
@@ -293,12 +320,15 @@ fn is_overlap_count(names: usize) -> bool
 }
 
 /// The joints and sections of a path in turn.
-fn read_path(alloc: Global, table: &Value, step: u32) -> Result<Vec<Name>, NetFault>
-    ensures names { IfOk result (λ names. names.items ≡ spelled_names PATH (view table.now)) }
-    ensures accepted { OnOk result (first_failing (tests_by Form.Path step PATH (view table.now)) ≡ None) }
-    ensures refused { IfErr result (Answers (first_failing (tests_by Form.Path step PATH (view table.now)))) }
+fn read_path(alloc: Global, value: Option<&Value>, step: u32) -> Result<Vec<Name>, NetFault>
+    ensures names { let values = option_map_or elements_of (option_map view (option_copied value.entry)) [] in
+        IfOk result (λ names. names.items ≡ names_in values) }
+    ensures accepted { let values = option_map_or elements_of (option_map view (option_copied value.entry)) [] in
+        OnOk result (first_failing (list_tests step (is_path_count (length values)) values) ≡ None) }
+    ensures refused { let values = option_map_or elements_of (option_map view (option_copied value.entry)) [] in
+        IfErr result (Answers (first_failing (list_tests step (is_path_count (length values)) values))) }
 {
-    let values = elements_at(table, PATH);
+    let values = elements_if_any(value);
     read_list(alloc, values, is_path_count(values.len()), step)
 }
 
@@ -360,23 +390,27 @@ pub(crate) fn train_kind(table: &Value) -> Result<TrainKind, NetFault>
     ensures fit { IfOk result (λ kind. IsTrue (is_fit_kind kind)) }
     ensures refused { IfErr result (Answers (first_failing (value_tests 1 KIND_KEYS (view table.now)))) }
 {
+    let [name, length, speed, start, stop, ..] = values_of(table, &KIND_KEYS, &KIND_ORDER);
     Ok(TrainKind {
-        name: read_name(table, NAME, 1)?,
-        length: read_number(table, TRAIN_LENGTH, 2)?,
-        speed: read_number(table, SPEED, 3)?,
-        start: read_number(table, START, 4)?,
-        stop: read_number(table, STOP, 5)?,
+        name: read_name(name, 1)?,
+        length: read_number(length, TRAIN_LENGTH, 2)?,
+        speed: read_number(speed, SPEED, 3)?,
+        start: read_number(start, START, 4)?,
+        stop: read_number(stop, STOP, 5)?,
     })
 }
 
 /// The names of the routes of an itinerary.
-fn read_itinerary(alloc: Global, table: &Value, step: u32) -> Result<Vec<Name>, NetFault>
-    ensures names { IfOk result (λ names. names.items ≡ spelled_names ROUTES (view table.now)) }
+fn read_itinerary(alloc: Global, value: Option<&Value>, step: u32) -> Result<Vec<Name>, NetFault>
+    ensures names { let values = option_map_or elements_of (option_map view (option_copied value.entry)) [] in
+        IfOk result (λ names. names.items ≡ names_in values) }
     ensures count { IfOk result (λ names. is_from_one ITINERARY_ROUTES (length names.items) ≡ true) }
-    ensures accepted { OnOk result (first_failing (tests_by Form.Itinerary step ROUTES (view table.now)) ≡ None) }
-    ensures refused { IfErr result (Answers (first_failing (tests_by Form.Itinerary step ROUTES (view table.now)))) }
+    ensures accepted { let values = option_map_or elements_of (option_map view (option_copied value.entry)) [] in
+        OnOk result (first_failing (list_tests step (is_from_one ITINERARY_ROUTES (length values)) values) ≡ None) }
+    ensures refused { let values = option_map_or elements_of (option_map view (option_copied value.entry)) [] in
+        IfErr result (Answers (first_failing (list_tests step (is_from_one ITINERARY_ROUTES (length values)) values))) }
 {
-    let values = elements_at(table, ROUTES);
+    let values = elements_if_any(value);
     let is_count = !values.is_empty() && values.len() <= ITINERARY_ROUTES;
     read_list(alloc, values, is_count, step)
 }
@@ -388,11 +422,12 @@ pub(crate) fn train(alloc: Global, table: &Value) -> Result<SceneTrain, NetFault
     ensures fit { IfOk result (λ train. IsTrue (is_fit_train train)) }
     ensures refused { IfErr result (Answers (first_failing (value_tests 1 TRAIN_KEYS (view table.now)))) }
 {
-    let name = read_name(table, NAME, 1)?;
-    let kind = read_name(table, TRAIN_KIND, 2)?;
-    let entry = read_time(table, ENTRY, 3)?;
-    let priority = read_number(table, PRIORITY, 4)?;
-    let routes = read_itinerary(alloc, table, 5)?;
+    let [name, kind, entry, priority, routes, ..] = values_of(table, &TRAIN_KEYS, &TRAIN_ORDER);
+    let name = read_name(name, 1)?;
+    let kind = read_name(kind, 2)?;
+    let entry = read_time(entry, 3)?;
+    let priority = read_number(priority, PRIORITY, 4)?;
+    let routes = read_itinerary(alloc, routes, 5)?;
     Ok(SceneTrain {
         name,
         kind,

@@ -1,9 +1,9 @@
 //! Readers of the keys of a table. They are total: a table that is not of its form has values too.
-ghost use Rattle.std.specs.Prelude.{◌≡◌, ◌<◌, ◌==◌, ◌&&◌, ◌/◌, Some, None, Option, option_map, option_and_then, map, not, if◌then◌else◌};
-ghost use Rattle.std.specs.Option.{option_copied};
+ghost use Rattle.std.specs.Prelude.{◌≡◌, ◌<◌, ◌==◌, ◌&&◌, ◌/◌, [], Some, None, Option, option_map, option_and_then, map, not, if◌then◌else◌};
+ghost use Rattle.std.specs.Option.{option_copied, option_map_or};
 ghost use Rattle.toml.specs.Data.{as_str, as_integer};
 ghost use Rattle.toml.specs.View.{view};
-ghost use Rattle.rail_scene.specs.Fields.{value_at, text_at, name_in, name_at, policy_at, counted, bounded, number_at, version_of, kind_named, kind_at, time_up_to, time_at, elements_of, elements_at};
+ghost use Rattle.rail_scene.specs.Fields.{value_at, name_in, name_at, policy_at, counted, bounded, number_by, number_at, version_of, kind_named, time_up_to, elements_of, elements_at};
 
 use crate::keys::{Bounds, Form, Key, VERSION};
 use crate::versions::Version;
@@ -20,13 +20,6 @@ pub(crate) fn value_at(table: &Value, key: Key) -> Option<&Value>
     ensures { option_map (λ v. view v.now) result ≡ value_at key (view table.now) }
 {
     table.get(key.name.text())
-}
-
-/// The string at a key.
-pub(crate) fn text_at(table: &Value, key: Key) -> Option<&str>
-    ensures { option_copied result ≡ text_at key (view table.now) }
-{
-    value_at(table, key)?.as_str()
 }
 
 /// The name that a value is.
@@ -57,10 +50,17 @@ pub(crate) fn policy_at(table: &Value, key: Key) -> Option<Name>
 pub(crate) fn number_at(table: &Value, key: Key) -> Option<u32>
     ensures { result ≡ number_at key (view table.now) }
 {
-    let Form::Whole(bounds) = key.form else {
+    number_by(key.form, value_at(table, key))
+}
+
+/// The number that a value is, where it is in the range of the form: the default where there is no value.
+pub(crate) fn number_by(form: Form, value: Option<&Value>) -> Option<u32>
+    ensures { result ≡ number_by form (option_map view (option_copied value.entry)) }
+{
+    let Form::Whole(bounds) = form else {
         return None;
     };
-    match value_at(table, key) {
+    match value {
         Some(value) => bounded(bounds, counted(value)?),
         None => bounded(bounds, u64::from(bounds.default)),
     }
@@ -99,11 +99,11 @@ pub(crate) fn version_of(root: &Value) -> Version
     }
 }
 
-/// The section kind at a key.
-pub(crate) fn kind_at(table: &Value, key: Key) -> Option<SectionKind>
-    ensures { result ≡ kind_at key (view table.now) }
+/// The section kind that a value names.
+pub(crate) fn kind_in(value: Option<&Value>) -> Option<SectionKind>
+    ensures { result ≡ option_and_then kind_named (option_and_then as_str (option_map view (option_copied value.entry))) }
 {
-    kind_named(text_at(table, key)?)
+    kind_named(value?.as_str()?)
 }
 
 /// The section kind that a word stands for.
@@ -123,11 +123,11 @@ fn kind_named(word: &str) -> Option<SectionKind>
     }
 }
 
-/// The time at a key, where it is none past the greatest of an input.
-pub(crate) fn time_at(table: &Value, key: Key) -> Option<Time>
-    ensures { result ≡ time_at key (view table.now) }
+/// The time that a value spells, where it is none past the greatest of an input.
+pub(crate) fn time_in(value: Option<&Value>) -> Option<Time>
+    ensures { result ≡ option_and_then (time_up_to INPUT_TIME) (option_and_then as_str (option_map view (option_copied value.entry))) }
 {
-    entry_time(text_at(table, key)?)
+    entry_time(value?.as_str()?)
 }
 
 /// The time that a text spells, where it is none past the greatest of an input.
@@ -153,12 +153,19 @@ pub(crate) fn elements_of(value: &Value) -> &[Value]
     }
 }
 
+/// The elements of a value, where there is one.
+pub(crate) fn elements_if_any(value: Option<&Value>) -> &[Value]
+    ensures { map view result.now ≡ option_map_or elements_of (option_map view (option_copied value.entry)) [] }
+{
+    match value {
+        Some(value) => elements_of(value),
+        None => &[],
+    }
+}
+
 /// The elements at a key.
 pub(crate) fn elements_at(table: &Value, key: Key) -> &[Value]
     ensures { map view result.now ≡ elements_at key (view table.now) }
 {
-    match value_at(table, key) {
-        Some(value) => elements_of(value),
-        None => &[],
-    }
+    elements_if_any(value_at(table, key))
 }

@@ -471,7 +471,7 @@ pub(crate) const JOINTS: Key = Key {
 pub(crate) const SECTION_KEYS: [Key; 5] = [NAME, SECTION_KIND, SECTION_LENGTH, SPEED, JOINTS];
 
 /// The indices of these keys as their texts are ordered.
-const SECTION_ORDER: [usize; 5] = [4, 1, 2, 0, 3];
+pub(crate) const SECTION_ORDER: [usize; 5] = [4, 1, 2, 0, 3];
 
 pub(crate) const JOINT: Key = Key {
     name: KeyName::Joint,
@@ -513,7 +513,7 @@ pub(crate) const APPROACH: Key = Key {
 pub(crate) const PORTAL_KEYS: [Key; 5] = [NAME, JOINT, SETTING, WATCHING, APPROACH];
 
 /// The indices of these keys as their texts are ordered.
-const PORTAL_ORDER: [usize; 5] = [4, 1, 0, 2, 3];
+pub(crate) const PORTAL_ORDER: [usize; 5] = [4, 1, 0, 2, 3];
 
 pub(crate) const AHEAD: Key = Key {
     name: KeyName::Ahead,
@@ -525,13 +525,13 @@ pub(crate) const AHEAD: Key = Key {
 pub(crate) const SIGNAL_KEYS: [Key; 6] = [NAME, JOINT, AHEAD, SETTING, WATCHING, APPROACH];
 
 /// The indices of these keys as their texts are ordered.
-const SIGNAL_ORDER: [usize; 6] = [2, 5, 1, 0, 3, 4];
+pub(crate) const SIGNAL_ORDER: [usize; 6] = [2, 5, 1, 0, 3, 4];
 
 /// The keys of a board.
 pub(crate) const BOARD_KEYS: [Key; 2] = [NAME, JOINT];
 
 /// The indices of these keys as their texts are ordered.
-const BOARD_ORDER: [usize; 2] = [1, 0];
+pub(crate) const BOARD_ORDER: [usize; 2] = [1, 0];
 
 pub(crate) const ARRIVING: Key = Key {
     name: KeyName::Arriving,
@@ -559,7 +559,7 @@ pub(crate) const TURN_TIME: Key = Key {
 pub(crate) const TURN_KEYS: [Key; 3] = [ARRIVING, LEAVING, TURN_TIME];
 
 /// The indices of these keys as their texts are ordered.
-const TURN_ORDER: [usize; 3] = [0, 1, 2];
+pub(crate) const TURN_ORDER: [usize; 3] = [0, 1, 2];
 
 pub(crate) const FROM: Key = Key {
     name: KeyName::From,
@@ -586,16 +586,16 @@ pub(crate) const OVERLAP: Key = Key {
 };
 
 /// The keys of a route in the first version.
-const FIRST_ROUTE_KEYS: [Key; 4] = [NAME, FROM, TO, PATH];
+pub(crate) const FIRST_ROUTE_KEYS: [Key; 4] = [NAME, FROM, TO, PATH];
 
 /// The indices of these keys as their texts are ordered.
-const FIRST_ROUTE_ORDER: [usize; 4] = [1, 0, 3, 2];
+pub(crate) const FIRST_ROUTE_ORDER: [usize; 4] = [1, 0, 3, 2];
 
 /// The keys of a route in the second version.
 const ROUTE_KEYS: [Key; 5] = [NAME, FROM, TO, PATH, OVERLAP];
 
 /// The indices of these keys as their texts are ordered.
-const ROUTE_ORDER: [usize; 5] = [1, 0, 4, 3, 2];
+pub(crate) const ROUTE_ORDER: [usize; 5] = [1, 0, 4, 3, 2];
 
 pub(crate) const TRAIN_LENGTH: Key = Key {
     name: KeyName::TrainLength,
@@ -631,7 +631,7 @@ pub(crate) const STOP: Key = Key {
 pub(crate) const KIND_KEYS: [Key; 5] = [NAME, TRAIN_LENGTH, SPEED, START, STOP];
 
 /// The indices of these keys as their texts are ordered.
-const KIND_ORDER: [usize; 5] = [1, 0, 2, 3, 4];
+pub(crate) const KIND_ORDER: [usize; 5] = [1, 0, 2, 3, 4];
 
 pub(crate) const TRAIN_KIND: Key = Key {
     name: KeyName::TrainKind,
@@ -665,4 +665,4 @@ pub(crate) const ROUTES: Key = Key {
 pub(crate) const TRAIN_KEYS: [Key; 5] = [NAME, TRAIN_KIND, ENTRY, PRIORITY, ROUTES];
 
 /// The indices of these keys as their texts are ordered.
-const TRAIN_ORDER: [usize; 5] = [2, 1, 0, 3, 4];
+pub(crate) const TRAIN_ORDER: [usize; 5] = [2, 1, 0, 3, 4];

@@ -16,7 +16,7 @@ ghost use Rattle.rail_scene.specs.SpelledScenes.{spelled_scene, scene_of, root_o
 
 use crate::draft::Draft;
 use crate::entries::read_number;
-use crate::fields::{policy_at, version_of};
+use crate::fields::{policy_at, value_at, version_of};
 use crate::forms::check_forms;
 use crate::keys::{DEPTH, LIST_PARTS, OVERLAP_TIME, POLICY, RELEASE, VERSION};
 use crate::places::located;
@@ -169,7 +169,7 @@ fn read_header(root: &Value, version: Version) -> Result<Header, NetFault>
         Version::One => read_first_header(root),
         Version::Two => {
             let mut header = read_first_header(root)?;
-            header.overlap_time = read_number(root, OVERLAP_TIME, 13)?;
+            header.overlap_time = read_number(value_at(root, OVERLAP_TIME), OVERLAP_TIME, 13)?;
             Ok(header)
         }
     }
@@ -186,9 +186,9 @@ fn read_first_header(root: &Value) -> Result<Header, NetFault>
     ensures depth_fits { IfOk result (λ header. header.depth ≤ limit.DEPTH) }
     ensures refused { IfErr result (Answers (first_failing (value_tests 1 first_root_keys (view root.now)))) }
 {
-    let _number = read_number(root, VERSION, 1)?;
-    let release = read_number(root, RELEASE, 2)?;
-    let depth = read_number(root, DEPTH, 3)?;
+    let _number = read_number(value_at(root, VERSION), VERSION, 1)?;
+    let release = read_number(value_at(root, RELEASE), RELEASE, 2)?;
+    let depth = read_number(value_at(root, DEPTH), DEPTH, 3)?;
     match policy_at(root, POLICY) {
         Some(policy) => Ok(Header {
             release,
