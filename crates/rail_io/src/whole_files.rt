@@ -13,7 +13,7 @@ use thiserror::Error;
 const FIRST_ROOM: usize = 131_072;
 
 /// How many bytes a read of a file has room for.
-const PIECE: usize = 2000;
+const PIECE: usize = 16_384;
 
 /// Why a file was not read.
 #[derive(Clone, Copy, Debug, PartialEq, Eq, Error)]
