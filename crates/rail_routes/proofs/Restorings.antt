@@ -54,7 +54,7 @@ module _ {X : Type 0} (p : X → Bool) where
   without_last xs x none is = ap (without p) (sym (insert_end xs x)) ∙ without-insert p xs (length xs) x none is
 
   -- where one list has an item, and no two of the lists have, the other list has none
-  none_else : (xs ys : List X) (more : ℕ) (x : X) → find p xs ≡ Some x → count_by p xs + count_by p ys + more ≤ 1 → find p ys ≡ None
+  pub none_else : (xs ys : List X) (more : ℕ) (x : X) → find p xs ≡ Some x → count_by p xs + count_by p ys + more ≤ 1 → find p ys ≡ None
   none_else xs ys more x found few =
       let some : nat_lt 0 (count_by p xs) ≡ true = sym (list_any-count_by p xs) ∙ any_from_found p xs x found in
       let none : nat_lt 0 (count_by p ys) ≡ false = grind (arith, nat_tests) in

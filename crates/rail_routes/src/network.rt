@@ -146,12 +146,12 @@ impl Network {
     pub fn post(&self, name: Name) -> Option<Post>
         ensures { result ≡ post_named name self.now }
     {
-        // Most posts are signals, so that few names are looked up three times.
-        if let Some(portal) = self.portals.get(name) {
-            return Some(portal);
-        }
+        // The posts share one name space, and most are signals, so that few names are looked up more than once.
         if let Some(signal) = self.signals.get(name) {
             return Some(signal);
+        }
+        if let Some(portal) = self.portals.get(name) {
+            return Some(portal);
         }
         self.boards.get(name)
     }
