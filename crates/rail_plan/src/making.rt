@@ -215,7 +215,7 @@ fn section_names(alloc: Global, rows: &[SectionRow]) -> Result<IndexSet<Name>, A
     requires { IsTrue (are_distinct_names (map (λ (row : SectionRow). row.name) rows.now)) }
     ensures { IfOk result (λ names. names.keys ≡ map (λ (row : SectionRow). row.name) rows.now) }
 {
-    let mut names = IndexSet::new(alloc);
+    let mut names = IndexSet::with_capacity(alloc, rows.len())?;
     for row in rows {
         names.insert(row.name)?;
     }
@@ -227,7 +227,7 @@ fn train_names(alloc: Global, rows: &[TrainRow]) -> Result<IndexSet<Name>, Alloc
     requires { IsTrue (are_distinct_names (map (λ (row : TrainRow). row.name) rows.now)) }
     ensures { IfOk result (λ names. names.keys ≡ map (λ (row : TrainRow). row.name) rows.now) }
 {
-    let mut names = IndexSet::new(alloc);
+    let mut names = IndexSet::with_capacity(alloc, rows.len())?;
     for row in rows {
         names.insert(row.name)?;
     }
