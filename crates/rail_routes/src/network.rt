@@ -10,7 +10,7 @@ use rail_base::{Name, Reason};
 use rail_track::{
     ClosedJoints, NetFault, Roll, Section, Tally, Track, count_each, discount_each, times,
 };
-use std::alloc::Global;
+use std::alloc::{AllocError, Global};
 use std::marker::Model;
 
 mod accepting;
@@ -182,6 +182,34 @@ impl Network {
         ensures { option_copied result ≡ find (is_route name) self.now.routes }
     {
         self.routes.get(&name)
+    }
+
+    /// Makes room for so many more sections at once, and for as many that routes run over. It fails only for want of memory.
+    pub fn reserve_sections(&mut self, sections: usize) -> Result<(), AllocError>
+        ensures { self.new ≡ self.old }
+    {
+        self.claimed.reserve(sections)?;
+        self.track.reserve(sections)
+    }
+
+    /// Makes room for so many more posts of the role at once, and for as many at which routes begin or end. It fails only for
+    /// want of memory.
+    pub fn reserve_posts(&mut self, role: Role, posts: usize) -> Result<(), AllocError>
+        ensures { self.new ≡ self.old }
+    {
+        self.routed.reserve(posts)?;
+        match role {
+            Role::Portal => self.portals.reserve(posts),
+            Role::Signal => self.signals.reserve(posts),
+            Role::Board => self.boards.reserve(posts),
+        }
+    }
+
+    /// Makes room for so many more routes at once. It fails only for want of memory.
+    pub fn reserve_routes(&mut self, routes: usize) -> Result<(), AllocError>
+        ensures { self.new ≡ self.old }
+    {
+        self.routes.reserve(routes)
     }
 
     /// Adds a section last. It is refused as by a track, and as crowded also where a joint carries a

@@ -97,6 +97,15 @@ impl PostList {
         times(&self.guards, &(joint, ahead)) > 0
     }
 
+    /// Makes room for so many more posts at once. It fails only for want of memory.
+    pub(crate) fn reserve(&mut self, posts: usize) -> Result<(), AllocError>
+        ensures { self.new ≡ self.old }
+    {
+        self.at.reserve(posts)?;
+        self.guards.reserve(posts)?;
+        self.posts.reserve(posts)
+    }
+
     /// Adds a post last. It fails only for want of memory.
     pub(crate) fn push(&mut self, post: Post) -> Result<(), AllocError>
         requires fresh { list_any (is_post post.name) self.old ≡ false }

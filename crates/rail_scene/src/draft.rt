@@ -14,9 +14,9 @@ use crate::rosters::{Kinds, Trains};
 use crate::versions::Version;
 use rail_base::limits::{KINDS, POSTS, ROUTES, SECTIONS, TRAINS, TURNS};
 use rail_base::{Fault, Reason};
-use rail_routes::Network;
+use rail_routes::{Network, Role};
 use rail_track::NetFault;
-use std::alloc::Global;
+use std::alloc::{AllocError, Global};
 use std::marker::Model;
 use toml::Value;
 
@@ -86,6 +86,7 @@ impl Draft {
         ensures added { OnOk result (self.new ≡ with_items part version (map view tables.now) self.old) }
         ensures refused { IfErr result (AnswersFirst (first_failing (list_values part version 1 self.old (map view tables.now)))) }
     {
+        self.reserve(part, tables.len())?;
         for (index, table) in tables.iter().enumerate() {
             match self.add(alloc, part, version, table) {
                 Ok(()) => {}
@@ -93,6 +94,21 @@ impl Draft {
             }
         }
         Ok(())
+    }
+
+    /// Makes room at once for so many items of a list, as far as it may have them.
+    fn reserve(&mut self, part: ListPart, count: usize) -> Result<(), AllocError>
+        ensures { self.new ≡ self.old }
+    {
+        let network = &mut self.network;
+        match part {
+            ListPart::Section => network.reserve_sections(count.min(SECTIONS)),
+            ListPart::Portal => network.reserve_posts(Role::Portal, count.min(POSTS)),
+            ListPart::Signal => network.reserve_posts(Role::Signal, count.min(POSTS)),
+            ListPart::Board => network.reserve_posts(Role::Board, count.min(POSTS)),
+            ListPart::Route => network.reserve_routes(count.min(ROUTES)),
+            ListPart::Turn | ListPart::Kind | ListPart::Train => Ok(()),
+        }
     }
 
     /// Adds the item of a table last in its list. It is refused as too many, then for its own values

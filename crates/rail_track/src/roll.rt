@@ -93,6 +93,14 @@ impl<K: Eq + Hash + Drop, T: Keyed<K> + Drop> Roll<K, T> {
         self.keys.get_index_of(key)
     }
 
+    /// Makes room for so many more items at once. It fails only for want of memory.
+    pub fn reserve(&mut self, additional: usize) -> Result<(), AllocError>
+        ensures { self.new ≡ self.old }
+    {
+        self.items.reserve(additional)?;
+        self.keys.reserve(additional)
+    }
+
     /// Adds an item last. It fails only for want of memory, and then drops the item.
     pub fn push(&mut self, item: T) -> Result<(), AllocError>
         requires { list_any (λ other. K.eq (T.key_of item) (T.key_of other)) self.old ≡ false }

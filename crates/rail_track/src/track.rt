@@ -10,7 +10,7 @@ use crate::tally::{Tally, count_each, discount_each, times};
 use indexmap::IndexMap;
 use rail_base::limits::{SECTION_LENGTH, SECTIONS, SPEED};
 use rail_base::{Name, Reason};
-use std::alloc::{AllocFailed, Global};
+use std::alloc::{AllocError, AllocFailed, Global};
 use std::marker::Model;
 
 /// Sections by name, in the order in which they were added. Contracts see it as their list.
@@ -123,6 +123,15 @@ impl Track {
             Some(section) => has_joint(section, joint),
             None => false,
         }
+    }
+
+    /// Makes room at once for so many more sections, and for as many joints, since most joints are in two sections. It fails
+    /// only for want of memory.
+    pub fn reserve(&mut self, sections: usize) -> Result<(), AllocError>
+        ensures { self.new ≡ self.old }
+    {
+        self.uses.reserve(sections)?;
+        self.sections.reserve(sections)
     }
 
     /// Adds a section last.

@@ -16,7 +16,8 @@ returns-in-Err-clause-refused c =
     let fault = c.in-Err.fault in
     let stops = value_stop part c.args.version c.loop-index.self c.args.tables.now i c.index-tables-index.result c.loop-index-test.true c.index-tables-index.is fault c.in-Err.ensures.refused in
     let placed : c.located.result ≡ fault_at (part_of part) (item_number (i + 1)) fault = c.located.ensures ∙ (λ k. fault_at (c.part.ensures k) (c.item_number.ensures k) fault) in
-    rw placed (subst (λ first. AnswersFirst first (fault_at (part_of part) (item_number (i + 1)) fault)) c.loop-index.invariant.0 stops)
+    let same = c.loop-index.invariant.0 ∙ ap (λ (draft : SceneItems). first_failing (list_values part c.args.version 1 draft (map view c.args.tables.now))) c.reserve.ensures in
+    rw placed (subst (λ first. AnswersFirst first (fault_at (part_of part) (item_number (i + 1)) fault)) same stops)
 
 pub loop-index-preserved : goal.loop-index-preserved
 loop-index-preserved c =
