@@ -1,4 +1,6 @@
 ghost use Rattle.std.specs.Prelude.{◌≡◌, ℕ, ◌<◌, length, get_or, set, replicate, IfOk, IsSome, Some, None};
+ghost use Rattle.std.specs.List.{All};
+ghost use Rattle.rail_release.specs.FirstHeld.{first_held};
 
 use rail_base::{OutOfMemory, SectionNo, TrainNo, copies};
 use std::alloc::Global;
@@ -42,6 +44,35 @@ impl Holders {
         ensures { result ≡ get_or self.now section None }
     {
         self.trains[usize::from(section.0)]
+    }
+
+    /// The first of these sections that somebody holds, and its holder. Four are looked at in one go.
+    pub fn first_held(&self, sections: &[SectionNo]) -> Option<(SectionNo, TrainNo)>
+        requires { All (λ x. x < length self.now) sections.now }
+        ensures { result ≡ first_held self.now sections.now }
+    {
+        let mut left = sections;
+        while let Some((four, behind)) = left.split_first_chunk::<4>() {
+            let held = self.first_held_of(four);
+            if held.is_some() {
+                return held;
+            }
+            left = behind;
+        }
+        self.first_held_of(left)
+    }
+
+    /// The first of these sections that somebody holds, and its holder, looked at one by one.
+    fn first_held_of(&self, sections: &[SectionNo]) -> Option<(SectionNo, TrainNo)>
+        requires { All (λ x. x < length self.now) sections.now }
+        ensures { result ≡ first_held self.now sections.now }
+    {
+        for section in sections {
+            if let Some(holder) = self.holder(*section) {
+                return Some((*section, holder));
+            }
+        }
+        None
     }
 
     /// The train holds the section from now on. Nobody held it before.

@@ -25,6 +25,7 @@ mod Lines
 mod Changed
 mod Freed
 mod Barring
+mod FirstHeld
 mod FreeEvents
 mod OwnOverlap
 mod OverlapLines

@@ -116,8 +116,7 @@ impl TrainState {
         if self.is_untried() {
             has_few_moves(plant, train);
             let sections = claimed_sections(plant, train, self.place + 1);
-            let own = overlap_behind(plant, train, self.place);
-            self.known = bar_of(orders, holders, train, own, sections);
+            self.known = bar_of(plant, orders, holders, train, self.place, sections);
             self.at_first = self.is_blocked_at_first(sections);
         }
     }
@@ -336,17 +335,20 @@ pub fn overlap_behind(plant: &Plant, train: TrainNo, place: u16) -> &[SectionNo]
     plant.move_row(train, place).overlap.as_slice()
 }
 
-/// What bars a move over these sections of the train whose own overlap this is: that the train is stopped, else the
+/// What bars a move over these sections of the train, which has made so many moves: that the train is stopped, else the
 /// first closed section, else the first one whose holder bars the train.
-pub fn bar_of(
+fn bar_of(
+    plant: &Plant,
     orders: &ToldOrders,
     holders: &Holders,
     train: TrainNo,
-    own: &[SectionNo],
+    place: u16,
     sections: &[SectionNo],
 ) -> Option<Cause>
-    requires { All (λ x. x < length holders.now) sections.now }
-    ensures { result ≡ bar_by orders.now holders.now train own.now sections.now }
+    requires train { train < trains plant.now }
+    requires last { place ≤ moves plant.now train }
+    requires known { All (λ x. x < length holders.now) sections.now }
+    ensures { result ≡ bar_by orders.now holders.now train (own_overlap plant.now train place) sections.now }
 {
     let stopped = orders.stop_cause(train);
     if stopped.is_some() {
@@ -356,7 +358,34 @@ pub fn bar_of(
     if closed.is_some() {
         return closed;
     }
-    held_cause(holders, train, own, sections)
+    first_cause(plant, holders, train, place, sections)
+}
+
+/// The cause that the first of these sections is whose holder bars the train, which has made so many moves. Mostly another
+/// train holds the first one that is held, whatever the train's own overlap is.
+#[tactic(auto, using(crate::proofs::FirstHeld::none_held, crate::proofs::FirstHeld::held_by_other))]
+fn first_cause(
+    plant: &Plant,
+    holders: &Holders,
+    train: TrainNo,
+    place: u16,
+    sections: &[SectionNo],
+) -> Option<Cause>
+    requires train { train < trains plant.now }
+    requires last { place ≤ moves plant.now train }
+    requires known { All (λ x. x < length holders.now) sections.now }
+    ensures { result ≡ held_cause holders.now train (own_overlap plant.now train place) sections.now }
+{
+    let (section, holder) = holders.first_held(sections)?;
+    if holder == train {
+        return held_cause(
+            holders,
+            train,
+            overlap_behind(plant, train, place),
+            sections,
+        );
+    }
+    Some(Cause::Blocked { section, holder })
 }
 
 /// The holder of the section, where it bars the train: a train isn't barred by its own overlap.
@@ -404,16 +433,15 @@ pub fn held_cause(
 
 /// Whether this section is the first of these that somebody holds. Then no section before it bars any train, whatever the
 /// train's own overlap is.
+#[tactic(auto, using(crate::proofs::FirstHeld::none_before_first))]
 fn is_first_held(holders: &Holders, section: SectionNo, sections: &[SectionNo]) -> bool
     requires { All (λ x. x < length holders.now) sections.now }
     ensures { result ≡ true → (t : ℕ) (own : List ℕ) → is_blocked_before holders.now t own section sections.now ≡ false }
 {
-    for other in sections {
-        if holders.holder(*other).is_some() {
-            return *other == section;
-        }
+    match holders.first_held(sections) {
+        Some((first, _)) => first == section,
+        None => false,
     }
-    false
 }
 
 /// Whether the holder of a section that stands before this one among these bars the train.
