@@ -19,7 +19,7 @@ use rail_place::{Moves, Places};
 #[derive(Clone, Copy, Debug)]
 enum Seen {
     /// So many of its entries were passed.
-    Passed(u16),
+    Passed(u8),
     /// It needs none of the sections any more.
     Idle,
 }
@@ -59,6 +59,7 @@ pub fn free_entries_before(
         let Seen::Passed(times) = passed[number] else {
             continue;
         };
+        let times = u16::from(times);
         let place = places.position(run.train) + times;
         if times == 0 && !does_need_from(moves, run.train, place, sections) {
             passed[number] = Seen::Idle;
@@ -67,12 +68,13 @@ pub fn free_entries_before(
         if does_need_one_of(moves, run.train, place, run.count, sections) {
             return None;
         }
-        passed[number] = Seen::Passed(times + run.count);
+        passed[number] = Seen::Passed((times + run.count) as u8);
     }
     Some(count)
 }
 
 /// Whether one of so many moves of the train, in turn from the one at this place on, needs one of the sections.
+#[inline(never)]
 fn does_need_one_of(
     moves: &Moves,
     train: TrainNo,
@@ -87,29 +89,7 @@ fn does_need_one_of(
     ensures { result ≡ any_below (λ m. not (are_apart sections.now ((moves_in moves.now).claim train (place + m)))) count }
 {
     for section in sections {
-        if does_claim_within(moves, train, place, count, *section) {
-            return true;
-        }
-    }
-    false
-}
-
-/// Whether one of so many moves of the train, in turn from the one at this place on, claims the section.
-fn does_claim_within(
-    moves: &Moves,
-    train: TrainNo,
-    place: u16,
-    count: u16,
-    section: SectionNo,
-) -> bool
-    requires train { train < length moves.now }
-    requires last { place + count ≤ (moves_in moves.now).moves train }
-    requires short { (moves_in moves.now).moves train ≤ ITINERARY_ROUTES }
-    requires section { section < SECTIONS }
-    ensures { result ≡ any_below (λ m. is_in section ((moves_in moves.now).claim train (place + m))) count }
-{
-    for step in 0..count {
-        if moves.claims(train, place + step + 1, section) {
+        if moves.claims_within(train, place, count, *section) {
             return true;
         }
     }

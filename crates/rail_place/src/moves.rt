@@ -266,6 +266,26 @@ impl Moves {
                 .any(|claimed| *claimed == section)
     }
 
+    /// Whether one of so many moves of the train, in turn from the one at this place on, claims the section. No move is
+    /// looked at where they all come before the first one of the train over the section.
+    pub fn claims_within(&self, train: TrainNo, place: u16, count: u16, section: SectionNo) -> bool
+        requires train { train < length self.now }
+        requires last { place + count ≤ (moves_in self.now).moves train }
+        requires section { section < SECTIONS }
+        ensures { result ≡ any_below (λ m. is_in section ((moves_in self.now).claim train (place + m))) count }
+    {
+        let first = self.first_claim(train, section);
+        if place + count < first {
+            return false;
+        }
+        for step in 0..count {
+            if self.claims(train, place + step + 1, section) {
+                return true;
+            }
+        }
+        false
+    }
+
     /// Whether the train claims the section for a move that it has left at this place.
     pub fn claims_after(&self, train: TrainNo, place: u16, section: SectionNo) -> bool
         requires train { train < length self.now }
@@ -289,7 +309,8 @@ impl Moves {
     fn first_claim(&self, train: TrainNo, section: SectionNo) -> u16
         requires train { train < length self.now }
         requires section { section < SECTIONS }
-        ensures { (m : ℕ) → suc m < result → is_in section ((moves_in self.now).claim train m) ≡ false }
+        ensures table { IsTable self.now }
+        ensures none { (m : ℕ) → suc m < result → is_in section ((moves_in self.now).claim train m) ≡ false }
     {
         self.row(train).firsts[usize::from(section.0)]
     }

@@ -157,8 +157,8 @@ overflow_add-place c =
     let number : c.from-number.result ≡ u = search rules in
     let below : c.from-number.result < TRAINS = search rules in
     let at : c.position.result ≡ place_of s u = search rules in
-    let now = here plan s list sections i r u c.from-number.result c.in-Passed.times c.position.result c.loop-index.passed
-    c.requires.completes run some number below c.loop-index.invariant.long c.loop-index.invariant.told c.in-Passed.is at in
+    let now = here plan s list sections i r u c.from-number.result c.from-times.result c.position.result c.loop-index.passed
+    c.requires.completes run some number below c.loop-index.invariant.long c.loop-index.invariant.told (c.in-Passed.is ∙ ap Passed (sym c.from-times.ensures)) at in
     omega (arith, now.left, c.requires.made.moves.short u)
 
 pub loop-index-preserved-then-not-does_need_from : goal.loop-index-preserved-then-not-does_need_from
@@ -179,11 +179,11 @@ loop-index-preserved-then-not-does_need_from c =
     let number : c.from-number.result ≡ u = search rules in
     let below : c.from-number.result < TRAINS = search rules in
     let at : c.position.result ≡ place_of s u = search rules in
-    let now = here plan s list sections i r u c.from-number.result c.in-Passed.times c.position.result c.loop-index.passed
-    c.requires.completes run some number below c.loop-index.invariant.long c.loop-index.invariant.told c.in-Passed.is at in
+    let now = here plan s list sections i r u c.from-number.result c.from-times.result c.position.result c.loop-index.passed
+    c.requires.completes run some number below c.loop-index.invariant.long c.loop-index.invariant.told (c.in-Passed.is ∙ ap Passed (sym c.from-times.ensures)) at in
     let other : u ≢ t = λ e. grind (arith, common_steps) in
     let P : ℕ → Type 0 = λ k. AreTold plan sections list rest (set c.loop-index.passed k Idle) in
-    let clear : IsClearOf plan sections (drop i list) u = clear_from plan sections (drop i list) u (c.position.result + c.in-Passed.times)
+    let clear : IsClearOf plan sections (drop i list) u = clear_from plan sections (drop i list) u (c.position.result + c.from-times.result)
     (omega (arith, now.left, now.listed))
     (sym c.does_need_from.ensures ∙ c.if-not-does_need_from.true) in
     record {
@@ -216,8 +216,8 @@ does_need_one_of-requires-clause-last c =
     let number : c.from-number.result ≡ u = search rules in
     let below : c.from-number.result < TRAINS = search rules in
     let at : c.position.result ≡ place_of s u = search rules in
-    let now = here plan s list sections i r u c.from-number.result c.in-Passed.times c.position.result c.loop-index.passed
-    c.requires.completes run some number below c.loop-index.invariant.long c.loop-index.invariant.told c.in-Passed.is at in
+    let now = here plan s list sections i r u c.from-number.result c.from-times.result c.position.result c.loop-index.passed
+    c.requires.completes run some number below c.loop-index.invariant.long c.loop-index.invariant.told (c.in-Passed.is ∙ ap Passed (sym c.from-times.ensures)) at in
     omega (arith, now.left, many)
 
 pub returns-then-does_need_one_of-clause-exact : goal.returns-then-does_need_one_of-clause-exact
@@ -238,10 +238,10 @@ returns-then-does_need_one_of-clause-exact c =
     let number : c.from-number.result ≡ u = search rules in
     let below : c.from-number.result < TRAINS = search rules in
     let at : c.position.result ≡ place_of s u = search rules in
-    let now = here plan s list sections i r u c.from-number.result c.in-Passed.times c.position.result c.loop-index.passed
-    c.requires.completes run some number below c.loop-index.invariant.long c.loop-index.invariant.told c.in-Passed.is at in
+    let now = here plan s list sections i r u c.from-number.result c.from-times.result c.position.result c.loop-index.passed
+    c.requires.completes run some number below c.loop-index.invariant.long c.loop-index.invariant.told (c.in-Passed.is ∙ ap Passed (sym c.from-times.ensures)) at in
     let other : u ≢ t = λ e. grind (arith, common_steps) in
-    let no = barred plan sections rest r t u (c.position.result + c.in-Passed.times) c.look-run.result.count other now.left many (sym c.does_need_one_of.ensures ∙ c.if-does_need_one_of.true) in
+    let no = barred plan sections rest r t u (c.position.result + c.from-times.result) c.look-run.result.count other now.left many (sym c.does_need_one_of.ensures ∙ c.if-does_need_one_of.true) in
     sym no ∙ ap (is_free_before plan t sections) (sym run.split) ∙ c.loop-index.invariant.exact
 
 pub overflow_add-passed : goal.overflow_add-passed
@@ -262,8 +262,30 @@ overflow_add-passed c =
     let number : c.from-number.result ≡ u = search rules in
     let below : c.from-number.result < TRAINS = search rules in
     let at : c.position.result ≡ place_of s u = search rules in
-    let now = here plan s list sections i r u c.from-number.result c.in-Passed.times c.position.result c.loop-index.passed
-    c.requires.completes run some number below c.loop-index.invariant.long c.loop-index.invariant.told c.in-Passed.is at in
+    let now = here plan s list sections i r u c.from-number.result c.from-times.result c.position.result c.loop-index.passed
+    c.requires.completes run some number below c.loop-index.invariant.long c.loop-index.invariant.told (c.in-Passed.is ∙ ap Passed (sym c.from-times.ensures)) at in
+    omega (arith, now.left, many, c.requires.made.moves.short u)
+
+pub overflow_cast-passed : goal.overflow_cast-passed
+overflow_cast-passed c =
+    let plan : Moves = moves_in c.args.moves.now in
+    let s = c.args.places.now.positions in
+    let list = c.args.kept.now.trains in
+    let sections = c.args.sections.now in
+    let i = c.loop-index.index in
+    let r = c.from-index.result in
+    let u = c.look-run.result.train in
+    let t = c.args.train in
+    let rest : List ℕ = drop (i + r) list in
+    let many : r ≡ c.look-run.result.count = c.from-index.ensures ∙ ap (λ (w : Run). w.count) c.run.view_is in
+    let lt : i < length list = omega (arith, c.loop-index-test.true, c.len-count.ensures) in
+    let run = run_here list c.loop-index.kept.trains i c.look-run.result.count r u c.loop-index.invariant.same lt many c.look-run.ensures.run in
+    let some : 1 ≤ r = omega (arith, c.look-run.ensures.some, many) in
+    let number : c.from-number.result ≡ u = search rules in
+    let below : c.from-number.result < TRAINS = search rules in
+    let at : c.position.result ≡ place_of s u = search rules in
+    let now = here plan s list sections i r u c.from-number.result c.from-times.result c.position.result c.loop-index.passed
+    c.requires.completes run some number below c.loop-index.invariant.long c.loop-index.invariant.told (c.in-Passed.is ∙ ap Passed (sym c.from-times.ensures)) at in
     omega (arith, now.left, many, c.requires.made.moves.short u)
 
 pub loop-index-preserved : goal.loop-index-preserved
@@ -284,13 +306,13 @@ loop-index-preserved c =
     let number : c.from-number.result ≡ u = search rules in
     let below : c.from-number.result < TRAINS = search rules in
     let at : c.position.result ≡ place_of s u = search rules in
-    let now = here plan s list sections i r u c.from-number.result c.in-Passed.times c.position.result c.loop-index.passed
-    c.requires.completes run some number below c.loop-index.invariant.long c.loop-index.invariant.told c.in-Passed.is at in
+    let now = here plan s list sections i r u c.from-number.result c.from-times.result c.position.result c.loop-index.passed
+    c.requires.completes run some number below c.loop-index.invariant.long c.loop-index.invariant.told (c.in-Passed.is ∙ ap Passed (sym c.from-times.ensures)) at in
     let other : u ≢ t = λ e. grind (arith, common_steps) in
-    let clear = unbarred plan sections rest r u (c.position.result + c.in-Passed.times) c.look-run.result.count now.left many (sym c.does_need_one_of.ensures ∙ c.if-does_need_one_of.false) in
-    let more : Seen = Passed (c.in-Passed.times + c.look-run.result.count) in
+    let clear = unbarred plan sections rest r u (c.position.result + c.from-times.result) c.look-run.result.count now.left many (sym c.does_need_one_of.ensures ∙ c.if-does_need_one_of.false) in
+    let more : Seen = Passed (c.from-times.result + c.look-run.result.count) in
     let P : ℕ → Type 0 = λ k. AreTold plan sections list rest (set c.loop-index.passed k more) in
-    let own : c.in-Passed.times + c.look-run.result.count + times u rest ≡ times u list = omega (arith, now.passed, many) in
+    let own : c.from-times.result + c.look-run.result.count + times u rest ≡ times u list = omega (arith, now.passed, many) in
     record {
       same = c.look-run.ensures.trains ∙ c.loop-index.invariant.same;
       room = c.look-run.ensures.room ∙ c.loop-index.invariant.room;

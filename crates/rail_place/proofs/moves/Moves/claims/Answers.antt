@@ -7,7 +7,7 @@ use Rattle.rail_place.proofs.LastMoves.{past_last}
 use Rattle.rail_place.proofs.moves.Moves.claims.Goals as goal
 
 pub returns-then-place-first_claim : goal.returns-then-place-first_claim
-returns-then-place-first_claim c = sym (c.first_claim.ensures (c.args.place - 1) (omega (arith, c.if-place-first_claim.true, c.requires.first)))
+returns-then-place-first_claim c = sym (c.first_claim.ensures.none (c.args.place - 1) (omega (arith, c.if-place-first_claim.true, c.requires.first)))
 
 pub returns-else-place-last_claim : goal.returns-else-place-last_claim
 returns-else-place-last_claim c =
