@@ -6,7 +6,7 @@ use Rattle.rail_rules.specs.Numbers.{is_in}
 use Rattle.rail_rules.specs.Moves.{Moves, stand}
 use Rattle.rail_rules.specs.Places.{holds, is_inside, is_valid_state, place_of}
 use Rattle.rail_rules.proofs.CallerLemmas.{apart_at, state_parts}
-use Rattle.rail_place.specs.PlaceStates.{IsMadeFor, State}
+use Rattle.rail_place.specs.PlaceStates.{IsFreeBehind, IsMadeFor, State}
 use Rattle.rail_place.specs.Tables.{MoveLists, moves_in}
 use Rattle.rail_place.proofs.CallerLemmas.{holder_listed, state_apart}
 use Rattle.rail_sets.specs.Sets.{has}
@@ -15,6 +15,7 @@ use Rattle.rail_consequence.specs.Stops.{IsTakenByOther}
 use Rattle.rail_consequence.specs.Workspace.{IsListing}
 use Rattle.rail_consequence.proofs.Counts.{in_take_all, in_take_more}
 use Rattle.rail_consequence.proofs.Legs.{inside_from}
+use Rattle.rail_consequence.proofs.SetLemmas.{stands_at}
 
 -- two truths are the same where each follows from the other
 pub same_truth : (p q : Bool) → (p ≡ true → q ≡ true) → (q ≡ true → p ≡ true) → p ≡ q
@@ -109,6 +110,19 @@ pub place_within : (table : List MoveLists) (state : State) (t : ℕ) → IsMade
 place_within table state t made known =
     let parts = state_parts (moves_in table) state.positions made.valid in
     parts.within t (omega (arith, known, parts.long))
+
+-- behind the sections that the moves need nobody holds one
+pub free_behind : (table : List MoveLists) (state : State) (n : ℕ) → IsMadeFor table state → ((t i x : ℕ) → t < length table → is_in x ((moves_in table).claim t i) ≡ true → x < n) → IsFreeBehind n state.owners
+free_behind table state n made narrow x behind = nobody (get_or state.owners x None) refl
+  where
+    nobody : (o : Option ℕ) → get_or state.owners x None ≡ o → o ≡ None
+    nobody None at = refl
+    nobody (Some u) at =
+        let plan : Moves = moves_in table in
+        let holder : holds plan state.positions u x ≡ true = (made.told x u).0 at in
+        let known : u < length table = omega (arith, holder_listed plan state.positions u x holder, (state_parts plan state.positions made.valid).long) in
+        let needed = stands_at plan u (place_of state.positions u) x made.moves.valid known holder in
+        absurd (omega (arith, narrow u needed.0 x known needed.1, behind))
 
 -- the set has what these trains hold, and nothing that no train holds
 pub record HasTaken (plan : Moves) (s trains set : List ℕ) : Type 0 where

@@ -1,5 +1,6 @@
 -- What the analyst works on: places of its own, and the moves that it has made on them.
-use Rattle.std.specs.Prelude.{◌≡◌, ℕ, ◌+◌, ◌<◌, ◌≤◌, List, length, drop, ◌++◌, IsTrue, None, is_some, get_or}
+use Rattle.std.specs.Prelude.{◌≡◌, ℕ, ◌+◌, ◌*◌, ◌<◌, ◌≤◌, List, length, drop, ◌++◌, IsTrue, None, is_some, get_or, vec_capacity}
+use Rattle.std.specs.Global.{Vec}
 use Rattle.rail_base.specs.declared.limits.TheConstants.{LIST_TRAINS}
 use Rattle.rail_sets.specs.declared.sets.TheConstants.{WORDS}
 use Rattle.rail_rules.specs.Analysis.{moves_left}
@@ -7,7 +8,7 @@ use Rattle.rail_rules.specs.Moves.{Moves}
 use Rattle.rail_rules.specs.Numbers.{is_in}
 use Rattle.rail_rules.specs.Places.{is_inside, is_valid_state}
 use Rattle.rail_place.specs.Tables.{moves_in, MoveLists}
-use Rattle.rail_place.specs.PlaceStates.{State, IsMadeFor}
+use Rattle.rail_place.specs.PlaceStates.{State, IsFreeBehind, IsMadeFor}
 use Rattle.rail_place.specs.Plays.{IsPlayed}
 use Rattle.rail_sets.specs.Counts.{Columns}
 use Rattle.rail_consequence.specs.Needs.{IsCounted}
@@ -29,6 +30,11 @@ pub record IsReady (table : List MoveLists) (work : Work) : Type 0 where
   pub wide : length work.taken ≡ WORDS
   pub counted : IsCounted (moves_in table) work.places.positions work.needs
   pub few : length work.list + moves_left (moves_in table) work.places.positions ≤ LIST_TRAINS
+
+-- the list has room for the longest one, and nobody holds a section behind those of the words that a set takes
+pub record IsSheet (rows : SetRows) (places : State) (list : Vec ℕ) : Type 0 where
+  pub room : vec_capacity list ≡ LIST_TRAINS
+  pub free : IsFreeBehind (64 * rows.width) places.owners
 
 -- the moves of the list behind the first so many lead from some valid state to the places
 pub record IsPlayedFrom (plan : Moves) (n : ℕ) (work : Work) : Type 0 where

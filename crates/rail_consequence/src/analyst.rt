@@ -82,15 +82,13 @@ struct Worksheet {
 }
 
 impl Model for Worksheet {
-    ghost use Rattle.std.specs.Prelude.{◌≡◌, vec_capacity};
-    ghost use Rattle.rail_base.specs.declared.limits.TheConstants.{LIST_TRAINS};
-    ghost use Rattle.rail_consequence.specs.Workspace.{Work};
+    ghost use Rattle.rail_consequence.specs.Workspace.{IsSheet, Work};
 
     ghost Value = { Work };
 
     ghost view = { λ sheet. record { rows = sheet.rows; places = sheet.places; taken = sheet.taken; needs = sheet.needs; list = sheet.list.items } };
 
-    ghost invariant = { λ sheet. vec_capacity sheet.list ≡ LIST_TRAINS };
+    ghost invariant = { λ sheet. IsSheet sheet.rows sheet.places sheet.list };
 }
 
 impl Analyst {
@@ -203,6 +201,7 @@ impl Analyst {
     /// The same with so many words of each set.
     fn search_in<W: Width>(&mut self, moves: &Moves, places: &Places, depth: u8) -> bool
         requires words { AreWords (moves_in moves.now) W.WORDS }
+        requires wide { self.old.rows.width ≤ W.WORDS }
         requires made { IsMadeFor moves.now places.now }
         requires own { IsAnalystFor (moves_in moves.now) self.old }
         ensures own { IsAnalystFor (moves_in moves.now) self.new }
@@ -295,7 +294,8 @@ impl Worksheet {
         &self.rows
     }
 
-    /// Begins a search from the places, with the needs there: no moves are made.
+    /// Begins a search from the places, with the needs there: no moves are made. The holders are copied of so many
+    /// sections as the words have.
     fn begin<W: Width>(
         &mut self,
         moves: &Moves,
@@ -304,6 +304,7 @@ impl Worksheet {
         inside: &[TrainNo],
     )
         requires words { AreWords (moves_in moves.now) W.WORDS }
+        requires wide { self.old.rows.width ≤ W.WORDS }
         requires made { IsMadeFor moves.now places.now }
         requires rows { IsRowsOf (moves_in moves.now) self.old.rows }
         requires counted { IsCounted (moves_in moves.now) places.now.positions needs.now }
@@ -312,7 +313,7 @@ impl Worksheet {
         ensures positions { self.new.places.positions ≡ places.now.positions }
         ensures list { self.new.list ≡ [] }
     {
-        self.places.copy_from(places);
+        self.places.copy_front(places, 64 * W::WORDS);
         self.taken = taken_at::<W>(moves, &self.rows, places, inside);
         self.needs.copy_from(needs);
         self.list.clear();

@@ -1,11 +1,13 @@
 -- The table of owners: giving sections to a train, and the first section that has an owner.
-use Rattle.std.proofs.Common.{◌≡◌, ℕ, zero, suc, ◌+◌, ◌<◌, true, false, eqb, List, [], ◌∷◌, length, get_or, set, drop, Option, Some, None, refl, sym, ap, ◌∙◌, ⊎_elim, arith}
+use Rattle.std.proofs.Common.{◌≡◌, ℕ, zero, suc, ◌+◌, ◌<◌, true, false, eqb, List, [], ◌∷◌, ◌++◌, length, get_or, set, take, drop, Option, Some, None, refl, sym, ap, ◌∙◌, ⊎_elim, arith}
 use Rattle.std.proofs.lemmas.Bool.{or_parts, or_cases, or_right, cases_Bool, false≢true, eqb-true, eqb-false}
-use Rattle.std.proofs.lemmas.List.{get_or-set_same, get_or-set_other, length-set, drop_more}
+use Rattle.std.proofs.Math.Seq.{take-append_seam}
+use Rattle.std.proofs.lemmas.List.{get_or-set_same, get_or-set_other, length-set, drop_more, ext_get_or}
 use Rattle.rail_rules.specs.Numbers.{is_in, or_else}
 use Rattle.rail_rules.proofs.CallerLemmas.{is_in-head}
 use Rattle.rail_place.specs.declared.barring.Barred.TheVariants.{Held}
 use Rattle.rail_place.specs.Bars.{barred_by}
+use Rattle.rail_place.specs.PlaceStates.{IsFreeBehind}
 use Rattle.rail_place.specs.Owners.{given, first_owned_in}
 
 pub length-given : {X : Type 0} → (owners : List X) (xs : List ℕ) (owner : X) → length (given owners xs owner) ≡ length owners
@@ -50,3 +52,23 @@ pub first_owned-here : (owners : List (Option ℕ)) (xs : List ℕ) (i x u : ℕ
 first_owned-here owners xs i x u lt is owner =
     let same : drop i xs ≡ x ∷ drop (i + 1) xs = drop_more xs i x lt ∙ ap (λ y. y ∷ drop (i + 1) xs) (sym is) in
     ap (first_owned_in owners) same ∙ ap (λ o. or_else (barred_by x o) (first_owned_in owners (drop (i + 1) xs))) owner
+
+-- where neither table has an owner behind the first so many sections, those ones of the other table make it the same
+pub front_copied : (n : ℕ) (own others : List (Option ℕ)) → length own ≡ length others → IsFreeBehind n own → IsFreeBehind n others → take n others ++ drop n own ≡ others
+front_copied zero own others long free there = ext_get_or None own others long (λ x lt. free x (omega arith) ∙ sym (there x (omega arith)))
+front_copied (suc n) [] [] long free there = refl
+front_copied (suc n) [] (y ∷ others) long free there = absurd (omega (arith, long))
+front_copied (suc n) (x ∷ own) [] long free there = absurd (omega (arith, long))
+front_copied (suc n) (x ∷ own) (y ∷ others) long free there =
+    ap (λ rest. y ∷ rest) (front_copied n own others (omega (arith, long)) (λ i le. free (suc i) (omega (arith, le))) (λ i le. there (suc i) (omega (arith, le))))
+
+-- so a table into which they are copied is the other one
+pub front_written :
+    (n len : ℕ)
+    (own others new : List (Option ℕ))
+    → new ≡ take n others ++ drop n own → length own ≡ len → length others ≡ len
+    → IsFreeBehind n own → IsFreeBehind n others → take len (new ++ drop (length new) own) ≡ others
+front_written n len own others new copied here there free apart =
+    let same : new ≡ others = copied ∙ front_copied n own others (here ∙ sym there) free apart in
+    let all : take (length new) (new ++ drop (length new) own) ≡ new = take-append_seam new (drop (length new) own) in
+    ap (λ k. take k (new ++ drop (length new) own)) (sym there ∙ ap length (sym same)) ∙ all ∙ same

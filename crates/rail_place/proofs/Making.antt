@@ -234,6 +234,12 @@ place_read positions t k place same lt is =
 pub made_as : (table : List MoveLists) (s now : State) → s ≡ now → IsMadeFor table now → IsMadeFor table s
 made_as table s now same made = let P : State → Type 0 = λ r. IsMadeFor table r in subst P (sym same) made
 
+-- what was played is no part of what places are made for
+pub made_alike : (table : List MoveLists) (s other : State) → s.positions ≡ other.positions → s.owners ≡ other.owners → s.played < 2 ^ 64 → IsMadeFor table other → IsMadeFor table s
+made_alike table s other positions owners counted made =
+    let same : s ≡ record { positions = other.positions; owners = other.owners; played = s.played } = λ i. record { positions = positions i; owners = owners i; played = s.played } in
+    made_as table s (record { positions = other.positions; owners = other.owners; played = s.played }) same (record { moves = made.moves; valid = made.valid; room = made.room; counted = counted; told = made.told })
+
 -- the same move, as the code makes it
 pub made_stepped :
     (table : List MoveLists)

@@ -1,5 +1,5 @@
 -- What places keep, and that they were made for moves.
-use Rattle.std.specs.Prelude.{◌≡◌, ℕ, ◌<◌, ◌^◌, List, Option, Some, None, length, get_or, IsTrue, ◌↔◌}
+use Rattle.std.specs.Prelude.{◌≡◌, ℕ, ◌<◌, ◌≤◌, ◌^◌, List, Option, Some, None, length, get_or, IsTrue, ◌↔◌}
 use Rattle.rail_base.specs.declared.limits.TheConstants.{SECTIONS}
 use Rattle.rail_rules.specs.Places.{holds, is_valid_state}
 use Rattle.rail_place.specs.Tables.{moves_in, IsTable, MoveLists}
@@ -17,3 +17,7 @@ pub record IsMadeFor (table : List MoveLists) (state : State) : Type 0 where
   pub room : length state.owners ≡ SECTIONS
   pub counted : state.played < 2 ^ 64
   pub told : (x u : ℕ) → (get_or state.owners x None ≡ Some u) ↔ IsTrue (holds (moves_in table) state.positions u x)
+
+-- behind the first so many sections none has an owner
+abbrev pub IsFreeBehind : ℕ → List (Option ℕ) → Type 0
+IsFreeBehind n owners = (x : ℕ) → n ≤ x → get_or owners x None ≡ None

@@ -1,6 +1,6 @@
 //! The table from each section to the train that holds it.
 
-ghost use Rattle.std.specs.Prelude.{◌≡◌, ℕ, ◌<◌, length, None, IsTrue, vec_capacity};
+ghost use Rattle.std.specs.Prelude.{◌≡◌, ℕ, ◌<◌, ◌≤◌, ◌++◌, length, take, drop, None, IsTrue, vec_capacity};
 ghost use Rattle.rail_rules.specs.Numbers.{is_in};
 ghost use Rattle.rail_place.specs.Owners.{first_owned_in, given};
 
@@ -27,6 +27,16 @@ pub fn release(owners: &mut Vec<Option<TrainNo>>, sections: &[SectionNo])
     for section in sections {
         owners[usize::from(section.0)] = None;
     }
+}
+
+/// Takes over the owners of the first so many sections from the other table.
+#[inline(always)]
+pub fn copy_front(owners: &mut [Option<TrainNo>], others: &[Option<TrainNo>], sections: usize)
+    requires here { sections ≤ length owners.old }
+    requires there { sections ≤ length others.now }
+    ensures { owners.new ≡ take sections others.now ++ drop sections owners.old }
+{
+    owners[..sections].copy_from_slice(&others[..sections]);
 }
 
 /// The first of the sections that has an owner, with that owner.

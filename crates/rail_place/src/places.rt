@@ -3,14 +3,15 @@ ghost use Rattle.rail_rules.specs.Numbers.{are_apart};
 ghost use Rattle.rail_rules.specs.Moves.{stand};
 ghost use Rattle.rail_rules.specs.Places.{after, is_legal, place_of};
 ghost use Rattle.rail_place.specs.Tables.{moves_in, MoveLists};
-ghost use Rattle.rail_place.specs.PlaceStates.{IsMadeFor};
+ghost use Rattle.rail_base.specs.declared.limits.TheConstants.{SECTIONS};
+ghost use Rattle.rail_place.specs.PlaceStates.{IsFreeBehind, IsMadeFor};
 ghost use Rattle.rail_place.specs.Bars.{bar_of};
 ghost use Rattle.rail_place.specs.Overlaps.{IsFault};
 
 use crate::barring::{Barred, PlacesFault};
 use crate::holdings::{holdings_of, owners_of};
 use crate::moves::Moves;
-use crate::owners::{first_owned, occupy, release};
+use crate::owners::{copy_front, first_owned, occupy, release};
 use rail_base::limits::{SECTIONS, TRAINS};
 use rail_base::{OutOfMemory, SectionNo, TrainNo, add_rows, copies, replace_rows};
 use std::alloc::Global;
@@ -187,15 +188,24 @@ impl Places {
     }
 
     /// Takes over the positions of the other places, so that these are made for the moves for which
-    /// those were. What was played here stays. It takes no memory, since places have room for any
-    /// number of trains within the limits.
-    pub fn copy_from(&mut self, other: &Places)
+    /// those were, where nobody holds a section behind the first so many, neither there nor here: the holders
+    /// of those first ones alone are copied. What was played here stays. It takes no memory, since places have
+    /// room for any number of trains within the limits.
+    #[inline(always)]
+    pub fn copy_front(&mut self, other: &Places, sections: usize)
+        requires within { sections ≤ SECTIONS }
+        requires own { IsFreeBehind sections self.old.owners }
+        requires others { IsFreeBehind sections other.now.owners }
         ensures made { (table : List MoveLists) → IsMadeFor table other.now → IsMadeFor table self.new }
         ensures positions { self.new.positions ≡ other.now.positions }
         ensures owners { self.new.owners ≡ other.now.owners }
         ensures played { self.new.played ≡ self.old.played }
     {
         replace_rows(&mut self.positions, &other.positions);
-        self.owners.copy_from_slice(&other.owners);
+        copy_front(
+            self.owners.as_mut_slice(),
+            other.owners.as_slice(),
+            sections,
+        );
     }
 }

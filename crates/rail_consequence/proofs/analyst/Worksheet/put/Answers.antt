@@ -1,4 +1,4 @@
-use Rattle.std.proofs.Common.{ℕ, ◌<◌, List, length, set, sym, ap, ◌∙◌, subst, arith}
+use Rattle.std.proofs.Common.{ℕ, ◌*◌, ◌<◌, List, length, set, sym, ap, ◌∙◌, subst, arith}
 use Rattle.rail_rules.specs.Moves.{Moves, stand}
 use Rattle.rail_rules.specs.Numbers.{is_in}
 use Rattle.rail_rules.specs.Places.{place_of}
@@ -8,7 +8,7 @@ use Rattle.rail_place.specs.Tables.{moves_in}
 use Rattle.rail_consequence.specs.Needs.{IsAmong, IsCounted, IsRecounted, IsSet}
 use Rattle.rail_consequence.specs.Workspace.{Work}
 use Rattle.rail_consequence.proofs.Counts.{among_counted, counted_on}
-use Rattle.rail_consequence.proofs.Holding.{AreTaken, are_owned, owned_from, taken_then, place_within}
+use Rattle.rail_consequence.proofs.Holding.{AreTaken, are_owned, free_behind, owned_from, taken_then, place_within}
 use Rattle.rail_consequence.proofs.Played.{ready_as}
 use Rattle.rail_consequence.proofs.analyst.Worksheet.put.Goals as goal
 
@@ -33,6 +33,14 @@ recount-requires-clause-among g c =
     let P : ℕ → Type 0 = λ p. IsAmong plan t p own.needs in
     subst P (sym c.position-from.ensures)
     (among_counted plan own.places.positions own.needs ready.counted t (omega (arith, c.requires.train, long)) (omega (arith, long, ready.made.moves.few)))
+
+pub invariant_of-self : goal.invariant_of-self
+invariant_of-self g c =
+    let rows = (rw (sym c.self.view_is) at c.requires.ready).rows in
+    record {
+      room = c.self.invariant.room;
+      free = free_behind c.args.moves.now c.put.new.self (64 * c.self.inside.rows.width) c.put.ensures.made (λ t i x known is. rows.narrow t i x known is);
+    }
 
 pub returns-clause-ready : goal.returns-clause-ready
 returns-clause-ready g c =
