@@ -11,7 +11,7 @@ use Rattle.rail_sets.specs.Sets.{has}
 use Rattle.rail_rules.specs.Moves.{Moves}
 use Rattle.rail_rules.specs.Places.{place_of, after}
 use Rattle.rail_rules.proofs.CallerLemmas.{any_below_at, any_below_found, any_below_from, any_below_none, sum_below_same}
-use Rattle.rail_consequence.specs.Needs.{count_of, needs_from, needs_left, one_if, times, IsAmong, IsCounted, IsRecounted, IsSet, IsTallyFor, Placed}
+use Rattle.rail_consequence.specs.Needs.{count_of, needs_from, needs_left, one_if, times, IsAmong, IsCounted, IsIdleBehind, IsRecounted, IsSet, IsTallyFor, Placed}
 
 -- one where it is so
 pub one_true : (is : Bool) → is ≡ true → one_if is ≡ 1
@@ -65,6 +65,32 @@ zeros_at n i =
 pub sum_zero : (f : ℕ → ℕ) (n : ℕ) → ((i : ℕ) → i < n → f i ≡ 0) → sum_below f n ≡ 0
 sum_zero f zero none = refl
 sum_zero f (suc n) none = omega (arith, sum_zero f n (λ i lt. none i (omega arith)), none n (omega arith))
+
+-- behind the sections that the moves need none is counted
+pub none_behind : (plan : Moves) (s : List ℕ) (counts : Columns) (n : ℕ) → length s ≡ plan.trains → ((t i x : ℕ) → t < plan.trains → is_in x (plan.claim t i) ≡ true → x < n) → IsCounted plan s counts → IsIdleBehind n counts
+none_behind plan s counts n long narrow counted x behind =
+    counted x
+    ∙ sum_zero (λ t. one_if (needs_left plan t (place_of s t) x)) (length s) (λ t lt.
+    ⊎_elim
+    (λ is.
+    let needed = (and_parts (ltb 0 (place_of s t)) (needs_from plan t (place_of s t) x) is).1 in
+    let found = any_below_found (λ m. leb (place_of s t) m && is_in x (plan.claim t m)) (plan.moves t) needed in
+    let claimed = (and_parts (leb (place_of s t) found.0) (is_in x (plan.claim t found.0)) found.2).1 in
+    absurd (omega (arith, behind, narrow t found.0 x (omega (arith, lt, long)) claimed)))
+    (λ out. one_false (needs_left plan t (place_of s t) x) out)
+    (cases_Bool (needs_left plan t (place_of s t) x)))
+
+-- so counts are right that were taken over from right ones in front
+pub counted_front :
+    (plan : Moves)
+    (s : List ℕ)
+    (old counts new : Columns)
+    (n : ℕ)
+    → ((x : ℕ) → x < n → count_of new x ≡ count_of counts x)
+    → ((x : ℕ) → n ≤ x → count_of new x ≡ count_of old x)
+    → IsIdleBehind n old → IsIdleBehind n counts → IsCounted plan s counts → IsCounted plan s new
+counted_front plan s old counts new n front rest idle none counted x =
+    ⊎_elim (λ lt. front x lt) (λ past. rest x past ∙ idle x past ∙ sym (none x past)) (cases_lt x n) ∙ counted x
 
 pub zero_at : (f : ℕ → ℕ) (n i : ℕ) → sum_below f n ≡ 0 → i < n → f i ≡ 0
 zero_at f zero i none lt = absurd (omega arith)

@@ -27,6 +27,10 @@ abbrev pub IsCounted : Moves → List ℕ → Columns → Type 0
 IsCounted plan s counts = (x : ℕ)
     → count_of counts x ≡ sum_below (λ t. one_if (needs_left plan t (place_of s t) x)) (length s)
 
+-- behind the first so many sections none is counted
+abbrev pub IsIdleBehind : ℕ → Columns → Type 0
+IsIdleBehind n counts = (x : ℕ) → n ≤ x → count_of counts x ≡ 0
+
 -- the train is counted as at the place, beside no more others than there may be trains
 pub record IsAmong (plan : Moves) (t place : ℕ) (counts : Columns) : Type 0 where
   pub some : (x : ℕ) → one_if (needs_left plan t place x) ≤ count_of counts x

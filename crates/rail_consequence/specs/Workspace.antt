@@ -12,7 +12,7 @@ use Rattle.rail_place.specs.PlaceStates.{State, IsFreeBehind, IsMadeFor}
 use Rattle.rail_place.specs.Plays.{IsPlayed}
 use Rattle.rail_sets.specs.Counts.{Columns}
 use Rattle.rail_consequence.specs.Needs.{IsCounted}
-use Rattle.rail_consequence.specs.Needs.{IsRowsOf, IsSet, SetRows}
+use Rattle.rail_consequence.specs.Needs.{IsIdleBehind, IsRowsOf, IsSet, SetRows}
 
 -- the sets of the trains at each place, places, the sections that are taken, for each section how many trains need it, and the moves that were made
 pub record Work : Type 0 where
@@ -31,10 +31,11 @@ pub record IsReady (table : List MoveLists) (work : Work) : Type 0 where
   pub counted : IsCounted (moves_in table) work.places.positions work.needs
   pub few : length work.list + moves_left (moves_in table) work.places.positions ≤ LIST_TRAINS
 
--- the list has room for the longest one, and nobody holds a section behind those of the words that a set takes
-pub record IsSheet (rows : SetRows) (places : State) (list : Vec ℕ) : Type 0 where
+-- the list has room for the longest one, and behind the sections of the words that a set takes nobody holds one, and none is counted
+pub record IsSheet (rows : SetRows) (places : State) (needs : Columns) (list : Vec ℕ) : Type 0 where
   pub room : vec_capacity list ≡ LIST_TRAINS
   pub free : IsFreeBehind (64 * rows.width) places.owners
+  pub idle : IsIdleBehind (64 * rows.width) needs
 
 -- the moves of the list behind the first so many lead from some valid state to the places
 pub record IsPlayedFrom (plan : Moves) (n : ℕ) (work : Work) : Type 0 where

@@ -88,7 +88,7 @@ impl Model for Worksheet {
 
     ghost view = { λ sheet. record { rows = sheet.rows; places = sheet.places; taken = sheet.taken; needs = sheet.needs; list = sheet.list.items } };
 
-    ghost invariant = { λ sheet. IsSheet sheet.rows sheet.places sheet.list };
+    ghost invariant = { λ sheet. IsSheet sheet.rows sheet.places sheet.needs sheet.list };
 }
 
 impl Analyst {
@@ -294,8 +294,8 @@ impl Worksheet {
         &self.rows
     }
 
-    /// Begins a search from the places, with the needs there: no moves are made. The holders are copied of so many
-    /// sections as the words have.
+    /// Begins a search from the places, with the needs there: no moves are made. The holders and the needs are
+    /// copied of so many sections as the words have.
     fn begin<W: Width>(
         &mut self,
         moves: &Moves,
@@ -315,7 +315,7 @@ impl Worksheet {
     {
         self.places.copy_front(places, 64 * W::WORDS);
         self.taken = taken_at::<W>(moves, &self.rows, places, inside);
-        self.needs.copy_from(needs);
+        self.needs.copy_front(needs, W::WORDS);
         self.list.clear();
     }
 

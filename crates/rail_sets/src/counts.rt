@@ -5,6 +5,7 @@ ghost use Rattle.std.specs.Int.{bit_at};
 ghost use Rattle.rail_sets.specs.Sets.{has};
 ghost use Rattle.rail_base.specs.declared.limits.TheConstants.{TRAINS};
 ghost use Rattle.rail_sets.specs.declared.counts.TheConstants.{DIGITS};
+ghost use Rattle.rail_sets.specs.declared.sets.TheConstants.{WORDS};
 ghost use Rattle.rail_sets.specs.Counts.{column, count_of, one_if};
 
 use crate::sets::WORDS;
@@ -131,6 +132,17 @@ impl Counts {
         ensures { self.new ≡ other.now }
     {
         for index in 0..WORDS {
+            self.columns[index].copy_from(&other.columns[index]);
+        }
+    }
+
+    /// Takes over the counts of the sections of so many words from the other counts.
+    pub fn copy_front(&mut self, other: &Counts, words: usize)
+        requires { words ≤ WORDS }
+        ensures front { (x : ℕ) → x < 64 * words → count_of self.new x ≡ count_of other.now x }
+        ensures rest { (x : ℕ) → 64 * words ≤ x → count_of self.new x ≡ count_of self.old x }
+    {
+        for index in 0..words {
             self.columns[index].copy_from(&other.columns[index]);
         }
     }

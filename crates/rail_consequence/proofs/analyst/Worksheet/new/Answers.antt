@@ -5,5 +5,6 @@ use Rattle.rail_consequence.proofs.analyst.Worksheet.new.Goals as goal
 pub invariant_of-result : goal.invariant_of-result
 invariant_of-result c = record {
   room = search rules;
+  idle = λ x _. c.in_ok-new-2.ensures x;
   free = free_behind c.args.moves.now c.in_ok-outside.field-0 (64 * c.in_ok-new.field-0.width) c.in_ok-outside.ensures.made (λ t i x known is. c.in_ok-new.ensures.narrow t i x known is);
 }

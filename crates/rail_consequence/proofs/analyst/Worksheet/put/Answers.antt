@@ -1,4 +1,5 @@
 use Rattle.std.proofs.Common.{ℕ, ◌*◌, ◌<◌, List, length, set, sym, ap, ◌∙◌, subst, arith}
+use Rattle.std.proofs.lemmas.List.{length-set}
 use Rattle.rail_rules.specs.Moves.{Moves, stand}
 use Rattle.rail_rules.specs.Numbers.{is_in}
 use Rattle.rail_rules.specs.Places.{place_of}
@@ -7,7 +8,7 @@ use Rattle.rail_rules.proofs.CallerLemmas.{state_parts}
 use Rattle.rail_place.specs.Tables.{moves_in}
 use Rattle.rail_consequence.specs.Needs.{IsAmong, IsCounted, IsRecounted, IsSet}
 use Rattle.rail_consequence.specs.Workspace.{Work}
-use Rattle.rail_consequence.proofs.Counts.{among_counted, counted_on}
+use Rattle.rail_consequence.proofs.Counts.{among_counted, counted_on, none_behind}
 use Rattle.rail_consequence.proofs.Holding.{AreTaken, are_owned, free_behind, owned_from, taken_then, place_within}
 use Rattle.rail_consequence.proofs.Played.{ready_as}
 use Rattle.rail_consequence.proofs.analyst.Worksheet.put.Goals as goal
@@ -36,10 +37,21 @@ recount-requires-clause-among g c =
 
 pub invariant_of-self : goal.invariant_of-self
 invariant_of-self g c =
-    let rows = (rw (sym c.self.view_is) at c.requires.ready).rows in
+    let table = c.args.moves.now in
+    let plan : Moves = moves_in table in
+    let t = c.args.train in
+    let p = c.args.place in
+    let own : Work = record { rows = c.self.inside.rows; places = c.self.inside.places; taken = c.self.inside.taken; needs = c.self.inside.needs; list = c.self.inside.list.items } in
+    let ready = ready_as table own c.args.self.now c.self.view_is c.requires.ready in
+    let s : List ℕ = own.places.positions in
+    let long = (state_parts plan s ready.made.valid).long in
+    let n : ℕ = 64 * own.rows.width in
+    let R : ℕ → Type 0 = λ q. IsRecounted plan t q p own.needs c.recount.new.needs in
+    let counted = counted_on plan s own.needs ready.counted t (omega (arith, c.requires.train, long)) p c.recount.new.needs (subst R c.position-from.ensures c.recount.ensures) in
     record {
       room = c.self.invariant.room;
-      free = free_behind c.args.moves.now c.put.new.self (64 * c.self.inside.rows.width) c.put.ensures.made (λ t i x known is. rows.narrow t i x known is);
+      free = free_behind table c.put.new.self n c.put.ensures.made (λ u i x known is. ready.rows.narrow u i x known is);
+      idle = none_behind plan (set s t p) c.recount.new.needs n (length-set s t p ∙ long) (λ u i x known is. ready.rows.narrow u i x known is) counted;
     }
 
 pub returns-clause-ready : goal.returns-clause-ready
