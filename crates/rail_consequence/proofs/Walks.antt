@@ -1,16 +1,16 @@
 -- Legs and searches that lead back to where they began, and what they find.
-use Rattle.std.proofs.Common.{◌≡◌, ◌↔◌, ℕ, ◌+◌, ◌-◌, ◌<◌, ◌≤◌, Bool, true, false, List, [], ◌∷◌, length, get_or, set, take, sym, ap, ◌∙◌, subst, ⊎_elim, arith}
-use Rattle.std.proofs.lemmas.Bool.{and_parts, cases_lt, cases_Bool, false≢true}
+use Rattle.std.proofs.Common.{◌≡◌, ◌↔◌, ℕ, ◌+◌, ◌-◌, ◌<◌, ◌≤◌, Bool, true, false, not, ◌&&◌, eqb, List, [], ◌∷◌, length, set, sym, ap, ◌∙◌, subst, ⊎_elim, arith}
+use Rattle.std.proofs.lemmas.Bool.{and_parts, cases_eq, cases_lt, cases_Bool, false≢true, ne_eqb}
 use Rattle.std.proofs.lemmas.List.{get_or_past, append-nil}
-use Rattle.rail_rules.specs.Numbers.{is_in}
 use Rattle.rail_rules.specs.Moves.{Moves}
 use Rattle.rail_rules.specs.Places.{place_of, nobody_inside}
 use Rattle.rail_rules.specs.Analysis.{Leg, is_leg, after_leg, is_safe, clears, free_legs, Finds, moves_left}
 use Rattle.rail_rules.proofs.CallerLemmas.{state_parts}
 use Rattle.rail_place.specs.Tables.{moves_in, MoveLists}
+use Rattle.rail_sets.specs.TrainSets.{has_train}
+use Rattle.rail_sets.specs.declared.train_set.TrainSet.{TrainSet}
 use Rattle.rail_consequence.specs.Searches.{IsCleared}
 use Rattle.rail_consequence.specs.Workspace.{Work, IsReady, GoesOn, IsBack}
-use Rattle.rail_consequence.proofs.Counts.{in_take_more}
 use Rattle.rail_consequence.proofs.Safe.{safe_leg_keeps, found_front, cost, cost-safe, cost-free, free_legs-cons}
 
 pub finds_at : (plan : Moves) (k : ℕ) (s r : List ℕ) → s ≡ r → Finds plan k s → Finds plan k r
@@ -75,19 +75,19 @@ both_ways plan a b c first later k = (λ found. (later k).0 ((first k).0 found),
 pub found_nobody : (plan : Moves) (k : ℕ) (s : List ℕ) → nobody_inside plan s ≡ true → Finds plan k s
 found_nobody plan k s nobody = ([], nobody, omega arith)
 
--- the legs of one train more were tried
-pub tried_more : (plan : Moves) (k : ℕ) (a b : List ℕ) (n i : ℕ) (trains : List ℕ) → i < length trains
-    → n ≡ get_or trains i n → b ≡ a
-    → ((u p : ℕ) → is_in u (take i trains) ≡ true → is_leg plan a (record { train = u; place = p }) ≡ true
+-- the legs of one train more were tried, which was taken out of the set of those that are left
+pub tried_more : (plan : Moves) (k : ℕ) (a b : List ℕ) (n : ℕ) (left fewer : TrainSet) → b ≡ a
+    → ((t : ℕ) → has_train fewer t ≡ (not (eqb t n) && has_train left t))
+    → ((u p : ℕ) → has_train left u ≡ false → is_leg plan a (record { train = u; place = p }) ≡ true
     → Finds plan k (set a u p) → ⊥)
     → ((p : ℕ) → is_leg plan b (record { train = n; place = p }) ≡ true → Finds plan k (set b n p) → ⊥)
-    → (u p : ℕ) → is_in u (take (i + 1) trains) ≡ true
+    → (u p : ℕ) → has_train fewer u ≡ false
     → is_leg plan a (record { train = u; place = p }) ≡ true → Finds plan k (set a u p) → ⊥
-tried_more plan k a b n i trains lt at same before here u p listed is found =
+tried_more plan k a b n left fewer same taken before here u p off is found =
     let leg_of : ℕ → Leg = λ v. record { train = v; place = p } in
     ⊎_elim
-    (λ earlier. before u p earlier is found)
     (λ last.
-    here p (ap (λ s. is_leg plan s (leg_of n)) same ∙ ap (λ v. is_leg plan a (leg_of v)) last ∙ is)
-    (finds_at plan k (set a u p) (set b n p) (ap (λ v. set a v p) (sym last) ∙ ap (λ s. set s n p) (sym same)) found))
-    (in_take_more u n trains i lt at listed)
+    here p (ap (λ s. is_leg plan s (leg_of n)) same ∙ ap (λ v. is_leg plan a (leg_of v)) (sym last) ∙ is)
+    (finds_at plan k (set a u p) (set b n p) (ap (λ v. set a v p) last ∙ ap (λ s. set s n p) (sym same)) found))
+    (λ ne. before u p (sym (ap (λ b. not b && has_train left u) (ne_eqb u n ne)) ∙ sym (taken u) ∙ off) is found)
+    (cases_eq u n)

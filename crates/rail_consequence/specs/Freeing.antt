@@ -1,5 +1,5 @@
 -- What is left of what stops the other trains, once a train has gone on.
-use Rattle.std.specs.Prelude.{◌≡◌, ◌≢◌, ℕ, ◌+◌, ◌*◌, ◌<◌, ◌&&◌, ◌==◌, ◌⊎◌, not, true, Bool, List, Option, None, Some, get_or, set, IsTrue}
+use Rattle.std.specs.Prelude.{◌≡◌, ◌≢◌, ℕ, ◌+◌, ◌*◌, ◌<◌, ◌&&◌, ◌==◌, ◌⊎◌, not, List, Option, None, Some, set, IsTrue}
 use Rattle.rail_rules.specs.Numbers.{is_in}
 use Rattle.rail_rules.specs.Moves.{Moves}
 use Rattle.rail_rules.specs.Places.{holds, is_inside, place_of}
@@ -58,10 +58,6 @@ WaitsFor plan s stops u (Some h) = (x : ℕ) × (section_of (stop_of stops u) �
 -- the one train waits for none, or for the other
 abbrev pub MayWaitFor : Moves → List ℕ → List Stop → ℕ → ℕ → Type 0
 MayWaitFor plan s stops u t = WaitsFor plan s stops u None ⊎ WaitsFor plan s stops u (Some t)
-
--- the train has a mark, or there is none for it
-abbrev pub is_marked : List Bool → ℕ → Bool
-is_marked marks t = get_or marks t true
 
 -- a section of its next move is noted to stop the train
 abbrev pub IsNextStop : List Stop → ℕ → Type 0

@@ -40,7 +40,6 @@ mod laws;
 mod lookahead;
 mod needs;
 mod notes;
-mod openers;
 mod rows;
 mod tally;
 mod train_list;

@@ -1,7 +1,8 @@
 //! A list of trains by number.
 
-ghost use Rattle.std.specs.Prelude.{◌≡◌, ℕ, ◌<◌, ◌≤◌, ◌&&◌, ◌||◌, ◌==◌, [], not, get_or, length, IfOk};
+ghost use Rattle.std.specs.Prelude.{◌≡◌, ℕ, ◌<◌, ◌≤◌, ◌&&◌, ◌||◌, ◌==◌, [], not, get_or, length, IfOk, IsTrue};
 ghost use Rattle.std.specs.List.Sorted.{IsStrictlyIncreasing};
+ghost use Rattle.rail_base.specs.declared.limits.TheConstants.{TRAINS};
 ghost use Rattle.rail_rules.specs.Numbers.{is_in};
 ghost use Rattle.rail_sets.specs.TrainSets.{has_train};
 
@@ -81,6 +82,26 @@ impl TrainList {
             self.trains.remove(position);
             self.set.remove(train);
         }
+    }
+}
+
+/// The trains as a set.
+pub fn all_of(trains: &[TrainNo]) -> TrainSet
+    requires { (t : ℕ) → IsTrue (is_in t trains.now) → t < TRAINS }
+    ensures { (t : ℕ) → has_train result t ≡ is_in t trains.now }
+{
+    let mut set = TrainSet::none();
+    insert_each(&mut set, trains);
+    set
+}
+
+/// Puts each of the trains into the set.
+pub fn insert_each(set: &mut TrainSet, trains: &[TrainNo])
+    requires { (t : ℕ) → IsTrue (is_in t trains.now) → t < TRAINS }
+    ensures { (t : ℕ) → has_train set.new t ≡ (is_in t trains.now || has_train set.old t) }
+{
+    for train in trains {
+        set.insert(*train);
     }
 }
 

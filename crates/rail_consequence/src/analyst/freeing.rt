@@ -1,13 +1,14 @@
 //! Looks at what a leg would free, before it is made.
 
-ghost use Rattle.std.specs.Prelude.{◌≡◌, ℕ, ◌+◌, ◌*◌, ◌<◌, ◌≤◌, ◌≢◌, ◌⊎◌, Option, Some, None, false, [], length, set, IsTrue, IfSome};
+ghost use Rattle.std.specs.Prelude.{◌≡◌, ℕ, ◌+◌, ◌*◌, ◌<◌, ◌≤◌, ◌≢◌, ◌⊎◌, Option, Some, None, true, false, [], length, set, IsTrue, IfSome};
 ghost use Rattle.rail_rules.specs.Places.{is_inside, place_of};
 ghost use Rattle.rail_place.specs.Tables.{moves_in};
 ghost use Rattle.rail_rules.specs.Numbers.{is_in};
 ghost use Rattle.rail_sets.specs.Sets.{has};
+ghost use Rattle.rail_sets.specs.TrainSets.{has_train};
 ghost use Rattle.rail_consequence.specs.Needs.{AreWords};
 ghost use Rattle.rail_consequence.specs.Searches.{FindsByNoLegOf, HasNoSafeLegOf};
-ghost use Rattle.rail_consequence.specs.Freeing.{AreSeveral, FallsInVain, FreesNobody, HasFalls, HasOther, IsLookahead, IsNextStop, IsNotAwaited, MayWaitFor, WaitsFor, is_marked};
+ghost use Rattle.rail_consequence.specs.Freeing.{AreSeveral, FallsInVain, FreesNobody, HasFalls, HasOther, IsLookahead, IsNextStop, IsNotAwaited, MayWaitFor, WaitsFor};
 ghost use Rattle.rail_consequence.specs.Stops.{IsSettled, IsUntouched, stop_of};
 ghost use Rattle.rail_consequence.specs.declared.notes.Stop.TheVariants.{Later};
 ghost use Rattle.rail_consequence.specs.Workspace.{IsListing, IsReady};
@@ -16,12 +17,12 @@ ghost use Rattle.rail_base.specs.declared.limits.TheConstants.{TRAINS};
 use super::Worksheet;
 use crate::lookahead::Lookahead;
 use crate::notes::{Notes, Stop};
-use crate::openers::Openers;
 use crate::tally::stands_inside;
+use crate::train_list::insert_each;
 use crate::width::Width;
 use rail_base::TrainNo;
 use rail_place::Moves;
-use rail_sets::{WORDS, fill_replaced, meet, meet_beyond};
+use rail_sets::{TrainSet, WORDS, fill_replaced, meet, meet_beyond};
 
 /// Where a train has more places before it than this, it is first asked whether it can go out, and then place by place.
 const FAR: u16 = 24;
@@ -37,53 +38,58 @@ impl Worksheet {
         moves: &Moves,
         inside: &[TrainNo],
         notes: &Notes,
-        openers: &mut Openers,
-    )
+    ) -> TrainSet
         requires words { AreWords (moves_in moves.now) W.WORDS }
         requires ready { IsReady moves.now self.now }
         requires listed { IsListing (moves_in moves.now) self.now.places.positions inside.now }
         requires settled { IsSettled (moves_in moves.now) self.now.places.positions notes.now.stops }
         requires several { AreSeveral (moves_in moves.now) self.now.places.positions }
-        ensures { (t : ℕ) → is_marked openers.new t ≡ false → FindsByNoLegOf (moves_in moves.now) 0 self.now.places.positions t }
+        ensures known { (t : ℕ) → has_train result t ≡ true → t < length moves.now }
+        ensures others { (t : ℕ) → has_train result t ≡ false → FindsByNoLegOf (moves_in moves.now) 0 self.now.places.positions t }
     {
-        for other in inside {
-            self.add_awaited::<W>(moves, notes, *other, openers);
+        let mut openers = TrainSet::none();
+        // Trains that wait for one entered behind it, mostly, so that it is known to be awaited before its turn comes.
+        for index in (0..inside.len()).rev() {
+            let train = inside[index];
+            self.add_awaited::<W>(moves, inside, notes, train, &mut openers);
+            self.add_by_falls::<W>(moves, inside, notes, train, &mut openers);
         }
-        for train in inside {
-            self.add_by_falls::<W>(moves, inside, notes, *train, openers);
-        }
+        openers
     }
 
     /// Adds the train for which this one waits, where this one may get a safe leg once that one has gone out; all trains
-    /// where it waits for none.
+    /// of the list where it waits for none.
     fn add_awaited<W: Width>(
         &self,
         moves: &Moves,
+        inside: &[TrainNo],
         notes: &Notes,
         other: TrainNo,
-        openers: &mut Openers,
+        openers: &mut TrainSet,
     )
         requires words { AreWords (moves_in moves.now) W.WORDS }
         requires ready { IsReady moves.now self.now }
+        requires listed { IsListing (moves_in moves.now) self.now.places.positions inside.now }
         requires other { other < length moves.now }
         requires settled { IsSettled (moves_in moves.now) self.now.places.positions notes.now.stops }
-        ensures more { (t : ℕ) → is_marked openers.new t ≡ false → is_marked openers.old t ≡ false }
-        ensures here { (t : ℕ) → is_marked openers.new t ≡ false
+        ensures known { (t : ℕ) → has_train openers.new t ≡ true → has_train openers.old t ≡ false → t < length moves.now }
+        ensures more { (t : ℕ) → has_train openers.new t ≡ false → has_train openers.old t ≡ false }
+        ensures here { (t : ℕ) → has_train openers.new t ≡ false → IsTrue (is_inside (moves_in moves.now) self.now.places.positions t)
             → IsNotAwaited (moves_in moves.now) self.now.places.positions notes.now.stops t other }
     {
         let Some(train) = self.awaited(moves, notes, other) else {
             if stands_inside(moves, &self.places, other) {
-                openers.add_all();
+                insert_each(openers, inside);
             }
             return;
         };
-        if openers.has(train) || train == other || notes.stop(train).is_next() {
+        if train == other || notes.stop(train).is_next() || openers.has(train) {
             return;
         }
         let last = moves.places(train);
         let ahead = self.look_without::<W>(moves, train);
         if !self.is_kept_from_legs::<W>(moves, &ahead, other, train, last) {
-            openers.add(train);
+            openers.insert(train);
         }
     }
 
@@ -109,28 +115,29 @@ impl Worksheet {
         inside: &[TrainNo],
         notes: &Notes,
         train: TrainNo,
-        openers: &mut Openers,
+        openers: &mut TrainSet,
     )
         requires words { AreWords (moves_in moves.now) W.WORDS }
         requires ready { IsReady moves.now self.now }
         requires listed { IsListing (moves_in moves.now) self.now.places.positions inside.now }
         requires train { train < length moves.now }
-        ensures more { (t : ℕ) → is_marked openers.new t ≡ false → is_marked openers.old t ≡ false }
-        ensures here { is_marked openers.new train ≡ false → IsTrue (is_inside (moves_in moves.now) self.now.places.positions train)
+        ensures known { (t : ℕ) → has_train openers.new t ≡ true → has_train openers.old t ≡ false → t < length moves.now }
+        ensures more { (t : ℕ) → has_train openers.new t ≡ false → has_train openers.old t ≡ false }
+        ensures here { has_train openers.new train ≡ false → IsTrue (is_inside (moves_in moves.now) self.now.places.positions train)
             → IsNextStop notes.now.stops train
             ⊎ FallsInVain (moves_in moves.now) self.now.places.positions self.now.needs W.WORDS notes.now.stops inside.now train ((moves_in moves.now).moves train) }
     {
-        if openers.has(train)
-            || notes.stop(train).is_next()
-            || !self.has_pairs::<W>(moves, train)
+        if notes.stop(train).is_next()
             || !stands_inside(moves, &self.places, train)
+            || !self.has_pairs::<W>(moves, train)
+            || openers.has(train)
         {
             return;
         }
         let last = moves.places(train);
         let ahead = self.look_without::<W>(moves, train);
         if !self.falls_are_in_vain::<W>(moves, inside, notes, &ahead, train, last) {
-            openers.add(train);
+            openers.insert(train);
         }
     }
 

@@ -12,7 +12,7 @@ ghost use Rattle.rail_consequence.specs.Workspace.{GoesOn, IsBack, IsListing, Is
 
 use super::Worksheet;
 use crate::notes::Notes;
-use crate::openers::Openers;
+use crate::train_list::all_of;
 use crate::width::Width;
 use rail_base::TrainNo;
 use rail_place::Moves;
@@ -127,14 +127,13 @@ impl Worksheet {
         ensures found { IsTrue result → IsCleared (moves_in moves.now) (depth + 1) self.old self.new }
         ensures none { result ≡ false → IsBack self.old self.new × FindsByNoLeg (moves_in moves.now) depth self.old.places.positions }
     {
-        let mut openers = Openers::none();
-        if depth == 0 && self.are_several_inside(moves, inside) {
-            self.find_openers::<W>(moves, inside, notes, &mut openers);
+        let mut openers = if depth == 0 && self.are_several_inside(moves, inside) {
+            self.find_openers::<W>(moves, inside, notes)
         } else {
-            openers.add_all();
-        }
-        for train in inside {
-            if openers.has(*train) && self.try_legs_of::<W>(moves, inside, notes, *train, depth) {
+            all_of(inside)
+        };
+        while let Some(train) = openers.take_first() {
+            if self.try_legs_of::<W>(moves, inside, notes, train, depth) {
                 return true;
             }
         }

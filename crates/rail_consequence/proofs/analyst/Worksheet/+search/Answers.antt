@@ -1,17 +1,17 @@
-use Rattle.std.proofs.Common.{◌≡◌, ℕ, ◌+◌, ◌-◌, Bool, List, Option, None, Some, is_some, true, false, length, set, take, refl, sym, ap, ◌∙◌, subst, ⊎_elim, arith}
+use Rattle.std.proofs.Common.{◌≡◌, ℕ, ◌+◌, ◌-◌, ◌<◌, not, eqb, List, Option, None, Some, is_some, true, false, length, set, refl, sym, ap, ◌∙◌, subst, ⊎_elim, arith}
 use Rattle.std.specs.Prelude.{MatchOption}
-use Rattle.std.proofs.lemmas.Bool.{cases_lt, false≢true, not-true}
+use Rattle.std.proofs.lemmas.Bool.{and_parts, cases_lt, false≢true, not-true}
 use Rattle.rail_rules.specs.Numbers.{is_in}
 use Rattle.rail_rules.specs.Moves.{Moves}
 use Rattle.rail_rules.specs.Places.{place_of, nobody_inside}
 use Rattle.rail_rules.specs.Analysis.{Finds, Leg, after_leg, is_leg}
 use Rattle.rail_place.specs.Tables.{moves_in, MoveLists}
-use Rattle.rail_consequence.specs.Freeing.{is_marked}
-use Rattle.rail_consequence.specs.Searches.{FindsByNoLegOf, HasNoSafeLeg}
+use Rattle.rail_sets.specs.TrainSets.{has_train}
+use Rattle.rail_sets.specs.declared.train_set.TrainSet.{TrainSet}
+use Rattle.rail_consequence.specs.Searches.{HasNoSafeLeg}
 use Rattle.rail_consequence.specs.Stops.{IsTakenByOther, IsSettled}
 use Rattle.rail_consequence.specs.declared.notes.Stop.{Stop}
-use Rattle.rail_consequence.specs.Workspace.{Work, GoesOn, IsBack, IsListing, IsReady}
-use Rattle.rail_consequence.proofs.Counts.{in_at, in_take_all}
+use Rattle.rail_consequence.specs.Workspace.{Work, GoesOn, IsBack, IsListing}
 use Rattle.rail_consequence.proofs.Noting.{noted_anew}
 use Rattle.rail_consequence.proofs.Freeing.{leg_finds_none}
 use Rattle.rail_consequence.proofs.Legs.{goes_parts, inside_listed, inside_parts}
@@ -22,7 +22,7 @@ use Rattle.rail_consequence.proofs.Stopping.{leg_short, open_leads, open_more}
 use Rattle.rail_consequence.proofs.Walks.{back_twice, cost_most, false_both, finds_at, found_by_free, found_nobody, goes_back, goes_searched, tried_more}
 use Rattle.rail_consequence.proofs.Without.{IsOut, out_back, out_entered, out_few, out_free}
 use Rattle.rail_consequence.proofs.analyst.Worksheet.+search.Goals as goal
-use Rattle.rail_consequence.proofs.analyst.Worksheet.+search.Goals.{try_free_legs-then-depth-eq0+then-are_several_inside, try_free_legs-else-depth-eq0, try_free_legs-else-has-via-then-has+else-try_legs_of, try_free_legs-else-has-via-else-has}
+use Rattle.rail_consequence.proofs.analyst.Worksheet.+search.Goals.{try_free_legs-then-depth-eq0+then-are_several_inside, try_free_legs-else-depth-eq0}
 
 pub search-returns-then-search_on-clause-found : goal.search-returns-then-search_on-clause-found
 search-returns-then-search_on-clause-found g t c =
@@ -91,47 +91,50 @@ search_on-returns-clause-none g t c =
           none.1 first.0 first.1 first.3,
     )
 
-pub try_free_legs-has-requires : goal.try_free_legs-has-requires
-try_free_legs-has-requires g t c =
-    let known = c.requires.listed.trains c.train-item.result (in_at c.train-item.result c.args.inside.now c.loop-train.train-index c.loop-train-test.true c.train-item.is) in
-    omega (arith, known, c.requires.ready.made.moves.few)
+pub try_free_legs-loop-train-init : goal.try_free_legs-loop-train-init
+try_free_legs-loop-train-init g t c =
+    let plan : Moves = moves_in c.args.moves.now in
+    let s = c.args.self.now.places.positions in
+    let Parts : TrainSet → Type 0 = λ left. ((t : ℕ) → has_train left t ≡ true → t < length c.args.moves.now)
+    × ((u p : ℕ) → has_train left u ≡ false → is_leg plan s (record { train = u; place = p }) ≡ true → Finds plan c.args.depth (set s u p) → ⊥) in
+    let parts : Parts c.if-depth-eq0.openers = elim c.if-depth-eq0.branch [
+      | try_free_legs-then-depth-eq0+then-are_several_inside w ↦
+          let D : ℕ → Type 0 = λ k. (u p : ℕ) → has_train w.find_openers-openers.result u ≡ false → is_leg plan s (record { train = u; place = p }) ≡ true → Finds plan k (set s u p) → ⊥ in
+          subst Parts (sym w.openers-is) (w.find_openers-openers.ensures.known, subst D (sym w.if-depth-eq0.true) (λ u p off is found. w.find_openers-openers.ensures.others u off p is found))
+      | try_free_legs-else-depth-eq0 w ↦
+          subst Parts (sym w.openers-is) (
+            λ t on. c.requires.listed.trains t (sym (w.all_of-openers.ensures t) ∙ on),
+            λ u p off is _. absurd (false≢true (sym off ∙ w.all_of-openers.ensures u ∙ c.requires.listed.all u (goes_parts plan s (record { train = u; place = p }) is).inside)),
+          )
+    ] in
+    record {
+      ready = c.requires.ready;
+      back = record { list = refl; positions = refl };
+      known = parts.0;
+      none = parts.1;
+    }
 
 pub try_free_legs-loop-train-preserved : goal.try_free_legs-loop-train-preserved
 try_free_legs-loop-train-preserved g t c =
     let plan : Moves = moves_in c.args.moves.now in
     let a = c.args.self.now in
-    let s = a.places.positions in
     let b = c.loop-train.self in
-    let n = c.train-item.result in
-    let openers = c.if-depth-eq0.openers in
-    let marked : List Bool → Type 0 = λ marks. is_marked marks n ≡ false → FindsByNoLegOf plan c.args.depth s n in
-    let unmarked : marked openers = elim c.if-depth-eq0.branch [
-      | try_free_legs-then-depth-eq0+then-are_several_inside w ↦
-          let D : ℕ → Type 0 = λ k. FindsByNoLegOf plan k s n in
-          subst marked (sym w.openers-is) (λ out. subst D (sym w.if-depth-eq0.true) (w.find_openers.ensures n out))
-      | try_free_legs-else-depth-eq0 w ↦ subst marked (sym w.openers-is) (λ out. absurd (false≢true (sym out ∙ w.add_all.ensures n)))
-    ] in
-    let more : (d : List ℕ) → d ≡ s → ((p : ℕ) → is_leg plan d (record { train = n; place = p }) ≡ true → Finds plan c.args.depth (set d n p) → ⊥)
-    → (u p : ℕ) → is_in u (take (c.loop-train.train-index + 1) c.args.inside.now) ≡ true → is_leg plan s (record { train = u; place = p }) ≡ true → Finds plan c.args.depth (set s u p) → ⊥ =
-    λ d same here. tried_more plan c.args.depth s d n c.loop-train.train-index c.args.inside.now c.loop-train-test.true c.train-item.is same c.loop-train.invariant.none here in
-    let P : Work → Type 0 = λ w. IsReady c.args.moves.now w × IsBack a w in
-    elim c.else-has.branch [
-      | try_free_legs-else-has-via-then-has+else-try_legs_of w ↦
-          let none = w.try_legs_of.ensures.none w.if-try_legs_of.false in
-          let both = subst P (sym w.self-is) (w.try_legs_of.ensures.ready, back_twice a b w.try_legs_of.new.self c.loop-train.invariant.back none.0) in
-          record { ready = both.0; back = both.1; none = more b.places.positions c.loop-train.invariant.back.positions none.1 }
-      | try_free_legs-else-has-via-else-has w ↦
-          let both = subst P (sym w.self-is) (c.loop-train.invariant.ready, c.loop-train.invariant.back) in
-          record { ready = both.0; back = both.1; none = more s refl (unmarked (sym c.has.ensures ∙ w.if-has.false)) }
-    ]
+    let n = c.in-Some.train in
+    let inv = c.loop-train.invariant in
+    let taken = c.in-Some.ensures.left in
+    let none = c.try_legs_of.ensures.none c.if-try_legs_of.false in
+    record {
+      ready = c.try_legs_of.ensures.ready;
+      back = back_twice a b c.try_legs_of.new.self inv.back none.0;
+      known = λ t on. inv.known t (and_parts (not (eqb t n)) (has_train c.loop-train.openers t) (sym (taken t) ∙ on)).1;
+      none = tried_more plan c.args.depth a.places.positions b.places.positions n c.loop-train.openers c.take_first.new.self inv.back.positions taken inv.none none.1;
+    }
 
 pub try_free_legs-returns-clause-none : goal.try_free_legs-returns-clause-none
 try_free_legs-returns-clause-none g t c =
-    let plan : Moves = moves_in c.args.moves.now in
-    let a = c.args.self.now in
     λ _. (
       c.loop-train.invariant.back,
-      λ leg is found. c.loop-train.invariant.none leg.train leg.place (in_take_all leg.train c.args.inside.now c.loop-train.train-index c.loop-train-test.false (c.requires.listed.all leg.train (goes_parts plan a.places.positions leg is).inside)) is found,
+      λ leg is found. c.loop-train.invariant.none leg.train leg.place (c.in_default.ensures.none refl leg.train) is found,
     )
 
 pub search-search_on-requires : goal.search-search_on-requires
@@ -184,7 +187,7 @@ try_free_legs-try_legs_of-requires g t c _ within =
             (
               listed_still table c.args.depth c.args.inside.now a b inv.back c.requires.listed,
               (
-                c.requires.listed.trains c.train-item.result (in_at c.train-item.result c.args.inside.now c.loop-train.train-index c.loop-train-test.true c.train-item.is),
+                inv.known c.in-Some.train c.in-Some.ensures.was,
                 (
                   c.requires.room,
                   (

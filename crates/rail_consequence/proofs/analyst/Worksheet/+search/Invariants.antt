@@ -1,8 +1,8 @@
-use Rattle.std.proofs.Common.{◌≡◌, ℕ, ◌+◌, ◌*◌, ◌<◌, ◌≤◌, true, set, take}
-use Rattle.rail_rules.specs.Numbers.{is_in}
+use Rattle.std.proofs.Common.{◌≡◌, ℕ, ◌+◌, ◌*◌, ◌<◌, ◌≤◌, true, false, length, set}
 use Rattle.rail_rules.specs.Places.{place_of}
 use Rattle.rail_rules.specs.Analysis.{Finds, is_leg}
 use Rattle.rail_place.specs.Tables.{moves_in}
+use Rattle.rail_sets.specs.TrainSets.{has_train, size_of}
 use Rattle.rail_consequence.specs.Workspace.{IsBack, IsReady}
 use Rattle.rail_consequence.proofs.Stopping.{IsOpen}
 use Rattle.rail_consequence.proofs.analyst.Worksheet.+search.Given as goal
@@ -35,8 +35,12 @@ abbrev pub invariant-try_free_legs-loop-train : goal.invariant-try_free_legs-loo
 invariant-try_free_legs-loop-train g l = record {
   ready : IsReady l.moves l.self;
   back : IsBack l.fn.self l.self;
-  none : (u p : ℕ) → is_in u (take l.train-index l.inside) ≡ true → is_leg (moves_in l.moves) l.fn.self.places.positions (record { train = u; place = p }) ≡ true → Finds (moves_in l.moves) l.depth (set l.fn.self.places.positions u p) → ⊥;
+  known : (t : ℕ) → has_train l.openers t ≡ true → t < length l.moves;
+  none : (u p : ℕ) → has_train l.openers u ≡ false → is_leg (moves_in l.moves) l.fn.self.places.positions (record { train = u; place = p }) ≡ true → Finds (moves_in l.moves) l.depth (set l.fn.self.places.positions u p) → ⊥;
 }
+
+abbrev pub decreases-try_free_legs-loop-train : goal.decreases-try_free_legs-loop-train
+decreases-try_free_legs-loop-train g l = size_of l.openers
 
 abbrev pub invariant-try_legs_of-loop-made : goal.invariant-try_legs_of-loop-made
 invariant-try_legs_of-loop-made g l = record {

@@ -1,6 +1,0 @@
-use Rattle.rail_base.specs.declared.limits.TheConstants.{TRAINS}
-use Rattle.rail_consequence.proofs.Marks.{all_marked}
-use Rattle.rail_consequence.proofs.openers.Openers.add_all.Goals as goal
-
-pub returns : goal.returns
-returns c = all_marked TRAINS
