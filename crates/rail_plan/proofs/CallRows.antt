@@ -3,7 +3,7 @@ use Rattle.std.proofs.Common.{◌≡◌, ℕ, zero, suc, ◌+◌, ◌-◌, ◌<�
 use Rattle.std.specs.Option.{unwrap_or, option_or, option_map_or}
 use Rattle.std.specs.Vec.{with_item}
 use Rattle.std.specs.Global.{Vec}
-use Rattle.std.proofs.lemmas.Bool.{cases_eq}
+use Rattle.std.proofs.lemmas.Bool.{cases_eq, cases_Bool}
 use Rattle.std.proofs.lemmas.List.{map-set, get_or-map, length-map, length-set, get_or-set_same, get_or-set_other, get_or_past, length-replicate}
 use Rattle.rail_base.specs.declared.plant.Call.{Call}
 use Rattle.rail_base.specs.declared.plant.Tables.{Tables}
@@ -14,7 +14,7 @@ use Rattle.rail_rules.specs.RunHistories.{call_departure, call_arrival, first_de
 use Rattle.rail_rules.specs.Accepted.{is_call_in_range}
 use Rattle.rail_rules.proofs.CallerLemmas.{all_below_from, all_below_at}
 use Rattle.rail_plan.specs.PlanFaults.{bare}
-use Rattle.rail_plan.specs.CallTables.{AreCallsFor, with_calls, no_calls, call_at, departure_within, with_call}
+use Rattle.rail_plan.specs.CallTables.{AreCallsFor, AreLasts, with_calls, no_calls, call_at, departure_within, with_call}
 use Rattle.rail_plan.proofs.Spelled.{get_or-map_all}
 
 -- the calls of a row as contracts see them
@@ -134,6 +134,50 @@ departure_later calls t place to o first lt is none =
     departure_step calls t place to first lt
     ∙ ap (λ d. or_else d (departure_within calls t (place + 1 - 1) (to - (place + 1)))) (sym is)
     ∙ or_else-no o (departure_within calls t (place + 1 - 1) (to - (place + 1))) none
+
+-- a call more, where the last place with a departure is one behind which the train had none, and not before that of the call if it has one
+pub lasts_more : (calls : List (List (Option Call))) (lasts : List ℕ) (t place last : ℕ) (call : Call)
+    → AreLasts calls lasts → t < length calls → 1 ≤ place → place ≤ length (get_or calls t [])
+    → get_or lasts t 0 ≤ last → (is_some call.departure ≡ true → place ≤ last)
+    → AreLasts (with_call calls t place call) (set lasts t last)
+lasts_more calls lasts t place last call are lt first within from reached =
+    let row : List (Option Call) = set (get_or calls t []) (place - 1) (Some call) in
+    record {
+      long = length-set lasts t last ∙ are.long ∙ sym (length-set calls t row);
+      none = λ u p behind.
+          ⊎_elim
+          (λ same.
+          let at : get_or (set calls t row) u [] ≡ row = ap (λ k. get_or (set calls t row) k []) same ∙ get_or-set_same calls t row [] lt in
+          let most : get_or (set lasts t last) u 0 ≡ last = ap (λ k. get_or (set lasts t last) k 0) same ∙ get_or-set_same lasts t last 0 (omega (arith, lt, are.long)) in
+          ⊎_elim
+          (λ here.
+          let found : get_or (get_or (set calls t row) u []) (p - 1) None ≡ Some call = ap (λ r. get_or r (p - 1) None) at ∙ ap (λ k. get_or row (k - 1) None) here ∙ get_or-set_same (get_or calls t []) (place - 1) (Some call) None (omega (arith, first, within)) in
+          ap call_departure found ∙ ⊎_elim
+          (λ some. absurd (omega (arith, reached some, behind, most, here)))
+          (λ none. no_value call.departure none)
+          (cases_Bool (is_some call.departure)))
+          (λ elsewhere.
+          let found : get_or (get_or (set calls t row) u []) (p - 1) None ≡ get_or (get_or calls t []) (p - 1) None = ap (λ r. get_or r (p - 1) None) at ∙ get_or-set_other (get_or calls t []) (place - 1) (p - 1) (Some call) None (omega (arith, first, elsewhere, behind)) in
+          ap call_departure found ∙ are.none t p (omega (arith, from, behind, most)))
+          (cases_eq p place))
+          (λ other.
+          ap (λ (r : List (Option Call)). call_departure (get_or r (p - 1) None)) (get_or-set_other calls t u row [] other)
+          ∙ are.none u p (omega (arith, behind, get_or-set_other lasts t u last 0 other)))
+          (cases_eq u t);
+    }
+  where
+    no_value : (o : Option ℕ) → is_some o ≡ false → o ≡ None
+    no_value None none = refl
+    no_value (Some x) none = absurd (cc)
+
+-- where no place behind has a departure there is none
+pub none_within : (calls : List (List (Option Call))) (t m places : ℕ) → ((q : ℕ) → m < q → call_departure (call_at calls t q) ≡ None) → departure_within calls t m places ≡ None
+none_within calls t m zero none = refl
+none_within calls t m (suc places) none =
+    let at : m ≡ suc m - 1 = omega arith in
+    ap (λ k. or_else (call_departure (get_or (get_or calls t []) k None)) (departure_within calls t (suc m) places)) at
+    ∙ ap (λ d. or_else d (departure_within calls t (suc m) places)) (none (suc m) (omega arith))
+    ∙ none_within calls t (suc m) places (λ q lt. none q (omega (arith, lt)))
 
 -- the first departure, by the calls alone
 departures_are : (tables : Tables) (calls : List (List (Option Call))) (t m places : ℕ) → departure_within calls t m places ≡ first_departure (with_calls tables calls) t m places

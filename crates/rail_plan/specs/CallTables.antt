@@ -27,6 +27,11 @@ departure_within calls t m zero = None
 departure_within calls t m (suc places) = or_else (call_departure (get_or (get_or calls t []) m None))
     (departure_within calls t (suc m) places)
 
+-- for each train a place behind which it has no departure
+pub record AreLasts (calls : List (List (Option Call))) (lasts : List ℕ) : Type 0 where
+  pub long : length lasts ≡ length calls
+  pub none : (t place : ℕ) → get_or lasts t 0 < place → call_departure (call_at calls t place) ≡ None
+
 -- one call more
 abbrev pub with_call : List (List (Option Call)) → ℕ → ℕ → Call → List (List (Option Call))
 with_call calls t place call = set calls t (set (get_or calls t []) (place - 1) (Some call))

@@ -19,11 +19,17 @@ use std::marker::Model;
 #[derive(Debug)]
 pub struct Calls {
     rows: Vec<Vec<Option<Call>>>,
+    /// For each train the last place with a departure, counted from 1, and 0 where there is none: no place behind it is
+    /// looked at for one.
+    lasts: Vec<u16>,
 }
 
 impl Drop for Calls {
     fn drop(self) {
-        let Calls { rows: _rows } = self;
+        let Calls {
+            rows: _rows,
+            lasts: _lasts,
+        } = self;
     }
 }
 
@@ -34,6 +40,10 @@ impl Model for Calls {
     ghost Value = { List (List (Option Call)) };
 
     ghost view = { λ calls. map (λ row. row.items) calls.rows.items };
+
+    ghost use Rattle.rail_plan.specs.CallTables.{AreLasts};
+
+    ghost invariant = { λ calls. AreLasts (map (λ row. row.items) calls.rows.items) calls.lasts.items };
 }
 
 impl Calls {
@@ -43,9 +53,9 @@ impl Calls {
         ensures free { IfOk result (λ calls. (t place : ℕ) → call_at calls t place ≡ None) }
         ensures made { IfOk result (AreCallsFor plant.now.tables) }
     {
-        Ok(Calls {
-            rows: rooms_of(alloc, plant.trains())?,
-        })
+        let rows = rooms_of(alloc, plant.trains())?;
+        let lasts = vec![in alloc; 0; rows.len()]?;
+        Ok(Calls { rows, lasts })
     }
 
     /// No calls and no room for any, as a plant has them that was not given calls. It takes no memory.
@@ -54,6 +64,7 @@ impl Calls {
     {
         Calls {
             rows: Vec::new(alloc),
+            lasts: Vec::new(alloc),
         }
     }
 
@@ -75,6 +86,9 @@ impl Calls {
     {
         let row = &mut self.rows[usize::from(train.0)];
         row[usize::from(place) - 1] = Some(call);
+        let reached = if call.departure.is_some() { place } else { 0 };
+        let last = &mut self.lasts[usize::from(train.0)];
+        *last = reached.max(*last);
     }
 
     /// The call of the train at the place, which counts from 1.
@@ -87,7 +101,7 @@ impl Calls {
     }
 
     /// The departure of the first of the train's calls that has one, at the places from the one to that
-    /// before the other.
+    /// before the other. Places behind the last one with a departure are not looked at.
     pub(crate) fn first_departure(&self, train: TrainNo, from: u16, to: u16) -> Option<Time>
         requires { 1 ≤ from }
         ensures { result ≡ departure_within self.now train (from - 1) (to - from) }
@@ -95,7 +109,11 @@ impl Calls {
         if usize::from(train.0) >= self.rows.len() {
             return None;
         }
+        let last = self.lasts[usize::from(train.0)];
         for place in from..to {
+            if last < place {
+                return None;
+            }
             let departure = self.departure(train, place);
             if departure.is_some() {
                 return departure;
