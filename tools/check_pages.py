@@ -92,7 +92,7 @@ def wrong_counts(path, counted):
 
 def wrong_commands(repository):
     """Forms of the program's table that README.md does not show as they are typed, and the other way round."""
-    table = (repository / "crates/rail_words/src/forms.rt").read_text()
+    table = (repository / "crates/rail_command_line/src/forms.rt").read_text()
     verbs, words = {}, {}
     for name, known in (("verb", verbs), ("words", words)):
         body = table.split(f"pub fn {name}(self)")[1].split("pub fn ")[0]
@@ -118,7 +118,7 @@ def scene_keys(repository):
     texts = dict(re.findall(r'KeyName::(\w+) => "(\w+)"', source))
     keys = {}
     for name, key, form, required in re.findall(
-        r"const (\w+): Key = Key \{\s*name: KeyName::(\w+),\s*form: Form::(.*?),\s*required: (\w+),\s*\};", source, re.S
+        r"const (\w+): Key = Key \{\s*name: KeyName::(\w+),\s*form: KeyForm::(.*?),\s*required: (\w+),\s*\};", source, re.S
     ):
         told = []
         if bounds := re.search(r"low: (.*?),\s*high: (.*?),\s*default: (.*?),", form):

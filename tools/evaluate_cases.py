@@ -7,7 +7,7 @@ Each CASE is a folder with scene.toml, perhaps timetable.csv and commands.txt, h
 and verdicts.txt, whose lines `FILE yes` or `FILE no LINE LAW` say of histories beside it whether they are
 lawful to the end. The script writes a crate outside the repository for each case, in which `refl` is to prove
 each answer, and has `rt check` evaluate them there, some cases at a time. It stands on the repository's
-rail_rules, and the answers are yes or no; with --verdicts it stands on rail_judging, and of a no the line and
+rail_rules, and the answers are yes or no; with --verdicts it stands on rail_laws_verdict, and of a no the line and
 the law are evaluated too. It prints a line for each answer that the definitions do not give, and a count; its
 status is 0 where there is none.
 """
@@ -29,8 +29,8 @@ REPOSITORY = pathlib.Path(__file__).resolve().parent.parent
 RULES_USES = """use Rattle.rail_rules.specs.Lawful.{is_complete}
 use Rattle.rail_rules.specs.RunHistories.{is_run_history}
 """
-JUDGING_USES = """use Rattle.rail_judging.specs.Verdicts.{verdict}
-use Rattle.rail_judging.specs.Verdicts.Verdict.{yes, no}
+JUDGING_USES = """use Rattle.rail_laws_verdict.specs.Verdicts.{verdict}
+use Rattle.rail_laws_verdict.specs.Verdicts.Verdict.{yes, no}
 """
 
 
@@ -112,7 +112,7 @@ def main():
     root = pathlib.Path(arguments.keep or tempfile.mkdtemp(prefix="rail-cases-"))
     root.mkdir(exist_ok=True)
     (root / "HANDLES").write_text("Handles allowed: none.\n")
-    top = "rail_judging" if arguments.verdicts else "rail_rules"
+    top = "rail_laws_verdict" if arguments.verdicts else "rail_rules"
     low = libraries(top)
     for crate in low:
         ignored = shutil.ignore_patterns("must-fail")

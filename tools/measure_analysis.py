@@ -206,13 +206,13 @@ def make_program(repository, folder):
     lines = (repository / "crates.txt").read_text().splitlines()
     listed = [line for line in lines if line.split(":")[0] in LIBRARIES]
     write(folder / "crates.txt", "\n".join(listed + ["find_bench: " + " ".join(reversed(LIBRARIES))]) + "\n")
-    bench, tests = crates / "find_bench", repository / "crates/rail_unit_tests"
+    bench, tests = crates / "find_bench", repository / "crates/rail_tests_calls"
     source = (tests / "src/plants.rt").read_text()
     write(bench / "src/main.rt", MAIN)
     write(bench / "src/plant.rt", PLANT_HEAD + "\n".join(helper(source, name) for name in HELPERS) + PLANT_TAIL)
     for name in HELPERS:
         for path in sorted((tests / "proofs/plants" / name).glob("*.antt")):
-            proof = path.read_text().replace("Rattle.rail_unit_tests.proofs.plants.", "Rattle.find_bench.proofs.plant.")
+            proof = path.read_text().replace("Rattle.rail_tests_calls.proofs.plants.", "Rattle.find_bench.proofs.plant.")
             write(bench / "proofs/plant" / name / path.name, proof)
     write(bench / "proofs/plant/plan_of/Invariants.antt", PLAN_INVARIANT)
     return bench

@@ -24,7 +24,7 @@ from rail_sources import Sources, sentence  # noqa: E402
 from rail_specs import Specs, Target, Terms, constructor_test, tree  # noqa: E402
 
 MARK = "<!-- the list -->"
-TOP = ("rail_cli", "top", "rail")
+TOP = ("rail_top", "top", "rail")
 FORMS = "rail_forms"
 EXAMPLES = "rail_worked"
 

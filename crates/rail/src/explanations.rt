@@ -2,7 +2,7 @@
 //! no answer depends on it.
 
 use rail_base::{Name, Refusal, Word};
-use rail_cli::Status;
+use rail_command_line::{FORMS, FileRole, Form, form_named, request_of};
 use rail_explain::{
     HELP_BEFORE, HELP_BEHIND, KeepingShelf, OTHER_FORMS, detail, file_of, help_line, law_text,
     usage, usage_with_hint, write_read_fault, write_refusal, write_unknown_policies,
@@ -12,7 +12,7 @@ use rail_io::{FileShelf, OutSink};
 use rail_scene::keys::keys_in;
 use rail_scene::{Version, item_name};
 use rail_text::LineBuffer;
-use rail_words::{FORMS, Form, Role, form_named, request_of};
+use rail_top::Status;
 use std::io::{self, IsTerminal};
 use std::rt::HostRuntime;
 
@@ -93,7 +93,7 @@ fn explain_unknown_policies(rt: &HostRuntime, words: &[Word], files: &Files<'_>)
         return;
     }
     if let Some(request) = request_of(words)
-        && let Some(file) = request.file(Role::Commands)
+        && let Some(file) = request.file(FileRole::Commands)
         && let Some(commands) = files.bytes_of(file)
     {
         let _ = write_unknown_policies(file, commands, &mut OutSink::new(errors));
@@ -116,10 +116,13 @@ fn explain_refusal(rt: &HostRuntime, words: &[Word], refusal: &Refusal, files: &
     let bytes = file.and_then(|file| files.bytes_of(file)).unwrap_or(&[]);
     let name = name_in(rt, bytes, refusal);
     let scene = request
-        .file(Role::Scene)
+        .file(FileRole::Scene)
         .and_then(|file| files.bytes_of(file));
     let mut detail = detail(rt.alloc(), refusal, bytes, scene.unwrap_or(&[]));
-    if request.form() == Form::Edit && file == request.file(Role::Scene) && is_accepted(rt, bytes) {
+    if request.form() == Form::Edit
+        && file == request.file(FileRole::Scene)
+        && is_accepted(rt, bytes)
+    {
         detail.put(b"; it is so after the edits, and not before them");
     }
     let _ = write_refusal(file, refusal, name, &detail, &mut OutSink::new(rt.stderr()));

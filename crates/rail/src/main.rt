@@ -1,4 +1,4 @@
-//! The program: it hands its words, the system's files and standard output to the top call of `rail_cli`,
+//! The program: it hands its words, the system's files and standard output to the top call of `rail_top`,
 //! explains on standard error what it refuses, and ends with the status.
 #![tactic(auto)]
 
@@ -10,13 +10,13 @@ mod explanations;
 
 use explanations::{explain, explain_write_fault};
 use rail_base::Word;
-use rail_cli::{Status, rail};
+use rail_command_line::FORMS;
 use rail_explain::{HELP_BEFORE, HELP_BEHIND, KeepingShelf, VERSION, help_line};
 use rail_io::{FileShelf, GatheredSink, OutSink, Sink};
 use rail_policy::{
     FcfsPolicy, Policy, PriorityPolicy, RotatingPolicy, TimetablePolicy, deck_is_fine,
 };
-use rail_words::FORMS;
+use rail_top::{Status, rail};
 use std::alloc::AllocError;
 use std::env;
 use std::io::{self, ErrorKind};

@@ -13,7 +13,7 @@ use Rattle.rail_history.specs.HistoryLines.{IsRefusedIn}
 use Rattle.rail_history.specs.Lines.{brought}
 use Rattle.rail_history.specs.LineReads.{line_read, trains_read}
 use Rattle.rail_history.specs.ReadFiles.{GoesOn, IsReadTo, IsRefusedBehind}
-use Rattle.rail_judging.specs.Verdicts.{verdict}
+use Rattle.rail_laws_verdict.specs.Verdicts.{verdict}
 use Rattle.rail_laws_events.proofs.CallerLemmas.{input_parts}
 use Rattle.rail_laws_text.proofs.CallerLemmas.{accepted_named}
 use Rattle.rail_ledger.specs.Inputs.{input_in}

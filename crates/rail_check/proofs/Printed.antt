@@ -5,10 +5,10 @@ use Rattle.std.proofs.lemmas.Bool.{and_from, and_parts}
 use Rattle.std.proofs.lemmas.List.{append-nil, reverse-append, reverse-reverse}
 use Rattle.rail_history.specs.HistoryLines.{IsHistory}
 use Rattle.rail_history.proofs.CallerLemmas.{lawful_lines}
-use Rattle.rail_judging.specs.Verdicts.{behind, verdict}
-use Rattle.rail_judging.specs.Verdicts.Verdict.{yes}
-use Rattle.rail_judging.proofs.CallerLemmas.{yes_means}
-use Rattle.rail_laws_run.proofs.CallerLemmas.{run_lawful}
+use Rattle.rail_laws_verdict.specs.Verdicts.{behind, verdict}
+use Rattle.rail_laws_verdict.specs.Verdicts.Verdict.{yes}
+use Rattle.rail_laws_verdict.proofs.CallerLemmas.{yes_means}
+use Rattle.rail_laws_step.proofs.CallerLemmas.{run_lawful}
 use Rattle.rail_rules.specs.Accepted.{is_accepted_input}
 use Rattle.rail_rules.specs.Fronts.{Front, Line, has_ended}
 use Rattle.rail_rules.specs.Lawful.{is_complete, is_lawful}

@@ -4,8 +4,8 @@ use Rattle.std.proofs.lemmas.Bool.{and_parts, cond-false, cond-true}
 use Rattle.std.proofs.lemmas.List.{append-nil}
 use Rattle.rail_rules.specs.Fronts.{Line, has_ended, is_hold}
 use Rattle.rail_rules.specs.Lawful.{is_lawful, may_follow}
-use Rattle.rail_judging.specs.Verdicts.{broken_law, missing_law, verdict, verdict_behind}
-use Rattle.rail_judging.specs.Verdicts.Verdict.{yes, no}
+use Rattle.rail_laws_verdict.specs.Verdicts.{broken_law, missing_law, verdict, verdict_behind}
+use Rattle.rail_laws_verdict.specs.Verdicts.Verdict.{yes, no}
 use Rattle.rail_ledger.specs.declared.input.RunInput.{RunInput}
 use Rattle.rail_ledger.specs.Inputs.{input_in}
 use Rattle.rail_ledger.specs.Ledgers.{IsAt, IsEnded, IsRefusedWith, IsUnended, StandsAsBefore, TakesLineWith}

@@ -3,8 +3,8 @@ use Rattle.std.specs.Prelude.{◌≡◌, ℕ, List}
 use Rattle.rail_check.specs.declared.verdict.Verdict.{Verdict}
 use Rattle.rail_check.specs.declared.verdict.Verdict.TheVariants.{Yes, No}
 use Rattle.rail_history.specs.HistoryLines.{IsHistory}
-use Rattle.rail_judging.specs.Verdicts.{Verdict as Judged, verdict}
-use Rattle.rail_judging.specs.Verdicts.Verdict.{yes, no}
+use Rattle.rail_laws_verdict.specs.Verdicts.{Verdict as Judged, verdict}
+use Rattle.rail_laws_verdict.specs.Verdicts.Verdict.{yes, no}
 use Rattle.rail_rules.specs.Fronts.{Line}
 use Rattle.rail_rules.specs.Orders.{Input}
 

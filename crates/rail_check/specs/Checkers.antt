@@ -7,7 +7,7 @@ use Rattle.rail_check.specs.declared.verdict.Verdict.{Verdict}
 use Rattle.rail_history.specs.HistoryLines.{IsHistory, IsRefusedIn}
 use Rattle.rail_history.specs.ReadFiles.{IsReadTo}
 use Rattle.rail_history.specs.declared.file_lines.FileLines.{FileLines}
-use Rattle.rail_judging.specs.Verdicts.{verdict, verdict_behind}
+use Rattle.rail_laws_verdict.specs.Verdicts.{verdict, verdict_behind}
 use Rattle.rail_ledger.specs.Inputs.{input_in}
 use Rattle.rail_ledger.specs.Ledgers.{IsAt, IsSomewhereWith}
 use Rattle.rail_ledger.specs.declared.input.RunInput.{RunInput}

@@ -3,7 +3,7 @@
 ghost use Rattle.std.specs.Prelude.{◌≡◌, ◌-◌, ◌<◌, ◌^◌, IfOk, length, true};
 ghost use Rattle.rail_check.specs.Answers.{judged_in};
 ghost use Rattle.rail_history.specs.LineReads.{IsPaired, lines_of};
-ghost use Rattle.rail_judging.specs.Verdicts.{verdict};
+ghost use Rattle.rail_laws_verdict.specs.Verdicts.{verdict};
 ghost use Rattle.rail_ledger.specs.Inputs.{input_in};
 ghost use Rattle.rail_rules.specs.Accepted.{is_accepted_input};
 

@@ -2,8 +2,8 @@
 
 ghost use Rattle.std.specs.Prelude.{◌≡◌, IsTrue, List, reverse};
 ghost use Rattle.rail_history.specs.HistoryLines.{IsHistory};
-ghost use Rattle.rail_judging.specs.Verdicts.{verdict};
-ghost use Rattle.rail_judging.specs.Verdicts.Verdict.{yes};
+ghost use Rattle.rail_laws_verdict.specs.Verdicts.{verdict};
+ghost use Rattle.rail_laws_verdict.specs.Verdicts.Verdict.{yes};
 ghost use Rattle.rail_rules.specs.Accepted.{is_accepted_input};
 ghost use Rattle.rail_rules.specs.Fronts.{Front};
 ghost use Rattle.rail_rules.specs.Orders.{Input};

@@ -1,7 +1,7 @@
 //! The checker: whether a history is lawful to its end, or which line is the first that may not follow.
 //!
 //! This layer stands on the ledger of a run (`rail_ledger`), which judges a line by what it keeps, on the verdict as
-//! the definitions have it (`rail_judging`), and on the histories that are read (`rail_history`). `check` makes a
+//! the definitions have it (`rail_laws_verdict`), and on the histories that are read (`rail_history`). `check` makes a
 //! ledger of its own and hands it the lines one by one. `check_file` does so with the lines of a file, and reads a line
 //! only where the file does not have the text of the line that is due. It runs no engine, has no desk and asks no
 //! policy: who goes first among the trains that could be admitted is free in a lawful history. The body may be changed

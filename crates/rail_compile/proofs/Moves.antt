@@ -18,8 +18,8 @@ use Rattle.rail_track.specs.declared.section.Section.{Section}
 use Rattle.rail_track.specs.Joints.{is_named}
 use Rattle.rail_base.specs.Lists.{are_distinct}
 use Rattle.rail_routes.specs.declared.items.Post.{Post}
-use Rattle.rail_routes.specs.declared.items.Role.{Role}
-use Rattle.rail_routes.specs.declared.items.Role.TheVariants.{Portal, Signal, Board}
+use Rattle.rail_routes.specs.declared.items.PostRole.{PostRole}
+use Rattle.rail_routes.specs.declared.items.PostRole.TheVariants.{Portal, Signal, Board}
 use Rattle.rail_routes.specs.declared.items.Turn.{Turn}
 use Rattle.rail_routes.specs.declared.items.Step.{Step}
 use Rattle.rail_routes.specs.declared.items.Route.{Route}
@@ -94,7 +94,7 @@ list_all_weaker p q weaker (x ∷ xs) all =
     and_from (q x) (list_all q xs) (weaker x parts.0) (list_all_weaker p q weaker xs parts.1)
 
 -- each post has its times in range
-timed_post : (role : Role) (sections : List Section) (post : Post) → is_sound_post role sections post ≡ true → is_timed post ≡ true
+timed_post : (role : PostRole) (sections : List Section) (post : Post) → is_sound_post role sections post ≡ true → is_timed post ≡ true
 timed_post role sections post h =
     let front : Bool = same_role role post.role && is_formed post in
     (and_parts front (is_timed post) (and_parts (front && is_timed post) (stands_well sections post) h).0).1

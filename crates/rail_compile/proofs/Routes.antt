@@ -10,8 +10,8 @@ use Rattle.rail_track.specs.Joints.{is_named, section_named}
 use Rattle.rail_track.specs.Passages.{passages, leads, has_passage}
 use Rattle.rail_base.specs.Lists.{are_distinct}
 use Rattle.rail_routes.specs.declared.items.Post.{Post}
-use Rattle.rail_routes.specs.declared.items.Role.{Role}
-use Rattle.rail_routes.specs.declared.items.Role.TheVariants.{Portal, Signal, Board}
+use Rattle.rail_routes.specs.declared.items.PostRole.{PostRole}
+use Rattle.rail_routes.specs.declared.items.PostRole.TheVariants.{Portal, Signal, Board}
 use Rattle.rail_routes.specs.declared.items.Step.{Step}
 use Rattle.rail_routes.specs.declared.items.Route.{Route}
 use Rattle.rail_routes.specs.Net.{Net, post_named, no_post}
@@ -83,7 +83,7 @@ pub record LeadsFrom (net : Net) (begin : Option Post) (steps overlap : List Ste
   pub known : list_all (is_known_step net.sections) steps ≡ true
   pub over_known : list_all (is_known_step net.sections) overlap ≡ true
 
-ahead_timed : (role : Role) (post : Post) (sections : List Section) (name : List ℕ) → is_ahead_of role post sections name ≡ true → has_times role ≡ true
+ahead_timed : (role : PostRole) (post : Post) (sections : List Section) (name : List ℕ) → is_ahead_of role post sections name ≡ true → has_times role ≡ true
 ahead_timed Portal post sections name h = refl
 ahead_timed Signal post sections name h = refl
 ahead_timed Board post sections name h = absurd (false≢true h)
@@ -118,7 +118,7 @@ beyond net (Some begin) (Some end) steps overlap h portal =
     let over = (and_parts (is_sound_path net.sections begin end steps) (is_sound_overlap net.sections end overlap) h).1 in
     none end.role overlap portal (and_parts (not (is_beyond end.role overlap)) (lead_on net.sections end.joint overlap) over).0
   where
-    none : (role : Role) (steps : List Step) → is_portal_role role ≡ true → not (is_beyond role steps) ≡ true → steps ≡ []
+    none : (role : PostRole) (steps : List Step) → is_portal_role role ≡ true → not (is_beyond role steps) ≡ true → steps ≡ []
     none Portal [] portal free = refl
     none Portal (step ∷ rest) portal free = absurd (false≢true free)
     none Signal steps portal free = absurd (false≢true portal)

@@ -13,8 +13,8 @@ use Rattle.rail_rules.specs.Plant.{Plant, no_kind}
 use Rattle.rail_track.specs.declared.section.Section.{Section}
 use Rattle.rail_track.specs.Joints.{is_named}
 use Rattle.rail_routes.specs.declared.items.Post.{Post}
-use Rattle.rail_routes.specs.declared.items.Role.{Role}
-use Rattle.rail_routes.specs.declared.items.Role.TheVariants.{Portal, Signal, Board}
+use Rattle.rail_routes.specs.declared.items.PostRole.{PostRole}
+use Rattle.rail_routes.specs.declared.items.PostRole.TheVariants.{Portal, Signal, Board}
 use Rattle.rail_routes.specs.declared.items.Turn.{Turn}
 use Rattle.rail_routes.specs.declared.items.Step.{Step}
 use Rattle.rail_routes.specs.declared.items.Route.{Route}
@@ -55,7 +55,7 @@ abbrev pub turn_between : Net → Route → Route → Option TurnRow
 turn_between net route next = turn_row (turn_to net route next) (turn_step net route next)
 
 -- the post is a portal
-abbrev pub is_portal_role : Role → Bool
+abbrev pub is_portal_role : PostRole → Bool
 is_portal_role Portal = true
 is_portal_role Signal = false
 is_portal_role Board = false
@@ -65,7 +65,7 @@ abbrev pub is_portal : Net → List ℕ → Bool
 is_portal net name = option_map_or (λ (post : Post). is_portal_role post.role) (post_named name net) false
 
 -- the post is a signal
-abbrev pub is_signal_role : Role → Bool
+abbrev pub is_signal_role : PostRole → Bool
 is_signal_role Portal = false
 is_signal_role Signal = true
 is_signal_role Board = false

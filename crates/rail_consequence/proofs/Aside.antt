@@ -10,7 +10,7 @@ use Rattle.rail_consequence.specs.AnalystStates.{AreAlikeBut}
 use Rattle.rail_consequence.specs.Needs.{AreRowsBut, AreRowsFor, IsRowsOf, IsSetRow, IsTallyFor, Placed, SetRows, needs_from, needs_left, one_if, with_row}
 use Rattle.rail_consequence.specs.Stops.{IsNoted, IsNotedTo, stop_of}
 use Rattle.rail_consequence.specs.Workspace.{IsListing}
-use Rattle.rail_consequence.specs.declared.notes.Notes.{Notes}
+use Rattle.rail_consequence.specs.declared.notes.SearchNotes.{SearchNotes}
 use Rattle.rail_consequence.specs.declared.notes.Stop.{Stop}
 use Rattle.rail_consequence.specs.declared.notes.Stop.TheVariants.{Unknown}
 use Rattle.rail_consequence.specs.declared.rows.PlaceSets.{PlaceSets}
@@ -108,7 +108,7 @@ module _ (plan other : Moves) (t : ℕ) (h : AreAlikeBut t plan other) where
   }
 
 -- where nothing is noted, it is noted for any moves
-pub noted_none : (plan : Moves) (s : List ℕ) (notes : Notes) → ((u : ℕ) → stop_of notes.stops u ≡ Unknown) → ((x : ℕ) → has notes.fell x ≡ false) → IsNotedTo plan s notes
+pub noted_none : (plan : Moves) (s : List ℕ) (notes : SearchNotes) → ((u : ℕ) → stop_of notes.stops u ≡ Unknown) → ((x : ℕ) → has notes.fell x ≡ false) → IsNotedTo plan s notes
 noted_none plan s notes stops fell = record {
   each = λ u inside. let P : Stop → Type 0 = λ stop. IsNoted plan s notes.fell u stop in subst P (sym (stops u)) tt;
   none = λ none. fell;

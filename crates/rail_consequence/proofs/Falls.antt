@@ -8,7 +8,7 @@ use Rattle.rail_rules.specs.Places.{place_of, is_inside, is_valid_state}
 use Rattle.rail_sets.specs.Counts.{Columns}
 use Rattle.rail_sets.specs.Sets.{has}
 use Rattle.rail_consequence.specs.Needs.{IsCounted, count_of, needs_from, needs_left, one_if}
-use Rattle.rail_consequence.specs.declared.notes.Notes.{Notes}
+use Rattle.rail_consequence.specs.declared.notes.SearchNotes.{SearchNotes}
 use Rattle.rail_consequence.specs.declared.notes.Stop.{Stop}
 use Rattle.rail_consequence.specs.declared.notes.Stop.TheVariants.{Unknown, Free, Next, Later}
 use Rattle.rail_consequence.specs.Stops.{IsNoted, IsNotedTo, IsUntouched, stop_of}
@@ -36,7 +36,7 @@ passed_by plan s counts t p u fell counted inside ahead falls untouched ne i x f
     ap (λ k. needs_left plan u k x) (get_or-set_other s t u p 0 ne)
     ∙ ⊎_elim (λ needs. absurd (false≢true (sym (untouched x needs) ∙ fallen))) (λ out. out) (cases_Bool (needs_left plan u (place_of s u) x))
 
-module _ (plan : Moves) (s : List ℕ) (counts : Columns) (t p : ℕ) (old new : Notes) (valid : is_valid plan ≡ true) (state : is_valid_state plan s ≡ true) (counted : IsCounted plan s counts)
+module _ (plan : Moves) (s : List ℕ) (counts : Columns) (t p : ℕ) (old new : SearchNotes) (valid : is_valid plan ≡ true) (state : is_valid_state plan s ≡ true) (counted : IsCounted plan s counts)
     (was : is_inside plan s t ≡ true) (ahead : place_of s t < p) (kept : (x : ℕ) → has old.fell x ≡ true → has new.fell x ≡ true)
     (falls : (x : ℕ) → needs_from plan t (place_of s t) x ≡ true → needs_from plan t p x ≡ false → count_of counts x ≡ 2 → has new.fell x ≡ true) where
   -- a train that needs none of the sections of a set needed none of those that it had before

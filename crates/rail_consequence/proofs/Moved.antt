@@ -10,7 +10,7 @@ use Rattle.rail_sets.specs.Counts.{Columns}
 use Rattle.rail_sets.specs.Sets.{has}
 use Rattle.rail_consequence.specs.Needs.{IsCounted, count_of, needs_left, one_if}
 use Rattle.rail_consequence.specs.Stops.{IsBehind, IsNoted, IsNotedTo, IsUntouched, stop_of}
-use Rattle.rail_consequence.specs.declared.notes.Notes.{Notes}
+use Rattle.rail_consequence.specs.declared.notes.SearchNotes.{SearchNotes}
 use Rattle.rail_consequence.specs.declared.notes.Stop.{Stop}
 use Rattle.rail_consequence.specs.declared.notes.Stop.TheVariants.{Unknown, Free, Next, Later}
 use Rattle.rail_consequence.proofs.Clear.{clear_from_none, none_from_clear, own_needed, sum_alone}
@@ -18,7 +18,7 @@ use Rattle.rail_consequence.proofs.Counts.{one_false, one_true, sum_shift}
 use Rattle.rail_consequence.proofs.Legs.{inside_listed, inside_parts, inside_same}
 use Rattle.rail_consequence.proofs.Safe.{clear_from_safe, safe_from_clear}
 
-module _ (plan : Moves) (s : List ℕ) (counts : Columns) (t p : ℕ) (old new : Notes) (valid : is_valid plan ≡ true) (long : length s ≡ plan.trains) (listed : t < length s) (counted : IsCounted plan s counts)
+module _ (plan : Moves) (s : List ℕ) (counts : Columns) (t p : ℕ) (old new : SearchNotes) (valid : is_valid plan ≡ true) (long : length s ≡ plan.trains) (listed : t < length s) (counted : IsCounted plan s counts)
     (kept : (x : ℕ) → has old.fell x ≡ true → has new.fell x ≡ true)
     (falls : (x : ℕ) → needs_left plan t (place_of s t) x ≡ true → needs_left plan t p x ≡ false → count_of counts x ≡ 2 → has new.fell x ≡ true) where
   abbrev next : List ℕ

@@ -9,7 +9,7 @@ use Rattle.rail_place.proofs.CallerLemmas.{state_apart}
 use Rattle.rail_sets.specs.Sets.{has}
 use Rattle.rail_consequence.specs.Searches.{HasNoSafeLegOf}
 use Rattle.rail_consequence.specs.Stops.{IsBehind, IsNoted, IsNotedTo, IsSettled, IsStopped, ShowsStop, section_of, stop_of}
-use Rattle.rail_consequence.specs.declared.notes.Notes.{Notes}
+use Rattle.rail_consequence.specs.declared.notes.SearchNotes.{SearchNotes}
 use Rattle.rail_consequence.specs.declared.notes.Stop.{Stop}
 use Rattle.rail_consequence.specs.declared.notes.Stop.TheVariants.{Unknown, Free, Next, Later}
 use Rattle.rail_consequence.proofs.Legs.{inside_listed}
@@ -51,7 +51,7 @@ shown_noted plan s fell t (Next x) state shown = shown.1
 shown_noted plan s fell t (Later x) state shown = λ _. stopped_behind plan s t x state shown
 
 -- one note more that holds
-pub note_one : (plan : Moves) (s : List ℕ) (old new : Notes) (t : ℕ) (stop : Stop) → IsNotedTo plan s old → IsNoted plan s new.fell t stop → stop_of new.stops t ≡ stop → ((u : ℕ) → u ≢ t → stop_of new.stops u ≡ stop_of old.stops u)
+pub note_one : (plan : Moves) (s : List ℕ) (old new : SearchNotes) (t : ℕ) (stop : Stop) → IsNotedTo plan s old → IsNoted plan s new.fell t stop → stop_of new.stops t ≡ stop → ((u : ℕ) → u ≢ t → stop_of new.stops u ≡ stop_of old.stops u)
     → new.fell ≡ old.fell → new.has_fallen ≡ old.has_fallen → IsNotedTo plan s new
 note_one plan s old new t stop noted told here others fell has_fallen = record {
   each = λ u inside.
@@ -71,7 +71,7 @@ note_one plan s old new t stop noted told here others fell has_fallen = record {
 }
 
 -- notes of trains that they stop are notes that hold, with nothing fallen
-pub noted_anew : (plan : Moves) (s : List ℕ) (stops : List Stop) (notes : Notes) → is_valid_state plan s ≡ true → IsSettled plan s stops → notes.stops ≡ stops → ((x : ℕ) → has notes.fell x ≡ false) → IsNotedTo plan s notes
+pub noted_anew : (plan : Moves) (s : List ℕ) (stops : List Stop) (notes : SearchNotes) → is_valid_state plan s ≡ true → IsSettled plan s stops → notes.stops ≡ stops → ((x : ℕ) → has notes.fell x ≡ false) → IsNotedTo plan s notes
 noted_anew plan s stops notes state settled same none = record {
   each = λ u is. ap_note u is (stop_of notes.stops u) (ap (λ xs. stop_of xs u) (sym same));
   none = λ _ x. none x;

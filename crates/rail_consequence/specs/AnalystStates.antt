@@ -9,13 +9,13 @@ use Rattle.rail_consequence.specs.Cores.{IsCore}
 use Rattle.rail_consequence.specs.Needs.{AreRowsBut, IsRowsOf, IsTallyFor, Placed, SetRows}
 use Rattle.rail_consequence.specs.Stops.{IsNotedTo}
 use Rattle.rail_consequence.specs.Workspace.{IsListing}
-use Rattle.rail_consequence.specs.declared.notes.Notes.{Notes}
+use Rattle.rail_consequence.specs.declared.notes.SearchNotes.{SearchNotes}
 
 -- the list of the trains that are inside at the places of a tally, the tally, what is noted of the trains there, the sets of the trains at each place, the moves that the last search made, and the core of the last one that failed
 pub record Tallied : Type 0 where
   pub inside : List ℕ
   pub tally : Placed
-  pub notes : Notes
+  pub notes : SearchNotes
   pub rows : SetRows
   pub list : List ℕ
   pub core : TrainSet

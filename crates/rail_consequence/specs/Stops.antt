@@ -9,7 +9,7 @@ use Rattle.rail_consequence.specs.Needs.{needs_left}
 use Rattle.rail_consequence.specs.Searches.{HasNoSafeLegOf}
 use Rattle.rail_consequence.specs.declared.analyst.closing.Look.{Look}
 use Rattle.rail_consequence.specs.declared.analyst.closing.Look.TheVariants.{Leads, Stopped}
-use Rattle.rail_consequence.specs.declared.notes.Notes.{Notes}
+use Rattle.rail_consequence.specs.declared.notes.SearchNotes.{SearchNotes}
 use Rattle.rail_consequence.specs.declared.notes.Stop.{Stop}
 use Rattle.rail_consequence.specs.declared.notes.Stop.TheVariants.{Unknown, Free, Next, Later}
 
@@ -62,7 +62,7 @@ IsNoted plan s fell u (Next x) = IsTrue (is_in x (plan.claim u (place_of s u)))
 IsNoted plan s fell u (Later x) = IsUntouched plan s fell u → IsBehind plan s u x
 
 -- what is noted of each train inside does
-pub record IsNotedTo (plan : Moves) (s : List ℕ) (notes : Notes) : Type 0 where
+pub record IsNotedTo (plan : Moves) (s : List ℕ) (notes : SearchNotes) : Type 0 where
   pub each : (u : ℕ) → IsTrue (is_inside plan s u) → IsNoted plan s notes.fell u (stop_of notes.stops u)
   pub none : notes.has_fallen ≡ false → (x : ℕ) → has notes.fell x ≡ false
 

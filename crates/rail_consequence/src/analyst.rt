@@ -15,9 +15,9 @@ ghost use Rattle.rail_consequence.specs.Searches.{leg_to};
 ghost use Rattle.rail_consequence.specs.Workspace.{GoesOn, IsListing, IsPlayedFrom, IsReady};
 
 use crate::needs::recount;
-use crate::notes::Notes;
+use crate::notes::SearchNotes;
 use crate::rows::Rows;
-use crate::tally::{Tally, stands_inside};
+use crate::tally::{NeedTally, stands_inside};
 use crate::train_list::TrainList;
 use crate::width::{All, Four, One, Three, Two, Width};
 use rail_base::limits::LIST_TRAINS;
@@ -41,9 +41,9 @@ pub struct Analyst {
     /// The trains that were inside when the last search began, by number.
     inside: TrainList,
     /// The needs at the places from which the last search began.
-    tally: Tally,
+    tally: NeedTally,
     /// What is noted of the trains there.
-    notes: Notes,
+    notes: SearchNotes,
     sheet: Worksheet,
     /// The core of the last search that failed.
     core: TrainSet,
@@ -101,8 +101,8 @@ impl Analyst {
     {
         Ok(Analyst {
             inside: TrainList::new(alloc)?,
-            tally: Tally::new(alloc, moves)?,
-            notes: Notes::none(),
+            tally: NeedTally::new(alloc, moves)?,
+            notes: SearchNotes::none(),
             sheet: Worksheet::new(alloc, moves)?,
             core: TrainSet::none(),
         })
@@ -161,7 +161,7 @@ impl Analyst {
         self.tally
             .follow_train::<All>(moves, self.sheet.rows(), train, 0, &mut self.notes);
         self.inside.exclude(train);
-        self.notes = Notes::none();
+        self.notes = SearchNotes::none();
     }
 
     /// Exchanges the sets of the train that was set aside with those of the first train of the other sets, which are the sets

@@ -7,7 +7,7 @@ ghost use Rattle.rail_consequence.specs.declared.notes.Stop.TheVariants.{Unknown
 ghost use Rattle.rail_consequence.specs.Stops.{stop_of};
 ghost use Rattle.rail_consequence.specs.Needs.{AreWords, IsAmong, IsRecounted, IsRowsOf, count_of, needs_left};
 
-use crate::notes::{Notes, Stop};
+use crate::notes::{SearchNotes, Stop};
 use crate::rows::Rows;
 use crate::width::Width;
 use rail_base::TrainNo;
@@ -50,7 +50,7 @@ pub fn recount<W: Width>(
 /// Takes back what is noted of the train, which is counted as at the one place and is to be counted as at the other, and
 /// notes the sections that fall to one train then.
 pub fn note_move<W: Width>(
-    notes: &mut Notes,
+    notes: &mut SearchNotes,
     needs: &Counts,
     moves: &Moves,
     rows: &Rows,

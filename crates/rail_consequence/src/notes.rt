@@ -41,7 +41,7 @@ impl Stop {
 /// What was seen to stop each train. That it lasts shows where it is used: another train must hold the section, and
 /// where a later move needs it none of the sections that the train needs may have fallen to one train.
 #[derive(Clone, Copy, Debug)]
-pub struct Notes {
+pub struct SearchNotes {
     stops: [Stop; TRAINS],
     /// The sections that two trains needed since then, and one does now.
     pub fell: [u64; WORDS],
@@ -49,13 +49,13 @@ pub struct Notes {
     pub has_fallen: bool,
 }
 
-impl Notes {
+impl SearchNotes {
     /// Nothing is known of any train.
-    pub fn none() -> Notes
+    pub fn none() -> SearchNotes
         ensures stops { (u : ℕ) → stop_of result.stops u ≡ Unknown }
         ensures fell { (x : ℕ) → has result.fell x ≡ false }
     {
-        Notes {
+        SearchNotes {
             stops: [Stop::Unknown; TRAINS],
             fell: [0; WORDS],
             has_fallen: false,

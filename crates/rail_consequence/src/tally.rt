@@ -10,7 +10,7 @@ ghost use Rattle.rail_consequence.specs.Stops.{IsNotedTo};
 ghost use Rattle.rail_consequence.specs.Workspace.{IsListing};
 
 use crate::needs::{note_move, recount};
-use crate::notes::Notes;
+use crate::notes::SearchNotes;
 use crate::rows::Rows;
 use crate::train_list::TrainList;
 use crate::width::Width;
@@ -26,12 +26,12 @@ const STRIDE: usize = 8;
 /// Places, and the needs of the moves that the trains have left there. It follows the places from one
 /// search to the next, train by train.
 #[derive(Debug, Drop)]
-pub struct Tally {
+pub struct NeedTally {
     positions: Vec<u16>,
     needs: Counts,
 }
 
-impl Model for Tally {
+impl Model for NeedTally {
     ghost use Rattle.std.specs.Prelude.{◌≡◌, length, vec_capacity};
     ghost use Rattle.rail_consequence.specs.Needs.{Placed};
 
@@ -42,14 +42,14 @@ impl Model for Tally {
     ghost invariant = { λ tally. vec_capacity tally.positions ≡ length tally.positions.items };
 }
 
-impl Tally {
+impl NeedTally {
     /// The needs with every train outside, which are none.
-    pub fn new(alloc: Global, moves: &Moves) -> Result<Tally, OutOfMemory>
+    pub fn new(alloc: Global, moves: &Moves) -> Result<NeedTally, OutOfMemory>
         ensures kept { IfOk result (IsTallyFor (moves_in moves.now)) }
         ensures outside { IfOk result (λ tally. (t : ℕ) → place_of tally.positions t ≡ 0) }
     {
         let trains = usize::from(moves.trains());
-        Ok(Tally {
+        Ok(NeedTally {
             positions: copies(alloc, 0, trains, trains)?,
             needs: Counts::new(alloc)?,
         })
@@ -63,7 +63,7 @@ impl Tally {
         rows: &Rows,
         places: &Places,
         inside: &mut TrainList,
-        notes: &mut Notes,
+        notes: &mut SearchNotes,
     )
         requires words { AreWords (moves_in moves.now) W.WORDS }
         requires made { IsMadeFor moves.now places.now }
@@ -96,7 +96,7 @@ impl Tally {
         rows: &Rows,
         train: TrainNo,
         place: u16,
-        notes: &mut Notes,
+        notes: &mut SearchNotes,
     )
         requires words { AreWords (moves_in moves.now) W.WORDS }
         requires table { IsTable moves.now }

@@ -3,15 +3,15 @@ use Rattle.std.proofs.Common.{◌≡◌, ℕ, Bool, true, false, cond, eqb, Opti
 use Rattle.std.specs.Option.{option_map_or}
 use Rattle.rail_base.specs.declared.history.What.{What}
 use Rattle.rail_base.specs.declared.history.What.TheVariants.{Free, Arrive, Enter, Out, Ready, Told, Untold, Admit, Hold, End}
-use Rattle.rail_delay.specs.declared.account.Holding.{Holding}
+use Rattle.rail_delay.specs.declared.account.OpenHold.{OpenHold}
 use Rattle.rail_delay.specs.Waits.{holding_by}
 
 -- a hold line says since when by its time
-pub since_now : (t at : ℕ) (what : What) (hold : Holding) → holding_by t at what ≡ Some hold → hold.since ≡ at
+pub since_now : (t at : ℕ) (what : What) (hold : OpenHold) → holding_by t at what ≡ Some hold → hold.since ≡ at
 since_now t at (Hold u m why) hold same = by (eqb u t) same
   where
     by : (b : Bool) → cond b (Some (record { since = at; cause = why })) None ≡ Some hold → hold.since ≡ at
-    by true same = ap (λ (o : Option Holding). option_map_or (λ (h : Holding). h.since) o at) (sym same)
+    by true same = ap (λ (o : Option OpenHold). option_map_or (λ (h : OpenHold). h.since) o at) (sym same)
     by false same = cc
 since_now t at (Free x u) hold same = cc
 since_now t at (Arrive u m) hold same = cc

@@ -23,8 +23,8 @@ use Rattle.rail_laws_front.specs.Premises.{IsWellFormed}
 use Rattle.rail_laws_front.specs.Views.{Follows, is_event}
 use Rattle.rail_laws_front.specs.Views.Follows.{by_event, by_admission, by_hold, by_end}
 use Rattle.rail_laws_front.proofs.CallerLemmas.{admission_added, admitted_added, agree_added, due_from_event, lawful_before, lawful_last, length_added, not_earlier, not_ended, ready_agrees}
-use Rattle.rail_laws_run.specs.LineKinds.{is_ready_line}
-use Rattle.rail_laws_run.proofs.CallerLemmas.{ready_by_line}
+use Rattle.rail_laws_step.specs.LineKinds.{is_ready_line}
+use Rattle.rail_laws_step.proofs.CallerLemmas.{ready_by_line}
 use Rattle.rail_delay.specs.HeldTimes.{first_time, is_cancel_of, move_wait, move_waits, time_until, waits_until}
 use Rattle.rail_delay.specs.Waits.{does_end_wait, held, waits_since, with_wait_until}
 use Rattle.rail_delay.proofs.Stories.{Rest, Story, cancelled_both, cancelled_rests, story_of}

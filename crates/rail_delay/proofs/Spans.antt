@@ -7,7 +7,7 @@ use Rattle.rail_base.specs.declared.orders.Command.{Command}
 use Rattle.rail_rules.specs.Numbers.{or_else}
 use Rattle.rail_rules.specs.Fronts.{Front, Line}
 use Rattle.rail_rules.specs.Orders.{is_cancelled, orders_of}
-use Rattle.rail_delay.specs.declared.account.Holding.{Holding}
+use Rattle.rail_delay.specs.declared.account.OpenHold.{OpenHold}
 use Rattle.rail_delay.specs.HeldTimes.{first_time, hold_spans, is_hold_by, is_hold_over, spans_before, time_until}
 use Rattle.rail_delay.specs.Waits.{does_end_wait, held_for, holding, holding_by, with_hold_until}
 
@@ -29,13 +29,13 @@ first_older says (z ∷ behind) line =
     ∙ first_of_three (cond (says line.entry.what) (Some line.entry.at) None) (first_time says behind) (cond (says z.entry.what) (Some z.entry.at) None)
 
 -- the time of a hold that goes on until an instant, where it is by a cause of this kind
-abbrev open_hold : (Cause → Bool) → Option ℕ → Option Holding → ℕ
+abbrev open_hold : (Cause → Bool) → Option ℕ → Option OpenHold → ℕ
 open_hold kind end None = 0
 open_hold kind end (Some hold) = cond (kind hold.cause) (time_until end hold.since) 0
 
-module _ (kind : Cause → Bool) (at : ℕ) (over : Option ℕ) (before : Option Holding) (sum : ℕ) where
+module _ (kind : Cause → Bool) (at : ℕ) (over : Option ℕ) (before : Option OpenHold) (sum : ℕ) where
   -- one more line, by whether it ends the wait, what it says as a hold line, its span, and whether a hold is over at it
-  abbrev OneMore : Bool → Option Holding → ℕ → Bool → Type 0
+  abbrev OneMore : Bool → Option OpenHold → ℕ → Bool → Type 0
   OneMore ends new span is_over = span + (sum + open_hold kind (or_else (cond is_over (Some at) None) over) before)
       ≡ cond (ends || is_some new) (with_hold_until kind at before sum) sum + open_hold kind over (cond ends None (or_else new before))
 
@@ -43,7 +43,7 @@ module _ (kind : Cause → Bool) (at : ℕ) (over : Option ℕ) (before : Option
   over_now : sum + open_hold kind (Some at) before ≡ with_hold_until kind at before sum
   over_now = by before
     where
-      by : (hold : Option Holding) → sum + open_hold kind (Some at) hold ≡ with_hold_until kind at hold sum
+      by : (hold : Option OpenHold) → sum + open_hold kind (Some at) hold ≡ with_hold_until kind at hold sum
       by None = omega arith
       by (Some hold) = of_kind (kind hold.cause)
         where
@@ -62,7 +62,7 @@ module _ (kind : Cause → Bool) (at : ℕ) (over : Option ℕ) (before : Option
 
 module _ (kind : Cause → Bool) (commands : List Command) (t : ℕ) where
   -- one more line, by what it says
-  line_more : (at : ℕ) (over : Option ℕ) (before : Option Holding) (sum : ℕ) (what : What)
+  line_more : (at : ℕ) (over : Option ℕ) (before : Option OpenHold) (sum : ℕ) (what : What)
       → OneMore kind at over before sum (does_end_wait commands t what) (holding_by t at what) (cond (is_hold_by kind t what) (time_until over at) 0) (is_hold_over commands t what)
   line_more at over before sum (Free x u) = passed kind at over before sum
   line_more at over before sum (Arrive u m) = passed kind at over before sum
@@ -103,7 +103,7 @@ module _ (kind : Cause → Bool) (commands : List Command) (t : ℕ) where
 pub held_in_spans : (kind : Cause → Bool) (commands : List Command) (front : Front) (t : ℕ) → held_for kind commands front t ≡ hold_spans kind commands front t
 held_in_spans kind commands front t = sym (spans_so_far kind commands t front [] ∙ by (holding commands front t))
   where
-    by : (hold : Option Holding) → held_for kind commands front t + open_hold kind None hold ≡ held_for kind commands front t
+    by : (hold : Option OpenHold) → held_for kind commands front t + open_hold kind None hold ≡ held_for kind commands front t
     by None = omega arith
     by (Some hold) = of_kind (kind hold.cause)
       where

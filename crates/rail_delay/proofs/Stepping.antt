@@ -13,11 +13,11 @@ use Rattle.rail_rules.specs.Fronts.{Front, Line}
 use Rattle.rail_rules.specs.Lawful.{is_out_line}
 use Rattle.rail_rules.specs.Orders.{is_cancelled, orders_at, orders_of, told}
 use Rattle.rail_delay.specs.declared.account.Account.{Account}
-use Rattle.rail_delay.specs.declared.account.Holding.{Holding}
+use Rattle.rail_delay.specs.declared.account.OpenHold.{OpenHold}
 use Rattle.rail_delay.specs.Accounts.{account, cancelled_train}
 use Rattle.rail_delay.specs.Noting.{account_after, after_hold, after_wait, counted, is_this, with_hold, with_wait}
 use Rattle.rail_delay.specs.Waits.{does_end_wait, holding_by, is_blocking, is_closure, is_in_order, is_stop, is_want_of_list, with_hold_until, with_wait_until}
-use Rattle.rail_laws_run.specs.LineKinds.{is_ready_line}
+use Rattle.rail_laws_step.specs.LineKinds.{is_ready_line}
 use Rattle.rail_delay.proofs.Within.{held_for_within, held_within, ordered}
 
 -- a number of 64 bits is counted as it is
@@ -33,7 +33,7 @@ pub record Fits (at : ℕ) (kept : Account) : Type 0 where
   pub no_list : with_hold_until is_want_of_list at kept.holding kept.no_list < 2 ^ 64
 
 -- what each line changes, by what it says of the train
-abbrev stepped : Bool → Bool → Bool → Bool → Option Holding → ℕ → Account → Account
+abbrev stepped : Bool → Bool → Bool → Bool → Option OpenHold → ℕ → Account → Account
 stepped ends ready leaves cancels new at kept = record {
   waits_since = cond ends None (cond ready (Some at) kept.waits_since);
   holding = cond ends None (or_else new kept.holding);
@@ -47,7 +47,7 @@ stepped ends ready leaves cancels new at kept = record {
 }
 
 -- the account whose hold ends, without counters
-abbrev added : Option Holding → ℕ → Account → Account
+abbrev added : Option OpenHold → ℕ → Account → Account
 added hold at kept = record kept {
   holding = None;
   stopped = with_hold_until is_stop at hold kept.stopped;
@@ -65,7 +65,7 @@ hold_by_cause (Closed x) since at kept a b c d = ap (λ (n : ℕ). record kept {
 hold_by_cause (Blocked x u) since at kept a b c d = ap (λ (n : ℕ). record kept { holding = None; blocked = n }) (counted_is (kept.blocked + (at - since)) c)
 hold_by_cause NoList since at kept a b c d = ap (λ (n : ℕ). record kept { holding = None; no_list = n }) (counted_is (kept.no_list + (at - since)) d)
 
-hold_ends : (hold : Option Holding) (at : ℕ) (kept : Account)
+hold_ends : (hold : Option OpenHold) (at : ℕ) (kept : Account)
     → with_hold_until is_stop at hold kept.stopped < 2 ^ 64 → with_hold_until is_closure at hold kept.closed < 2 ^ 64
     → with_hold_until is_blocking at hold kept.blocked < 2 ^ 64 → with_hold_until is_want_of_list at hold kept.no_list < 2 ^ 64
     → added hold at kept ≡ record (with_hold hold at kept) { holding = None }

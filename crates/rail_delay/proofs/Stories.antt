@@ -23,18 +23,18 @@ use Rattle.rail_laws_front.specs.Views.{Follows, is_event}
 use Rattle.rail_laws_front.specs.Views.Follows.{by_event, by_admission, by_hold, by_end}
 use Rattle.rail_laws_front.proofs.CallerLemmas.{lawful_before, lawful_last, never_goes, not_ended, times_rise}
 use Rattle.rail_laws_events.proofs.CallerLemmas.{one_entry}
-use Rattle.rail_laws_run.proofs.CallerLemmas.{no_later_hold, nobody_ready, ready_by_line, unready_by_admission}
-use Rattle.rail_delay.specs.declared.account.Holding.{Holding}
+use Rattle.rail_laws_step.proofs.CallerLemmas.{no_later_hold, nobody_ready, ready_by_line, unready_by_admission}
+use Rattle.rail_delay.specs.declared.account.OpenHold.{OpenHold}
 use Rattle.rail_delay.specs.Waits.{does_end_wait, held, held_by_kinds, held_for, holding, holding_by, is_blocking, is_closure, is_in_order, is_stop, is_want_of_list, waits_since, with_hold_until, with_wait_until}
-use Rattle.rail_laws_run.specs.LineKinds.{is_ready_line}
+use Rattle.rail_laws_step.specs.LineKinds.{is_ready_line}
 
 -- a sum with the time of a hold of any kind
-abbrev with_any_hold : ℕ → Option Holding → ℕ → ℕ
+abbrev with_any_hold : ℕ → Option OpenHold → ℕ → ℕ
 with_any_hold now None sum = sum
 with_any_hold now (Some hold) sum = sum + (now - hold.since)
 
 -- the four sums with the time of a hold are their sum with that time
-four_kinds : (now : ℕ) (old : Option Holding) (a b c d : ℕ)
+four_kinds : (now : ℕ) (old : Option OpenHold) (a b c d : ℕ)
     → with_hold_until is_stop now old a + with_hold_until is_closure now old b + with_hold_until is_blocking now old c + with_hold_until is_want_of_list now old d
     ≡ with_any_hold now old (a + b + c + d)
 four_kinds now None a b c d = refl
@@ -48,7 +48,7 @@ four_kinds now (Some hold) a b c d = by hold.cause
     by NoList = omega arith
 
 -- the figures of a train after a line
-record Figures (commands : List Command) (line : Line) (front : Front) (t : ℕ) (since : Option ℕ) (hold : Option Holding) (sum kinds : ℕ) : Type 0 where
+record Figures (commands : List Command) (line : Line) (front : Front) (t : ℕ) (since : Option ℕ) (hold : Option OpenHold) (sum kinds : ℕ) : Type 0 where
   pub waits : waits_since commands (line ∷ front) t ≡ since
   pub holds : holding commands (line ∷ front) t ≡ hold
   pub total : held commands (line ∷ front) t ≡ sum
@@ -56,7 +56,7 @@ record Figures (commands : List Command) (line : Line) (front : Front) (t : ℕ)
 
 module _ (commands : List Command) (line : Line) (front : Front) (t : ℕ) where
   -- by whether the line ends the wait, whether it is a ready line, and what it says as a hold line
-  figures : (ends ready : Bool) (new : Option Holding) → does_end_wait commands t line.entry.what ≡ ends → is_ready_line t line.entry.what ≡ ready
+  figures : (ends ready : Bool) (new : Option OpenHold) → does_end_wait commands t line.entry.what ≡ ends → is_ready_line t line.entry.what ≡ ready
       → holding_by t line.entry.at line.entry.what ≡ new
       → Figures commands line front t (cond ends None (cond ready (Some line.entry.at) (waits_since commands front t))) (cond ends None (or_else new (holding commands front t)))
       (cond ends (with_wait_until line.entry.at (waits_since commands front t) (held commands front t)) (held commands front t))
@@ -145,7 +145,7 @@ pub data Story (input : Input) (front : Front) (t : ℕ) : Type 0 where
       → Story input front t
   waiting : (since : ℕ) → waits_since input.commands front t ≡ Some since → since ≡ instant front → holding input.commands front t ≡ None
       → held_by_kinds input.commands front t ≡ held input.commands front t → is_ready input front t ≡ true → last_hold front t (suc (place front t)) ≡ None → Story input front t
-  delayed : (since : ℕ) (hold : Holding) → waits_since input.commands front t ≡ Some since → holding input.commands front t ≡ Some hold → since ≤ hold.since → hold.since ≤ instant front
+  delayed : (since : ℕ) (hold : OpenHold) → waits_since input.commands front t ≡ Some since → holding input.commands front t ≡ Some hold → since ≤ hold.since → hold.since ≤ instant front
       → held_by_kinds input.commands front t ≡ held input.commands front t + (hold.since - since) → is_ready input front t ≡ true → Story input front t
 
 -- a cancelled train is not ready
@@ -176,18 +176,18 @@ module _ (input : Input) (fine : IsWellFormed input.plant) (line : Line) (front 
 
       by : Story input front t → Story input (line ∷ front) t
       by (idle none free same _) = idle now.waits now.holds
-          (now.parts ∙ ap (λ (h : Option Holding). with_any_hold line.entry.at h (held_by_kinds input.commands front t)) free ∙ same
+          (now.parts ∙ ap (λ (h : Option OpenHold). with_any_hold line.entry.at h (held_by_kinds input.commands front t)) free ∙ same
           ∙ ap (λ (s : Option ℕ). with_wait_until line.entry.at s (held input.commands front t)) (sym none) ∙ sym now.total) rest
       by (waiting since is at free same ready unheld) =
           let here = still_now ready unheld in
           let zero_wait : held input.commands front t ≡ held input.commands front t + (line.entry.at - since) = omega (arith, at, here) in
           idle now.waits now.holds
-          (now.parts ∙ ap (λ (h : Option Holding). with_any_hold line.entry.at h (held_by_kinds input.commands front t)) free ∙ same ∙ zero_wait
+          (now.parts ∙ ap (λ (h : Option OpenHold). with_any_hold line.entry.at h (held_by_kinds input.commands front t)) free ∙ same ∙ zero_wait
           ∙ ap (λ (s : Option ℕ). with_wait_until line.entry.at s (held input.commands front t)) (sym is) ∙ sym now.total) rest
       by (delayed since hold is held_so from until sum ready) =
           let whole : held_by_kinds input.commands front t + (line.entry.at - hold.since) ≡ held input.commands front t + (line.entry.at - since) = omega (arith, from, until, sum, rises) in
           idle now.waits now.holds
-          (now.parts ∙ ap (λ (h : Option Holding). with_any_hold line.entry.at h (held_by_kinds input.commands front t)) held_so ∙ whole
+          (now.parts ∙ ap (λ (h : Option OpenHold). with_any_hold line.entry.at h (held_by_kinds input.commands front t)) held_so ∙ whole
           ∙ ap (λ (s : Option ℕ). with_wait_until line.entry.at s (held input.commands front t)) (sym is) ∙ sym now.total) rest
 
   -- what stays by a line that does not concern whether the train is ready
@@ -292,7 +292,7 @@ module _ (input : Input) (fine : IsWellFormed input.plant) (line : Line) (front 
   held_on : (m : ℕ) (why : Cause) → line.entry.what ≡ Hold t m why → Story input front t → Story input (line ∷ front) t
   held_on m why what story = by story
     where
-      hold_now : Holding
+      hold_now : OpenHold
       hold_now = record { since = line.entry.at; cause = why }
 
       now : Figures input.commands line front t (waits_since input.commands front t) (Some (record { since = line.entry.at; cause = why })) (held input.commands front t)
@@ -319,11 +319,11 @@ module _ (input : Input) (fine : IsWellFormed input.plant) (line : Line) (front 
       by (waiting since is at free same ready none) =
           let zero_wait : held_by_kinds input.commands front t ≡ held input.commands front t + (line.entry.at - since) = omega (arith, same, at, here) in
           delayed since (record { since = line.entry.at; cause = why }) (now.waits ∙ is) now.holds (omega (arith, at, here)) (omega arith)
-          (now.parts ∙ ap (λ (h : Option Holding). with_any_hold line.entry.at h (held_by_kinds input.commands front t)) free ∙ zero_wait ∙ ap (λ (n : ℕ). n + (line.entry.at - since)) (sym now.total)) after
+          (now.parts ∙ ap (λ (h : Option OpenHold). with_any_hold line.entry.at h (held_by_kinds input.commands front t)) free ∙ zero_wait ∙ ap (λ (n : ℕ). n + (line.entry.at - since)) (sym now.total)) after
       by (delayed since old is held_so from until sum ready) =
           let whole : held_by_kinds input.commands front t + (line.entry.at - old.since) ≡ held input.commands front t + (line.entry.at - since) = omega (arith, from, until, sum, rises) in
           delayed since (record { since = line.entry.at; cause = why }) (now.waits ∙ is) now.holds (omega (arith, from, until, rises)) (omega arith)
-          (now.parts ∙ ap (λ (h : Option Holding). with_any_hold line.entry.at h (held_by_kinds input.commands front t)) held_so ∙ whole ∙ ap (λ (n : ℕ). n + (line.entry.at - since)) (sym now.total)) after
+          (now.parts ∙ ap (λ (h : Option OpenHold). with_any_hold line.entry.at h (held_by_kinds input.commands front t)) held_so ∙ whole ∙ ap (λ (n : ℕ). n + (line.entry.at - since)) (sym now.total)) after
 
   -- an admission of the train
   admitted : (m : ℕ) (note : Note) → line.entry.what ≡ Admit t m note → Rest input (line ∷ front) t

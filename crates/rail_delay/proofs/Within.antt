@@ -5,10 +5,10 @@ use Rattle.rail_base.specs.declared.history.Cause.{Cause}
 use Rattle.rail_base.specs.declared.orders.Command.{Command}
 use Rattle.rail_rules.specs.Numbers.{or_else}
 use Rattle.rail_rules.specs.Fronts.{Front, Line, instant}
-use Rattle.rail_delay.specs.declared.account.Holding.{Holding}
+use Rattle.rail_delay.specs.declared.account.OpenHold.{OpenHold}
 use Rattle.rail_delay.proofs.Holds.{since_now}
 use Rattle.rail_delay.specs.Waits.{does_end_wait, held, held_for, holding, holding_by, is_in_order, waits_since, with_hold_until, with_wait_until}
-use Rattle.rail_laws_run.specs.LineKinds.{is_ready_line}
+use Rattle.rail_laws_step.specs.LineKinds.{is_ready_line}
 
 -- a front in order: the lines before the last one are, and it is not earlier
 pub record IsOrdered (line : Line) (front : Front) : Type 0 where
@@ -47,7 +47,7 @@ held_for_within kind commands t (line ∷ before) is now le =
     (held_for_within kind commands t before order.before line.entry.at order.rises)
     (held_for_within kind commands t before order.before now (omega (arith, order.rises, le)))
   where
-    by : (ends : Bool) (new : Option Holding) → ((hold : Holding) → new ≡ Some hold → hold.since ≡ line.entry.at) → (old : Option Holding) (sum : ℕ)
+    by : (ends : Bool) (new : Option OpenHold) → ((hold : OpenHold) → new ≡ Some hold → hold.since ≡ line.entry.at) → (old : Option OpenHold) (sum : ℕ)
         → with_hold_until kind line.entry.at old sum ≤ line.entry.at → with_hold_until kind now old sum ≤ now
         → with_hold_until kind now (cond ends None (or_else new old)) (cond (ends || is_some new) (with_hold_until kind line.entry.at old sum) sum) ≤ now
     by true new since old sum then later = omega (arith, then, le)

@@ -8,7 +8,7 @@ use Rattle.rail_base.specs.declared.history.What.{What}
 use Rattle.rail_base.specs.declared.history.What.TheVariants.{Out, Ready, Told, Admit, Hold, End}
 use Rattle.rail_rules.specs.Plant.{Plant}
 use Rattle.rail_delay.specs.declared.account.Account.{Account}
-use Rattle.rail_delay.specs.declared.account.Holding.{Holding}
+use Rattle.rail_delay.specs.declared.account.OpenHold.{OpenHold}
 use Rattle.rail_delay.specs.declared.visits.Visit.{Visit}
 use Rattle.rail_delay.specs.Reports.{no_account, visit_of, visits_of}
 use Rattle.rail_delay.specs.Visits.{is_arrival, is_departure}
@@ -25,7 +25,7 @@ with_time (Blocked x u) time kept = record kept { blocked = counted (kept.blocke
 with_time NoList time kept = record kept { no_list = counted (kept.no_list + time) }
 
 -- the account with the time of a hold that ends
-abbrev pub with_hold : Option Holding → ℕ → Account → Account
+abbrev pub with_hold : Option OpenHold → ℕ → Account → Account
 with_hold None at kept = kept
 with_hold (Some hold) at kept = with_time hold.cause (at - hold.since) kept
 

@@ -8,8 +8,8 @@ use Rattle.rail_base.specs.declared.orders.Command.{Command}
 use Rattle.rail_rules.specs.Numbers.{or_else}
 use Rattle.rail_rules.specs.Fronts.{Front, admits, instant, is_end}
 use Rattle.rail_rules.specs.Orders.{is_cancelled, orders_of}
-use Rattle.rail_laws_run.specs.LineKinds.{is_ready_line}
-use Rattle.rail_delay.specs.declared.account.Holding.{Holding}
+use Rattle.rail_laws_step.specs.LineKinds.{is_ready_line}
+use Rattle.rail_delay.specs.declared.account.OpenHold.{OpenHold}
 
 -- the line ends a wait of the train: its admission, its told cancel, or the end of the history
 abbrev pub does_end_wait : List Command → ℕ → What → Bool
@@ -34,12 +34,12 @@ held commands (line ∷ before) t = cond (does_end_wait commands t line.entry.wh
     (held commands before t)
 
 -- what a hold line of the train at a time says
-abbrev pub holding_by : ℕ → ℕ → What → Option Holding
+abbrev pub holding_by : ℕ → ℕ → What → Option OpenHold
 holding_by t at (Hold u m why) = cond (u == t) (Some (record { since = at; cause = why })) None
 holding_by t at _ = None
 
 -- how the train is held: as its last hold line says, as long as no line ended that wait
-abbrev pub holding : List Command → Front → ℕ → Option Holding
+abbrev pub holding : List Command → Front → ℕ → Option OpenHold
 holding commands [] t = None
 holding commands (line ∷ before) t = cond (does_end_wait commands t line.entry.what) None
     (or_else (holding_by t line.entry.at line.entry.what) (holding commands before t))
@@ -69,7 +69,7 @@ is_want_of_list NoList = true
 is_want_of_list _ = false
 
 -- a sum with the time of a hold, where it is by a cause of this kind
-abbrev pub with_hold_until : (Cause → Bool) → ℕ → Option Holding → ℕ → ℕ
+abbrev pub with_hold_until : (Cause → Bool) → ℕ → Option OpenHold → ℕ → ℕ
 with_hold_until kind now None sum = sum
 with_hold_until kind now (Some hold) sum = cond (kind hold.cause) (sum + (now - hold.since)) sum
 

@@ -9,7 +9,7 @@ use std::alloc::{AllocError, Global};
 
 /// How a train is held: since when, and why.
 #[derive(Clone, Copy)]
-pub struct Holding {
+pub struct OpenHold {
     pub since: Time,
     pub cause: Cause,
 }
@@ -21,7 +21,7 @@ pub struct Account {
     /// Since when it waits for its next move to be admitted.
     pub waits_since: Option<Time>,
     /// How it is held.
-    pub holding: Option<Holding>,
+    pub holding: Option<OpenHold>,
     /// How long it was held in all.
     pub held: u64,
     /// How long it was held by a stop.
@@ -76,7 +76,7 @@ impl Account {
             What::Ready { .. } => self.waits_since = Some(at),
             What::Hold { cause, .. } => {
                 self.end_hold(at);
-                self.holding = Some(Holding {
+                self.holding = Some(OpenHold {
                     since: at,
                     cause: *cause,
                 });

@@ -1,7 +1,7 @@
 //! Delays by cause: how late the trains of a run are, how long each was held and for which kind of cause.
 //!
 //! This layer stands on plants (`rail_plan`), on sinks (`rail_io`), on the room for a line of `rail_text`, and for
-//! its laws on the lemmas on lawful fronts (`rail_laws_front`, `rail_laws_events`, `rail_laws_run`). `specs/Waits.antt`
+//! its laws on the lemmas on lawful fronts (`rail_laws_front`, `rail_laws_events`, `rail_laws_step`). `specs/Waits.antt`
 //! and `specs/Visits.antt` say what is counted, from the lines of a history alone, and `specs/Reports.antt` how it is
 //! written; three worked histories of `rail_worked` have their reports in `rows`. The lines are noted one by one, as
 //! they come; contracts see what is kept of them as a list of accounts and one of visits.

@@ -5,7 +5,7 @@ use Rattle.rail_base.specs.NameForms.{is_name}
 use Rattle.rail_rules.specs.Numbers.{same_numbers}
 use Rattle.rail_track.specs.declared.section.Section.{Section}
 use Rattle.rail_routes.specs.declared.items.Post.{Post}
-use Rattle.rail_routes.specs.declared.items.Role.TheVariants.{Portal, Signal, Board}
+use Rattle.rail_routes.specs.declared.items.PostRole.TheVariants.{Portal, Signal, Board}
 use Rattle.rail_routes.specs.declared.items.Route.{Route}
 use Rattle.rail_routes.specs.declared.items.Step.{Step}
 use Rattle.rail_routes.specs.declared.items.Turn.{Turn}

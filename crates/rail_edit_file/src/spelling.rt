@@ -10,7 +10,7 @@ use crate::lists::way_from;
 use crate::words::{kind, number};
 use rail_base::{Name, Seq};
 use rail_edit::Edit;
-use rail_routes::{Post, Role, Route, Turn};
+use rail_routes::{Post, PostRole, Route, Turn};
 use rail_text::{next_word, read_names};
 use rail_track::{Section, SectionKind};
 use std::alloc::{AllocError, Global};
@@ -228,7 +228,7 @@ fn portal_in(args: &[u8]) -> Option<Post>
     let times = times_in(rest)?;
     Some(Post {
         name: Name::read(name)?,
-        role: Role::Portal,
+        role: PostRole::Portal,
         joint: Name::read(joint)?,
         ahead: None,
         setting: times.setting,
@@ -248,7 +248,7 @@ fn signal_in(args: &[u8]) -> Option<Post>
     let times = times_in(rest)?;
     Some(Post {
         name: Name::read(name)?,
-        role: Role::Signal,
+        role: PostRole::Signal,
         joint: Name::read(joint)?,
         ahead: Some(Name::read(ahead)?),
         setting: times.setting,
@@ -269,7 +269,7 @@ fn board_in(args: &[u8]) -> Option<Post>
     }
     Some(Post {
         name: Name::read(name)?,
-        role: Role::Board,
+        role: PostRole::Board,
         joint: Name::read(joint)?,
         ahead: None,
         setting: 0,

@@ -14,7 +14,7 @@ use Rattle.rail_rules.specs.Fronts.{Front, is_admission, is_hold}
 use Rattle.rail_rules.specs.Lawful.{is_lawful, may_follow}
 use Rattle.rail_rules.specs.Orders.{orders_of}
 use Rattle.rail_rules.specs.RunHistories.{Seat, is_run}
-use Rattle.rail_laws_run.proofs.CallerLemmas.{run_idle}
+use Rattle.rail_laws_step.proofs.CallerLemmas.{run_idle}
 use Rattle.rail_state.specs.Representation.{AreAllKnown}
 use Rattle.rail_state.specs.TrainStates.{state_of}
 use Rattle.rail_ledger.specs.declared.input.RunInput.{RunInput}

@@ -16,7 +16,7 @@ use Rattle.rail_rules.proofs.CallerLemmas.{accepted_parts}
 use Rattle.rail_laws_end.specs.Forks.{are_marks, is_built_in, kind_in_force}
 use Rattle.rail_laws_end.proofs.CallerLemmas.{one_chosen}
 use Rattle.rail_policy.specs.declared.offer.Offer.{Offer}
-use Rattle.rail_laws_run.proofs.CallerLemmas.{run_idle}
+use Rattle.rail_laws_step.proofs.CallerLemmas.{run_idle}
 use Rattle.rail_policy.specs.Desks.{Table, seat_in_force}
 use Rattle.rail_state.specs.TrainStates.{bar_by, is_untried, state_of}
 use Rattle.rail_state.specs.declared.train.TrainState.{TrainState}
@@ -44,7 +44,7 @@ use Rattle.rail_rules.specs.Numbers.{comes_before}
 use Rattle.rail_rules.specs.RunHistories.{key}
 use Rattle.rail_rules.proofs.CallerLemmas.{all_below_from}
 use Rattle.rail_laws_front.proofs.CallerLemmas.{never_goes}
-use Rattle.rail_laws_run.specs.HolderTables.{own_overlap}
+use Rattle.rail_laws_step.specs.HolderTables.{own_overlap}
 use Rattle.rail_policy.specs.Desks.{after_note, after_turn}
 use Rattle.rail_policy.specs.Seats.{DeskSeat, asked, mark_when_asked, no_seat}
 use Rattle.rail_queue.specs.Order.{first_time_of, is_sorted}

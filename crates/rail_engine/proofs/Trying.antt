@@ -10,7 +10,7 @@ use Rattle.rail_base.specs.declared.history.Cause.TheVariants.{NoList}
 use Rattle.rail_base.specs.declared.orders.PolicyKind.{PolicyKind}
 use Rattle.rail_policy.specs.Choices.{HasLeastKey}
 use Rattle.rail_policy.specs.declared.offer.Offer.{Offer}
-use Rattle.rail_laws_run.specs.HolderTables.{own_overlap}
+use Rattle.rail_laws_step.specs.HolderTables.{own_overlap}
 use Rattle.rail_rules.specs.Plant.{claimed, train}
 use Rattle.rail_rules.specs.RunHistories.{due}
 use Rattle.rail_state.specs.declared.train.TrainState.{TrainState}

@@ -6,8 +6,8 @@ use Rattle.rail_base.specs.declared.refusals.Reason.{Reason}
 use Rattle.rail_base.specs.declared.refusals.Reason.TheVariants.{NotToml, KeyMissing, WrongKind, KeyUnknown, BadName, Repeated, Unknown, Range, JointCrowded, PostPlace, RouteBroken, RouteRepeat, ItineraryBroken, NotPortal, TooLong, SelfBlocked, TooMany, TimetableForm, TimetableValue, InUse, UnknownPolicy, CommandForm, CommandName, CommandOrder, HistoryForm, LineEmpty, WindowEmpty, SnapshotForm, SnapshotOther, NoPath, EditForm, NothingToUndo, NothingToRedo, ListForm, ListName, ListPlaces, RerouteForm, RerouteName, NotYet}
 use Rattle.rail_base.specs.declared.refusals.Refusal.{Refusal}
 use Rattle.rail_scene.specs.declared.keys.Bounds.{Bounds}
-use Rattle.rail_scene.specs.declared.keys.Form.{Form}
-use Rattle.rail_scene.specs.declared.keys.Form.TheVariants as form
+use Rattle.rail_scene.specs.declared.keys.KeyForm.{KeyForm}
+use Rattle.rail_scene.specs.declared.keys.KeyForm.TheVariants as form
 use Rattle.rail_scene.specs.declared.keys.Key.{Key}
 use Rattle.rail_scene.specs.declared.keys.KeyName.{KeyName}
 use Rattle.rail_scene.specs.declared.keys.KeyName.TheVariants as word
@@ -109,7 +109,7 @@ abbrev pub bounds_text : Bounds → List ℕ
 bounds_text bounds = codes " must be" ++ 32 ∷ decimal bounds.low ++ cond (nat_lt bounds.low bounds.high) (codes " to" ++ 32 ∷ decimal bounds.high) []
 
 -- the range of a key
-abbrev pub range_text : Form → List ℕ
+abbrev pub range_text : KeyForm → List ℕ
 range_text (form.Whole bounds) = bounds_text bounds
 range_text form.Choice = codes " must be plain, points, crossing or slip"
 range_text form.Time = codes " must be a time as 06:00:00, of at most 240:00:00"
@@ -120,7 +120,7 @@ range_text form.Itinerary = codes " must have 1 to 128 names"
 range_text _ = codes " is out of its range"
 
 -- the kind of value that a key has to have
-abbrev pub kind_text : Form → List ℕ
+abbrev pub kind_text : KeyForm → List ℕ
 kind_text (form.Whole bounds) = codes " must be a whole number"
 kind_text form.Joints = codes " must be a list of strings"
 kind_text form.Path = codes " must be a list of strings"

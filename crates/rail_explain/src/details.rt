@@ -10,7 +10,7 @@ use csv::{ByteRecord, ByteRecordsIntoIter, ReaderBuilder};
 use itoa::Buffer;
 use rail_base::limits::{ROUTES, SECTIONS};
 use rail_base::{Name, Part, Reason, Refusal};
-use rail_scene::keys::{Form, Key, KeyName, keys_in};
+use rail_scene::keys::{Key, KeyForm, KeyName, keys_in};
 use rail_scene::{Version, item_table};
 use rail_text::{LineBuffer, next_line};
 use std::alloc::Global;
@@ -361,15 +361,17 @@ fn fault_in<'v>(root: &'v Value, reason: Reason, key: Key, value: &'v Value) -> 
 }
 
 /// Whether the name at this index of a list, counted from 0, is one that is refused for the reason.
-fn is_fault(root: &Value, reason: Reason, form: Form, index: usize, name: &Value) -> bool {
+fn is_fault(root: &Value, reason: Reason, form: KeyForm, index: usize, name: &Value) -> bool {
     match (reason, form) {
-        (Reason::WrongKind, Form::Joints | Form::Path | Form::Overlap | Form::Itinerary) => {
-            !name.is_str()
-        }
+        (
+            Reason::WrongKind,
+            KeyForm::Joints | KeyForm::Path | KeyForm::Overlap | KeyForm::Itinerary,
+        ) => { !name.is_str() }
         (Reason::BadName, _) => Name::read(text_of(name).as_bytes()).is_none(),
-        (Reason::Unknown, Form::Itinerary) => !is_named(root, Part::Route, name),
-        (Reason::Unknown, Form::Path) => index % 2 == 1 && !is_named(root, Part::Section, name),
-        (Reason::Unknown, Form::Overlap) => index % 2 == 0 && !is_named(root, Part::Section, name),
+        (Reason::Unknown, KeyForm::Itinerary) => !is_named(root, Part::Route, name),
+        (Reason::Unknown, KeyForm::Path) => index % 2 == 1 && !is_named(root, Part::Section, name),
+        (Reason::Unknown, KeyForm::Overlap) => index % 2 == 0
+            && !is_named(root, Part::Section, name),
         _ => false,
     }
 }

@@ -5,7 +5,7 @@ ghost use Rattle.rail_explain.specs.Meanings.{bounds_text, kind_text, range_text
 ghost use Rattle.rail_text.specs.declared.line_buffer.TheConstants.{ROOM};
 
 use rail_base::limits::{INPUT_TIME, ITINERARY_ROUTES, OVERLAP_SECTIONS, ROUTE_SECTIONS};
-use rail_scene::keys::{Bounds, Form, KeyName};
+use rail_scene::keys::{Bounds, KeyForm, KeyName};
 use rail_text::LineBuffer;
 
 // The limits that the texts below tell: 240 hours, the names of a path and of an overlap of as many sections, the routes of an
@@ -19,26 +19,26 @@ const _: () = prove!(2 * OVERLAP_SECTIONS == 16);
 const _: () = prove!(ITINERARY_ROUTES == 128);
 
 /// Puts the range of a key.
-pub fn put_range(line: &mut LineBuffer, form: Form)
+pub fn put_range(line: &mut LineBuffer, form: KeyForm)
     requires { length line.old + 110 ≤ ROOM }
     ensures text { line.new ≡ line.old ++ range_text form }
     ensures short { length line.new ≤ length line.old + 110 }
 {
     match form {
-        Form::Whole(bounds) => put_bounds(line, bounds),
-        Form::Choice => line.put(b" must be plain, points, crossing or slip"),
-        Form::Time => line.put(b" must be a time as 06:00:00, of at most 240:00:00"),
-        Form::Joints => {
+        KeyForm::Whole(bounds) => put_bounds(line, bounds),
+        KeyForm::Choice => line.put(b" must be plain, points, crossing or slip"),
+        KeyForm::Time => line.put(b" must be a time as 06:00:00, of at most 240:00:00"),
+        KeyForm::Joints => {
             line.put(
                 b" must have 2 names for plain track, 3 for points, 4 for a crossing or a slip",
             );
         }
-        Form::Path => line.put(b" must have 3 to 65 names, joints and sections in turn"),
-        Form::Overlap => line.put(
+        KeyForm::Path => line.put(b" must have 3 to 65 names, joints and sections in turn"),
+        KeyForm::Overlap => line.put(
             b" must have at most 16 names, sections and joints in turn, in an even number",
         ),
-        Form::Itinerary => line.put(b" must have 1 to 128 names"),
-        Form::Name | Form::Policy | Form::Tables => line.put(b" is out of its range"),
+        KeyForm::Itinerary => line.put(b" must have 1 to 128 names"),
+        KeyForm::Name | KeyForm::Policy | KeyForm::Tables => line.put(b" is out of its range"),
     }
 }
 
@@ -57,16 +57,16 @@ fn put_bounds(line: &mut LineBuffer, bounds: Bounds)
 }
 
 /// The kind of value that a key has to have.
-pub fn kind_text(form: Form) -> &'static [u8]
+pub fn kind_text(form: KeyForm) -> &'static [u8]
     ensures text { result.now ≡ kind_text form }
     ensures short { length result.now ≤ 60 }
 {
     match form {
-        Form::Name | Form::Policy | Form::Choice | Form::Time => b" must be a string",
-        Form::Whole(_) => b" must be a whole number",
-        Form::Joints | Form::Path | Form::Overlap | Form::Itinerary =>
+        KeyForm::Name | KeyForm::Policy | KeyForm::Choice | KeyForm::Time => b" must be a string",
+        KeyForm::Whole(_) => b" must be a whole number",
+        KeyForm::Joints | KeyForm::Path | KeyForm::Overlap | KeyForm::Itinerary =>
             b" must be a list of strings",
-        Form::Tables => b" must be a list of tables, as [[section]] begins one",
+        KeyForm::Tables => b" must be a list of tables, as [[section]] begins one",
     }
 }
 

@@ -3,8 +3,8 @@
 ghost use Rattle.std.specs.Prelude.{◌+◌, ◌≤◌, length};
 ghost use Rattle.rail_text.specs.declared.line_buffer.TheConstants.{ROOM};
 
+use rail_command_line::Form;
 use rail_text::LineBuffer;
-use rail_words::Form;
 
 /// What stands before the lines of the forms in the answer to `rail --help`.
 pub const HELP_BEFORE: &str = "\

@@ -1,7 +1,7 @@
 //! What the program tells in a planner's words: what a refusal means, in one line that says in which file it lies, at which
 //! item and which key, and what was expected there; which law a history breaks; and how the forms are typed.
 //!
-//! This layer stands on `rail_words` for the table of the forms and the files of a request, on `rail_scene` for the keys of
+//! This layer stands on `rail_command_line` for the table of the forms and the files of a request, on `rail_scene` for the keys of
 //! a scene file and the names of its items, and on `rail_text` for the room of a line. The program prints such lines on
 //! standard error before the status text, and the forms on standard output where it is asked for help; nothing of it is
 //! read again, and no answer depends on it. What is said of a refusal is the definition `explanation` in

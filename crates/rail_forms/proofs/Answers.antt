@@ -8,8 +8,8 @@ use Rattle.rail_forms.specs.declared.status.Status.{Status}
 use Rattle.rail_forms.specs.declared.status.Status.TheVariants.{Done, Usage, Refused, ReadFault, WriteFault, OutOfMemory, CheckedNo}
 use Rattle.rail_forms.specs.Answers.{Decides, IsAnswer}
 use Rattle.rail_io.specs.declared.shelf.Shelf.{Ghosts}
-use Rattle.rail_words.specs.Files.{most_bytes}
-use Rattle.rail_words.specs.declared.files.Role.{Role}
+use Rattle.rail_command_line.specs.Files.{most_bytes}
+use Rattle.rail_command_line.specs.declared.files.FileRole.{FileRole}
 use Rattle.rail_forms.specs.Files.{IsFileAnswer, too_large, too_many_bytes}
 use Rattle.rail_forms.specs.Promises.{ended}
 
@@ -17,7 +17,7 @@ not_more : (n m : ℕ) → m ≤ n → nat_lt n m ≡ false
 not_more n m le = grind (arith, nat_tests)
 
 -- a file that is short enough is not refused for its size
-pub short_enough : (role : Role) (bytes : List ℕ) → length bytes ≤ most_bytes role → too_large role bytes ≡ None
+pub short_enough : (role : FileRole) (bytes : List ℕ) → length bytes ≤ most_bytes role → too_large role bytes ≡ None
 short_enough role bytes few = ap (λ b. cond b (Some (too_many_bytes role)) None) (not_more (most_bytes role) (length bytes) few)
 
 -- where nothing is refused at first, the answer is that of what comes after it
@@ -44,7 +44,7 @@ answer_decides None whole part status answer = tt
 answer_decides (Some first) whole part status answer = first_decides (Some first) None whole part status answer
 
 -- what is answered where a file was not read
-pub file_answer : {S : Type 0} (shelf : Ghosts S) (role : Role) (file : List ℕ) (before now : S) (bytes : List ℕ) (later : Option Refusal) (whole part : Type 0) (status : Status)
+pub file_answer : {S : Type 0} (shelf : Ghosts S) (role : FileRole) (file : List ℕ) (before now : S) (bytes : List ℕ) (later : Option Refusal) (whole part : Type 0) (status : Status)
     → IsFileAnswer shelf role file before now status → shelf.told before file ≡ Some bytes → IsAnswer (or_else (too_large role bytes) later) whole part status
 file_answer shelf role file before now bytes later whole part Done is told = absurd is
 file_answer shelf role file before now bytes later whole part Usage is told = absurd is
@@ -55,7 +55,7 @@ file_answer shelf role file before now bytes later whole part OutOfMemory is tol
 file_answer shelf role file before now bytes later whole part (CheckedNo line law) is told = absurd is
 
 -- where it was not for its size, nothing else is decided against
-pub unread_decides : {S : Type 0} (shelf : Ghosts S) (role : Role) (file : List ℕ) (before now : S) (first : Option Refusal) (status : Status)
+pub unread_decides : {S : Type 0} (shelf : Ghosts S) (role : FileRole) (file : List ℕ) (before now : S) (first : Option Refusal) (status : Status)
     → IsFileAnswer shelf role file before now status → status ≢ Refused (too_many_bytes role) → Decides first status
 unread_decides shelf role file before now None status is other = tt
 unread_decides shelf role file before now (Some first) Done is other = absurd is

@@ -13,8 +13,8 @@ use Rattle.rail_policy.specs.Seats.{DeskSeat, handed_in, names_of}
 use Rattle.rail_rules.specs.Numbers.{or_else}
 use Rattle.rail_rules.specs.Orders.{Input}
 use Rattle.rail_rules.specs.RunHistories.{Seat}
-use Rattle.rail_words.specs.Forms.{Scenario}
-use Rattle.rail_words.specs.declared.files.Role.TheVariants as role
+use Rattle.rail_command_line.specs.Forms.{Scenario}
+use Rattle.rail_command_line.specs.declared.files.FileRole.TheVariants as role
 use Rattle.rail_forms.specs.declared.scenario.Purpose.{Purpose}
 use Rattle.rail_forms.specs.declared.scenario.Purpose.TheVariants.{History}
 use Rattle.rail_forms.specs.declared.status.Status.{Status}

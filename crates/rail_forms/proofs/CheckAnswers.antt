@@ -7,9 +7,9 @@ use Rattle.rail_base.specs.declared.refusals.Refusal.{Refusal}
 use Rattle.rail_history.specs.HistoryLines.{IsHistory, IsRefusedIn, refusal_at}
 use Rattle.rail_history.proofs.CallerLemmas.{no_history, one_history, one_wrong}
 use Rattle.rail_io.specs.Writes.{Adds, AddsPrefix}
-use Rattle.rail_judging.specs.Verdicts.{Verdict, verdict}
-use Rattle.rail_judging.specs.Verdicts.Verdict.{yes, no}
-use Rattle.rail_judging.proofs.CallerLemmas.{judged, yes_means}
+use Rattle.rail_laws_verdict.specs.Verdicts.{Verdict, verdict}
+use Rattle.rail_laws_verdict.specs.Verdicts.Verdict.{yes, no}
+use Rattle.rail_laws_verdict.proofs.CallerLemmas.{judged, yes_means}
 use Rattle.rail_base.specs.Limits.{is_from_one, most, Policies}
 use Rattle.rail_policy.proofs.CallerLemmas.{fine_names}
 use Rattle.rail_policy.specs.Seats.{DeskSeat, is_fine_deck, names_of}

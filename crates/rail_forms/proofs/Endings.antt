@@ -9,7 +9,7 @@ use Rattle.rail_laws_end.proofs.CallerLemmas.{complete_bound, complete_out}
 use Rattle.rail_laws_events.proofs.CallerLemmas.{input_parts}
 use Rattle.rail_laws_front.specs.Premises.{IsWellFormed}
 use Rattle.rail_laws_front.proofs.CallerLemmas.{well_formed_from_accepted}
-use Rattle.rail_laws_run.proofs.CallerLemmas.{run_lawful}
+use Rattle.rail_laws_step.proofs.CallerLemmas.{run_lawful}
 use Rattle.rail_rules.specs.Accepted.{is_accepted_input}
 use Rattle.rail_rules.specs.Fronts.{Front, Line, has_ended, is_end, lines_beside_holds}
 use Rattle.rail_rules.specs.LineCounts.{taken_over}

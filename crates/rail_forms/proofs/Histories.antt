@@ -11,7 +11,7 @@ use Rattle.rail_laws_end.proofs.CallerLemmas.{one_run}
 use Rattle.rail_laws_events.proofs.CallerLemmas.{bounded, holds_bounded, input_parts, times_below}
 use Rattle.rail_laws_front.specs.Premises.{IsWellFormed}
 use Rattle.rail_laws_front.proofs.CallerLemmas.{never_overlap, kept_completes, well_formed_from_accepted}
-use Rattle.rail_laws_run.proofs.CallerLemmas.{nobody_ready, run_lawful}
+use Rattle.rail_laws_step.proofs.CallerLemmas.{nobody_ready, run_lawful}
 use Rattle.rail_laws_text.proofs.CallerLemmas.{one_cause}
 use Rattle.rail_rules.specs.Accepted.{is_accepted_input}
 use Rattle.rail_rules.specs.Causes.{cause, is_deciding, is_ready, is_repairable, is_settled, is_told_so, last_hold, place}

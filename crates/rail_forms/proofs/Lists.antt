@@ -14,8 +14,8 @@ use Rattle.rail_rules.proofs.CallerLemmas.{apart_at}
 use Rattle.rail_place.specs.Overlaps.{IsOverlap}
 use Rattle.rail_place.proofs.CallerLemmas.{holder_listed, state_apart}
 use Rattle.rail_text.specs.Lines.{lines_of}
-use Rattle.rail_words.specs.Lists.{last_setting, list_line_refusal, listed_in, places_test}
-use Rattle.rail_words.specs.ListAnswers.{ReadList, read_of}
+use Rattle.rail_command_line.specs.Lists.{last_setting, list_line_refusal, listed_in, places_test}
+use Rattle.rail_command_line.specs.ListAnswers.{ReadList, read_of}
 use Rattle.rail_forms.specs.declared.status.Status.{Status}
 use Rattle.rail_forms.specs.declared.status.Status.TheVariants.{CheckedNo, Done, OutOfMemory, ReadFault, Refused, Usage, WriteFault}
 use Rattle.rail_forms.specs.Answers.{IsAnswer, status_of}

@@ -9,7 +9,7 @@ use Rattle.rail_rules.specs.Moves.{Moves}
 use Rattle.rail_text.specs.Lines.{Line, lines_of}
 use Rattle.rail_input.specs.Inputs.{refuses_file}
 use Rattle.rail_reroute.specs.Proposals.{line_tests as proposal_tests, proposals_refusal}
-use Rattle.rail_words.specs.Lists.{line_tests, lines_tests, list_line_refusal, some_moves, words_tests}
+use Rattle.rail_command_line.specs.Lists.{line_tests, lines_tests, list_line_refusal, some_moves, words_tests}
 use Rattle.rail_forms.specs.Answers.{status_of}
 use Rattle.rail_forms.specs.Promises.{is_of_bytes}
 

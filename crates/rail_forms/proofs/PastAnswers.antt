@@ -7,9 +7,9 @@ use Rattle.rail_policy.specs.Seats.{DeskSeat, handed_in, names_of}
 use Rattle.rail_rules.specs.Numbers.{or_else}
 use Rattle.rail_rules.specs.Orders.{Input}
 use Rattle.rail_rules.specs.RunHistories.{Seat}
-use Rattle.rail_words.specs.Forms.{Scenario}
-use Rattle.rail_words.specs.declared.files.Role.{Role}
-use Rattle.rail_words.specs.declared.files.Role.TheVariants as role
+use Rattle.rail_command_line.specs.Forms.{Scenario}
+use Rattle.rail_command_line.specs.declared.files.FileRole.{FileRole}
+use Rattle.rail_command_line.specs.declared.files.FileRole.TheVariants as role
 use Rattle.rail_forms.specs.declared.past.Past.{Past}
 use Rattle.rail_forms.specs.declared.past.Past.TheVariants.{History, Snapshot}
 use Rattle.rail_forms.specs.declared.status.Status.{Status}
@@ -24,7 +24,7 @@ use Rattle.rail_forms.proofs.ScenarioAnswers.{named_answer, named_decides}
 use Rattle.rail_forms.proofs.SnapshotAnswers.{snapshot_after, snapshot_unread}
 
 -- a file that was not read ends no command with a verdict
-file_done : {S : Type 0} (shelf : Ghosts S) (role : Role) (file : List ℕ) (before now : S) (status : Status) → IsFileAnswer shelf role file before now status → done_with status ≡ status
+file_done : {S : Type 0} (shelf : Ghosts S) (role : FileRole) (file : List ℕ) (before now : S) (status : Status) → IsFileAnswer shelf role file before now status → done_with status ≡ status
 file_done shelf role file before now Done is = refl
 file_done shelf role file before now Usage is = refl
 file_done shelf role file before now (Refused refusal) is = refl
@@ -33,7 +33,7 @@ file_done shelf role file before now WriteFault is = refl
 file_done shelf role file before now OutOfMemory is = refl
 file_done shelf role file before now (CheckedNo line law) is = absurd is
 
-named_done : {S : Type 0} (shelf : Ghosts S) (role : Role) (file : Option (List ℕ)) (before now : S) (status : Status) → IsNamedAnswer shelf role file before now status → done_with status ≡ status
+named_done : {S : Type 0} (shelf : Ghosts S) (role : FileRole) (file : Option (List ℕ)) (before now : S) (status : Status) → IsNamedAnswer shelf role file before now status → done_with status ≡ status
 named_done shelf role None before now status is = absurd is
 named_done shelf role (Some file) before now status is = file_done shelf role file before now status is
 

@@ -27,7 +27,7 @@ use Rattle.rail_laws_front.specs.Views.Follows.{by_event, by_admission, by_hold,
 use Rattle.rail_laws_front.proofs.CallerLemmas.{well_formed_from_accepted, lawful_last}
 use Rattle.rail_laws_events.proofs.CallerLemmas.{input_parts}
 use Rattle.rail_laws_end.specs.Forks.{are_marks}
-use Rattle.rail_laws_run.proofs.CallerLemmas.{run_lawful}
+use Rattle.rail_laws_step.proofs.CallerLemmas.{run_lawful}
 use Rattle.rail_laws_text.proofs.CallerLemmas.{line_writable}
 use Rattle.rail_ledger.specs.Inputs.{input_in}
 use Rattle.rail_ledger.specs.declared.input.RunInput.{RunInput}

@@ -5,8 +5,8 @@ use Rattle.rail_base.specs.Refusals.{is_file}
 use Rattle.rail_base.specs.declared.refusals.Refusal.{Refusal}
 use Rattle.rail_io.specs.declared.shelf.Shelf.{Ghosts}
 use Rattle.rail_io.specs.declared.sink.Sink.{Ghosts as SinkGhosts}
-use Rattle.rail_words.specs.Files.{File, file_as}
-use Rattle.rail_words.specs.declared.files.Role.{Role}
+use Rattle.rail_command_line.specs.Files.{File, file_as}
+use Rattle.rail_command_line.specs.declared.files.FileRole.{FileRole}
 use Rattle.rail_forms.specs.declared.status.Status.{Status}
 use Rattle.rail_forms.specs.declared.status.Status.TheVariants.{Done, Usage, Refused, ReadFault, WriteFault, OutOfMemory, CheckedNo}
 use Rattle.rail_forms.specs.Files.{FitsWhereTold, IsFileAnswer, IsOneOf, IsOneTooLarge, IsReadFault, IsTooLarge, comes_of_files, is_of_words}
@@ -33,7 +33,7 @@ not_empty : (first later : List File) (file : File) → first ++ file ∷ later 
 not_empty [] later file is = cc
 not_empty (other ∷ first) later file is = cc
 
-module _ {S : Type 0} (shelf : Ghosts S) (first later : List File) (role : Role) (file : List ℕ) (before between now : S) (fit : AreFit (shelf.told before) first)
+module _ {S : Type 0} (shelf : Ghosts S) (first later : List File) (role : FileRole) (file : List ℕ) (before between now : S) (fit : AreFit (shelf.told before) first)
     (told_still : shelf.told between ≡ shelf.told before) (faults_still : shelf.faults before ≤ shelf.faults between)
     (told_stays : shelf.told now ≡ shelf.told between) (faults_rise : shelf.faults between ≤ shelf.faults now) where
   abbrev failing : File

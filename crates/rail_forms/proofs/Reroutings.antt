@@ -21,8 +21,8 @@ use Rattle.rail_scene.specs.SpelledScenes.{spelled_scene}
 use Rattle.rail_scene.specs.declared.scene.Scene.{Scene}
 use Rattle.rail_text.specs.Lines.{lines_of}
 use Rattle.rail_text.specs.Names.{names_of}
-use Rattle.rail_words.specs.ListAnswers.{ReadList, read_of}
-use Rattle.rail_words.specs.Lists.{listed_in}
+use Rattle.rail_command_line.specs.ListAnswers.{ReadList, read_of}
+use Rattle.rail_command_line.specs.Lists.{listed_in}
 use Rattle.rail_forms.specs.declared.reroute.Answered.{Answered}
 use Rattle.rail_forms.specs.Plays.{list_refusal, listed_for, places_refusal}
 use Rattle.rail_forms.specs.Reroutes.{AreAnswered, IsAnswered, JudgesFiles, answered_text, reroute_refusal}

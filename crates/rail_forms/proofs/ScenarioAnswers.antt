@@ -26,10 +26,10 @@ use Rattle.rail_forms.specs.declared.status.Status.TheVariants.{Refused}
 use Rattle.rail_forms.specs.Answers.{Decides, IsAnswer, Told, status_of}
 use Rattle.rail_forms.specs.declared.scenario.Purpose.{Purpose}
 use Rattle.rail_forms.specs.declared.scenario.Purpose.TheVariants.{Capacity, History, Insertion, Report, Snapshot, Stairs}
-use Rattle.rail_words.specs.Files.{File, file_as}
-use Rattle.rail_words.specs.Forms.{Scenario}
-use Rattle.rail_words.specs.declared.files.Role.{Role}
-use Rattle.rail_words.specs.declared.files.Role.TheVariants as role
+use Rattle.rail_command_line.specs.Files.{File, file_as}
+use Rattle.rail_command_line.specs.Forms.{Scenario}
+use Rattle.rail_command_line.specs.declared.files.FileRole.{FileRole}
+use Rattle.rail_command_line.specs.declared.files.FileRole.TheVariants as role
 use Rattle.rail_forms.specs.Files.{IsFileAnswer, IsNamedAnswer, told_of, too_large, too_large_if_any, too_many_bytes}
 use Rattle.rail_forms.specs.Promises.{KeepsPromise}
 use Rattle.rail_forms.specs.Purposes.{AnswersPurpose, late_refusal, part_of, refusal_of, whole_of}
@@ -130,7 +130,7 @@ late_answers purpose first input whole part status none answer =
     subst (λ (o : Option Refusal). IsAnswer o whole part status) (sym (refusal_split purpose status first input)) (answer_after first (late_refusal purpose status input) whole part status none answer)
 
 -- what is answered where a file that may be missing was not read
-pub named_answer : {S : Type 0} (shelf : Ghosts S) (role : Role) (file : Option (List ℕ)) (before now : S) (content : Option (List ℕ)) (later : Option Refusal) (whole part : Type 0) (status : Status)
+pub named_answer : {S : Type 0} (shelf : Ghosts S) (role : FileRole) (file : Option (List ℕ)) (before now : S) (content : Option (List ℕ)) (later : Option Refusal) (whole part : Type 0) (status : Status)
     → IsNamedAnswer shelf role file before now status → told_of (shelf.told before) file ≡ Some content
     → IsAnswer (or_else (too_large_if_any role content) later) whole part status
 named_answer shelf role None before now content later whole part status answer told = absurd answer
@@ -143,13 +143,13 @@ named_answer shelf role (Some file) before now content later whole part status a
         (file_answer shelf role file before now bytes later whole part status answer is)
 
 -- where it was not for its size, nothing else is decided against
-pub named_decides : {S : Type 0} (shelf : Ghosts S) (role : Role) (file : Option (List ℕ)) (before now : S) (first : Option Refusal) (status : Status)
+pub named_decides : {S : Type 0} (shelf : Ghosts S) (role : FileRole) (file : Option (List ℕ)) (before now : S) (first : Option Refusal) (status : Status)
     → IsNamedAnswer shelf role file before now status → status ≢ Refused (too_many_bytes role) → Decides first status
 named_decides shelf role None before now first status answer other = absurd answer
 named_decides shelf role (Some file) before now first status answer other = unread_decides shelf role file before now first status answer other
 
 -- what is promised where it was not read
-pub keeps_unnamed : {S O : Type 0} (shelf : Ghosts S) (sink : SinkGhosts O) (first later : List File) (role : Role) (file : Option (List ℕ)) (before between now : S) (out : O) (status : Status)
+pub keeps_unnamed : {S O : Type 0} (shelf : Ghosts S) (sink : SinkGhosts O) (first later : List File) (role : FileRole) (file : Option (List ℕ)) (before between now : S) (out : O) (status : Status)
     → AreFit (shelf.told before) first → shelf.told between ≡ shelf.told before → shelf.faults before ≤ shelf.faults between
     → shelf.told now ≡ shelf.told between → shelf.faults between ≤ shelf.faults now
     → IsNamedAnswer shelf role file between now status → KeepsPromise shelf sink (first ++ file_as role file ∷ later) before now out out status
@@ -158,14 +158,14 @@ keeps_unnamed shelf sink first later role (Some file) before between now out sta
     keeps_failed shelf first later role file before between now fit still faults_still stays rise sink out status answer
 
 -- a file that was read fits
-pub fit_read : (told : Told) (role : Role) (file : List ℕ) (later : List File) (read : List ℕ)
+pub fit_read : (told : Told) (role : FileRole) (file : List ℕ) (later : List File) (read : List ℕ)
     → ((bytes : List ℕ) → told file ≡ Some bytes → read ≡ bytes) → too_large role read ≡ None
     → AreFit told later → AreFit told (file_as role (Some file) ∷ later)
 fit_read told role file later read is fits behind =
     (λ name bytes named at. ap (too_large role) (sym (is bytes (ap told (same_Some file name named) ∙ at))) ∙ fits, behind)
 
 -- a file that may be missing fits where its bytes were read
-pub fit_named : (told : Told) (role : Role) (file : Option (List ℕ)) (later : List File) (read : Option (List ℕ))
+pub fit_named : (told : Told) (role : FileRole) (file : Option (List ℕ)) (later : List File) (read : Option (List ℕ))
     → ((content : Option (List ℕ)) → told_of told file ≡ Some content → read ≡ content) → too_large_if_any role read ≡ None
     → AreFit told later → AreFit told (file_as role file ∷ later)
 fit_named told role None later read is fits behind = (λ name bytes named at. absurd (none-some name named), behind)

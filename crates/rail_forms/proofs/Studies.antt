@@ -4,7 +4,7 @@ use Rattle.std.proofs.lemmas.Option.{none-some, same_Some}
 use Rattle.rail_base.specs.declared.refusals.Refusal.{Refusal}
 use Rattle.rail_capacity.specs.declared.compression.Window.{Window}
 use Rattle.rail_policy.specs.Seats.{DeskSeat}
-use Rattle.rail_words.specs.Forms.{Scenario}
+use Rattle.rail_command_line.specs.Forms.{Scenario}
 use Rattle.rail_forms.specs.declared.status.Status.{Status}
 use Rattle.rail_forms.specs.declared.status.Status.TheVariants.{Refused}
 use Rattle.rail_forms.specs.Answers.{Told}

@@ -5,7 +5,7 @@ use Rattle.rail_io.specs.Writes.{Adds, AddsPrefix}
 use Rattle.rail_io.specs.declared.shelf.Shelf.{Ghosts}
 use Rattle.rail_rules.specs.Numbers.{or_else}
 use Rattle.rail_input.specs.Inputs.{plant_refusal}
-use Rattle.rail_words.specs.declared.files.Role.TheVariants as role
+use Rattle.rail_command_line.specs.declared.files.FileRole.TheVariants as role
 use Rattle.rail_forms.specs.declared.status.Status.{Status}
 use Rattle.rail_forms.specs.Answers.{Decides, IsAnswer, Told}
 use Rattle.rail_forms.specs.Files.{IsFileAnswer, too_large}

@@ -4,15 +4,15 @@ use Rattle.rail_base.specs.declared.refusals.Refusal.{Refusal}
 use Rattle.rail_io.specs.declared.shelf.Shelf.{Ghosts}
 use Rattle.rail_rules.specs.Numbers.{or_else}
 use Rattle.rail_input.specs.Inputs.{plant_refusal}
-use Rattle.rail_words.specs.declared.files.Role.{Role}
-use Rattle.rail_words.specs.declared.files.Role.TheVariants as role
+use Rattle.rail_command_line.specs.declared.files.FileRole.{FileRole}
+use Rattle.rail_command_line.specs.declared.files.FileRole.TheVariants as role
 use Rattle.rail_forms.specs.declared.status.Status.{Status}
 use Rattle.rail_forms.specs.Answers.{Decides, IsAnswer, Told}
 use Rattle.rail_forms.specs.Files.{IsFileAnswer, too_large}
 use Rattle.rail_forms.specs.TwoFiles.{AnswersTwoFiles}
 use Rattle.rail_forms.proofs.Answers.{answer_after, answer_decides, file_answer, first_decides, none_decides, unread_decides}
 
-module _ (second_role : Role) (later : List ℕ → List ℕ → Option Refusal) (whole part : List ℕ → List ℕ → Type 0) (scene second : List ℕ) (told : Told) (status : Status) where
+module _ (second_role : FileRole) (later : List ℕ → List ℕ → Option Refusal) (whole part : List ℕ → List ℕ → Type 0) (scene second : List ℕ) (told : Told) (status : Status) where
   abbrev Answers : Type 0
   Answers = AnswersTwoFiles second_role later whole part scene second told status
 

@@ -24,7 +24,7 @@ use Rattle.rail_rules.specs.Orders.{Input}
 use Rattle.rail_rules.specs.Plant.{Plant}
 use Rattle.rail_rules.specs.Texts.{spaced}
 use Rattle.rail_stairs.specs.Stairways.{ended_at, ended_by, stairway}
-use Rattle.rail_words.specs.Forms.{Scenario}
+use Rattle.rail_command_line.specs.Forms.{Scenario}
 use Rattle.rail_forms.specs.declared.status.Status.{Status}
 use Rattle.rail_forms.specs.declared.status.Status.TheVariants.{Refused}
 use Rattle.rail_forms.specs.Answers.{Told}

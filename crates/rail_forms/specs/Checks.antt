@@ -3,8 +3,8 @@ use Rattle.std.specs.Prelude.{◌≡◌, ℕ, IsTrue, List, [], ◌∷◌, ◌++
 use Rattle.rail_base.specs.declared.refusals.Refusal.{Refusal}
 use Rattle.rail_history.specs.HistoryLines.{IsFirstWrong, IsHistory, refusal_at}
 use Rattle.rail_io.specs.Writes.{Adds, AddsPrefix}
-use Rattle.rail_judging.specs.Verdicts.{IsBrokenAt, Verdict, behind as front_of, verdict}
-use Rattle.rail_judging.specs.Verdicts.Verdict.{yes, no}
+use Rattle.rail_laws_verdict.specs.Verdicts.{IsBrokenAt, Verdict, behind as front_of, verdict}
+use Rattle.rail_laws_verdict.specs.Verdicts.Verdict.{yes, no}
 use Rattle.rail_rules.specs.Fronts.{Line}
 use Rattle.rail_rules.specs.Lawful.{is_complete}
 use Rattle.rail_rules.specs.Numbers.{or_else}

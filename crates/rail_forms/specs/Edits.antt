@@ -7,7 +7,7 @@ use Rattle.rail_scene.specs.SpelledScenes.{spelled_scene}
 use Rattle.rail_compile.specs.Refusals.{compile_refusal}
 use Rattle.rail_edit_file.specs.EditFiles.{edits_refusal}
 use Rattle.rail_edit_file.specs.EditedScenes.{edited_scene}
-use Rattle.rail_words.specs.declared.files.Role.TheVariants as role
+use Rattle.rail_command_line.specs.declared.files.FileRole.TheVariants as role
 use Rattle.rail_forms.specs.declared.status.Status.{Status}
 use Rattle.rail_forms.specs.Answers.{Told}
 use Rattle.rail_forms.specs.SceneTexts.{WritesScene}

@@ -10,17 +10,17 @@ use Rattle.rail_base.specs.declared.refusals.Part.TheVariants as part
 use Rattle.rail_rules.specs.Numbers.{or_else}
 use Rattle.rail_io.specs.FaultCounts.{Rose}
 use Rattle.rail_io.specs.declared.shelf.Shelf.{Ghosts}
-use Rattle.rail_words.specs.Files.{File, file_as, most_bytes, number_of}
-use Rattle.rail_words.specs.declared.files.Role.{Role}
+use Rattle.rail_command_line.specs.Files.{File, file_as, most_bytes, number_of}
+use Rattle.rail_command_line.specs.declared.files.FileRole.{FileRole}
 use Rattle.rail_forms.specs.declared.status.Status.{Status}
 use Rattle.rail_forms.specs.declared.status.Status.TheVariants.{Done, Usage, Refused, ReadFault, WriteFault, OutOfMemory, CheckedNo}
 
 -- the refusal of a file of the role for its size
-abbrev pub too_many_bytes : Role → Refusal
+abbrev pub too_many_bytes : FileRole → Refusal
 too_many_bytes role = record { reason = TooMany; part = part.File; item = number_of role; step = 0 }
 
 -- why bytes of a file of the role are refused before they are read: they are more than it may have
-abbrev pub too_large : Role → List ℕ → Option Refusal
+abbrev pub too_large : FileRole → List ℕ → Option Refusal
 too_large role bytes = cond (nat_lt (most_bytes role) (length bytes)) (Some (too_many_bytes role)) None
 
 -- where the bytes of the file are told, they are no more than it may have
@@ -37,7 +37,7 @@ abbrev pub content_of : Option (Vec ℕ) → Option (List ℕ)
 content_of bytes = option_map (λ (read : Vec ℕ). read.items) bytes
 
 -- the same refusal of a file that may be missing
-abbrev pub too_large_if_any : Role → Option (List ℕ) → Option Refusal
+abbrev pub too_large_if_any : FileRole → Option (List ℕ) → Option Refusal
 too_large_if_any role content = option_and_then (too_large role) content
 
 -- a call failed at one of the files; no file before it is too large where its bytes are told
@@ -64,7 +64,7 @@ pub record IsRead {S : Type 0} (shelf : Ghosts S) (file : List ℕ) (now : S) : 
   pub none_failed : shelf.failed now ≡ None
 
 -- the file is too large: it was begun, more of its bytes were moved than it may have, and where they are told they are more
-pub record IsTooLarge {S : Type 0} (shelf : Ghosts S) (role : Role) (file : List ℕ) (before now : S) (answer : Refusal) : Type 0 where
+pub record IsTooLarge {S : Type 0} (shelf : Ghosts S) (role : FileRole) (file : List ℕ) (before now : S) (answer : Refusal) : Type 0 where
   pub is : answer ≡ too_many_bytes role
   pub begun : shelf.begun now ≡ Some file
   pub over : most_bytes role < shelf.moved now
@@ -77,7 +77,7 @@ IsOneTooLarge shelf (file ∷ files) before now answer =
     IsSomeAnd file.name (λ name. IsTooLarge shelf file.role name before now answer) ⊎ IsOneTooLarge shelf files before now answer
 
 -- why the file of this name, which has this role, was not read
-abbrev pub IsFileAnswer : {S : Type 0} → Ghosts S → Role → List ℕ → S → S → Status → Type 0
+abbrev pub IsFileAnswer : {S : Type 0} → Ghosts S → FileRole → List ℕ → S → S → Status → Type 0
 IsFileAnswer shelf role file before now Done = ⊥
 IsFileAnswer shelf role file before now Usage = ⊥
 IsFileAnswer shelf role file before now (Refused refusal) = IsTooLarge shelf role file before now refusal
@@ -87,7 +87,7 @@ IsFileAnswer shelf role file before now OutOfMemory = Unit {0}
 IsFileAnswer shelf role file before now (CheckedNo line law) = ⊥
 
 -- why a file that may be missing was not read
-abbrev pub IsNamedAnswer : {S : Type 0} → Ghosts S → Role → Option (List ℕ) → S → S → Status → Type 0
+abbrev pub IsNamedAnswer : {S : Type 0} → Ghosts S → FileRole → Option (List ℕ) → S → S → Status → Type 0
 IsNamedAnswer shelf role None before now status = ⊥
 IsNamedAnswer shelf role (Some file) before now status = IsFileAnswer shelf role file before now status
 

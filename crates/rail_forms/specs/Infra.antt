@@ -10,7 +10,7 @@ use Rattle.rail_routes.specs.Net.{Net}
 use Rattle.rail_scene.specs.declared.scene.Scene.{Scene}
 use Rattle.rail_scene.specs.SpelledScenes.{spelled_scene}
 use Rattle.rail_rules.specs.Texts.{behind}
-use Rattle.rail_words.specs.declared.files.Role.TheVariants as role
+use Rattle.rail_command_line.specs.declared.files.FileRole.TheVariants as role
 use Rattle.rail_forms.specs.declared.status.Status.{Status}
 use Rattle.rail_input.specs.Inputs.{plant_refusal}
 use Rattle.rail_forms.specs.Answers.{IsTextAnswer, Told}

@@ -4,7 +4,7 @@ use Rattle.rail_rules.specs.Numbers.{or_else}
 use Rattle.rail_input.specs.Inputs.{input_in, input_refusal, plant_refusal}
 use Rattle.rail_io.specs.Writes.{Adds, AddsPrefix}
 use Rattle.rail_scene.specs.SpelledScenes.{spelled_scene}
-use Rattle.rail_words.specs.declared.files.Role.TheVariants as role
+use Rattle.rail_command_line.specs.declared.files.FileRole.TheVariants as role
 use Rattle.rail_forms.specs.declared.status.Status.{Status}
 use Rattle.rail_forms.specs.Answers.{IsAnswer, Told}
 use Rattle.rail_forms.specs.Files.{too_large}

@@ -6,9 +6,9 @@ use Rattle.rail_policy.specs.Seats.{DeskSeat, handed_in, names_of}
 use Rattle.rail_rules.specs.Numbers.{or_else}
 use Rattle.rail_rules.specs.Orders.{Input}
 use Rattle.rail_rules.specs.RunHistories.{Seat}
-use Rattle.rail_words.specs.Forms.{Scenario}
-use Rattle.rail_words.specs.declared.files.Role.{Role}
-use Rattle.rail_words.specs.declared.files.Role.TheVariants as role
+use Rattle.rail_command_line.specs.Forms.{Scenario}
+use Rattle.rail_command_line.specs.declared.files.FileRole.{FileRole}
+use Rattle.rail_command_line.specs.declared.files.FileRole.TheVariants as role
 use Rattle.rail_forms.specs.declared.past.Past.{Past}
 use Rattle.rail_forms.specs.declared.past.Past.TheVariants.{History, Snapshot}
 use Rattle.rail_forms.specs.declared.status.Status.{Status}
@@ -19,7 +19,7 @@ use Rattle.rail_forms.specs.Files.{told_of, too_large, too_large_if_any, too_man
 use Rattle.rail_forms.specs.Snapshots.{AnswersSnapshot}
 
 -- the role of the file of these lines
-abbrev pub role_of : Past → Role
+abbrev pub role_of : Past → FileRole
 role_of History = role.History
 role_of Snapshot = role.Snapshot
 
@@ -30,7 +30,7 @@ AnswersLines Snapshot first input seats text before now status = AnswersSnapshot
 
 -- why the files are refused that hold this, with this deck, whatever the lines are: for the size of each file in turn, of
 -- which the last has this role, and then for what the others spell
-abbrev pub past_refusal : Role → List ℕ → Option (List ℕ) → Option (List ℕ) → List ℕ → List DeskSeat → Option Refusal
+abbrev pub past_refusal : FileRole → List ℕ → Option (List ℕ) → Option (List ℕ) → List ℕ → List DeskSeat → Option Refusal
 past_refusal last scene timetable commands text deck =
     or_else (too_large role.Scene scene)
     (or_else (too_large_if_any role.Timetable timetable)

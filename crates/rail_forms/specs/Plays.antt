@@ -16,8 +16,8 @@ use Rattle.rail_place.specs.declared.barring.Barred.TheVariants.{Outside, Out, H
 use Rattle.rail_place.specs.declared.barring.Played.{Played}
 use Rattle.rail_place.specs.declared.barring.Played.TheVariants.{Completes, Illegal, Inside}
 use Rattle.rail_rules.specs.Texts.{behind}
-use Rattle.rail_words.specs.Lists.{Listed, list_line_refusal, listed_in, places_test}
-use Rattle.rail_words.specs.declared.files.Role.TheVariants as role
+use Rattle.rail_command_line.specs.Lists.{Listed, list_line_refusal, listed_in, places_test}
+use Rattle.rail_command_line.specs.declared.files.FileRole.TheVariants as role
 use Rattle.rail_forms.specs.declared.status.Status.{Status}
 use Rattle.rail_forms.specs.declared.status.Status.TheVariants as status
 use Rattle.rail_io.specs.Writes.{Adds, AddsPrefix}

@@ -5,7 +5,7 @@ use Rattle.rail_base.specs.declared.refusals.Refusal.{Refusal}
 use Rattle.rail_io.specs.FaultCounts.{Rose}
 use Rattle.rail_io.specs.declared.shelf.Shelf.{Ghosts as ShelfGhosts}
 use Rattle.rail_io.specs.declared.sink.Sink.{Ghosts as SinkGhosts}
-use Rattle.rail_words.specs.Files.{File}
+use Rattle.rail_command_line.specs.Files.{File}
 use Rattle.rail_forms.specs.declared.status.Status.{Status}
 use Rattle.rail_forms.specs.declared.status.Status.TheVariants.{CheckedNo, Done, Usage, Refused, ReadFault, WriteFault}
 use Rattle.rail_forms.specs.Files.{IsOneTooLarge, IsRead, IsReadFault, comes_of_files, last_file}

@@ -18,7 +18,7 @@ use Rattle.rail_forms.specs.NotedRuns.{ReportsRun}
 use Rattle.rail_forms.specs.Reports.{IsReportText}
 use Rattle.rail_forms.specs.Runs.{RunsInput, RunsInputInPart}
 use Rattle.rail_forms.specs.Snapshots.{SavesInput, SavesInputInPart}
-use Rattle.rail_words.specs.Forms.{Scenario}
+use Rattle.rail_command_line.specs.Forms.{Scenario}
 use Rattle.rail_forms.specs.Files.{told_of}
 use Rattle.rail_forms.specs.Scenarios.{AnswersScenario, nothing_else, scenario_refusal}
 use Rattle.rail_forms.specs.Stairs.{IsStairsText}

@@ -8,7 +8,7 @@ use Rattle.rail_rules.specs.Orders.{Input}
 use Rattle.rail_forms.specs.declared.status.Status.{Status}
 use Rattle.rail_forms.specs.Answers.{Told}
 use Rattle.rail_forms.specs.NotedRuns.{ReportsRun}
-use Rattle.rail_words.specs.Forms.{Scenario}
+use Rattle.rail_command_line.specs.Forms.{Scenario}
 use Rattle.rail_forms.specs.Scenarios.{AnswersScenario, nothing_else}
 
 -- the text is the report of the history

@@ -10,7 +10,7 @@ use Rattle.rail_reroute.specs.Judgements.{IsJudged}
 use Rattle.rail_reroute.specs.Lines.{judged_line, scene_names}
 use Rattle.rail_reroute.specs.Proposals.{proposals_in, proposals_refusal, route_names, train_names}
 use Rattle.rail_reroute.specs.declared.proposals.Proposal.{Proposal}
-use Rattle.rail_words.specs.declared.files.Role.TheVariants as role
+use Rattle.rail_command_line.specs.declared.files.FileRole.TheVariants as role
 use Rattle.rail_forms.specs.declared.reroute.Answered.{Answered}
 use Rattle.rail_forms.specs.declared.status.Status.{Status}
 use Rattle.rail_forms.specs.declared.status.Status.TheVariants.{Refused}

@@ -20,7 +20,7 @@ use Rattle.rail_laws_end.specs.Forks.{is_built_in_throughout}
 use Rattle.rail_policy.specs.Seats.{DeskSeat}
 use Rattle.rail_forms.specs.declared.status.Status.{Status}
 use Rattle.rail_forms.specs.Answers.{Told}
-use Rattle.rail_words.specs.Forms.{Scenario}
+use Rattle.rail_command_line.specs.Forms.{Scenario}
 use Rattle.rail_forms.specs.Scenarios.{AnswersScenario, nothing_else}
 
 -- the next move of the train waits for a cause that is true and that its last hold line states

@@ -8,7 +8,7 @@ use Rattle.rail_stairs.specs.StairsTexts.{stairs_text}
 use Rattle.rail_forms.specs.declared.status.Status.{Status}
 use Rattle.rail_forms.specs.Answers.{Told}
 use Rattle.rail_forms.specs.NotedRuns.{ReportsRun}
-use Rattle.rail_words.specs.Forms.{Scenario}
+use Rattle.rail_command_line.specs.Forms.{Scenario}
 use Rattle.rail_forms.specs.Scenarios.{AnswersScenario, nothing_else}
 
 -- the text is that of the stairway of the history

@@ -3,8 +3,8 @@ use Rattle.std.specs.Prelude.{◌≡◌, ◌≢◌, ℕ, List, Option, Some}
 use Rattle.rail_base.specs.declared.refusals.Refusal.{Refusal}
 use Rattle.rail_rules.specs.Numbers.{or_else}
 use Rattle.rail_input.specs.Inputs.{plant_refusal}
-use Rattle.rail_words.specs.declared.files.Role.{Role}
-use Rattle.rail_words.specs.declared.files.Role.TheVariants as role
+use Rattle.rail_command_line.specs.declared.files.FileRole.{FileRole}
+use Rattle.rail_command_line.specs.declared.files.FileRole.TheVariants as role
 use Rattle.rail_forms.specs.declared.status.Status.{Status}
 use Rattle.rail_forms.specs.declared.status.Status.TheVariants.{Refused}
 use Rattle.rail_forms.specs.Answers.{Decides, IsAnswer, Told}
@@ -12,7 +12,7 @@ use Rattle.rail_forms.specs.Files.{too_large, too_many_bytes}
 
 -- what is answered to the two files, of which the second has this role, by a form that refuses this behind the scene, and adds
 -- the whole or a part of what they stand for together
-pub record AnswersTwoFiles (second_role : Role) (later : List ℕ → List ℕ → Option Refusal) (whole part : List ℕ → List ℕ → Type 0)
+pub record AnswersTwoFiles (second_role : FileRole) (later : List ℕ → List ℕ → Option Refusal) (whole part : List ℕ → List ℕ → Type 0)
     (scene second : List ℕ) (told : Told) (status : Status) : Type 0 where
   -- where the bytes of both files are told
   pub both : (bytes others : List ℕ) → told scene ≡ Some bytes → told second ≡ Some others

@@ -16,7 +16,7 @@ ghost use Rattle.rail_forms.specs.Snapshots.{SavesInput, SavesInputInPart};
 ghost use Rattle.rail_io.specs.FaultCounts.{Rose};
 ghost use Rattle.rail_save.specs.Snapshots.{IsRefusedSnapshot, IsResumed};
 
-use crate::notes::Notes;
+use crate::notes::LineNotes;
 use rail_base::{Command, Fault, OutOfMemory};
 use rail_engine::Engine;
 use rail_input::{ReadInput, read_input};
@@ -103,7 +103,7 @@ impl Begun {
 
     /// Notes the lines of the run one by one, until the history has ended or one cannot be noted. It takes no memory. The
     /// engine comes back for its plant.
-    pub fn follow_to_end<N: Notes>(self, notes: &mut N) -> Result<Engine, N::Fault>
+    pub fn follow_to_end<N: LineNotes>(self, notes: &mut N) -> Result<Engine, N::Fault>
         requires begun { HasBegun ⟦<Desk as Seen>⟧.table self }
         requires none { N.are_noted (input_of self) [] notes.old notes.old }
         ensures noted { OnOk result (IsNotedRun (λ input front. N.are_noted input front notes.old notes.new)

@@ -14,7 +14,7 @@ ghost use Rattle.rail_input.specs.Inputs.{refuses_file};
 ghost use Rattle.rail_io.specs.Writes.{Adds, AddsPrefix};
 ghost use Rattle.rail_policy.specs.Seats.{is_fine_deck};
 ghost use Rattle.rail_rules.specs.Texts.{behind, spaced};
-ghost use Rattle.rail_words.specs.Forms.{scenario_files, scenario_in};
+ghost use Rattle.rail_command_line.specs.Forms.{scenario_files, scenario_in};
 ghost use Rattle.rail_forms.specs.Answers.{IsAnswer};
 ghost use Rattle.rail_forms.specs.BegunRuns.{HasBegun, input_of, seats_of};
 ghost use Rattle.rail_forms.specs.Capacity.{AnswersCapacity, IsCapacityText, IsEmptyStudy, capacity_text, line_refusal, piece_refusal, piece_refused, pieces, pieces_refusal, rate_lines, rate_word, section_named, sections_on, shift_line, study_refusal, tight_words};
@@ -30,11 +30,11 @@ use crate::status::Status;
 use crate::study::Study;
 use rail_base::{Fault, Interval, Name, Names, OutOfMemory, Part, Reason, Refusal, SectionNo};
 use rail_capacity::{CapacityFault, Compressed, Shift, Tight, Window, compress};
+use rail_command_line::Scenario;
 use rail_io::{Failed, Shelf, Sink, write_whole};
 use rail_policy::{Desk, Policy, Seen};
 use rail_stairs::{Stairs, ended_by, ended_intervals_are_without_conflict};
 use rail_text::LineBuffer;
-use rail_words::Scenario;
 use std::alloc::{AllocError, Global};
 
 /// The refusal of the empty word for a line.

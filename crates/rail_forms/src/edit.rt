@@ -3,8 +3,8 @@
 ghost use Rattle.std.specs.Prelude.{◌≡◌, ◌-◌, ◌<◌, ◌^◌, ◌∷◌, [], Some, length, true};
 ghost use Rattle.rail_io.specs.Writes.{Adds, AddsPrefix};
 ghost use Rattle.rail_edit_file.specs.EditedScenes.{edited_scene, edited_scene_refusal};
-ghost use Rattle.rail_words.specs.Files.{file_as};
-ghost use Rattle.rail_words.specs.declared.files.Role.TheVariants as role;
+ghost use Rattle.rail_command_line.specs.Files.{file_as};
+ghost use Rattle.rail_command_line.specs.declared.files.FileRole.TheVariants as role;
 ghost use Rattle.rail_forms.specs.Answers.{IsAnswer};
 ghost use Rattle.rail_forms.specs.Edits.{AnswersEdit};
 ghost use Rattle.rail_forms.specs.Promises.{KeepsPromise, WritesAnswer, ended, is_of_bytes};
@@ -13,9 +13,9 @@ ghost use Rattle.rail_forms.specs.SceneTexts.{WritesScene};
 use crate::files::read_file;
 use crate::scene::write_text;
 use crate::status::Status;
+use rail_command_line::FileRole;
 use rail_edit_file::edit_scene;
 use rail_io::{Shelf, Sink};
-use rail_words::Role;
 use std::alloc::Global;
 
 /// Writes a text that is read as the scene after the edits, in the files of these names.
@@ -31,8 +31,8 @@ pub fn answer<S: Shelf, O: Sink>(
         shelf.old shelf.new out.old out.new (ended result) }
     ensures answer { AnswersEdit scene.now edits.now (S.told shelf.old) (O.written out.old) (O.written out.new) (ended result) }
 {
-    let scene = read_file(alloc, shelf, scene, Role::Scene)?;
-    let edits = read_file(alloc, shelf, edits, Role::Edits)?;
+    let scene = read_file(alloc, shelf, scene, FileRole::Scene)?;
+    let edits = read_file(alloc, shelf, edits, FileRole::Edits)?;
     write_edited(alloc, &scene, &edits, out)
 }
 

@@ -7,8 +7,8 @@ ghost use Rattle.rail_forms.specs.Files.{IsFileAnswer, IsNamedAnswer, IsRead, Is
 
 use crate::status::Status;
 use rail_base::{Part, Reason, Refusal};
+use rail_command_line::FileRole;
 use rail_io::{ReadWhole, Shelf, read_whole};
-use rail_words::Role;
 use std::alloc::Global;
 
 /// The bytes of the file of this name, which has this role for the command. It ends with `ReadFault` where it cannot be
@@ -17,7 +17,7 @@ pub fn read_file<S: Shelf>(
     alloc: Global,
     shelf: &mut S,
     name: &str,
-    role: Role,
+    role: FileRole,
 ) -> Result<Vec<u8>, Status>
     ensures bytes { IfOk result (λ bytes. (told : List ℕ) → S.told shelf.old name.now ≡ Some told → bytes.items ≡ told) }
     ensures short { IfOk result (λ bytes. length bytes.items ≤ HISTORY_BYTES) }
@@ -41,7 +41,7 @@ pub fn read_if_named<S: Shelf>(
     alloc: Global,
     shelf: &mut S,
     name: Option<&str>,
-    role: Role,
+    role: FileRole,
 ) -> Result<Option<Vec<u8>>, Status>
     ensures content { IfOk result (λ bytes. (content : Option (List ℕ))
         → told_of (S.told shelf.old) (option_copied name.entry) ≡ Some content → content_of bytes ≡ content) }
@@ -60,7 +60,7 @@ pub fn read_if_named<S: Shelf>(
 }
 
 /// The refusal of a file for its size, by its role.
-fn too_many_bytes(role: Role) -> Refusal
+fn too_many_bytes(role: FileRole) -> Refusal
     ensures { result ≡ too_many_bytes role }
 {
     Refusal {

@@ -6,8 +6,8 @@ ghost use Rattle.rail_rules.specs.Texts.{behind};
 ghost use Rattle.rail_text.specs.declared.line_buffer.TheConstants.{ROOM};
 ghost use Rattle.rail_scene.specs.SpelledScenes.{spelled_scene};
 ghost use Rattle.rail_input.specs.Inputs.{plant_refusal};
-ghost use Rattle.rail_words.specs.Files.{file_as};
-ghost use Rattle.rail_words.specs.declared.files.Role.TheVariants as role;
+ghost use Rattle.rail_command_line.specs.Files.{file_as};
+ghost use Rattle.rail_command_line.specs.declared.files.FileRole.TheVariants as role;
 ghost use Rattle.rail_forms.specs.Answers.{IsTextAnswer};
 ghost use Rattle.rail_forms.specs.Infra.{AnswersInfra, count_words, counts_line, infra_text, route_length, route_line, route_lines, section_and_post_counts, step_length, train_counts, turn_and_route_counts};
 ghost use Rattle.rail_forms.specs.Promises.{KeepsPromise, WritesAnswer, ended, is_of_bytes};
@@ -15,12 +15,12 @@ ghost use Rattle.rail_text.specs.Writes.{WritesText};
 
 use crate::files::read_file;
 use crate::status::Status;
+use rail_command_line::FileRole;
 use rail_input::read_plant;
 use rail_io::{Failed, Shelf, Sink, write_whole};
 use rail_routes::{Network, Route, Step};
 use rail_scene::Scene;
 use rail_text::LineBuffer;
-use rail_words::Role;
 use std::alloc::Global;
 
 /// Writes the counts and routes of the scene in the file of this name.
@@ -33,7 +33,7 @@ pub fn answer<S: Shelf, O: Sink>(
     ensures kept { KeepsPromise S.Shelf O.Sink (file_as role.Scene (Some scene.now) ∷ []) shelf.old shelf.new out.old out.new (ended result) }
     ensures answer { AnswersInfra scene.now (S.told shelf.old) (O.written out.old) (O.written out.new) (ended result) }
 {
-    let scene = read_file(alloc, shelf, scene, Role::Scene)?;
+    let scene = read_file(alloc, shelf, scene, FileRole::Scene)?;
     show_scene(alloc, &scene, out)
 }
 

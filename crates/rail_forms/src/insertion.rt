@@ -12,7 +12,7 @@ ghost use Rattle.rail_input.specs.Inputs.{refuses_file};
 ghost use Rattle.rail_io.specs.Writes.{Adds, AddsPrefix};
 ghost use Rattle.rail_policy.specs.Seats.{is_fine_deck};
 ghost use Rattle.rail_rules.specs.Numbers.{or_else};
-ghost use Rattle.rail_words.specs.Forms.{paths_in, scenario_files};
+ghost use Rattle.rail_command_line.specs.Forms.{paths_in, scenario_files};
 ghost use Rattle.rail_forms.specs.Answers.{IsAnswer};
 ghost use Rattle.rail_forms.specs.BegunRuns.{HasBegun, input_of, seats_of};
 ghost use Rattle.rail_forms.specs.Insertions.{AnswersInsertion, IsInsertionText, IsNoPathAmong, IsRefusedRun, name_refusal, refused_with, train_named, train_refusal};
@@ -27,11 +27,11 @@ use crate::scenario::Purpose;
 use crate::status::Status;
 use rail_base::{Fault, Interval, Name, Names, Part, Reason, Refusal, TrainNo};
 use rail_capacity::Window;
+use rail_command_line::PathRequest;
 use rail_insert::{InsertFault, Inserted, insert, write_inserted};
 use rail_io::{Shelf, Sink};
 use rail_policy::{Desk, Policy, Seen};
 use rail_stairs::{Stairs, intervals_are_timely};
-use rail_words::PathRequest;
 use std::alloc::Global;
 
 /// The refusal of a window that does not begin before it ends.

@@ -3,8 +3,8 @@
 ghost use Rattle.std.specs.Prelude.{◌≡◌, ◌∷◌, [], Some, true};
 ghost use Rattle.rail_io.specs.Writes.{Adds, AddsPrefix};
 ghost use Rattle.rail_input.specs.Inputs.{plant_refusal};
-ghost use Rattle.rail_words.specs.Files.{file_as};
-ghost use Rattle.rail_words.specs.declared.files.Role.TheVariants as role;
+ghost use Rattle.rail_command_line.specs.Files.{file_as};
+ghost use Rattle.rail_command_line.specs.declared.files.FileRole.TheVariants as role;
 ghost use Rattle.rail_forms.specs.Answers.{IsAnswer};
 ghost use Rattle.rail_forms.specs.Migration.{AnswersMigrate, Migrates};
 ghost use Rattle.rail_forms.specs.Promises.{KeepsPromise, WritesAnswer, ended, is_of_bytes};
@@ -12,9 +12,9 @@ ghost use Rattle.rail_forms.specs.Promises.{KeepsPromise, WritesAnswer, ended, i
 use crate::files::read_file;
 use crate::scene::write_text;
 use crate::status::Status;
+use rail_command_line::FileRole;
 use rail_input::read_plant;
 use rail_io::{Shelf, Sink};
-use rail_words::Role;
 use std::alloc::Global;
 
 /// Writes a text that is read as the scene in the file of this name.
@@ -27,7 +27,7 @@ pub fn answer<S: Shelf, O: Sink>(
     ensures kept { KeepsPromise S.Shelf O.Sink (file_as role.Scene (Some scene.now) ∷ []) shelf.old shelf.new out.old out.new (ended result) }
     ensures answer { AnswersMigrate scene.now (S.told shelf.old) (O.written out.old) (O.written out.new) (ended result) }
 {
-    let scene = read_file(alloc, shelf, scene, Role::Scene)?;
+    let scene = read_file(alloc, shelf, scene, FileRole::Scene)?;
     write_migrated(alloc, &scene, out)
 }
 

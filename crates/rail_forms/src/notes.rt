@@ -12,7 +12,7 @@ use rail_stairs::Stairs;
 use std::convert::Infallible;
 
 /// What is noted of the lines of a run, as they come.
-pub trait Notes {
+pub trait LineNotes {
     /// Why a line is not noted to its end; `Infallible` where each line is.
     type Fault;
 
@@ -40,7 +40,7 @@ pub trait Notes {
             → are_noted input front first self.old → is_cut input (line ∷ front) first self.new) };
 }
 
-impl Notes for Stairs {
+impl LineNotes for Stairs {
     ghost use Rattle.rail_stairs.specs.NotedHistories.{AreNoted};
 
     type Fault = Infallible;
@@ -58,7 +58,7 @@ impl Notes for Stairs {
     }
 }
 
-impl Notes for Delays {
+impl LineNotes for Delays {
     ghost use Rattle.rail_delay.specs.Accounts.{AreNoted};
 
     type Fault = Infallible;

@@ -3,8 +3,8 @@
 ghost use Rattle.std.specs.Prelude.{◌≡◌, ◌-◌, ◌<◌, ◌^◌, ◌++◌, ◌∷◌, [], IsTrue, IfSome, Some, length, map, option_copied, true};
 ghost use Rattle.rail_input.specs.Inputs.{input_in as input_spelled, input_refusal};
 ghost use Rattle.rail_policy.specs.Seats.{handed_in, is_fine_deck, names_of};
-ghost use Rattle.rail_words.specs.Files.{file_as};
-ghost use Rattle.rail_words.specs.Forms.{scenario_files, scenario_in};
+ghost use Rattle.rail_command_line.specs.Files.{file_as};
+ghost use Rattle.rail_command_line.specs.Forms.{scenario_files, scenario_in};
 ghost use Rattle.rail_forms.specs.Pasts.{AnswersLines, AnswersPast, role_of};
 ghost use Rattle.rail_forms.specs.Promises.{KeepsPromise, WritesAnswer, ended, is_of_bytes};
 
@@ -12,9 +12,9 @@ use crate::check::check_files;
 use crate::files::{read_file, read_if_named};
 use crate::resume::resume_files;
 use crate::status::Status;
+use rail_command_line::{FileRole, Scenario};
 use rail_io::{Shelf, Sink};
 use rail_policy::Policy;
-use rail_words::{Role, Scenario};
 use std::alloc::Global;
 
 /// What lines that were written before are, and what is done with them.
@@ -28,12 +28,12 @@ pub enum Past {
 
 impl Past {
     /// The role of their file.
-    fn role(self) -> Role
+    fn role(self) -> FileRole
         ensures { result ≡ role_of self }
     {
         match self {
-            Past::History => Role::History,
-            Past::Snapshot => Role::Snapshot,
+            Past::History => FileRole::History,
+            Past::Snapshot => FileRole::Snapshot,
         }
     }
 }
@@ -56,9 +56,9 @@ pub fn answer<S: Shelf, O: Sink>(
     ensures answer { AnswersPast past (scenario_in scenario.now) lines.now (map ⟦<Box<dyn Policy> as Policy>⟧.seat deck.items)
         (S.told shelf.old) (O.written out.old) (O.written out.new) (ended result) }
 {
-    let scene = read_file(alloc, shelf, scenario.scene, Role::Scene)?;
-    let timetable = read_if_named(alloc, shelf, scenario.timetable, Role::Timetable)?;
-    let commands = read_if_named(alloc, shelf, scenario.commands, Role::Commands)?;
+    let scene = read_file(alloc, shelf, scenario.scene, FileRole::Scene)?;
+    let timetable = read_if_named(alloc, shelf, scenario.timetable, FileRole::Timetable)?;
+    let commands = read_if_named(alloc, shelf, scenario.commands, FileRole::Commands)?;
     let lines = read_file(alloc, shelf, lines, past.role())?;
     answer_files(
         alloc,

@@ -4,27 +4,27 @@ ghost use Rattle.std.specs.Prelude.{◌≡◌, ◌+◌, ◌-◌, ◌<◌, ◌≤
 ghost use Rattle.rail_rules.specs.Texts.{behind};
 ghost use Rattle.rail_text.specs.declared.line_buffer.TheConstants.{ROOM};
 ghost use Rattle.rail_input.specs.Inputs.{plant_in};
-ghost use Rattle.rail_words.specs.Files.{file_as};
-ghost use Rattle.rail_words.specs.declared.files.Role.TheVariants as role;
+ghost use Rattle.rail_command_line.specs.Files.{file_as};
+ghost use Rattle.rail_command_line.specs.declared.files.FileRole.TheVariants as role;
 ghost use Rattle.rail_forms.specs.Answers.{IsTextAnswer};
 ghost use Rattle.rail_text.specs.Names.{names_in};
 ghost use Rattle.rail_forms.specs.Plays.{AnswersPlay, IsListAnswer, bar_words, list_refusal, places_refusal, play_refusal, play_text, played_line, played_words, shared_at};
 ghost use Rattle.rail_place.specs.PlaceStates.{IsMadeFor};
 ghost use Rattle.rail_place.specs.Tables.{moves_in};
 ghost use Rattle.rail_text.specs.Lines.{lines_of};
-ghost use Rattle.rail_words.specs.ListAnswers.{IsListFor, read_of};
+ghost use Rattle.rail_command_line.specs.ListAnswers.{IsListFor, read_of};
 ghost use Rattle.rail_forms.specs.Promises.{KeepsPromise, WritesAnswer, ended, is_of_bytes};
 ghost use Rattle.rail_text.specs.Writes.{WritesText};
 
 use crate::files::read_file;
 use crate::status::Status;
 use rail_base::{Names, Part, Reason, Refusal, TrainNo};
+use rail_command_line::{FileRole, ListFile, read_list};
 use rail_input::read_plant;
 use rail_io::{Failed, Shelf, Sink, write_whole};
 use rail_place::{Barred, Moves, Places, PlacesFault, Played};
 use rail_plan::Plant;
 use rail_text::LineBuffer;
-use rail_words::{ListFile, Role, read_list};
 use std::alloc::Global;
 
 /// Writes what the player of the scene answers to the list, in the files of these names.
@@ -40,8 +40,8 @@ pub fn answer<S: Shelf, O: Sink>(
         shelf.old shelf.new out.old out.new (ended result) }
     ensures answer { AnswersPlay scene.now list.now (S.told shelf.old) (O.written out.old) (O.written out.new) (ended result) }
 {
-    let scene = read_file(alloc, shelf, scene, Role::Scene)?;
-    let list = read_file(alloc, shelf, list, Role::List)?;
+    let scene = read_file(alloc, shelf, scene, FileRole::Scene)?;
+    let list = read_file(alloc, shelf, list, FileRole::List)?;
     play_list(alloc, &scene, &list, out)
 }
 
@@ -79,14 +79,14 @@ fn play_on_plant<O: Sink>(
 }
 
 /// A list file, and the places at which the trains stand by it.
-pub struct Placed {
+pub struct PlacedList {
     pub file: ListFile,
     pub places: Places,
 }
 
-impl Drop for Placed {
+impl Drop for PlacedList {
     fn drop(self) {
-        let Placed {
+        let PlacedList {
             file: _file,
             places: _places,
         } = self;
@@ -101,7 +101,7 @@ pub(crate) fn places_of(
     moves: &Moves,
     list: &[u8],
     may_move: bool,
-) -> Result<Placed, Status>
+) -> Result<PlacedList, Status>
     requires names { length names.now.trains.keys ≡ length moves.now }
     requires short { length list.now < 2 ^ 32 - 1 }
     ensures accepted { OnOk result (places_refusal names.now.trains.keys (moves_in moves.now) (length moves.now) may_move list.now ≡ None) }
@@ -115,7 +115,7 @@ pub(crate) fn places_of(
 {
     let file = read_list(alloc, names, moves, may_move, list)?;
     match Places::new(alloc, moves, file.positions()) {
-        Ok(places) => Ok(Placed { file, places }),
+        Ok(places) => Ok(PlacedList { file, places }),
         Err(PlacesFault::OutOfMemory) => Err(Status::OutOfMemory),
         Err(PlacesFault::Overlap { .. }) => Err(Status::Refused(shared(file.last_at()))),
     }

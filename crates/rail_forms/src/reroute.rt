@@ -11,8 +11,8 @@ ghost use Rattle.rail_reroute.specs.Judges.{IsJudgeFor};
 ghost use Rattle.rail_rules.specs.Places.{is_valid_state};
 ghost use Rattle.rail_rules.specs.Plant.{moves_of};
 ghost use Rattle.rail_scene.specs.Scenes.{IsScene};
-ghost use Rattle.rail_words.specs.Files.{file_as};
-ghost use Rattle.rail_words.specs.declared.files.Role.TheVariants as role;
+ghost use Rattle.rail_command_line.specs.Files.{file_as};
+ghost use Rattle.rail_command_line.specs.declared.files.FileRole.TheVariants as role;
 ghost use Rattle.rail_text.specs.Writes.{WritesText};
 ghost use Rattle.rail_forms.specs.Answers.{IsAnswer};
 ghost use Rattle.rail_forms.specs.Promises.{KeepsPromise, WritesAnswer, ended, is_of_bytes};
@@ -22,12 +22,12 @@ use crate::files::read_file;
 use crate::play::places_of;
 use crate::status::Status;
 use rail_base::{Fault, OutOfMemory};
+use rail_command_line::FileRole;
 use rail_input::{Planned, read_plant};
 use rail_io::{Failed, Shelf, Sink};
 use rail_plan::Plant;
 use rail_reroute::{Judge, Judged, Proposal, read_proposals, write_judged};
 use rail_scene::Scene;
-use rail_words::Role;
 use std::alloc::{AllocError, Global};
 
 /// The answer to the proposal on a line.
@@ -61,9 +61,9 @@ pub fn answer<S: Shelf, O: Sink>(
         shelf.old shelf.new out.old out.new (ended result) }
     ensures answer { AnswersReroute scene.now list.now proposals.now (S.told shelf.old) (O.written out.old) (O.written out.new) (ended result) }
 {
-    let scene = read_file(alloc, shelf, scene, Role::Scene)?;
-    let list = read_file(alloc, shelf, list, Role::List)?;
-    let proposals = read_file(alloc, shelf, proposals, Role::Proposals)?;
+    let scene = read_file(alloc, shelf, scene, FileRole::Scene)?;
+    let list = read_file(alloc, shelf, list, FileRole::List)?;
+    let proposals = read_file(alloc, shelf, proposals, FileRole::Proposals)?;
     judge_files(alloc, &scene, &list, &proposals, out)
 }
 

@@ -6,7 +6,7 @@ ghost use Rattle.rail_forms.specs.BegunRuns.{HasBegun, input_of, seats_of};
 ghost use Rattle.rail_forms.specs.Runs.{RunsInput, RunsInputInPart};
 
 use crate::beginning::Begun;
-use crate::notes::Notes;
+use crate::notes::LineNotes;
 use rail_base::{Entry, TrainNo};
 use rail_history::write_entry;
 use rail_io::{Failed, Sink};
@@ -21,7 +21,7 @@ struct Writer<'o, O: Sink> {
     out: &'o mut O,
 }
 
-impl<'o, O: Sink> Notes for Writer<'o, O> {
+impl<'o, O: Sink> LineNotes for Writer<'o, O> {
     ghost use Rattle.std.specs.Prelude.{◌≡◌};
     ghost use Rattle.rail_forms.specs.WrittenHistories.{AreWritten, IsWrittenInPart};
 

@@ -3,7 +3,7 @@
 ghost use Rattle.std.specs.Prelude.{◌≡◌, ◌-◌, ◌<◌, ◌^◌, IsTrue, IfSome, None, length, map, option_copied, true};
 ghost use Rattle.rail_input.specs.Inputs.{input_in as input_spelled, input_refusal};
 ghost use Rattle.rail_policy.specs.Seats.{handed_in, is_fine_deck, names_of};
-ghost use Rattle.rail_words.specs.Forms.{scenario_files, scenario_in};
+ghost use Rattle.rail_command_line.specs.Forms.{scenario_files, scenario_in};
 ghost use Rattle.rail_forms.specs.Answers.{IsAnswer};
 ghost use Rattle.rail_forms.specs.BegunRuns.{HasBegun, input_of, seats_of};
 ghost use Rattle.rail_forms.specs.Promises.{KeepsPromise, WritesAnswer, ended, is_of_bytes};
@@ -16,9 +16,9 @@ use crate::run::write_history;
 use crate::status::Status;
 use crate::study::Study;
 use crate::{capacity, insertion, report, stairs};
+use rail_command_line::{FileRole, Scenario};
 use rail_io::{Shelf, Sink};
 use rail_policy::{Desk, Policy, Seen};
-use rail_words::{Role, Scenario};
 use std::alloc::Global;
 
 /// What a command does with the run of a scenario.
@@ -54,9 +54,9 @@ pub fn answer<S: Shelf, O: Sink>(
     ensures behind { RefusesBehind purpose.now (scenario_in scenario.now) (map ⟦<Box<dyn Policy> as Policy>⟧.seat deck.items)
         (S.told shelf.old) (ended result) }
 {
-    let scene = read_file(alloc, shelf, scenario.scene, Role::Scene)?;
-    let timetable = read_if_named(alloc, shelf, scenario.timetable, Role::Timetable)?;
-    let commands = read_if_named(alloc, shelf, scenario.commands, Role::Commands)?;
+    let scene = read_file(alloc, shelf, scenario.scene, FileRole::Scene)?;
+    let timetable = read_if_named(alloc, shelf, scenario.timetable, FileRole::Timetable)?;
+    let commands = read_if_named(alloc, shelf, scenario.commands, FileRole::Commands)?;
     run_files(
         alloc,
         purpose,

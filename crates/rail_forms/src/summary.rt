@@ -10,7 +10,7 @@ ghost use Rattle.rail_forms.specs.Promises.{WritesAnswer, ended, is_of_bytes};
 ghost use Rattle.rail_forms.specs.Summaries.{AnswersGen, IsSummaryText, summary_line, summary_of};
 
 use crate::beginning::Begun;
-use crate::notes::Notes;
+use crate::notes::LineNotes;
 use crate::status::Status;
 use rail_base::{Entry, Time, TrainNo, What};
 use rail_delay::put_count;
@@ -53,7 +53,7 @@ impl Summary {
     }
 }
 
-impl Notes for Summary {
+impl LineNotes for Summary {
     ghost use Rattle.rail_forms.specs.Summaries.{summary_of};
 
     type Fault = Infallible;

@@ -7,7 +7,7 @@ ghost use Rattle.rail_gen.specs.MadeScenes.{track_of};
 use crate::names::{at_station, name, route_in, route_out};
 use crate::tracks::joint_behind;
 use rail_base::{Name, Seq};
-use rail_routes::{Network, Post, Role, Route, Step};
+use rail_routes::{Network, Post, PostRole, Route, Step};
 use rail_track::NetFault;
 use std::alloc::{AllocError, Global};
 
@@ -17,7 +17,7 @@ fn portal(name: Name, joint: Name) -> Post
 {
     Post {
         name,
-        role: Role::Portal,
+        role: PostRole::Portal,
         joint,
         ahead: None,
         setting: 60,
@@ -36,7 +36,7 @@ fn signal(name: u8, joint: u8, ahead: u8, k: u8) -> Post
 {
     Post {
         name: at_station(name, k),
-        role: Role::Signal,
+        role: PostRole::Signal,
         joint: at_station(joint, k),
         ahead: Some(at_station(ahead, k)),
         setting: 60,

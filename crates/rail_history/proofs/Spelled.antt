@@ -17,8 +17,8 @@ use Rattle.rail_rules.specs.Texts.{cause_words, note_words, section_word, train_
 use Rattle.rail_rules.specs.WritableLines.{IsNamed, does_fit_counter, is_known_move, is_known_section, is_known_train, is_writable_cause, is_writable_note, is_writable_what}
 use Rattle.rail_laws_text.proofs.CallerLemmas.{AreWords, one_more, name_free, of_what}
 use Rattle.rail_history.specs.ReadWords.{is_small_what, is_spaceless, joined, note_of, reason_of, verb_of}
-use Rattle.rail_history.specs.declared.read_words.Reason.{Reason}
-use Rattle.rail_history.specs.declared.read_words.Reason.TheVariants as reason
+use Rattle.rail_history.specs.declared.read_words.HoldReason.{HoldReason}
+use Rattle.rail_history.specs.declared.read_words.HoldReason.TheVariants as reason
 use Rattle.rail_history.specs.declared.read_words.Verb.{Verb}
 use Rattle.rail_history.specs.declared.read_words.Verb.TheVariants as verb
 
@@ -112,7 +112,7 @@ module _ (plant : Plant) (named : IsNamed plant) (line : Line) where
       transport (λ i. Spells plant (e1 i) (e2 i) (e3 i) (e4 i) what (verb_of (e0 i))) (by_words what w s)
 
 -- what a cause's words spell
-abbrev pub Causes : Plant → (first second : List ℕ) → Cause → Reason → Type 0
+abbrev pub Causes : Plant → (first second : List ℕ) → Cause → HoldReason → Type 0
 Causes plant first second why reason.Stopped = why ≡ Stopped
 Causes plant first second why reason.Closed = (x : ℕ) × (why ≡ Closed x) × (x < length plant.tables.sections) × (first ≡ section_word plant x)
 Causes plant first second why reason.Blocked = (x u : ℕ) × (why ≡ Blocked x u) × (x < length plant.tables.sections) × (u < trains plant) × (first ≡ section_word plant x) × (second ≡ train_word plant u)

@@ -8,8 +8,8 @@ use Rattle.rail_base.specs.declared.history.Note.TheVariants.{Pulled, Appended, 
 use Rattle.rail_rules.specs.Numbers.{same_numbers}
 use Rattle.rail_history.specs.declared.read_words.Verb.{Verb}
 use Rattle.rail_history.specs.declared.read_words.Verb.TheVariants as verb
-use Rattle.rail_history.specs.declared.read_words.Reason.{Reason}
-use Rattle.rail_history.specs.declared.read_words.Reason.TheVariants as reason
+use Rattle.rail_history.specs.declared.read_words.HoldReason.{HoldReason}
+use Rattle.rail_history.specs.declared.read_words.HoldReason.TheVariants as reason
 
 -- words with one space between two of them
 abbrev pub joined : List (List ℕ) → List ℕ
@@ -62,7 +62,7 @@ note_of word =
     (cond (same_numbers word (codes "fresh")) (Some Fresh) None))
 
 -- what the first word of a cause tells
-abbrev pub reason_of : List ℕ → Reason
+abbrev pub reason_of : List ℕ → HoldReason
 reason_of word =
     cond (same_numbers word (codes "stopped")) reason.Stopped
     (cond (same_numbers word (codes "closed")) reason.Closed

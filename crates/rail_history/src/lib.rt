@@ -40,5 +40,5 @@ pub use laws::{
 pub use lines::Lines;
 pub use read_line::ReadLine;
 pub use read_what::likely_what;
-pub use read_words::{Reason, Verb};
+pub use read_words::{HoldReason, Verb};
 pub use writing::write_entry;

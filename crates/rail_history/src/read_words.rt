@@ -32,7 +32,7 @@ pub enum Verb {
 
 /// What the first word of a cause tells.
 #[derive(Clone, Copy, Debug, PartialEq, Eq)]
-pub enum Reason {
+pub enum HoldReason {
     Stopped,
     Closed,
     Blocked,
@@ -121,19 +121,19 @@ pub(crate) fn note_of(word: &[u8]) -> Option<Note>
 }
 
 /// What the first word of a cause tells.
-pub(crate) fn reason_of(word: &[u8]) -> Reason
+pub(crate) fn reason_of(word: &[u8]) -> HoldReason
     ensures { result ≡ reason_of word.now }
 {
     if word == b"stopped".as_slice() {
-        Reason::Stopped
+        HoldReason::Stopped
     } else if word == b"closed".as_slice() {
-        Reason::Closed
+        HoldReason::Closed
     } else if word == b"blocked".as_slice() {
-        Reason::Blocked
+        HoldReason::Blocked
     } else if word == b"nolist".as_slice() {
-        Reason::NoList
+        HoldReason::NoList
     } else {
-        Reason::Other
+        HoldReason::Other
     }
 }
 
@@ -149,11 +149,11 @@ pub(crate) fn cause_of(names: &Names, word: &[u8], rest: &[u8]) -> Option<Cause>
     let (first, rest) = cut(rest);
     let (second, _) = cut(rest);
     match reason_of(word) {
-        Reason::Stopped => Some(Cause::Stopped),
-        Reason::Closed => read_closed(names, first),
-        Reason::Blocked => read_blocked(names, first, second),
-        Reason::NoList => Some(Cause::NoList),
-        Reason::Other => None,
+        HoldReason::Stopped => Some(Cause::Stopped),
+        HoldReason::Closed => read_closed(names, first),
+        HoldReason::Blocked => read_blocked(names, first, second),
+        HoldReason::NoList => Some(Cause::NoList),
+        HoldReason::Other => None,
     }
 }
 

@@ -22,7 +22,7 @@ use Rattle.rail_scene.specs.Order.{scene_refusal}
 use Rattle.rail_scene.proofs.CallerLemmas.{scene_of_bytes}
 use Rattle.rail_compile.specs.Itineraries.{routes_of, tables_of}
 use Rattle.rail_compile.specs.Refusals.{compile_refusal, fault_for, place_tests, train_tests, trains_tests}
-use Rattle.rail_command.specs.Commands.{commands_refusal, lines_tests, line_tests, time_on}
+use Rattle.rail_command_file.specs.Commands.{commands_refusal, lines_tests, line_tests, time_on}
 use Rattle.rail_text.specs.Lines.{Line, lines_of}
 use Rattle.rail_timetable.specs.Records.{records_in}
 use Rattle.rail_timetable.specs.Timetables.{file_tests, record_tests, records_tests, timetable_refusal, with_record}

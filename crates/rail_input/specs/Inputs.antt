@@ -22,7 +22,7 @@ use Rattle.rail_scene.specs.SpelledScenes.{spelled_scene}
 use Rattle.rail_scene.specs.declared.scene.Scene.{Scene}
 use Rattle.rail_compile.specs.Itineraries.{plant_of_scene}
 use Rattle.rail_compile.specs.Refusals.{compile_refusal}
-use Rattle.rail_command.specs.Commands.{commands_in, commands_refusal}
+use Rattle.rail_command_file.specs.Commands.{commands_in, commands_refusal}
 use Rattle.rail_timetable.specs.Timetables.{calls_in, timetable_refusal}
 
 -- why a scene and its plant are refused

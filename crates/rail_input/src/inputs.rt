@@ -11,7 +11,7 @@ ghost use Rattle.rail_input.specs.Inputs.{calls_refusal, commands_of, input_in, 
 use crate::deck::{force_of, index_in_deck};
 use crate::scenes::{Planned, read_plant};
 use rail_base::{Command, Fault, Name, OutOfMemory};
-use rail_command::read_commands;
+use rail_command_file::read_commands;
 use rail_compile::compile;
 use rail_plan::Plant;
 use rail_scene::Scene;

@@ -16,8 +16,8 @@ use Rattle.rail_rules.specs.Orders.{told}
 use Rattle.rail_rules.specs.Causes.{closed_cause, is_deciding, is_ready, place, stop_cause, waits}
 use Rattle.rail_rules.specs.Lawful.{is_bare, may_follow, note_fits}
 use Rattle.rail_laws_front.proofs.CallerLemmas.{place_in, places_raised, unbarred_legal, timely}
-use Rattle.rail_laws_run.specs.HolderTables.{held_cause, own_overlap}
-use Rattle.rail_judging.specs.Verdicts.{broken_law, is_forbidden, is_misplaced, is_occupied}
+use Rattle.rail_laws_step.specs.HolderTables.{held_cause, own_overlap}
+use Rattle.rail_laws_verdict.specs.Verdicts.{broken_law, is_forbidden, is_misplaced, is_occupied}
 use Rattle.rail_place.specs.PlaceStates.{State, IsMadeFor}
 use Rattle.rail_place.specs.Tables.{moves_in, MoveLists}
 use Rattle.rail_list.specs.Failures.{AreFailures, Failed}

@@ -5,7 +5,7 @@ use Rattle.rail_base.specs.declared.history.Cause.{Cause}
 use Rattle.rail_base.specs.declared.history.Entry.{Entry}
 use Rattle.rail_base.specs.declared.history.What.{What}
 use Rattle.rail_base.specs.declared.history.What.TheVariants.{Hold}
-use Rattle.rail_judging.proofs.CallerLemmas.{one_other}
+use Rattle.rail_laws_verdict.proofs.CallerLemmas.{one_other}
 use Rattle.rail_rules.specs.Fronts.{Front, Line, is_admission, is_hold}
 use Rattle.rail_rules.specs.Lawful.{is_lawful, may_follow}
 use Rattle.rail_state.specs.Representation.{bare_at}

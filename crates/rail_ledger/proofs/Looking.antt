@@ -5,7 +5,7 @@ use Rattle.std.proofs.lemmas.Bool.{and_parts, cases_Bool, cond-true, cond-false,
 use Rattle.rail_base.specs.declared.history.Cause.{Cause}
 use Rattle.rail_rules.specs.Numbers.{sum_below}
 use Rattle.rail_rules.specs.Plant.{Plant, claimed, trains}
-use Rattle.rail_laws_run.specs.HolderTables.{own_overlap}
+use Rattle.rail_laws_step.specs.HolderTables.{own_overlap}
 use Rattle.rail_rules.specs.Fronts.{Front}
 use Rattle.rail_rules.specs.Causes.{place}
 use Rattle.rail_state.specs.declared.train.TrainState.{TrainState}

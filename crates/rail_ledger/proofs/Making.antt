@@ -12,8 +12,8 @@ use Rattle.rail_rules.specs.Causes.{is_deciding, place}
 use Rattle.rail_rules.specs.Lawful.{is_lawful}
 use Rattle.rail_laws_front.proofs.CallerLemmas.{admission_added, places_raised, length_added}
 use Rattle.rail_laws_events.proofs.CallerLemmas.{times_below}
-use Rattle.rail_laws_run.specs.TimeLimits.{StaysBelow}
-use Rattle.rail_laws_run.proofs.CallerLemmas.{stays_below, ready_is_past}
+use Rattle.rail_laws_step.specs.TimeLimits.{StaysBelow}
+use Rattle.rail_laws_step.proofs.CallerLemmas.{stays_below, ready_is_past}
 use Rattle.rail_block.specs.declared.times.MoveTimes.{MoveTimes}
 use Rattle.rail_block.specs.CarriedTimes.{AreBelow, times_at}
 use Rattle.rail_consequence.specs.AnalystStates.{Tallied}

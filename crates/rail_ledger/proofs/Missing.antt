@@ -5,8 +5,8 @@ use Rattle.std.specs.Prelude.{◌==◌, ℕ}
 use Rattle.std.proofs.lemmas.Bool.{and_left, cases_Bool, eq-eqb}
 use Rattle.rail_rules.specs.Causes.{is_deciding, is_settled}
 use Rattle.rail_rules.specs.Fronts.{Front}
-use Rattle.rail_judging.specs.Verdicts.{is_undecided}
-use Rattle.rail_judging.proofs.CallerLemmas.{decided_where_settled}
+use Rattle.rail_laws_verdict.specs.Verdicts.{is_undecided}
+use Rattle.rail_laws_verdict.proofs.CallerLemmas.{decided_where_settled}
 use Rattle.rail_laws_front.proofs.CallerLemmas.{deciding_quiet}
 use Rattle.rail_queue.specs.Order.{first_time_of, is_sorted}
 use Rattle.rail_state.proofs.CallerLemmas.{deciding_is, settled_front}

@@ -21,7 +21,7 @@ use Rattle.rail_rules.specs.Orders.{Input, takes_effect, told}
 use Rattle.rail_rules.specs.Plant.{Plant, move_row, moves, claimed, trains}
 use Rattle.rail_rules.proofs.CallerLemmas.{accepted_parts, move_in_range, row_in_range}
 use Rattle.rail_laws_events.specs.Accounts.{tally}
-use Rattle.rail_laws_run.specs.HolderTables.{held_cause}
+use Rattle.rail_laws_step.specs.HolderTables.{held_cause}
 use Rattle.rail_queue.specs.declared.event.Event.{Event}
 use Rattle.rail_orders.specs.OrderTables.{closed_in}
 use Rattle.rail_orders.proofs.CallerLemmas.{closed_is, effect_is, stop_is}

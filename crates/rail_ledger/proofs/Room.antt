@@ -6,7 +6,7 @@ use Rattle.rail_rules.specs.Events.{due_lines}
 use Rattle.rail_rules.specs.Accepted.{is_accepted}
 use Rattle.rail_rules.proofs.CallerLemmas.{accepted_parts, row_in_range}
 use Rattle.rail_laws_events.proofs.CallerLemmas.{few_admissions, tally_all}
-use Rattle.rail_laws_run.proofs.CallerLemmas.{few_due}
+use Rattle.rail_laws_step.proofs.CallerLemmas.{few_due}
 use Rattle.rail_state.specs.TrainStates.{state_of}
 use Rattle.rail_state.proofs.CallerLemmas.{well_formed_plant, count-all}
 use Rattle.rail_ledger.specs.declared.ledger.Ledger.{Ledger}

@@ -13,7 +13,7 @@ use Rattle.rail_rules.specs.Moves.{Moves}
 use Rattle.rail_rules.specs.Numbers.{listed, sum_below}
 use Rattle.rail_rules.specs.Places.{holds}
 use Rattle.rail_rules.specs.Plant.{moves_of, trains}
-use Rattle.rail_laws_run.specs.MostDue.{most_due}
+use Rattle.rail_laws_step.specs.MostDue.{most_due}
 use Rattle.rail_consequence.specs.AnalystStates.{IsAnalystFor}
 use Rattle.rail_list.specs.Failures.{is_kept}
 use Rattle.rail_list.specs.KeptLists.{HasRoomFor}

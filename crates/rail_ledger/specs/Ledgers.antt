@@ -14,7 +14,7 @@ use Rattle.rail_rules.specs.Plant.{Plant, claimed, moves, moves_of, trains}
 use Rattle.rail_rules.specs.Causes.{could_go, is_deciding}
 use Rattle.rail_rules.specs.Fronts.{Front, Line, has_ended, has_held, is_admission, is_hold, kept, places}
 use Rattle.rail_rules.specs.Lawful.{is_lawful, may_follow}
-use Rattle.rail_judging.specs.Verdicts.{broken_law, missing_law}
+use Rattle.rail_laws_verdict.specs.Verdicts.{broken_law, missing_law}
 use Rattle.rail_rules.specs.RunHistories.{Seat, is_chosen, is_run}
 use Rattle.rail_place.specs.PlaceStates.{State}
 use Rattle.rail_consequence.specs.AnalystStates.{IsAnalystFor}
@@ -22,8 +22,8 @@ use Rattle.rail_list.specs.KeptLists.{Kept}
 use Rattle.rail_list.specs.Failures.{AreFailures}
 use Rattle.rail_queue.specs.Order.{first_time_of}
 use Rattle.rail_state.specs.declared.train.TrainState.{TrainState}
-use Rattle.rail_laws_run.specs.HolderTables.{own_overlap}
-use Rattle.rail_laws_run.specs.MostDue.{most_due}
+use Rattle.rail_laws_step.specs.HolderTables.{own_overlap}
+use Rattle.rail_laws_step.specs.MostDue.{most_due}
 use Rattle.rail_state.specs.TrainStates.{bar_by, is_untried, lacks_hold_line, state_of, state_told}
 use Rattle.rail_state.specs.Representation.{AreAllKnown, IsAdmissible, IsNext, Represents, admit_line, is_due_now, list_for}
 use Rattle.rail_ledger.specs.declared.ledger.Ledger.{Ledger}

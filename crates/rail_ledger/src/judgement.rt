@@ -6,7 +6,7 @@ ghost use Rattle.rail_ledger.specs.declared.judgement.Left.TheVariants.{Admissio
 ghost use Rattle.rail_ledger.specs.declared.ledger.Listed.TheVariants as which;
 ghost use Rattle.rail_queue.specs.Order.{first_time_of, is_sorted};
 ghost use Rattle.rail_rules.specs.Fronts.{Front, Line, is_admission, is_hold, kept, places};
-ghost use Rattle.rail_laws_run.specs.HolderTables.{held_cause, own_overlap};
+ghost use Rattle.rail_laws_step.specs.HolderTables.{held_cause, own_overlap};
 ghost use Rattle.rail_list.specs.GivenLists.{may_be_given};
 ghost use Rattle.rail_state.specs.Representation.{AreAllKnown};
 ghost use Rattle.rail_state.specs.TrainStates.{state_of};

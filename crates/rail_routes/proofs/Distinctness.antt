@@ -15,7 +15,7 @@ use Rattle.rail_track.proofs.CallerLemmas.{same_from_name, count_by_none, count_
 use Rattle.rail_routes.specs.declared.items.Post.{Post}
 use Rattle.rail_routes.specs.declared.items.Turn.{Turn}
 use Rattle.rail_routes.specs.declared.items.Route.{Route}
-use Rattle.rail_routes.specs.declared.items.Role.TheVariants.{Portal, Signal, Board}
+use Rattle.rail_routes.specs.declared.items.PostRole.TheVariants.{Portal, Signal, Board}
 use Rattle.rail_routes.specs.Net.{Net, posts, is_post, is_turn, is_route, stands_at, guards, guards_at}
 use Rattle.rail_routes.specs.PostRules.{post_tests, post_refusal, is_taken_as, stands_well}
 use Rattle.rail_routes.specs.TurnRules.{turn_tests, turn_refusal}

@@ -7,8 +7,8 @@ use Rattle.rail_track.specs.declared.section.Section.{Section}
 use Rattle.rail_track.specs.Joints.{section_named, section_has, sections_at, has_joint}
 use Rattle.rail_track.specs.Passages.{has_passage, passages, leads}
 use Rattle.rail_routes.specs.declared.items.Post.{Post}
-use Rattle.rail_routes.specs.declared.items.Role.{Role}
-use Rattle.rail_routes.specs.declared.items.Role.TheVariants.{Portal, Signal, Board}
+use Rattle.rail_routes.specs.declared.items.PostRole.{PostRole}
+use Rattle.rail_routes.specs.declared.items.PostRole.TheVariants.{Portal, Signal, Board}
 use Rattle.rail_routes.specs.declared.items.Step.{Step}
 use Rattle.rail_routes.specs.PostRules.{stands_as, has_joint_ahead}
 use Rattle.rail_routes.specs.RouteRules.{is_ahead_of, begins, goes_on, ends, leads_on, leads_from, is_beyond}
@@ -49,7 +49,7 @@ module _ (sections others : List Section) where
         (middle_kept (same_name joint step.from) (has_passage sections step.section step.from step.to) (has_passage others step.section step.from step.to) (goes_on rest || ends end step) (passage_kept step.section step.from step.to (keeps step n.0)))
         (lead_to_kept end step.to rest n.1) leads
 
-    ahead_kept : (role : Role) (post : Post) (step : Step) → gone step ≡ false → is_ahead_of role post sections step.section ≡ true → is_ahead_of role post others step.section ≡ true
+    ahead_kept : (role : PostRole) (post : Post) (step : Step) → gone step ≡ false → is_ahead_of role post sections step.section ≡ true → is_ahead_of role post others step.section ≡ true
     ahead_kept Portal post step stays ahead = has_kept step.section post.joint (keeps step stays) ahead
     ahead_kept Signal post step stays ahead = ahead
     ahead_kept Board post step stays ahead = cc
@@ -85,7 +85,7 @@ module _ (sections others : List Section) where
       by (Some a) h = has a h
 
   -- a post whose joint is in as many sections, and in its section ahead, stands as before
-  pub stands_same : (role : Role) (post : Post) → sections_at others post.joint ≡ sections_at sections post.joint
+  pub stands_same : (role : PostRole) (post : Post) → sections_at others post.joint ≡ sections_at sections post.joint
       → ((ahead : List ℕ) → section_has sections ahead post.joint ≡ true → section_has others ahead post.joint ≡ true)
       → stands_as role sections post ≡ true → stands_as role others post ≡ true
   stands_same Portal post same has stands = ap (λ n. n == 1) same ∙ stands

@@ -12,8 +12,8 @@ use Rattle.rail_track.specs.declared.section.Section.{Section}
 use Rattle.rail_track.specs.Joints.{is_named, has_joint, section_named, section_has, sections_at}
 use Rattle.rail_track.proofs.CallerLemmas.{same_name-self, list_any-count_by, count_before}
 use Rattle.rail_routes.specs.declared.items.Post.{Post}
-use Rattle.rail_routes.specs.declared.items.Role.{Role}
-use Rattle.rail_routes.specs.declared.items.Role.TheVariants.{Portal, Signal, Board}
+use Rattle.rail_routes.specs.declared.items.PostRole.{PostRole}
+use Rattle.rail_routes.specs.declared.items.PostRole.TheVariants.{Portal, Signal, Board}
 use Rattle.rail_routes.specs.Net.{Net, posts, is_post, stands_at, guards, guards_at}
 use Rattle.rail_routes.specs.PostRules.{is_formed, is_formed_as, has_times, stands_well, stands_as, has_joint_ahead, is_taken, is_taken_as, is_astray, post_tests, post_refusal}
 use Rattle.rail_routes.specs.SoundNetworks.{IsSoundNetwork, same_role, is_timed, is_sound_post}
@@ -40,13 +40,13 @@ three : {X : Type 0} (p : X → Bool) (xs ys zs : List X) → list_any p xs ≡ 
 three p xs ys zs a b c = list_any-append p (xs ++ ys) zs ∙ (λ i. (list_any-append p xs ys ∙ (λ j. a j || b j)) i || c i)
 
 -- what a sound post says
-record Fine (role : Role) (sections : List Section) (post : Post) : Type 0 where
+record Fine (role : PostRole) (sections : List Section) (post : Post) : Type 0 where
   is : post.role ≡ role
   formed : is_formed_as role post ≡ true
   timed : is_timed post ≡ true
   well : stands_well sections post ≡ true
 
-fine : (role : Role) (sections : List Section) (before : List Post) (post : Post) (after : List Post) → list_all (is_sound_post role sections) (before ++ post ∷ after) ≡ true → Fine role sections post
+fine : (role : PostRole) (sections : List Section) (before : List Post) (post : Post) (after : List Post) → list_all (is_sound_post role sections) (before ++ post ∷ after) ≡ true → Fine role sections post
 fine role sections before post after all =
     let (first, rest) = and_parts (list_all (is_sound_post role sections) before) (list_all (is_sound_post role sections) (post ∷ after)) (sym (list_all-append (is_sound_post role sections) before (post ∷ after)) ∙ all) in
     let (this, others) = and_parts (is_sound_post role sections post) (list_all (is_sound_post role sections) after) rest in

@@ -11,8 +11,8 @@ use Rattle.rail_base.specs.Lists.{are_distinct}
 use Rattle.rail_base.proofs.CallerLemmas.{all_passed}
 use Rattle.rail_track.proofs.CallerLemmas.{same_name-comm, same_from_name, list_all-without}
 use Rattle.rail_routes.specs.declared.items.Post.{Post}
-use Rattle.rail_routes.specs.declared.items.Role.{Role}
-use Rattle.rail_routes.specs.declared.items.Role.TheVariants.{Portal, Signal, Board}
+use Rattle.rail_routes.specs.declared.items.PostRole.{PostRole}
+use Rattle.rail_routes.specs.declared.items.PostRole.TheVariants.{Portal, Signal, Board}
 use Rattle.rail_routes.specs.declared.items.Step.{Step}
 use Rattle.rail_routes.specs.declared.items.Turn.{Turn}
 use Rattle.rail_routes.specs.declared.items.Route.{Route}
@@ -122,14 +122,14 @@ module _ (net : Net) (post : Post) (is : IsSoundNetwork net) (formed : is_formed
   timed true true false y hw hx hy = cc
   timed true false x y hw hx hy = cc
 
-  new_post : (role : Role) → post.role ≡ role → is_sound_post role net.sections post ≡ true
+  new_post : (role : PostRole) → post.role ≡ role → is_sound_post role net.sections post ≡ true
   new_post role own =
       let a = all_passed (post_tests net post) none in
       let in_time : is_timed post ≡ true = timed (has_times post.role) (is_from_one SETTING post.setting) (nat_le post.watching WATCHING) (nat_le post.approach APPROACH) a.1.0 a.1.1.0 a.1.1.1.0 in
       let placed : stands_well net.sections post ≡ true = not_false (stands_well net.sections post) (both_false (not (stands_well net.sections post)) (is_taken net post) a.1.1.1.1.1.1.0).0 in
       λ i. (ap (same_role role) own ∙ self role) i && formed i && in_time i && placed i
     where
-      self : (r : Role) → same_role r r ≡ true
+      self : (r : PostRole) → same_role r r ≡ true
       self Portal = refl
       self Signal = refl
       self Board = refl

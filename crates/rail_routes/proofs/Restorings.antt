@@ -9,8 +9,8 @@ use Rattle.rail_base.proofs.CallerLemmas.{all_passed}
 use Rattle.rail_track.specs.Lists.{without, StoodAt}
 use Rattle.rail_track.proofs.CallerLemmas.{count_by-insert, find-insert, without-insert, stood_at, find_passes, list_any-count_by, same_name-self, without-absent}
 use Rattle.rail_routes.specs.declared.items.Post.{Post}
-use Rattle.rail_routes.specs.declared.items.Role.{Role}
-use Rattle.rail_routes.specs.declared.items.Role.TheVariants.{Portal, Signal, Board}
+use Rattle.rail_routes.specs.declared.items.PostRole.{PostRole}
+use Rattle.rail_routes.specs.declared.items.PostRole.TheVariants.{Portal, Signal, Board}
 use Rattle.rail_routes.specs.declared.items.Route.{Route}
 use Rattle.rail_routes.specs.declared.items.Turn.{Turn}
 use Rattle.rail_routes.specs.Net.{Net, is_post, is_route, is_turn, post_named}
@@ -105,7 +105,7 @@ module _ (post : Post) (index : ℕ) (net : Net) (new : IsNewName post.name net)
   own : is_post post.name post ≡ true
   own = same_name-self post.name
 
-  pub post_found : (role : Role) → post_named post.name (with_post_at_as role index post net) ≡ Some post
+  pub post_found : (role : PostRole) → post_named post.name (with_post_at_as role index post net) ≡ Some post
   post_found Portal =
       by_lists post.name (with_post_at_as Portal index post net)
       ∙ (λ i. option_or (option_or (find-insert (is_post post.name) net.portals index post new.portals own i) (find (is_post post.name) net.signals)) (find (is_post post.name) net.boards))
@@ -120,7 +120,7 @@ module _ (post : Post) (index : ℕ) (net : Net) (new : IsNewName post.name net)
   unchanged others none = without-absent (is_post post.name) others (found_none (is_post post.name) others none)
 
   -- and is taken out again
-  pub post_taken : (role : Role) → without_post post.name (with_post_at_as role index post net) ≡ net
+  pub post_taken : (role : PostRole) → without_post post.name (with_post_at_as role index post net) ≡ net
   post_taken Portal = λ i. record net {
     portals = without-insert (is_post post.name) net.portals index post new.portals own i;
     signals = unchanged net.signals new.signals i;
@@ -138,13 +138,13 @@ module _ (post : Post) (index : ℕ) (net : Net) (new : IsNewName post.name net)
   }
 
 -- a post that is added last is put in at the end of the list of its role
-put_last : (role : Role) (post : Post) (net : Net) → with_post_as role post net ≡ with_post_at_as role (length (posts_of role net)) post net
+put_last : (role : PostRole) (post : Post) (net : Net) → with_post_as role post net ≡ with_post_at_as role (length (posts_of role net)) post net
 put_last Portal post net = ap (λ (xs : List Post). record net { portals = xs }) (sym (insert_end net.portals post))
 put_last Signal post net = ap (λ (xs : List Post). record net { signals = xs }) (sym (insert_end net.signals post))
 put_last Board post net = ap (λ (xs : List Post). record net { boards = xs }) (sym (insert_end net.boards post))
 
 -- a post of a new name that was added last is found, and taken out again
-module _ (post : Post) (net : Net) (new : IsNewName post.name net) (role : Role) where
+module _ (post : Post) (net : Net) (new : IsNewName post.name net) (role : PostRole) where
   pub added_found : post_named post.name (with_post_as role post net) ≡ Some post
   added_found = ap (post_named post.name) (put_last role post net) ∙ post_found post (length (posts_of role net)) net new role
 
@@ -152,7 +152,7 @@ module _ (post : Post) (net : Net) (new : IsNewName post.name net) (role : Role)
   added_taken = ap (without_post post.name) (put_last role post net) ∙ post_taken post (length (posts_of role net)) net new role
 
 -- a post with which a network is sound has a new name
-pub new_name : (role : Role) (index : ℕ) (post : Post) (net : Net) → IsSoundNetwork (with_post_at_as role index post net) → IsNewName post.name net
+pub new_name : (role : PostRole) (index : ℕ) (post : Post) (net : Net) → IsSoundNetwork (with_post_at_as role index post net) → IsNewName post.name net
 new_name role index post net sound = by role (sound.distinct.posts_by_name post.name)
   where
     test : Post → Bool
@@ -164,7 +164,7 @@ new_name role index post net sound = by role (sound.distinct.posts_by_name post.
     no : (others : List Post) → count_by test others ≡ 0 → list_any test others ≡ false
     no others none = list_any-count_by test others ∙ ap (nat_lt 0) none
 
-    by : (r : Role) → count_by test (with_post_at_as r index post net).portals + count_by test (with_post_at_as r index post net).signals + count_by test (with_post_at_as r index post net).boards ≤ 1 → IsNewName post.name net
+    by : (r : PostRole) → count_by test (with_post_at_as r index post net).portals + count_by test (with_post_at_as r index post net).signals + count_by test (with_post_at_as r index post net).boards ≤ 1 → IsNewName post.name net
     by Portal few =
         let more = count_by-insert test net.portals index post in
         record { portals = no net.portals (omega (arith, one, more, few)); signals = no net.signals (omega (arith, one, more, few)); boards = no net.boards (omega (arith, one, more, few)) }
@@ -176,7 +176,7 @@ new_name role index post net sound = by role (sound.distinct.posts_by_name post.
         record { portals = no net.portals (omega (arith, one, more, few)); signals = no net.signals (omega (arith, one, more, few)); boards = no net.boards (omega (arith, one, more, few)) }
 
 -- the role of a post of a list
-role_of : (role : Role) (net : Net) (of_role : List Post) (name : List ℕ) (post : Post) → list_all (is_sound_post role net.sections) of_role ≡ true → find (is_post name) of_role ≡ Some post → post.role ≡ role
+role_of : (role : PostRole) (net : Net) (of_role : List Post) (name : List ℕ) (post : Post) → list_all (is_sound_post role net.sections) of_role ≡ true → find (is_post name) of_role ≡ Some post → post.role ≡ role
 role_of role net of_role name post all found =
     let h = find_passes (is_post name) (is_sound_post role net.sections) of_role post all found in
     let b = both_true (same_role role post.role && is_formed post && is_timed post) (stands_well net.sections post) h in
@@ -220,8 +220,8 @@ module _ (net : Net) (name : List ℕ) (post : Post) (sound : IsSoundNetwork net
       let signals = without-absent test net.signals (none_else test net.portals net.signals (count_by test net.boards) post found few) in
       let boards = without-absent test net.boards (none_else test net.portals net.boards (count_by test net.signals) post found (omega (arith, few))) in
       let there : (i : ℕ) → StoodAt post (without test net.portals) net.portals i → PostStoodAt post (without_post name net) net i = λ i w. record {
-        within = subst (λ (r : Role). i ≤ length (posts_of r (without_post name net))) (sym role) w.within;
-        again = subst (λ (r : Role). with_post_at_as r i post (without_post name net) ≡ net) (sym role) (λ j. record net { portals = w.again j; signals = signals j; boards = boards j });
+        within = subst (λ (r : PostRole). i ≤ length (posts_of r (without_post name net))) (sym role) w.within;
+        again = subst (λ (r : PostRole). with_post_at_as r i post (without_post name net) ≡ net) (sym role) (λ j. record net { portals = w.again j; signals = signals j; boards = boards j });
       } in
       first_place (option_or (position test net.portals) (position test net.signals)) (position test net.boards) there
       (first_place (position test net.portals) (position test net.signals) (λ i w. w) (stood_at test net.portals post found))
@@ -234,8 +234,8 @@ module _ (net : Net) (name : List ℕ) (post : Post) (sound : IsSoundNetwork net
       let portals = without-absent test net.portals none in
       let boards = without-absent test net.boards (none_else test net.signals net.boards (count_by test net.portals) post found (omega (arith, few))) in
       let there : (i : ℕ) → StoodAt post (without test net.signals) net.signals i → PostStoodAt post (without_post name net) net i = λ i w. record {
-        within = subst (λ (r : Role). i ≤ length (posts_of r (without_post name net))) (sym role) w.within;
-        again = subst (λ (r : Role). with_post_at_as r i post (without_post name net) ≡ net) (sym role) (λ j. record net { portals = portals j; signals = w.again j; boards = boards j });
+        within = subst (λ (r : PostRole). i ≤ length (posts_of r (without_post name net))) (sym role) w.within;
+        again = subst (λ (r : PostRole). with_post_at_as r i post (without_post name net) ≡ net) (sym role) (λ j. record net { portals = portals j; signals = w.again j; boards = boards j });
       } in
       subst (λ (o : Option ℕ). IsSomeAnd (option_or (option_or o (position test net.signals)) (position test net.boards)) (PostStoodAt post (without_post name net) net)) (sym (no_position test net.portals none))
       (first_place (position test net.signals) (position test net.boards) there (stood_at test net.signals post found))
@@ -249,8 +249,8 @@ module _ (net : Net) (name : List ℕ) (post : Post) (sound : IsSoundNetwork net
       let portals = without-absent test net.portals no_portal in
       let signals = without-absent test net.signals no_signal in
       let there : (i : ℕ) → StoodAt post (without test net.boards) net.boards i → PostStoodAt post (without_post name net) net i = λ i w. record {
-        within = subst (λ (r : Role). i ≤ length (posts_of r (without_post name net))) (sym role) w.within;
-        again = subst (λ (r : Role). with_post_at_as r i post (without_post name net) ≡ net) (sym role) (λ j. record net { portals = portals j; signals = signals j; boards = w.again j });
+        within = subst (λ (r : PostRole). i ≤ length (posts_of r (without_post name net))) (sym role) w.within;
+        again = subst (λ (r : PostRole). with_post_at_as r i post (without_post name net) ≡ net) (sym role) (λ j. record net { portals = portals j; signals = signals j; boards = w.again j });
       } in
       let none : option_or (position test net.portals) (position test net.signals) ≡ None = λ j. option_or (no_position test net.portals no_portal j) (no_position test net.signals no_signal j) in
       subst (λ (o : Option ℕ). IsSomeAnd (option_or o (position test net.boards)) (PostStoodAt post (without_post name net) net)) (sym none)

@@ -12,8 +12,8 @@ use Rattle.rail_track.specs.Joints.{is_named, is_full, section_named, section_ha
 use Rattle.rail_track.specs.SoundTracks.{IsSoundTrack}
 use Rattle.rail_track.proofs.CallerLemmas.{IsAccepted, accepted, fails_at, one_more, sections_at-push, same_name-comm, same_from_name, count_by-without, list_any-map}
 use Rattle.rail_routes.specs.declared.items.Post.{Post}
-use Rattle.rail_routes.specs.declared.items.Role.{Role}
-use Rattle.rail_routes.specs.declared.items.Role.TheVariants.{Portal, Signal, Board}
+use Rattle.rail_routes.specs.declared.items.PostRole.{PostRole}
+use Rattle.rail_routes.specs.declared.items.PostRole.TheVariants.{Portal, Signal, Board}
 use Rattle.rail_routes.specs.declared.items.Step.{Step}
 use Rattle.rail_routes.specs.declared.items.Route.{Route}
 use Rattle.rail_routes.specs.Net.{Net, posts, post_named, stands_at}
@@ -27,7 +27,7 @@ use Rattle.rail_routes.proofs.Kept.{Keeps, has_kept, way_kept, stands_same}
 use Rattle.rail_routes.proofs.Distinctness.{distinct_sections}
 use Rattle.rail_routes.proofs.Removals.{unused_section}
 
-pub same_from_role : (role other : Role) → same_role role other ≡ true → other ≡ role
+pub same_from_role : (role other : PostRole) → same_role role other ≡ true → other ≡ role
 same_from_role Portal Portal h = refl
 same_from_role Portal Signal h = cc
 same_from_role Portal Board h = cc
@@ -71,14 +71,14 @@ module _ (net : Net) (section : Section) (is : IsSoundNetwork net) (accepted : I
   few_there : (joint : List ℕ) → has_joint joint section ≡ true → sections_at net.sections joint ≤ 1
   few_there joint has = one_more net.sections joint (both_false (is_full net.sections joint) (list_any (stands_at joint) net.portals) (fails_at (is_closed_by net.sections net.portals) joint section.joints accepted.roomy has)).0
 
-  stands_more : (role : Role) (post : Post) (has : Bool) → has_joint post.joint section ≡ has → (role ≡ Portal → has ≡ false) → stands_as role net.sections post ≡ true → stands_as role more post ≡ true
+  stands_more : (role : PostRole) (post : Post) (has : Bool) → has_joint post.joint section ≡ has → (role ≡ Portal → has ≡ false) → stands_as role net.sections post ≡ true → stands_as role more post ≡ true
   stands_more role post false is free stands =
       stands_same net.sections more role post (sections_at-push net.sections section post.joint ∙ ap {B = ℕ} (λ b. sections_at net.sections post.joint + cond b 1 0) is ∙ omega arith) (λ ahead. has_kept net.sections more ahead post.joint (keeps ahead)) stands
   stands_more Portal post true is free stands = let never = free refl in cc
   stands_more Signal post true is free stands = absurd (not_two (sections_at net.sections post.joint) (few_there post.joint is) (both_true (sections_at net.sections post.joint == 2) (has_joint_ahead net.sections post) stands).0)
   stands_more Board post true is free stands = one_then_two (sections_at net.sections post.joint) (sections_at more post.joint) (few_there post.joint is) (sections_at-push net.sections section post.joint ∙ ap {B = ℕ} (λ b. sections_at net.sections post.joint + cond b 1 0) is) stands
 
-  post_more : (role : Role) (post : Post) → (role ≡ Portal → has_joint post.joint section ≡ false) → is_sound_post role net.sections post ≡ true → is_sound_post role more post ≡ true
+  post_more : (role : PostRole) (post : Post) → (role ≡ Portal → has_joint post.joint section ≡ false) → is_sound_post role net.sections post ≡ true → is_sound_post role more post ≡ true
   post_more role post free h =
       let b = both_true (same_role role post.role && is_formed post && is_timed post) (stands_well net.sections post) h in
       let own = same_from_role role post.role (both_true (same_role role post.role) (is_formed post) (both_true (same_role role post.role && is_formed post) (is_timed post) b.0).0).0 in
@@ -117,7 +117,7 @@ module _ (net : Net) (name : List ℕ) (section : Section) (is : IsSoundNetwork 
           let gone : section_has net.sections ahead joint ≡ false = (λ i. section_has net.sections (sym (same_from_name name ahead same) i) joint) ∙ ap (λ o. option_map_or (has_joint joint) o false) found ∙ free in
           cc
 
-  post_less : (role : Role) (post : Post) → is_sound_post role net.sections post ≡ true → has_joint post.joint section ≡ false → is_sound_post role less post ≡ true
+  post_less : (role : PostRole) (post : Post) → is_sound_post role net.sections post ≡ true → has_joint post.joint section ≡ false → is_sound_post role less post ≡ true
   post_less role post h free =
       last_kept (same_role role post.role && is_formed post && is_timed post) (stands_well net.sections post) (stands_well less post)
       (stands_same net.sections less post.role post

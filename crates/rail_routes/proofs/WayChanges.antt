@@ -14,7 +14,7 @@ use Rattle.rail_track.specs.SoundTracks.{IsSoundTrack}
 use Rattle.rail_base.proofs.CallerLemmas.{AllPassed, all_passed}
 use Rattle.rail_track.proofs.CallerLemmas.{same_name-comm, list_all-without, are_distinct-push}
 use Rattle.rail_routes.specs.declared.items.Post.{Post}
-use Rattle.rail_routes.specs.declared.items.Role.TheVariants.{Portal, Signal, Board}
+use Rattle.rail_routes.specs.declared.items.PostRole.TheVariants.{Portal, Signal, Board}
 use Rattle.rail_routes.specs.declared.items.Step.{Step}
 use Rattle.rail_routes.specs.declared.items.Turn.{Turn}
 use Rattle.rail_routes.specs.declared.items.Route.{Route}

@@ -6,7 +6,7 @@ use Rattle.rail_base.specs.NameForms.{same_name}
 use Rattle.rail_track.specs.declared.section.Section.{Section}
 use Rattle.rail_track.specs.declared.section.SectionKind.TheVariants.{Plain}
 use Rattle.rail_routes.specs.declared.items.Post.{Post}
-use Rattle.rail_routes.specs.declared.items.Role.TheVariants.{Board}
+use Rattle.rail_routes.specs.declared.items.PostRole.TheVariants.{Board}
 use Rattle.rail_routes.specs.declared.items.Turn.{Turn}
 use Rattle.rail_routes.specs.declared.items.Route.{Route}
 

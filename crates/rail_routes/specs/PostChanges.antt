@@ -3,12 +3,12 @@ use Rattle.std.specs.Prelude.{◌≡◌, ℕ, ◌≤◌, List, [], ◌∷◌, �
 use Rattle.std.specs.Option.{option_or}
 use Rattle.rail_track.specs.Lists.{without}
 use Rattle.rail_routes.specs.declared.items.Post.{Post}
-use Rattle.rail_routes.specs.declared.items.Role.{Role}
-use Rattle.rail_routes.specs.declared.items.Role.TheVariants.{Portal, Signal, Board}
+use Rattle.rail_routes.specs.declared.items.PostRole.{PostRole}
+use Rattle.rail_routes.specs.declared.items.PostRole.TheVariants.{Portal, Signal, Board}
 use Rattle.rail_routes.specs.Net.{Net, is_post}
 
 -- a post goes last in the list of this role
-abbrev pub with_post_as : Role → Post → Net → Net
+abbrev pub with_post_as : PostRole → Post → Net → Net
 with_post_as Portal post net = record net { portals = net.portals ++ post ∷ [] }
 with_post_as Signal post net = record net { signals = net.signals ++ post ∷ [] }
 with_post_as Board post net = record net { boards = net.boards ++ post ∷ [] }
@@ -26,7 +26,7 @@ without_post name net = record net {
 }
 
 -- the posts of this role, in order
-abbrev pub posts_of : Role → Net → List Post
+abbrev pub posts_of : PostRole → Net → List Post
 posts_of Portal net = net.portals
 posts_of Signal net = net.signals
 posts_of Board net = net.boards
@@ -37,7 +37,7 @@ post_position name net =
     option_or (option_or (position (is_post name) net.portals) (position (is_post name) net.signals)) (position (is_post name) net.boards)
 
 -- a post is put in at this index of the list of this role
-abbrev pub with_post_at_as : Role → ℕ → Post → Net → Net
+abbrev pub with_post_at_as : PostRole → ℕ → Post → Net → Net
 with_post_at_as Portal index post net = record net { portals = insert net.portals index post }
 with_post_at_as Signal index post net = record net { signals = insert net.signals index post }
 with_post_at_as Board index post net = record net { boards = insert net.boards index post }

@@ -10,12 +10,12 @@ use Rattle.rail_track.specs.Joints.{is_named, sections_at, section_has}
 use Rattle.rail_base.specs.FirstRefusals.{Test, first_failing}
 use Rattle.rail_track.specs.NetFaults.{refused_where}
 use Rattle.rail_routes.specs.declared.items.Post.{Post}
-use Rattle.rail_routes.specs.declared.items.Role.{Role}
-use Rattle.rail_routes.specs.declared.items.Role.TheVariants.{Portal, Signal, Board}
+use Rattle.rail_routes.specs.declared.items.PostRole.{PostRole}
+use Rattle.rail_routes.specs.declared.items.PostRole.TheVariants.{Portal, Signal, Board}
 use Rattle.rail_routes.specs.Net.{Net, posts, is_post, stands_at, guards_at}
 
 -- a signal names its section ahead and nothing else does, and the times of a board are 0
-abbrev pub is_formed_as : Role → Post → Bool
+abbrev pub is_formed_as : PostRole → Post → Bool
 is_formed_as Portal post = not (is_some post.ahead)
 is_formed_as Signal post = is_some post.ahead
 is_formed_as Board post = not (is_some post.ahead) && post.setting == 0 && post.watching == 0 && post.approach == 0
@@ -25,13 +25,13 @@ abbrev pub is_formed : Post → Bool
 is_formed post = is_formed_as post.role post
 
 -- the key of the setting time, behind which the two other times come; a board has none
-abbrev pub time_key : Role → ℕ
+abbrev pub time_key : PostRole → ℕ
 time_key Portal = 3
 time_key Signal = 4
 time_key Board = 0
 
 -- a post of the role has times of its own
-abbrev pub has_times : Role → Bool
+abbrev pub has_times : PostRole → Bool
 has_times Portal = true
 has_times Signal = true
 has_times Board = false
@@ -46,7 +46,7 @@ is_guarded signals post = option_map_or (λ ahead. list_any (guards_at post.join
 
 -- a portal stands at a joint of one section, a signal at a joint of two, of which one is ahead, and a
 -- board at a joint of one or two
-abbrev pub stands_as : Role → List Section → Post → Bool
+abbrev pub stands_as : PostRole → List Section → Post → Bool
 stands_as Portal sections post = sections_at sections post.joint == 1
 stands_as Signal sections post = sections_at sections post.joint == 2 && has_joint_ahead sections post
 stands_as Board sections post = sections_at sections post.joint == 1 || sections_at sections post.joint == 2
@@ -56,7 +56,7 @@ abbrev pub stands_well : List Section → Post → Bool
 stands_well sections post = stands_as post.role sections post
 
 -- a joint has one portal or board at most, and a section at a joint one signal at most
-abbrev pub is_taken_as : Role → Net → Post → Bool
+abbrev pub is_taken_as : PostRole → Net → Post → Bool
 is_taken_as Portal net post = list_any (stands_at post.joint) net.portals || list_any (stands_at post.joint) net.boards
 is_taken_as Signal net post = is_guarded net.signals post
 is_taken_as Board net post = list_any (stands_at post.joint) net.portals || list_any (stands_at post.joint) net.boards

@@ -11,8 +11,8 @@ use Rattle.rail_track.specs.Passages.{has_passage}
 use Rattle.rail_base.specs.FirstRefusals.{Test, first_failing, tests_over}
 use Rattle.rail_track.specs.NetFaults.{refused_where}
 use Rattle.rail_routes.specs.declared.items.Post.{Post}
-use Rattle.rail_routes.specs.declared.items.Role.{Role}
-use Rattle.rail_routes.specs.declared.items.Role.TheVariants.{Portal, Signal, Board}
+use Rattle.rail_routes.specs.declared.items.PostRole.{PostRole}
+use Rattle.rail_routes.specs.declared.items.PostRole.TheVariants.{Portal, Signal, Board}
 use Rattle.rail_routes.specs.declared.items.Step.{Step}
 use Rattle.rail_routes.specs.declared.items.Route.{Route}
 use Rattle.rail_routes.specs.Net.{Net, posts, post_named, is_post, is_route, guards}
@@ -31,7 +31,7 @@ abbrev pub repeat_tests : List Step → List Step → List (Test NetFault)
 repeat_tests steps overlap = repeats_behind [] steps ++ repeats_behind steps overlap
 
 -- the section is ahead of the post: a portal has the one section of its joint ahead, and a board none
-abbrev pub is_ahead_of : Role → Post → List Section → List ℕ → Bool
+abbrev pub is_ahead_of : PostRole → Post → List Section → List ℕ → Bool
 is_ahead_of Portal post sections name = section_has sections name post.joint
 is_ahead_of Signal post sections name = guards name post
 is_ahead_of Board post sections name = false
@@ -72,7 +72,7 @@ lead_tests sections n joint (step ∷ steps) =
     refused_where RouteBroken n (not (leads_from sections joint step)) ∷ lead_tests sections (n + 1) step.to steps
 
 -- an overlap lies behind a portal, where the plant ends
-abbrev pub is_beyond : Role → List Step → Bool
+abbrev pub is_beyond : PostRole → List Step → Bool
 is_beyond Portal overlap = goes_on overlap
 is_beyond Signal overlap = false
 is_beyond Board overlap = false

@@ -6,8 +6,8 @@ use Rattle.rail_base.specs.Limits.{is_from_one, most, SettingTime, WatchingTime,
 use Rattle.rail_track.specs.declared.section.Section.{Section}
 use Rattle.rail_base.specs.Lists.{are_distinct}
 use Rattle.rail_routes.specs.declared.items.Post.{Post}
-use Rattle.rail_routes.specs.declared.items.Role.{Role}
-use Rattle.rail_routes.specs.declared.items.Role.TheVariants.{Portal, Signal, Board}
+use Rattle.rail_routes.specs.declared.items.PostRole.{PostRole}
+use Rattle.rail_routes.specs.declared.items.PostRole.TheVariants.{Portal, Signal, Board}
 use Rattle.rail_routes.specs.declared.items.Step.{Step}
 use Rattle.rail_routes.specs.declared.items.Turn.{Turn}
 use Rattle.rail_routes.specs.declared.items.Route.{Route}
@@ -18,7 +18,7 @@ use Rattle.rail_routes.specs.RouteRules.{begins, leads_on, leads_from, is_beyond
 use Rattle.rail_routes.specs.DistinctNetworks.{IsDistinctNetwork}
 
 -- the roles are the same
-abbrev pub same_role : Role → Role → Bool
+abbrev pub same_role : PostRole → PostRole → Bool
 same_role Portal Portal = true
 same_role Signal Signal = true
 same_role Board Board = true
@@ -32,7 +32,7 @@ is_timed post =
     && nat_le post.approach (most ApproachTime))
 
 -- a post of the role is formed as the role asks, has its times in range, and stands where it may
-abbrev pub is_sound_post : Role → List Section → Post → Bool
+abbrev pub is_sound_post : PostRole → List Section → Post → Bool
 is_sound_post role sections post = same_role role post.role && is_formed post && is_timed post && stands_well sections post
 
 -- the time of the turn is in range, its arriving post is there, and it leads as turns may

@@ -3,7 +3,7 @@ use rail_track::Keyed;
 
 /// What a post is.
 #[derive(Clone, Copy, Debug, PartialEq, Eq)]
-pub enum Role {
+pub enum PostRole {
     /// Trains enter and leave here. It stands at a joint of one section, which is ahead of it.
     Portal,
     /// It stands at a joint of two sections, one of which is ahead of it.
@@ -16,7 +16,7 @@ pub enum Role {
 #[derive(Clone, Copy, Debug, PartialEq, Eq)]
 pub struct Post {
     pub name: Name,
-    pub role: Role,
+    pub role: PostRole,
     pub joint: Name,
     /// The section ahead of a signal. A portal has the one section of its joint ahead, a board none.
     pub ahead: Option<Name>,

@@ -16,5 +16,5 @@ pub use acceptance::{
     the_sections_and_posts_of_a_sound_network_are_accepted_in_their_order,
     the_turns_and_routes_of_a_sound_network_are_accepted_in_their_order,
 };
-pub use items::{Post, Role, Route, Step, Turn};
+pub use items::{Post, PostRole, Route, Step, Turn};
 pub use network::Network;

@@ -3,7 +3,7 @@ ghost use Rattle.std.specs.List.{find, list_any};
 ghost use Rattle.std.specs.Option.{option_copied};
 
 use self::claiming::{count_of_sections, count_sections, discount_sections};
-use crate::items::{Post, Role, Route, Turn};
+use crate::items::{Post, PostRole, Route, Turn};
 use crate::post_list::PostList;
 use indexmap::IndexMap;
 use rail_base::{Name, Reason};
@@ -194,14 +194,14 @@ impl Network {
 
     /// Makes room for so many more posts of the role at once, and for as many at which routes begin or end. It fails only for
     /// want of memory.
-    pub fn reserve_posts(&mut self, role: Role, posts: usize) -> Result<(), AllocError>
+    pub fn reserve_posts(&mut self, role: PostRole, posts: usize) -> Result<(), AllocError>
         ensures { self.new ≡ self.old }
     {
         self.routed.reserve(posts)?;
         match role {
-            Role::Portal => self.portals.reserve(posts),
-            Role::Signal => self.signals.reserve(posts),
-            Role::Board => self.boards.reserve(posts),
+            PostRole::Portal => self.portals.reserve(posts),
+            PostRole::Signal => self.signals.reserve(posts),
+            PostRole::Board => self.boards.reserve(posts),
         }
     }
 
@@ -256,9 +256,9 @@ impl Network {
             return Err(fault);
         }
         match post.role {
-            Role::Portal => self.portals.push(post)?,
-            Role::Signal => self.signals.push(post)?,
-            Role::Board => self.boards.push(post)?,
+            PostRole::Portal => self.portals.push(post)?,
+            PostRole::Signal => self.signals.push(post)?,
+            PostRole::Board => self.boards.push(post)?,
         }
         Ok(())
     }

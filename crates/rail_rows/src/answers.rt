@@ -3,8 +3,8 @@
 use crate::decks::{self, BUILT_IN, Deck};
 use crate::files::{number, word};
 use rail_base::Word;
-use rail_cli::Status;
 use rail_io::{DripShelf, DripSink, File, MemoryShelf, MemorySink, Shelf};
+use rail_top::Status;
 use std::alloc::{AllocError, Global};
 
 /// The most bytes that an output may have.
@@ -12,7 +12,7 @@ const ROOM: usize = 4_194_304;
 
 /// A command line, with the policies that are handed in and the calls of the shelf and of the sink that fail.
 #[derive(Clone, Copy)]
-pub struct Asked<'a> {
+pub struct Question<'a> {
     /// The words; `""` stands for the empty word.
     pub words: &'a str,
     pub deck: Deck<'a>,
@@ -26,10 +26,10 @@ pub struct Asked<'a> {
     pub is_twice: bool,
 }
 
-impl<'a> Asked<'a> {
+impl<'a> Question<'a> {
     /// The words with the policies of the program, on a shelf and a sink that do not fail.
-    pub fn plainly(words: &'a str) -> Asked<'a> {
-        Asked {
+    pub fn plainly(words: &'a str) -> Question<'a> {
+        Question {
             words,
             deck: Deck::Named(BUILT_IN),
             shelf_fails: 0,
@@ -40,7 +40,7 @@ impl<'a> Asked<'a> {
     }
 
     /// The same with what the line says, if it says how the words are asked.
-    pub fn with(self, line: &'a str) -> Option<Asked<'a>> {
+    pub fn with(self, line: &'a str) -> Option<Question<'a>> {
         let (key, value) = line.split_once(" ").unwrap_or((line, ""));
         let mut asked = self;
         match key {
@@ -65,7 +65,7 @@ pub struct Answer {
 }
 
 /// What the top call answers over these files.
-pub fn answer_to(alloc: Global, asked: Asked, files: Vec<File>) -> Result<Answer, AllocError> {
+pub fn answer_to(alloc: Global, asked: Question, files: Vec<File>) -> Result<Answer, AllocError> {
     if asked.is_dripping {
         return answer_over(alloc, asked, &mut DripShelf::new(files));
     }
@@ -74,7 +74,11 @@ pub fn answer_to(alloc: Global, asked: Asked, files: Vec<File>) -> Result<Answer
 }
 
 /// What the top call answers over the shelf, to the second asking where it is asked twice.
-fn answer_over<S: Shelf>(alloc: Global, asked: Asked, shelf: &mut S) -> Result<Answer, AllocError> {
+fn answer_over<S: Shelf>(
+    alloc: Global,
+    asked: Question,
+    shelf: &mut S,
+) -> Result<Answer, AllocError> {
     let once = ask(alloc, asked, shelf)?;
     if !asked.is_twice {
         return Ok(once);
@@ -90,7 +94,7 @@ fn answer_over<S: Shelf>(alloc: Global, asked: Asked, shelf: &mut S) -> Result<A
 }
 
 /// What the top call answers over the shelf.
-fn ask<S: Shelf>(alloc: Global, asked: Asked, shelf: &mut S) -> Result<Answer, AllocError> {
+fn ask<S: Shelf>(alloc: Global, asked: Question, shelf: &mut S) -> Result<Answer, AllocError> {
     let words = words_of(alloc, asked.words)?;
     if asked.is_dripping {
         let Ok(mut sink) = DripSink::with_room(alloc, ROOM) else {

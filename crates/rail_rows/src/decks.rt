@@ -3,12 +3,12 @@ ghost use Rattle.std.specs.Prelude.{codes};
 ghost use Rattle.rail_base.specs.declared.orders.PolicyKind.TheVariants.{Custom};
 
 use rail_base::{Name, PolicyKind, TrainNo, Word};
-use rail_cli::{Status, rail};
 use rail_io::{Shelf, Sink};
 use rail_policy::{
     FcfsPolicy, Offer, Policy, PriorityPolicy, RotatingPolicy, ScriptedPolicy, TimetablePolicy,
     deck_is_fine,
 };
+use rail_top::{Status, rail};
 use std::alloc::{AllocError, Global};
 
 /// The policies of the program, in its order.

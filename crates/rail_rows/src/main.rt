@@ -1,6 +1,6 @@
 //! The rows: command lines with their files, and what the rules of operation answer to each: by hand, or as a row says by another program.
 //!
-//! This program stands on the top call of `rail_cli` and on shelves and sinks in memory. It reads the files of rows that
+//! This program stands on the top call of `rail_top` and on shelves and sinks in memory. It reads the files of rows that
 //! its words name, asks the top call each row, and prints how many rows of each file are answered as they say;
 //! of a row that is answered otherwise it prints what was answered. How a row is written stands at the head of
 //! `data/pieces.rows`. The rows are data: a row more needs no proof. What is printed is compared with the file

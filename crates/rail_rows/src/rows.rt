@@ -1,7 +1,7 @@
 //! A row: what is asked, over which files, and what is wanted.
 
 use crate::answers::{
-    Answer, Asked, answer_to, has_pieces, is_done_or_refused, lines_beside_holds,
+    Answer, Question, answer_to, has_pieces, is_done_or_refused, lines_beside_holds,
 };
 use crate::files::{file, is_written, number, push_pieces, push_written};
 use rail_io::File;
@@ -12,7 +12,7 @@ use std::mem;
 #[derive(Drop)]
 pub struct Row<'a> {
     alloc: Global,
-    asked: Asked<'a>,
+    asked: Question<'a>,
     files: Vec<Text>,
     /// What is wanted, from the line of its status on.
     wanted: Option<Wanted<'a>>,
@@ -45,7 +45,7 @@ impl<'a> Row<'a> {
     pub fn new(alloc: Global, words: &'a str) -> Row<'a> {
         Row {
             alloc,
-            asked: Asked::plainly(words),
+            asked: Question::plainly(words),
             files: Vec::new(alloc),
             wanted: None,
             kept: Vec::new(alloc),
@@ -129,7 +129,7 @@ impl<'a> Row<'a> {
     /// Asks what was taken, and then these words, for which the output is the file `output`.
     fn go_on(&mut self, words: &'a str, told: &mut String) -> Result<(), AllocError> {
         let output = self.ask(told)?;
-        self.asked = Asked::plainly(words);
+        self.asked = Question::plainly(words);
         self.files.push(Text {
             name: String::from_str(self.alloc, "output")?,
             bytes: output.into_bytes(),

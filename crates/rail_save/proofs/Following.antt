@@ -9,7 +9,7 @@ use Rattle.rail_engine.specs.Engines.{StandsFor}
 use Rattle.rail_history.specs.declared.lines.Lines.{Lines}
 use Rattle.rail_history.specs.Lines.{line_of}
 use Rattle.rail_history.specs.LinesLeft.{IsNextLine, beside, lines_left}
-use Rattle.rail_judging.specs.Verdicts.{behind}
+use Rattle.rail_laws_verdict.specs.Verdicts.{behind}
 use Rattle.rail_ledger.specs.declared.input.RunInput.{RunInput}
 use Rattle.rail_ledger.specs.declared.ledger.Ledger.{Ledger}
 use Rattle.rail_ledger.specs.Inputs.{input_in}

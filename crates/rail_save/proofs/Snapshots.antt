@@ -4,7 +4,7 @@ use Rattle.std.specs.Prelude.{reverse}
 use Rattle.rail_check.proofs.CallerLemmas.{in_file}
 use Rattle.rail_history.specs.HistoryLines.{IsFirstWrong, IsHistory}
 use Rattle.rail_history.proofs.CallerLemmas.{no_history, one_history, one_wrong}
-use Rattle.rail_laws_run.proofs.CallerLemmas.{run_lawful}
+use Rattle.rail_laws_step.proofs.CallerLemmas.{run_lawful}
 use Rattle.rail_rules.specs.Accepted.{is_accepted_input}
 use Rattle.rail_rules.specs.Fronts.{Front, Line}
 use Rattle.rail_rules.specs.Orders.{Input}

@@ -9,7 +9,7 @@ use Rattle.rail_history.specs.Lines.{line_of}
 use Rattle.rail_io.specs.Writes.{Adds, AddsPrefix}
 use Rattle.rail_io.specs.declared.sink.Sink.{Ghosts}
 use Rattle.rail_io.proofs.CallerLemmas.{Adds-append, Adds-same}
-use Rattle.rail_laws_run.proofs.CallerLemmas.{run_lawful}
+use Rattle.rail_laws_step.proofs.CallerLemmas.{run_lawful}
 use Rattle.rail_ledger.specs.declared.input.RunInput.{RunInput}
 use Rattle.rail_ledger.specs.declared.ledger.Ledger.{Ledger}
 use Rattle.rail_ledger.specs.Inputs.{input_in}

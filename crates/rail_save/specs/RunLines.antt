@@ -1,6 +1,6 @@
 -- Lines behind a front of a run: which of them is the first with which the front is none of a run.
 use Rattle.std.specs.Prelude.{◌≡◌, ℕ, suc, ◌+◌, false, cond, IsTrue, List, [], ◌∷◌, ◌++◌, length, Option, Some, None}
-use Rattle.rail_judging.specs.Verdicts.{behind}
+use Rattle.rail_laws_verdict.specs.Verdicts.{behind}
 use Rattle.rail_rules.specs.Fronts.{Front, Line}
 use Rattle.rail_rules.specs.Orders.{Input}
 use Rattle.rail_rules.specs.RunHistories.{Seat, is_run}

@@ -5,7 +5,7 @@ use Rattle.rail_base.specs.declared.plant.TrainKind.{TrainKind}
 use Rattle.rail_track.specs.declared.section.Section.{Section}
 use Rattle.rail_track.specs.declared.section.SectionKind.TheVariants.{Plain}
 use Rattle.rail_routes.specs.declared.items.Post.{Post}
-use Rattle.rail_routes.specs.declared.items.Role.TheVariants as role
+use Rattle.rail_routes.specs.declared.items.PostRole.TheVariants as role
 use Rattle.rail_routes.specs.declared.items.Turn.{Turn}
 use Rattle.rail_routes.specs.declared.items.Route.{Route}
 use Rattle.rail_routes.specs.declared.items.Step.{Step}

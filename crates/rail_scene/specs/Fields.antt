@@ -10,8 +10,8 @@ use Rattle.rail_track.specs.SectionRules.{joint_count}
 use Rattle.rail_track.specs.declared.section.SectionKind.{SectionKind}
 use Rattle.rail_track.specs.declared.section.SectionKind.TheVariants.{Plain, Points, Crossing, Slip}
 use Rattle.rail_scene.specs.declared.keys.Bounds.{Bounds}
-use Rattle.rail_scene.specs.declared.keys.Form.{Form}
-use Rattle.rail_scene.specs.declared.keys.Form.TheVariants.{Whole}
+use Rattle.rail_scene.specs.declared.keys.KeyForm.{KeyForm}
+use Rattle.rail_scene.specs.declared.keys.KeyForm.TheVariants.{Whole}
 use Rattle.rail_scene.specs.declared.keys.Key.{Key}
 use Rattle.rail_scene.specs.declared.keys.KeyName.TheVariants as word
 use Rattle.rail_scene.specs.declared.versions.Version.{Version}
@@ -52,7 +52,7 @@ abbrev pub bounded : Bounds → ℕ → Option ℕ
 bounded bounds n = if nat_le bounds.low n && nat_le n bounds.high then Some n else None
 
 -- the number that a value is, in the range of the form
-abbrev pub number_by : Form → Option Data → Option ℕ
+abbrev pub number_by : KeyForm → Option Data → Option ℕ
 number_by (Whole bounds) value =
     option_and_then (bounded bounds) (option_map_or (λ d. option_and_then counted (as_integer d)) value (Some bounds.default))
 number_by form value = None

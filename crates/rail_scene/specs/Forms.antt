@@ -8,8 +8,8 @@ use Rattle.rail_base.specs.declared.refusals.Reason.TheVariants.{KeyMissing, Wro
 use Rattle.rail_track.specs.declared.section.NetFault.{NetFault}
 use Rattle.rail_base.specs.FirstRefusals.{Test}
 use Rattle.rail_track.specs.NetFaults.{refused_where}
-use Rattle.rail_scene.specs.declared.keys.Form.{Form}
-use Rattle.rail_scene.specs.declared.keys.Form.TheVariants.{Name, Policy, Choice, Time, Whole, Joints, Path, Overlap, Itinerary, Tables}
+use Rattle.rail_scene.specs.declared.keys.KeyForm.{KeyForm}
+use Rattle.rail_scene.specs.declared.keys.KeyForm.TheVariants.{Name, Policy, Choice, Time, Whole, Joints, Path, Overlap, Itinerary, Tables}
 use Rattle.rail_scene.specs.declared.keys.Key.{Key}
 use Rattle.rail_scene.specs.Keys.{text_of}
 use Rattle.rail_scene.specs.Fields.{value_at, listed}
@@ -31,7 +31,7 @@ abbrev pub is_table : Data → Bool
 is_table value = is_some (as_table value)
 
 -- the value is of the kind that the form states
-abbrev pub is_of : Form → Data → Bool
+abbrev pub is_of : KeyForm → Data → Bool
 is_of Name value = is_string value
 is_of Policy value = is_string value
 is_of Choice value = is_string value

@@ -3,8 +3,8 @@ use Rattle.std.specs.Prelude.{ℕ, Bool, true, false, List, [], ◌∷◌, ◌++
 use Rattle.rail_base.specs.Limits.{most, SectionLength, TrainLength, Speed, SettingTime, WatchingTime, ApproachTime, TurnTime, ReleaseTime, OverlapTime, StartSupplement, StopSupplement, Depth}
 use Rattle.rail_base.specs.declared.refusals.Part.{Part}
 use Rattle.rail_base.specs.declared.refusals.Part.TheVariants as part
-use Rattle.rail_scene.specs.declared.keys.Form.{Form}
-use Rattle.rail_scene.specs.declared.keys.Form.TheVariants as form
+use Rattle.rail_scene.specs.declared.keys.KeyForm.{KeyForm}
+use Rattle.rail_scene.specs.declared.keys.KeyForm.TheVariants as form
 use Rattle.rail_scene.specs.declared.keys.Key.{Key}
 use Rattle.rail_scene.specs.declared.keys.KeyName.{KeyName}
 use Rattle.rail_scene.specs.declared.keys.KeyName.TheVariants as word
@@ -15,12 +15,12 @@ use Rattle.rail_scene.specs.declared.versions.Version.TheVariants.{One, Two}
 use Rattle.rail_scene.specs.Versions.{newest, version_number}
 
 -- a whole number from the one to the other, and the first where the key is absent
-abbrev pub whole : ℕ → ℕ → Form
+abbrev pub whole : ℕ → ℕ → KeyForm
 whole low high = form.Whole (record { low = low; high = high; default = low })
 
 -- the table of the keys of all versions: how a key is written, what its value has to be, and whether it has to be there;
 -- lengths in metres, speeds in km/h, times in tenths of a second
-abbrev pub key_row : KeyName → List ℕ × Form × Bool
+abbrev pub key_row : KeyName → List ℕ × KeyForm × Bool
 key_row word.Version = (codes "version", form.Whole (record { low = 1; high = version_number newest; default = version_number newest }), true)
 key_row word.Release = (codes "release", whole 0 (most ReleaseTime), true)
 key_row word.Depth = (codes "depth", form.Whole (record { low = 0; high = most Depth; default = 1 }), false)

@@ -6,8 +6,8 @@ use Rattle.rail_base.specs.declared.refusals.Reason.TheVariants.{BadName, Range}
 use Rattle.rail_track.specs.declared.section.NetFault.{NetFault}
 use Rattle.rail_base.specs.FirstRefusals.{Test}
 use Rattle.rail_track.specs.NetFaults.{refused_where}
-use Rattle.rail_scene.specs.declared.keys.Form.{Form}
-use Rattle.rail_scene.specs.declared.keys.Form.TheVariants.{Name, Policy, Choice, Time, Whole, Joints, Path, Overlap, Itinerary, Tables}
+use Rattle.rail_scene.specs.declared.keys.KeyForm.{KeyForm}
+use Rattle.rail_scene.specs.declared.keys.KeyForm.TheVariants.{Name, Policy, Choice, Time, Whole, Joints, Path, Overlap, Itinerary, Tables}
 use Rattle.rail_scene.specs.declared.keys.Key.{Key}
 use Rattle.rail_scene.specs.Fields.{name_at, policy_at, number_at, kind_at, time_at, elements_at, are_names, is_joint_count, is_path_count, is_overlap_count}
 
@@ -16,7 +16,7 @@ abbrev pub list_tests : ℕ → Bool → List Data → List (Test NetFault)
 list_tests n is_count values = refused_where Range n (not is_count) ∷ refused_where BadName n (not (are_names values)) ∷ []
 
 -- the tests of the value of key n, by its form
-abbrev pub tests_by : Form → ℕ → Key → Data → List (Test NetFault)
+abbrev pub tests_by : KeyForm → ℕ → Key → Data → List (Test NetFault)
 tests_by Name n key node = refused_where BadName n (not (is_some (name_at key node))) ∷ []
 tests_by Policy n key node = refused_where BadName n (not (is_some (policy_at key node))) ∷ []
 tests_by Choice n key node = refused_where Range n (not (is_some (kind_at key node))) ∷ []

@@ -14,7 +14,7 @@ use crate::rosters::{Kinds, Trains};
 use crate::versions::Version;
 use rail_base::limits::{KINDS, POSTS, ROUTES, SECTIONS, TRAINS, TURNS};
 use rail_base::{Fault, Reason};
-use rail_routes::{Network, Role};
+use rail_routes::{Network, PostRole};
 use rail_track::NetFault;
 use std::alloc::{AllocError, Global};
 use std::marker::Model;
@@ -103,9 +103,9 @@ impl Draft {
         let network = &mut self.network;
         match part {
             ListPart::Section => network.reserve_sections(count.min(SECTIONS)),
-            ListPart::Portal => network.reserve_posts(Role::Portal, count.min(POSTS)),
-            ListPart::Signal => network.reserve_posts(Role::Signal, count.min(POSTS)),
-            ListPart::Board => network.reserve_posts(Role::Board, count.min(POSTS)),
+            ListPart::Portal => network.reserve_posts(PostRole::Portal, count.min(POSTS)),
+            ListPart::Signal => network.reserve_posts(PostRole::Signal, count.min(POSTS)),
+            ListPart::Board => network.reserve_posts(PostRole::Board, count.min(POSTS)),
             ListPart::Route => network.reserve_routes(count.min(ROUTES)),
             ListPart::Turn | ListPart::Kind | ListPart::Train => Ok(()),
         }

@@ -16,7 +16,7 @@ ghost use Rattle.rail_scene.specs.Entries.{section_of, portal_of, signal_of, boa
 ghost use Rattle.rail_scene.specs.Keys.{first_route_keys, route_keys};
 ghost use Rattle.rail_scene.specs.Values.{value_tests, tests_by, list_tests};
 ghost use Rattle.rail_scene.specs.Scenes.{is_fit_kind, is_fit_train};
-ghost use Rattle.rail_scene.specs.declared.keys.Form.TheVariants as Form;
+ghost use Rattle.rail_scene.specs.declared.keys.KeyForm.TheVariants as KeyForm;
 ghost use Rattle.rail_scene.specs.declared.versions.Version.TheVariants as version;
 
 use crate::fields::{elements_at, elements_if_any, kind_in, name_in, number_by, time_in};
@@ -31,7 +31,7 @@ use crate::scene::SceneTrain;
 use crate::versions::Version;
 use rail_base::limits::{ITINERARY_ROUTES, OVERLAP_SECTIONS, ROUTE_SECTIONS};
 use rail_base::{Name, Reason, Seq, Time, TrainKind};
-use rail_routes::{Post, Role, Route, Step, Turn};
+use rail_routes::{Post, PostRole, Route, Step, Turn};
 use rail_track::{NetFault, Section, SectionKind};
 use std::alloc::{AllocError, Global};
 use toml::Value;
@@ -201,7 +201,7 @@ pub(crate) fn portal(table: &Value) -> Result<Post, NetFault>
     );
     Ok(Post {
         name: read_name(name, 1)?,
-        role: Role::Portal,
+        role: PostRole::Portal,
         joint: read_name(joint, 2)?,
         ahead: None,
         setting: read_number(setting, SETTING, 3)?,
@@ -223,7 +223,7 @@ pub(crate) fn signal(table: &Value) -> Result<Post, NetFault>
     );
     Ok(Post {
         name: read_name(name, 1)?,
-        role: Role::Signal,
+        role: PostRole::Signal,
         joint: read_name(joint, 2)?,
         ahead: Some(read_name(ahead, 3)?),
         setting: read_number(setting, SETTING, 4)?,
@@ -241,7 +241,7 @@ pub(crate) fn board(table: &Value) -> Result<Post, NetFault>
     let [name, joint, ..] = values_of(table, &BOARD_KEYS, &BOARD_ORDER);
     Ok(Post {
         name: read_name(name, 1)?,
-        role: Role::Board,
+        role: PostRole::Board,
         joint: read_name(joint, 2)?,
         ahead: None,
         setting: 0,
@@ -305,8 +305,8 @@ fn route_without_overlap(alloc: Global, table: &Value) -> Result<Route, NetFault
 /// The sections and joints of an overlap in turn.
 fn read_overlap(alloc: Global, table: &Value, step: u32) -> Result<Vec<Name>, NetFault>
     ensures names { IfOk result (λ names. names.items ≡ spelled_names OVERLAP (view table.now)) }
-    ensures accepted { OnOk result (first_failing (tests_by Form.Overlap step OVERLAP (view table.now)) ≡ None) }
-    ensures refused { IfErr result (Answers (first_failing (tests_by Form.Overlap step OVERLAP (view table.now)))) }
+    ensures accepted { OnOk result (first_failing (tests_by KeyForm.Overlap step OVERLAP (view table.now)) ≡ None) }
+    ensures refused { IfErr result (Answers (first_failing (tests_by KeyForm.Overlap step OVERLAP (view table.now)))) }
 {
     let values = elements_at(table, OVERLAP);
     read_list(alloc, values, is_overlap_count(values.len()), step)

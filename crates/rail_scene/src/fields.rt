@@ -5,7 +5,7 @@ ghost use Rattle.toml.specs.Data.{as_str, as_integer};
 ghost use Rattle.toml.specs.View.{view};
 ghost use Rattle.rail_scene.specs.Fields.{value_at, name_in, name_at, policy_at, counted, bounded, number_by, number_at, version_of, kind_named, time_up_to, elements_of, elements_at};
 
-use crate::keys::{Bounds, Form, Key, VERSION};
+use crate::keys::{Bounds, Key, KeyForm, VERSION};
 use crate::versions::Version;
 use rail_base::limits::INPUT_TIME;
 use rail_base::{Name, Time, a_text_stands_for_one_time, read_time};
@@ -54,10 +54,10 @@ pub(crate) fn number_at(table: &Value, key: Key) -> Option<u32>
 }
 
 /// The number that a value is, where it is in the range of the form: the default where there is no value.
-pub(crate) fn number_by(form: Form, value: Option<&Value>) -> Option<u32>
+pub(crate) fn number_by(form: KeyForm, value: Option<&Value>) -> Option<u32>
     ensures { result ≡ number_by form (option_map view (option_copied value.entry)) }
 {
-    let Form::Whole(bounds) = form else {
+    let KeyForm::Whole(bounds) = form else {
         return None;
     };
     match value {

@@ -18,7 +18,7 @@ ghost use Rattle.rail_base.specs.Refusals.{AnswersFirst};
 ghost use Rattle.rail_scene.specs.Order.{located, list_forms, forms_of, scene_forms};
 
 use crate::fields::{elements_at, value_at};
-use crate::keys::{Form, Key, LIST_PARTS, ListPart, MOST_KEYS, root_keys};
+use crate::keys::{Key, KeyForm, LIST_PARTS, ListPart, MOST_KEYS, root_keys};
 use crate::members::key_index;
 use crate::places::{item_number, located};
 use crate::versions::Version;
@@ -177,14 +177,16 @@ fn key_fault(table: &Value, key: Key, step: u32) -> Option<NetFault>
 }
 
 /// Whether the value is of the kind that the form states.
-fn is_of(value: &Value, form: Form) -> bool
+fn is_of(value: &Value, form: KeyForm) -> bool
     ensures { result ≡ is_of form (view value.now) }
 {
     match form {
-        Form::Name | Form::Policy | Form::Choice | Form::Time => value.is_str(),
-        Form::Whole(_) => value.is_integer(),
-        Form::Joints | Form::Path | Form::Overlap | Form::Itinerary => { is_list_of_strings(value) }
-        Form::Tables => is_list_of_tables(value),
+        KeyForm::Name | KeyForm::Policy | KeyForm::Choice | KeyForm::Time => value.is_str(),
+        KeyForm::Whole(_) => value.is_integer(),
+        KeyForm::Joints | KeyForm::Path | KeyForm::Overlap | KeyForm::Itinerary => {
+            is_list_of_strings(value)
+        }
+        KeyForm::Tables => is_list_of_tables(value),
     }
 }
 

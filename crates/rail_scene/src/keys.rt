@@ -112,7 +112,7 @@ pub struct Bounds {
 
 /// What the value of a key has to be.
 #[derive(Clone, Copy)]
-pub enum Form {
+pub enum KeyForm {
     /// A string that is a name.
     Name,
     /// A string that is a name; an absent key stands for `fcfs`.
@@ -138,7 +138,7 @@ pub enum Form {
 #[derive(Clone, Copy)]
 pub struct Key {
     pub name: KeyName,
-    pub form: Form,
+    pub form: KeyForm,
     pub required: bool,
 }
 
@@ -298,7 +298,7 @@ pub(crate) fn list_in(part: Part) -> Option<ListPart>
 
 pub(crate) const VERSION: Key = Key {
     name: KeyName::Version,
-    form: Form::Whole(Bounds {
+    form: KeyForm::Whole(Bounds {
         low: 1,
         high: 2,
         default: 2,
@@ -308,7 +308,7 @@ pub(crate) const VERSION: Key = Key {
 
 pub(crate) const RELEASE: Key = Key {
     name: KeyName::Release,
-    form: Form::Whole(Bounds {
+    form: KeyForm::Whole(Bounds {
         low: 0,
         high: limits::RELEASE,
         default: 0,
@@ -321,7 +321,7 @@ const DEFAULT_DEPTH: u32 = 1;
 
 pub(crate) const DEPTH: Key = Key {
     name: KeyName::Depth,
-    form: Form::Whole(Bounds {
+    form: KeyForm::Whole(Bounds {
         low: 0,
         high: limits::DEPTH as u32,
         default: DEFAULT_DEPTH,
@@ -331,61 +331,61 @@ pub(crate) const DEPTH: Key = Key {
 
 pub(crate) const POLICY: Key = Key {
     name: KeyName::Policy,
-    form: Form::Policy,
+    form: KeyForm::Policy,
     required: false,
 };
 
 pub(crate) const SECTION_LIST: Key = Key {
     name: KeyName::Section,
-    form: Form::Tables,
+    form: KeyForm::Tables,
     required: false,
 };
 
 pub(crate) const PORTAL_LIST: Key = Key {
     name: KeyName::Portal,
-    form: Form::Tables,
+    form: KeyForm::Tables,
     required: false,
 };
 
 pub(crate) const SIGNAL_LIST: Key = Key {
     name: KeyName::Signal,
-    form: Form::Tables,
+    form: KeyForm::Tables,
     required: false,
 };
 
 pub(crate) const BOARD_LIST: Key = Key {
     name: KeyName::Board,
-    form: Form::Tables,
+    form: KeyForm::Tables,
     required: false,
 };
 
 pub(crate) const TURN_LIST: Key = Key {
     name: KeyName::Turn,
-    form: Form::Tables,
+    form: KeyForm::Tables,
     required: false,
 };
 
 pub(crate) const ROUTE_LIST: Key = Key {
     name: KeyName::Route,
-    form: Form::Tables,
+    form: KeyForm::Tables,
     required: false,
 };
 
 pub(crate) const KIND_LIST: Key = Key {
     name: KeyName::Kind,
-    form: Form::Tables,
+    form: KeyForm::Tables,
     required: false,
 };
 
 pub(crate) const TRAIN_LIST: Key = Key {
     name: KeyName::Train,
-    form: Form::Tables,
+    form: KeyForm::Tables,
     required: false,
 };
 
 pub(crate) const OVERLAP_TIME: Key = Key {
     name: KeyName::OverlapTime,
-    form: Form::Whole(Bounds {
+    form: KeyForm::Whole(Bounds {
         low: 0,
         high: limits::OVERLAP,
         default: 0,
@@ -431,19 +431,19 @@ const ROOT_KEYS: [Key; MOST_KEYS] = [
 
 pub(crate) const NAME: Key = Key {
     name: KeyName::Name,
-    form: Form::Name,
+    form: KeyForm::Name,
     required: true,
 };
 
 pub(crate) const SECTION_KIND: Key = Key {
     name: KeyName::SectionKind,
-    form: Form::Choice,
+    form: KeyForm::Choice,
     required: true,
 };
 
 pub(crate) const SECTION_LENGTH: Key = Key {
     name: KeyName::SectionLength,
-    form: Form::Whole(Bounds {
+    form: KeyForm::Whole(Bounds {
         low: 1,
         high: limits::SECTION_LENGTH,
         default: 1,
@@ -453,7 +453,7 @@ pub(crate) const SECTION_LENGTH: Key = Key {
 
 pub(crate) const SPEED: Key = Key {
     name: KeyName::Speed,
-    form: Form::Whole(Bounds {
+    form: KeyForm::Whole(Bounds {
         low: 1,
         high: limits::SPEED,
         default: 1,
@@ -463,7 +463,7 @@ pub(crate) const SPEED: Key = Key {
 
 pub(crate) const JOINTS: Key = Key {
     name: KeyName::Joints,
-    form: Form::Joints,
+    form: KeyForm::Joints,
     required: true,
 };
 
@@ -475,13 +475,13 @@ pub(crate) const SECTION_ORDER: [usize; 5] = [4, 1, 2, 0, 3];
 
 pub(crate) const JOINT: Key = Key {
     name: KeyName::Joint,
-    form: Form::Name,
+    form: KeyForm::Name,
     required: true,
 };
 
 pub(crate) const SETTING: Key = Key {
     name: KeyName::Setting,
-    form: Form::Whole(Bounds {
+    form: KeyForm::Whole(Bounds {
         low: 1,
         high: limits::SETTING,
         default: 1,
@@ -491,7 +491,7 @@ pub(crate) const SETTING: Key = Key {
 
 pub(crate) const WATCHING: Key = Key {
     name: KeyName::Watching,
-    form: Form::Whole(Bounds {
+    form: KeyForm::Whole(Bounds {
         low: 0,
         high: limits::WATCHING,
         default: 0,
@@ -501,7 +501,7 @@ pub(crate) const WATCHING: Key = Key {
 
 pub(crate) const APPROACH: Key = Key {
     name: KeyName::Approach,
-    form: Form::Whole(Bounds {
+    form: KeyForm::Whole(Bounds {
         low: 0,
         high: limits::APPROACH,
         default: 0,
@@ -517,7 +517,7 @@ pub(crate) const PORTAL_ORDER: [usize; 5] = [4, 1, 0, 2, 3];
 
 pub(crate) const AHEAD: Key = Key {
     name: KeyName::Ahead,
-    form: Form::Name,
+    form: KeyForm::Name,
     required: true,
 };
 
@@ -535,19 +535,19 @@ pub(crate) const BOARD_ORDER: [usize; 2] = [1, 0];
 
 pub(crate) const ARRIVING: Key = Key {
     name: KeyName::Arriving,
-    form: Form::Name,
+    form: KeyForm::Name,
     required: true,
 };
 
 pub(crate) const LEAVING: Key = Key {
     name: KeyName::Leaving,
-    form: Form::Name,
+    form: KeyForm::Name,
     required: true,
 };
 
 pub(crate) const TURN_TIME: Key = Key {
     name: KeyName::Time,
-    form: Form::Whole(Bounds {
+    form: KeyForm::Whole(Bounds {
         low: 0,
         high: limits::TURN_TIME,
         default: 0,
@@ -563,25 +563,25 @@ pub(crate) const TURN_ORDER: [usize; 3] = [0, 1, 2];
 
 pub(crate) const FROM: Key = Key {
     name: KeyName::From,
-    form: Form::Name,
+    form: KeyForm::Name,
     required: true,
 };
 
 pub(crate) const TO: Key = Key {
     name: KeyName::To,
-    form: Form::Name,
+    form: KeyForm::Name,
     required: true,
 };
 
 pub(crate) const PATH: Key = Key {
     name: KeyName::Path,
-    form: Form::Path,
+    form: KeyForm::Path,
     required: true,
 };
 
 pub(crate) const OVERLAP: Key = Key {
     name: KeyName::Overlap,
-    form: Form::Overlap,
+    form: KeyForm::Overlap,
     required: false,
 };
 
@@ -599,7 +599,7 @@ pub(crate) const ROUTE_ORDER: [usize; 5] = [1, 0, 4, 3, 2];
 
 pub(crate) const TRAIN_LENGTH: Key = Key {
     name: KeyName::TrainLength,
-    form: Form::Whole(Bounds {
+    form: KeyForm::Whole(Bounds {
         low: 1,
         high: limits::TRAIN_LENGTH,
         default: 1,
@@ -609,7 +609,7 @@ pub(crate) const TRAIN_LENGTH: Key = Key {
 
 pub(crate) const START: Key = Key {
     name: KeyName::Start,
-    form: Form::Whole(Bounds {
+    form: KeyForm::Whole(Bounds {
         low: 0,
         high: limits::START,
         default: 0,
@@ -619,7 +619,7 @@ pub(crate) const START: Key = Key {
 
 pub(crate) const STOP: Key = Key {
     name: KeyName::Stop,
-    form: Form::Whole(Bounds {
+    form: KeyForm::Whole(Bounds {
         low: 0,
         high: limits::STOP,
         default: 0,
@@ -635,19 +635,19 @@ pub(crate) const KIND_ORDER: [usize; 5] = [1, 0, 2, 3, 4];
 
 pub(crate) const TRAIN_KIND: Key = Key {
     name: KeyName::TrainKind,
-    form: Form::Name,
+    form: KeyForm::Name,
     required: true,
 };
 
 pub(crate) const ENTRY: Key = Key {
     name: KeyName::Entry,
-    form: Form::Time,
+    form: KeyForm::Time,
     required: true,
 };
 
 pub(crate) const PRIORITY: Key = Key {
     name: KeyName::Priority,
-    form: Form::Whole(Bounds {
+    form: KeyForm::Whole(Bounds {
         low: 0,
         high: 255,
         default: 0,
@@ -657,7 +657,7 @@ pub(crate) const PRIORITY: Key = Key {
 
 pub(crate) const ROUTES: Key = Key {
     name: KeyName::Routes,
-    form: Form::Itinerary,
+    form: KeyForm::Itinerary,
     required: true,
 };
 

@@ -5,8 +5,8 @@ use Rattle.toml.specs.View.{items_of}
 use Rattle.rail_base.specs.declared.plant.TrainKind.{TrainKind}
 use Rattle.rail_track.specs.declared.section.Section.{Section}
 use Rattle.rail_routes.specs.declared.items.Post.{Post}
-use Rattle.rail_routes.specs.declared.items.Role.{Role}
-use Rattle.rail_routes.specs.declared.items.Role.TheVariants.{Portal, Signal, Board}
+use Rattle.rail_routes.specs.declared.items.PostRole.{PostRole}
+use Rattle.rail_routes.specs.declared.items.PostRole.TheVariants.{Portal, Signal, Board}
 use Rattle.rail_routes.specs.declared.items.Route.{Route}
 use Rattle.rail_routes.specs.declared.items.Turn.{Turn}
 use Rattle.rail_scene.specs.declared.scene.Scene.{Scene}
@@ -38,7 +38,7 @@ section_flat s = table_flat 1 _ (deeper 1 _ _ (names_flat s.joints) (least 1))
 post_flat : (post : Post) → depth (post_data post) ≤ 2
 post_flat post = table_flat 1 _ (by post.ahead post.role)
   where
-    by : (ahead : Option (List ℕ)) (role : Role) → members_depth (with_ahead ahead (post_members role post)) ≤ 1
+    by : (ahead : Option (List ℕ)) (role : PostRole) → members_depth (with_ahead ahead (post_members role post)) ≤ 1
     by None Portal = least 1
     by None Signal = least 1
     by None Board = least 1

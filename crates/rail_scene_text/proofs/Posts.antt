@@ -10,8 +10,8 @@ use Rattle.rail_base.specs.NameForms.{is_name}
 use Rattle.rail_base.proofs.CallerLemmas.{none_failing, all_passed}
 use Rattle.rail_track.specs.declared.section.Section.{Section}
 use Rattle.rail_routes.specs.declared.items.Post.{Post}
-use Rattle.rail_routes.specs.declared.items.Role.{Role}
-use Rattle.rail_routes.specs.declared.items.Role.TheVariants.{Portal, Signal, Board}
+use Rattle.rail_routes.specs.declared.items.PostRole.{PostRole}
+use Rattle.rail_routes.specs.declared.items.PostRole.TheVariants.{Portal, Signal, Board}
 use Rattle.rail_routes.specs.Net.{Net}
 use Rattle.rail_routes.specs.PostRules.{is_formed, is_formed_as, has_times, stands_well, post_tests}
 use Rattle.rail_routes.specs.SoundNetworks.{IsSoundNetwork, same_role, is_timed, is_sound_post}
@@ -31,7 +31,7 @@ use Rattle.rail_scene_text.proofs.Lists.{item_none}
 use Rattle.rail_scene_text.proofs.Reading.{found, name_is, number_is, from_zero}
 
 -- what a post of the role has in a scene with these sections
-abbrev pub Good : Role → List Section → Post → Type 0
+abbrev pub Good : PostRole → List Section → Post → Type 0
 Good role sections post = (is_typed_post post ≡ true) × (is_sound_post role sections post ≡ true)
 
 -- the names of a post
@@ -47,12 +47,12 @@ named post typed =
     record { name = name; joint = joint; ahead = ahead }
 
 -- what a post is by its role
-record Formed (role : Role) (post : Post) : Type 0 where
+record Formed (role : PostRole) (post : Post) : Type 0 where
   is : post.role ≡ role
   formed : is_formed_as role post ≡ true
   timed : is_timed post ≡ true
 
-formed_as : (role : Role) (sections : List Section) (post : Post) → is_sound_post role sections post ≡ true → Formed role post
+formed_as : (role : PostRole) (sections : List Section) (post : Post) → is_sound_post role sections post ≡ true → Formed role post
 formed_as role sections post sound =
     let (most, well) = and_parts (same_role role post.role && is_formed post && is_timed post) (stands_well sections post) sound in
     let (some, timed) = and_parts (same_role role post.role && is_formed post) (is_timed post) most in
@@ -66,7 +66,7 @@ record Times (post : Post) : Type 0 where
   watching : nat_le post.watching (most WatchingTime) ≡ true
   approach : nat_le post.approach (most ApproachTime) ≡ true
 
-times : (post : Post) (role : Role) → has_times role ≡ true → post.role ≡ role → is_timed post ≡ true → Times post
+times : (post : Post) (role : PostRole) → has_times role ≡ true → post.role ≡ role → is_timed post ≡ true → Times post
 times post role has is timed =
     let own : (not true || (is_from_one (most SettingTime) post.setting && nat_le post.watching (most WatchingTime) && nat_le post.approach (most ApproachTime))) ≡ true =
     (λ i. not ((sym has ∙ ap has_times (sym is)) i) || (is_from_one (most SettingTime) post.setting && nat_le post.watching (most WatchingTime) && nat_le post.approach (most ApproachTime))) ∙ timed in
@@ -91,7 +91,7 @@ signal_data ahead post = table (with_ahead (Some ahead) (portal_members post))
 abbrev board_data : Post → Data
 board_data post = table (board_members post)
 
-module _ (post : Post) (role : Role) (is : post.role ≡ role) where
+module _ (post : Post) (role : PostRole) (is : post.role ≡ role) where
   data_as : (ahead : Option (List ℕ)) → post.ahead ≡ ahead → post_data post ≡ table (with_ahead ahead (post_members role post))
   data_as ahead at = λ i. table (with_ahead (at i) (post_members (is i) post))
 

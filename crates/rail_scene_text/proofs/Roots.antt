@@ -8,7 +8,7 @@ use Rattle.rail_base.specs.Limits.{most, ReleaseTime, Depth, OverlapTime}
 use Rattle.rail_base.specs.declared.refusals.Part.TheVariants.{Root}
 use Rattle.rail_base.proofs.CallerLemmas.{none_failing}
 use Rattle.rail_track.specs.SoundTracks.{is_fit}
-use Rattle.rail_routes.specs.declared.items.Role.TheVariants as role
+use Rattle.rail_routes.specs.declared.items.PostRole.TheVariants as role
 use Rattle.rail_routes.specs.Net.{Net}
 use Rattle.rail_routes.specs.SoundNetworks.{IsSoundNetwork, is_sound_post, is_sound_turn, is_sound_route}
 use Rattle.rail_scene.specs.declared.keys.KeyName.TheVariants as word

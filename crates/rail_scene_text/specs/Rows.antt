@@ -2,7 +2,7 @@
 use Rattle.std.specs.Prelude.{ℕ, cond, List, [], ◌∷◌, codes, Some, None}
 use Rattle.toml.specs.Data.{Data, table, Members, no_members, member, same_key}
 use Rattle.rail_routes.specs.declared.items.Post.{Post}
-use Rattle.rail_routes.specs.declared.items.Role.TheVariants as role
+use Rattle.rail_routes.specs.declared.items.PostRole.TheVariants as role
 use Rattle.rail_routes.specs.declared.items.Route.{Route}
 use Rattle.rail_track.specs.declared.section.SectionKind.TheVariants.{Plain}
 use Rattle.rail_scene.specs.declared.scene.Scene.{Scene}

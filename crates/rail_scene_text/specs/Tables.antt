@@ -12,8 +12,8 @@ use Rattle.rail_track.specs.declared.section.Section.{Section}
 use Rattle.rail_track.specs.declared.section.SectionKind.{SectionKind}
 use Rattle.rail_track.specs.declared.section.SectionKind.TheVariants.{Plain, Points, Crossing, Slip}
 use Rattle.rail_routes.specs.declared.items.Post.{Post}
-use Rattle.rail_routes.specs.declared.items.Role.{Role}
-use Rattle.rail_routes.specs.declared.items.Role.TheVariants.{Portal, Signal, Board}
+use Rattle.rail_routes.specs.declared.items.PostRole.{PostRole}
+use Rattle.rail_routes.specs.declared.items.PostRole.TheVariants.{Portal, Signal, Board}
 use Rattle.rail_routes.specs.declared.items.Route.{Route}
 use Rattle.rail_routes.specs.declared.items.Step.{Step}
 use Rattle.rail_routes.specs.declared.items.Turn.{Turn}
@@ -72,7 +72,7 @@ portal_members post =
     member (text_of word.Watching) (number post.watching) no_members))))
 
 -- the members that a post of the role has beside its section ahead
-abbrev pub post_members : Role → Post → Members
+abbrev pub post_members : PostRole → Post → Members
 post_members Portal post = portal_members post
 post_members Signal post = portal_members post
 post_members Board post = board_members post

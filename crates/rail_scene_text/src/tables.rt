@@ -7,7 +7,7 @@ ghost use Rattle.rail_scene_text.specs.Tables.{kind_word, path_of, overlap_of, f
 
 use crate::values::{Written, array, byte_value, put, time_value};
 use rail_base::{Name, TrainKind};
-use rail_routes::{Post, Role, Route, Step, Turn};
+use rail_routes::{Post, PostRole, Route, Step, Turn};
 use rail_scene::SceneTrain;
 use rail_scene::keys::KeyName;
 use rail_track::{Section, SectionKind};
@@ -74,8 +74,8 @@ fn post_members(alloc: Global, post: &Post) -> Result<Table, AllocError>
         post.joint.value(alloc)?,
     )?;
     match post.role {
-        Role::Board => Ok(members),
-        Role::Portal | Role::Signal => {
+        PostRole::Board => Ok(members),
+        PostRole::Portal | PostRole::Signal => {
             put(
                 alloc,
                 &mut members,

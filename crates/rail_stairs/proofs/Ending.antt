@@ -25,7 +25,7 @@ use Rattle.rail_laws_front.specs.Views.{Ends, Follows, is_event}
 use Rattle.rail_laws_front.specs.Views.Follows.{by_event, by_admission, by_hold, by_end}
 use Rattle.rail_laws_front.proofs.CallerLemmas.{go_after_admission, lawful_before, lawful_last, never_overlap, stands_or_due, timely, well_formed_from_accepted}
 use Rattle.rail_laws_events.proofs.CallerLemmas.{few_admissions, input_parts, times_below}
-use Rattle.rail_laws_run.proofs.CallerLemmas.{interval_lasts}
+use Rattle.rail_laws_step.proofs.CallerLemmas.{interval_lasts}
 use Rattle.rail_stairs.specs.EndedIntervals.{AreDisjoint, IsPositive, end_in, interval_in}
 use Rattle.rail_stairs.specs.Stairways.{ended_at}
 

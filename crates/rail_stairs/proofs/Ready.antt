@@ -15,8 +15,8 @@ use Rattle.rail_laws_front.specs.Views.{Follows}
 use Rattle.rail_laws_front.specs.Views.Follows.{by_event, by_admission, by_hold, by_end}
 use Rattle.rail_laws_front.proofs.CallerLemmas.{admission_added, admission_of_other, admitted_added, agree_added, event_admits_nothing, get_or-listed, lawful_before, lawful_last, length-listed, length_added, ready_agrees, waiting_parts, well_formed_from_accepted}
 use Rattle.rail_laws_events.proofs.CallerLemmas.{few_admissions, input_parts}
-use Rattle.rail_laws_run.specs.TimeLimits.{StaysBelow}
-use Rattle.rail_laws_run.proofs.CallerLemmas.{ready_is_past, stays_below}
+use Rattle.rail_laws_step.specs.TimeLimits.{StaysBelow}
+use Rattle.rail_laws_step.proofs.CallerLemmas.{ready_is_past, stays_below}
 use Rattle.rail_stairs.specs.declared.stairs.Stairs.{Stairs}
 use Rattle.rail_stairs.specs.Journeys.{AreAdmissible, AreAllAdmissible, before_train}
 use Rattle.rail_stairs.specs.NotedHistories.{AreNoted, IsNoted, noted_of}

@@ -24,14 +24,14 @@ use Rattle.rail_laws_front.proofs.CallerLemmas.{agree_added, admitted_added, fre
 use Rattle.rail_laws_events.specs.Accounts.{tally}
 use Rattle.rail_laws_events.specs.Changes.{taken_back, freed_before, gained, overlap_frees, ready_after}
 use Rattle.rail_laws_events.proofs.CallerLemmas.{tally-append}
-use Rattle.rail_laws_run.specs.HolderTables.{AreHolders, bar_holder, held_cause, is_train, own_overlap}
-use Rattle.rail_laws_run.specs.Heads.{IsHead}
+use Rattle.rail_laws_step.specs.HolderTables.{AreHolders, bar_holder, held_cause, is_train, own_overlap}
+use Rattle.rail_laws_step.specs.Heads.{IsHead}
 use Rattle.rail_block.specs.declared.times.MoveTimes.{MoveTimes}
 use Rattle.rail_block.specs.CarriedTimes.{times_at}
 use Rattle.rail_queue.specs.declared.event.Event.{Event}
 use Rattle.rail_queue.specs.declared.event.Class.TheVariants as class
 use Rattle.rail_state.specs.Events.{deferred_event, deferred_frees, deferred_of, end_lines, event_of, free_events, is_free_of, step_lines, train_event}
-use Rattle.rail_laws_run.proofs.CallerLemmas.{IsOwnStep, admission_due, no_later_hold, overlap_frees_after, own_step, passing_holds, unheld, unready_by_admission}
+use Rattle.rail_laws_step.proofs.CallerLemmas.{IsOwnStep, admission_due, no_later_hold, overlap_frees_after, own_step, passing_holds, unheld, unready_by_admission}
 use Rattle.rail_state.specs.declared.train.TrainState.{TrainState}
 use Rattle.rail_state.specs.TrainStates.{after_taking, outlasts_taking, state_of}
 use Rattle.rail_state.specs.TrainStates.{admitted as admitted_state}

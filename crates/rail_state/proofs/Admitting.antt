@@ -19,7 +19,7 @@ use Rattle.rail_rules.proofs.CallerLemmas.{all_below_from}
 use Rattle.rail_laws_front.specs.Views.{Admits}
 use Rattle.rail_laws_front.proofs.CallerLemmas.{place_in}
 use Rattle.rail_list.specs.Repairs.{IsNoted, is_known, is_repairable_for}
-use Rattle.rail_laws_run.proofs.CallerLemmas.{admits_follows, run_continued}
+use Rattle.rail_laws_step.proofs.CallerLemmas.{admits_follows, run_continued}
 use Rattle.rail_state.specs.TrainStates.{is_untried, state_of}
 use Rattle.rail_state.specs.Representation.{IsAdmissible, IsNext, MayKeep, Represents, admit_line}
 use Rattle.rail_state.proofs.Settling.{bar_seen, cause_seen}

@@ -3,7 +3,7 @@ use Rattle.std.proofs.Common.{◌≡◌, ℕ, Bool, true, false, ◌&&◌, cond,
 use Rattle.std.proofs.lemmas.Bool.{eqb-true}
 use Rattle.std.proofs.lemmas.Option.{none-some}
 use Rattle.rail_rules.specs.Numbers.{is_in}
-use Rattle.rail_laws_run.specs.HolderTables.{is_train}
+use Rattle.rail_laws_step.specs.HolderTables.{is_train}
 
 -- where none does, nobody holds the section, or the train itself
 pub unbarred : (t x : ℕ) (own : List ℕ) (o : Option ℕ) → cond (is_train t o && is_in x own) None o ≡ None → (o ≡ None) ⊎ (o ≡ Some t)

@@ -6,8 +6,8 @@ use Rattle.std.proofs.lemmas.Option.{none-some}
 use Rattle.rail_base.specs.declared.history.Entry.{Entry}
 use Rattle.rail_base.specs.declared.history.What.{What}
 use Rattle.rail_base.specs.declared.history.What.TheVariants as what
-use Rattle.rail_laws_run.specs.KeptLines.{is_kept}
-use Rattle.rail_laws_run.proofs.CallerLemmas.{due_split, nobody_ready, nobody_out}
+use Rattle.rail_laws_step.specs.KeptLines.{is_kept}
+use Rattle.rail_laws_step.proofs.CallerLemmas.{due_split, nobody_ready, nobody_out}
 use Rattle.rail_laws_events.specs.Accounts.{to_come}
 use Rattle.rail_laws_events.proofs.CallerLemmas.{tally-same, tally-gather, tally-append}
 use Rattle.rail_rules.specs.Numbers.{gather, sum_below}
@@ -18,7 +18,7 @@ use Rattle.rail_rules.specs.Accepted.{is_accepted}
 use Rattle.rail_laws_front.specs.Premises.{IsWellFormed}
 use Rattle.rail_laws_front.proofs.CallerLemmas.{get_or-listed, length-listed}
 use Rattle.rail_laws_events.specs.Accounts.{all_events, tally}
-use Rattle.rail_laws_run.specs.HolderTables.{AreHolders}
+use Rattle.rail_laws_step.specs.HolderTables.{AreHolders}
 use Rattle.rail_queue.specs.declared.event.Event.{Event}
 use Rattle.rail_queue.specs.declared.event.Class.TheVariants as class
 use Rattle.rail_state.specs.Events.{deferred_of, event_of, train_event}
@@ -79,7 +79,7 @@ begins dispatch plant state accepted has = record {
   heads = record {
     place_counts = λ t lt. subst (λ (r : TrainState). 0 < r.head.place) (sym (train_is t lt)) (omega arith);
     step_counts = λ t lt. subst (λ (r : TrainState). 0 < r.head.step) (sym (train_is t lt)) (omega arith);
-    heads = λ t lt. subst (λ (r : TrainState). Rattle.rail_laws_run.specs.Heads.IsHead plant [] t (r.head.place - 1) (r.head.step - 1)) (sym (train_is t lt)) (first_head plant fine t lt);
+    heads = λ t lt. subst (λ (r : TrainState). Rattle.rail_laws_step.specs.Heads.IsHead plant [] t (r.head.place - 1) (r.head.step - 1)) (sym (train_is t lt)) (first_head plant fine t lt);
   };
   waiting = record {
     ready = λ t lt. ap (λ (r : TrainState). r.waits) (train_is t lt) ∙ sym (nobody_ready (input_of dispatch plant) t);

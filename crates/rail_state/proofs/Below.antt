@@ -14,20 +14,20 @@ use Rattle.rail_rules.specs.Plant.{Plant, claimed, trains, moves, steps}
 use Rattle.rail_rules.specs.Times.{ready, enter}
 use Rattle.rail_rules.specs.Events.{enter_line, ready_line}
 use Rattle.rail_rules.proofs.CallerLemmas.{admissions_kept}
-use Rattle.rail_laws_run.specs.LineKinds.{is_ready_line}
-use Rattle.rail_laws_run.proofs.CallerLemmas.{ready_by_line, held_last, held_other, hold_due, settled_where_told, unheld, list_cause_kept as cause_kept, ends_follows, happens_follows, holds_follows, out_by_line, out_kept as kept_out, tally_events as pending_events, to_come_found as pending_found, to_come_from as pending_from, ready_same, head_enters as pending_enters, head_first, head_kept as pending_kept, next_enter as pending_enter, blocked_is, at_first, frees_one, kept as kept_holders, takes}
+use Rattle.rail_laws_step.specs.LineKinds.{is_ready_line}
+use Rattle.rail_laws_step.proofs.CallerLemmas.{ready_by_line, held_last, held_other, hold_due, settled_where_told, unheld, list_cause_kept as cause_kept, ends_follows, happens_follows, holds_follows, out_by_line, out_kept as kept_out, tally_events as pending_events, to_come_found as pending_found, to_come_from as pending_from, ready_same, head_enters as pending_enters, head_first, head_kept as pending_kept, next_enter as pending_enter, blocked_is, at_first, frees_one, kept as kept_holders, takes}
 use Rattle.rail_rules.specs.Causes.{blocked_cause, cause, list_cause, is_settled, is_deciding, is_ready, last_hold, place}
 use Rattle.rail_rules.specs.Lawful.{is_lawful, is_out, is_out_line, may_follow}
 use Rattle.rail_laws_front.specs.Premises.{IsWellFormed}
 use Rattle.rail_laws_front.specs.Views.{Admits, Happens, Holds, Ends}
 use Rattle.rail_laws_front.specs.EventLines.{IsEvent}
 use Rattle.rail_laws_events.specs.Accounts.{is_train_event, tally, to_come}
-use Rattle.rail_laws_run.specs.HolderTables.{AreHolders, bar_holder, held_cause, own_overlap, taken_by}
-use Rattle.rail_laws_run.specs.LinesToCome.{ToCome}
+use Rattle.rail_laws_step.specs.HolderTables.{AreHolders, bar_holder, held_cause, own_overlap, taken_by}
+use Rattle.rail_laws_step.specs.LinesToCome.{ToCome}
 use Rattle.rail_laws_front.proofs.CallerLemmas.{lawful_before, told_kept, well_formed_from_accepted}
 use Rattle.rail_rules.specs.LineCounts.{is_command}
 use Rattle.rail_state.proofs.Early.{no_early_hold as told_no_early}
-use Rattle.rail_laws_run.specs.Heads.{IsHead, enters, next_move, next_step}
+use Rattle.rail_laws_step.specs.Heads.{IsHead, enters, next_move, next_step}
 use Rattle.rail_rules.specs.Accepted.{is_accepted}
 use Rattle.rail_state.specs.Representation.{bare_at}
 

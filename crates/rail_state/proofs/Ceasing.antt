@@ -12,7 +12,7 @@ use Rattle.rail_rules.specs.Events.{ready_line}
 use Rattle.rail_rules.proofs.CallerLemmas.{admissions_kept}
 use Rattle.rail_laws_events.proofs.CallerLemmas.{one_entry}
 use Rattle.rail_rules.specs.LineCounts.{is_command}
-use Rattle.rail_laws_run.proofs.CallerLemmas.{kept_both, command_idle}
+use Rattle.rail_laws_step.proofs.CallerLemmas.{kept_both, command_idle}
 
 arrange : (l c d s : Bool) → (l && (c && d) && s) ≡ (d && (l && c && s))
 arrange true true true s = refl

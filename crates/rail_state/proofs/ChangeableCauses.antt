@@ -12,7 +12,7 @@ use Rattle.rail_rules.specs.Plant.{Plant, claimed, trains}
 use Rattle.rail_state.specs.declared.train.TrainState.{TrainState}
 use Rattle.rail_sets.specs.declared.train_set.TrainSet.{TrainSet}
 use Rattle.rail_sets.specs.TrainSets.{has_train}
-use Rattle.rail_laws_run.specs.HolderTables.{bar_holder, own_overlap}
+use Rattle.rail_laws_step.specs.HolderTables.{bar_holder, own_overlap}
 use Rattle.rail_state.specs.TrainStates.{AreAtFirst, admitted, after_taking, is_at_first, is_blocked, is_blocked_at, is_blocked_before, is_touched, no_state, outlasts_taking, state_admitted, state_of, state_told, without_known}
 use Rattle.rail_state.specs.TrainSearches.{is_changeable}
 use Rattle.rail_state.proofs.Sets.{written}

@@ -5,7 +5,7 @@ use Rattle.rail_base.specs.declared.history.What.{What}
 use Rattle.rail_base.specs.declared.history.What.TheVariants.{Free, Arrive, Enter, Out, Ready, Told, Untold, Admit, Hold, End}
 use Rattle.rail_rules.specs.Plant.{Plant}
 use Rattle.rail_rules.specs.Lawful.{is_out_line}
-use Rattle.rail_laws_run.specs.Heads.{enters}
+use Rattle.rail_laws_step.specs.Heads.{enters}
 use Rattle.rail_state.specs.declared.train.TrainState.{TrainState}
 use Rattle.rail_state.specs.TrainStates.{head_behind, state_after}
 use Rattle.rail_state.proofs.Fields.{cond_same}

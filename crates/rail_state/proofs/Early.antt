@@ -20,7 +20,7 @@ use Rattle.rail_laws_front.specs.Premises.{IsWellFormed}
 use Rattle.rail_laws_front.specs.Views.{Admits, Follows, Happens}
 use Rattle.rail_laws_front.specs.Views.Follows.{by_admission, by_end, by_event, by_hold}
 use Rattle.rail_laws_front.proofs.CallerLemmas.{length_added, lawful_before, lawful_last, not_ended, due_found, due_from_command, due_from_event, deciding_quiet, admission_added, admission_of_other, event_admits_nothing, stands_on, was_running, event_before, same_time, times_rise}
-use Rattle.rail_laws_run.proofs.CallerLemmas.{event_holds_nothing, held_other, no_later_hold, unheld, ready_is_past}
+use Rattle.rail_laws_step.proofs.CallerLemmas.{event_holds_nothing, held_other, no_later_hold, unheld, ready_is_past}
 
 -- a train that is ready and isn't cancelled stays ready until it is admitted
 still_ready : (input : Input) (line : Line) (front : Front) (t : ℕ) → admissions (line ∷ front) t ≡ admissions front t → is_cancelled t (told input.commands (line ∷ front)) ≡ false → is_ready input front t ≡ true → is_ready input (line ∷ front) t ≡ true

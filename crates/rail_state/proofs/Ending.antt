@@ -20,14 +20,14 @@ use Rattle.rail_laws_front.specs.Premises.{IsWellFormed}
 use Rattle.rail_laws_front.specs.Views.{Ends}
 use Rattle.rail_laws_front.specs.EventLines.IsEvent.{readying}
 use Rattle.rail_laws_events.specs.Accounts.{tally}
-use Rattle.rail_laws_run.proofs.CallerLemmas.{other_left}
+use Rattle.rail_laws_step.proofs.CallerLemmas.{other_left}
 use Rattle.rail_state.proofs.FirstSections.{at_first_kept}
 use Rattle.rail_state.proofs.Seen.{seen_kept}
 use Rattle.rail_laws_events.proofs.CallerLemmas.{tally_all, tally-le, tally-some}
 use Rattle.rail_rules.specs.Orders.{is_cancelled, told, Dispatch, input_of}
 use Rattle.rail_rules.specs.Events.{due_lines}
-use Rattle.rail_laws_run.specs.HolderTables.{AreHolders}
-use Rattle.rail_laws_run.specs.Heads.{IsHead}
+use Rattle.rail_laws_step.specs.HolderTables.{AreHolders}
+use Rattle.rail_laws_step.specs.Heads.{IsHead}
 use Rattle.rail_queue.specs.declared.event.Event.{Event}
 use Rattle.rail_state.specs.Events.{deferred_of, event_of}
 use Rattle.rail_state.specs.TrainStates.{state_of}

@@ -10,7 +10,7 @@ use Rattle.rail_rules.specs.Numbers.{comes_before}
 use Rattle.rail_state.specs.declared.train.TrainState.{TrainState}
 use Rattle.rail_sets.specs.declared.train_set.TrainSet.{TrainSet}
 use Rattle.rail_sets.specs.TrainSets.{has_train}
-use Rattle.rail_laws_run.specs.HolderTables.{own_overlap}
+use Rattle.rail_laws_step.specs.HolderTables.{own_overlap}
 use Rattle.rail_state.specs.TrainStates.{IsReadyFirst, is_at_first, is_untried, looked_at, state_of, turn}
 use Rattle.rail_state.specs.TrainSearches.{earlier}
 use Rattle.rail_state.proofs.Sets.{passing_known}

@@ -6,8 +6,8 @@ use Rattle.std.proofs.lemmas.Option.{none-some, same_Some}
 use Rattle.rail_base.specs.declared.history.Cause.{Cause}
 use Rattle.rail_base.specs.declared.history.Cause.TheVariants.{Blocked}
 use Rattle.rail_rules.specs.Numbers.{is_in, or_else}
-use Rattle.rail_laws_run.specs.HolderTables.{bar_holder, held_cause, is_train}
-use Rattle.rail_release.specs.FirstHeld.{first_held, held_or}
+use Rattle.rail_laws_step.specs.HolderTables.{bar_holder, held_cause, is_train}
+use Rattle.rail_holders.specs.FirstHeld.{first_held, held_or}
 use Rattle.rail_state.specs.TrainStates.{is_blocked_before}
 
 -- where nobody holds one, none bars it

@@ -9,7 +9,7 @@ use Rattle.rail_base.specs.declared.history.Cause.TheVariants.{Stopped, Closed, 
 use Rattle.rail_rules.specs.Numbers.{or_else}
 use Rattle.rail_rules.specs.Plant.{Plant, claimed, trains}
 use Rattle.rail_orders.specs.OrderTables.{Told}
-use Rattle.rail_laws_run.specs.HolderTables.{bar_holder, held_cause}
+use Rattle.rail_laws_step.specs.HolderTables.{bar_holder, held_cause}
 use Rattle.rail_state.specs.declared.train.TrainState.{TrainState}
 use Rattle.rail_state.proofs.Barring.{barred_is}
 use Rattle.rail_state.specs.TrainStates.{AreAtFirst, bar_by, is_at_first, is_blocked, is_blocked_at, state_of}

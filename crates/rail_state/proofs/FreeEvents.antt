@@ -19,7 +19,7 @@ use Rattle.rail_laws_front.proofs.CallerLemmas.{over_not_open}
 use Rattle.rail_laws_events.specs.Accounts.{tally}
 use Rattle.rail_laws_events.specs.Changes.{overlap_frees}
 use Rattle.rail_laws_events.proofs.CallerLemmas.{tally-gather}
-use Rattle.rail_laws_run.specs.HolderTables.{gives_free, own_overlap}
+use Rattle.rail_laws_step.specs.HolderTables.{gives_free, own_overlap}
 use Rattle.rail_queue.specs.declared.event.Event.{Event}
 use Rattle.rail_queue.specs.declared.event.Class.TheVariants as class
 use Rattle.rail_queue.specs.Order.{class_number, goes_before, is_of}

@@ -7,7 +7,7 @@ use Rattle.std.proofs.lemmas.Option.{none-some}
 use Rattle.rail_base.specs.declared.history.Cause.{Cause}
 use Rattle.rail_base.specs.declared.history.Cause.TheVariants.{Blocked}
 use Rattle.rail_rules.specs.Numbers.{is_in, or_else}
-use Rattle.rail_laws_run.specs.HolderTables.{bar_holder, held_cause, is_train}
+use Rattle.rail_laws_step.specs.HolderTables.{bar_holder, held_cause, is_train}
 use Rattle.rail_state.specs.TrainStates.{is_blocked_at}
 
 freed_self : (h : List (Option ℕ)) (x : ℕ) → get_or (set h x None) x None ≡ None

@@ -13,7 +13,7 @@ use Rattle.rail_block.specs.declared.times.MoveTimes.{MoveTimes}
 use Rattle.rail_block.specs.CarriedTimes.{times_at}
 use Rattle.rail_queue.specs.declared.event.Class.TheVariants as class
 use Rattle.rail_state.specs.Events.{deferred_of, end_lines, event_of, is_free_of, step_lines, train_event}
-use Rattle.rail_laws_run.specs.HolderTables.{bar_holder, held_cause, is_train, taken_by}
+use Rattle.rail_laws_step.specs.HolderTables.{bar_holder, held_cause, is_train, taken_by}
 use Rattle.rail_queue.specs.declared.event.Event.{Event}
 use Rattle.rail_state.specs.declared.train.TrainState.{TrainState}
 use Rattle.rail_state.specs.TrainStates.{state_of}

@@ -20,15 +20,15 @@ use Rattle.rail_laws_events.specs.Accounts.{is_train_event, tally, to_come}
 use Rattle.rail_laws_events.proofs.CallerLemmas.{event_is_train}
 use Rattle.rail_laws_front.proofs.CallerLemmas.{timely}
 use Rattle.rail_rules.specs.Orders.{is_cancelled, told, Dispatch, input_of}
-use Rattle.rail_laws_run.specs.HolderTables.{AreHolders}
-use Rattle.rail_laws_run.specs.Heads.{enters}
+use Rattle.rail_laws_step.specs.HolderTables.{AreHolders}
+use Rattle.rail_laws_step.specs.Heads.{enters}
 use Rattle.rail_queue.specs.declared.event.Event.{Event}
 use Rattle.rail_queue.specs.Order.{goes_before}
 use Rattle.rail_queue.specs.declared.event.Class.TheVariants as class
 use Rattle.rail_state.specs.Events.{event_of}
 use Rattle.rail_state.specs.TrainStates.{state_of}
 use Rattle.rail_state.specs.Representation.{AreKnown, HasHappened, Represents, bare_at, what_of}
-use Rattle.rail_laws_run.specs.LinesToCome.{ToCome}
+use Rattle.rail_laws_step.specs.LinesToCome.{ToCome}
 use Rattle.rail_state.proofs.Below.{well_formed_plant, follows_event, next_enter, to_come_found}
 use Rattle.rail_state.proofs.EventCodes.{one_event, same_event}
 use Rattle.rail_state.proofs.LineCodes.{before_by_time, event_time}

@@ -6,7 +6,7 @@ use Rattle.std.proofs.lemmas.Option.{none-some}
 use Rattle.rail_base.specs.declared.history.Cause.{Cause}
 use Rattle.rail_base.specs.declared.history.What.{What}
 use Rattle.rail_base.specs.declared.history.What.TheVariants.{Free, Arrive, Enter, Out, Ready, Told, Untold, Admit, Hold, End}
-use Rattle.rail_laws_run.specs.HolderTables.{own_overlap}
+use Rattle.rail_laws_step.specs.HolderTables.{own_overlap}
 use Rattle.rail_rules.specs.Plant.{Plant, is_forced, trains, moves, claimed, steps}
 use Rattle.rail_rules.specs.Times.{stop_time}
 use Rattle.rail_rules.specs.Fronts.{Front, Line, admissions, is_admission, is_hold}
@@ -15,8 +15,8 @@ use Rattle.rail_rules.specs.Causes.{last_hold, list_cause, place}
 use Rattle.rail_rules.specs.Lawful.{is_lawful, is_out_line}
 use Rattle.rail_laws_front.specs.Premises.{IsWellFormed}
 use Rattle.rail_laws_events.specs.Accounts.{is_train_event}
-use Rattle.rail_laws_run.specs.HolderTables.{AreHolders}
-use Rattle.rail_laws_run.specs.Heads.{IsHead, enters, next_move, next_step}
+use Rattle.rail_laws_step.specs.HolderTables.{AreHolders}
+use Rattle.rail_laws_step.specs.Heads.{IsHead, enters, next_move, next_step}
 use Rattle.rail_block.specs.CarriedTimes.{times_at}
 use Rattle.rail_state.specs.declared.train.Head.{Head}
 use Rattle.rail_state.specs.declared.train.TrainState.{TrainState}
@@ -24,7 +24,7 @@ use Rattle.rail_state.specs.TrainStates.{head_behind, is_blocked_at, state_after
 use Rattle.rail_state.specs.Representation.{AreHeads, AreKnown, HaveHoldLines, AreWaiting, IsBound, IsDeferred, Represents, StaysSettled, bare_at, holders_after}
 use Rattle.rail_state.proofs.Below.{ready_runs, becomes_ready, well_formed_plant, head_enters, head_kept, hold_kept, holder_frees, holders_kept, out_kept, out_now, ready_kept, unheld_before_ready}
 use Rattle.rail_state.proofs.Fields.{unchanged}
-use Rattle.rail_laws_run.proofs.CallerLemmas.{train_event_no_command}
+use Rattle.rail_laws_step.proofs.CallerLemmas.{train_event_no_command}
 use Rattle.rail_laws_front.proofs.CallerLemmas.{was_running}
 use Rattle.rail_state.proofs.Seen.{seen_kept, seen_unfreed}
 use Rattle.rail_rules.specs.Orders.{told, Dispatch, input_of}

@@ -13,10 +13,10 @@ use Rattle.rail_rules.specs.Causes.{cause, is_deciding, last_hold, place}
 use Rattle.rail_rules.specs.Lawful.{is_lawful, may_follow}
 use Rattle.rail_laws_front.specs.Premises.{IsWellFormed}
 use Rattle.rail_laws_front.specs.Views.{Holds}
-use Rattle.rail_laws_run.proofs.CallerLemmas.{other_left}
+use Rattle.rail_laws_step.proofs.CallerLemmas.{other_left}
 use Rattle.rail_state.proofs.Seen.{seen_kept}
-use Rattle.rail_laws_run.specs.HolderTables.{AreHolders}
-use Rattle.rail_laws_run.specs.Heads.{IsHead}
+use Rattle.rail_laws_step.specs.HolderTables.{AreHolders}
+use Rattle.rail_laws_step.specs.Heads.{IsHead}
 use Rattle.rail_state.specs.Events.{deferred_of, event_of}
 use Rattle.rail_state.specs.declared.train.TrainState.{TrainState}
 use Rattle.rail_state.specs.TrainStates.{lacks_hold_line, state_of, after_hold_line}

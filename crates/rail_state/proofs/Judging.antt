@@ -7,7 +7,7 @@ use Rattle.std.proofs.lemmas.Option.{none-some}
 use Rattle.rail_base.specs.declared.history.Entry.{Entry}
 use Rattle.rail_base.specs.declared.history.What.TheVariants.{Admit}
 use Rattle.rail_base.specs.declared.history.Note.{Note}
-use Rattle.rail_laws_run.specs.HolderTables.{own_overlap}
+use Rattle.rail_laws_step.specs.HolderTables.{own_overlap}
 use Rattle.rail_rules.specs.Places.{after, completes}
 use Rattle.rail_rules.specs.Plant.{Plant, moves_of, claimed, trains}
 use Rattle.rail_rules.specs.Fronts.{Front, Line, has_ended, has_held, instant, kept, kept_after, places}

@@ -17,7 +17,7 @@ use Rattle.rail_rules.specs.Events.{arrive_line, free_lines, out_lines, ready_li
 use Rattle.rail_laws_events.specs.Accounts.{tally}
 use Rattle.rail_laws_events.specs.Changes.{freed_before, overlap_frees, ready_after}
 use Rattle.rail_laws_events.proofs.CallerLemmas.{tally-append}
-use Rattle.rail_laws_run.specs.HolderTables.{own_overlap}
+use Rattle.rail_laws_step.specs.HolderTables.{own_overlap}
 use Rattle.rail_queue.specs.declared.event.Event.{Event}
 use Rattle.rail_queue.specs.declared.event.Class.TheVariants as class
 use Rattle.rail_block.specs.declared.times.MoveTimes.{MoveTimes}

@@ -4,7 +4,7 @@ use Rattle.std.proofs.lemmas.Bool.{cases_Bool, eqb-true, eq-eqb, false≢true}
 use Rattle.rail_base.specs.declared.history.What.{What}
 use Rattle.rail_base.specs.declared.history.What.TheVariants.{Free, Arrive, Enter, Out, Ready, Told, Untold, Admit, Hold, End}
 use Rattle.rail_rules.specs.Lawful.{is_out_line}
-use Rattle.rail_laws_run.specs.Heads.{enters}
+use Rattle.rail_laws_step.specs.Heads.{enters}
 
 abbrev pub is_ready_line : What → Bool
 is_ready_line (Ready t m) = true

@@ -6,7 +6,7 @@ use Rattle.std.proofs.lemmas.Option.{same_Some}
 use Rattle.std.proofs.lemmas.List.{get_or-set_same, get_or-set_other, length-set}
 use Rattle.rail_base.specs.declared.history.Cause.{Cause}
 use Rattle.rail_base.specs.declared.history.Cause.TheVariants.{NoList}
-use Rattle.rail_laws_run.specs.HolderTables.{own_overlap}
+use Rattle.rail_laws_step.specs.HolderTables.{own_overlap}
 use Rattle.rail_rules.specs.Numbers.{or_else}
 use Rattle.rail_rules.specs.Analysis.{finds}
 use Rattle.rail_rules.specs.Plant.{Plant, claimed, moves, moves_of, trains}
@@ -14,7 +14,7 @@ use Rattle.rail_rules.specs.Fronts.{Front, instant, kept, places, same_cause}
 use Rattle.rail_rules.specs.Causes.{is_repairable, list_cause, place, places_after}
 use Rattle.rail_state.specs.SeenCauses.{seen_bar, seen_cause}
 use Rattle.rail_rules.specs.Orders.{told, Dispatch, input_of}
-use Rattle.rail_laws_run.specs.Heads.{IsHead}
+use Rattle.rail_laws_step.specs.Heads.{IsHead}
 use Rattle.rail_list.specs.Repairs.{is_known}
 use Rattle.rail_state.specs.declared.train.TrainState.{TrainState}
 use Rattle.rail_state.specs.TrainStates.{is_at_first, is_blocked, lacks_hold_line, is_untried, looked_at, state_of}

@@ -29,7 +29,7 @@ use Rattle.rail_state.specs.Events.{deferred_of, event_of, train_event}
 use Rattle.rail_state.specs.declared.train.TrainState.{TrainState}
 use Rattle.rail_state.specs.TrainStates.{state_of}
 use Rattle.rail_state.specs.Representation.{Represents, deferred_events}
-use Rattle.rail_laws_run.specs.LinesToCome.{ToCome}
+use Rattle.rail_laws_step.specs.LinesToCome.{ToCome}
 use Rattle.rail_state.proofs.LineCodes.{before_by_time, event_time}
 use Rattle.rail_laws_events.specs.Accounts.{is_train_event}
 use Rattle.rail_rules.specs.LineCounts.{is_command}

@@ -7,9 +7,9 @@ use Rattle.std.proofs.lemmas.Option.{none-some, same_Some}
 use Rattle.rail_base.specs.declared.history.Cause.{Cause}
 use Rattle.rail_base.specs.declared.history.Cause.TheVariants.{Blocked, NoList}
 use Rattle.rail_rules.specs.Numbers.{is_in, or_else}
-use Rattle.rail_laws_run.specs.HolderTables.{bar_holder, held_cause, is_train, taken_by}
+use Rattle.rail_laws_step.specs.HolderTables.{bar_holder, held_cause, is_train, taken_by}
 use Rattle.rail_state.specs.TrainStates.{is_blocked_before, outlasts_taking}
-use Rattle.rail_laws_run.proofs.CallerLemmas.{taken_out}
+use Rattle.rail_laws_step.proofs.CallerLemmas.{taken_out}
 use Rattle.rail_state.proofs.Barring.{barred_is, unbarred}
 
 -- where no holder of these sections bars the train, each is free for it

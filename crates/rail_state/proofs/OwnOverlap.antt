@@ -15,8 +15,8 @@ use Rattle.rail_rules.specs.Fronts.{Front, admissions, at_time}
 use Rattle.rail_rules.specs.Intervals.{timer_end}
 use Rattle.rail_laws_events.specs.Accounts.{tally}
 use Rattle.rail_laws_events.proofs.CallerLemmas.{tally-same}
-use Rattle.rail_laws_run.specs.HolderTables.{gives_free, is_train}
-use Rattle.rail_laws_run.proofs.CallerLemmas.{IsOwnStep, one_free_due, own_step}
+use Rattle.rail_laws_step.specs.HolderTables.{gives_free, is_train}
+use Rattle.rail_laws_step.proofs.CallerLemmas.{IsOwnStep, one_free_due, own_step}
 use Rattle.rail_queue.specs.declared.event.Event.{Event}
 use Rattle.rail_queue.specs.declared.event.Class.TheVariants as class
 use Rattle.rail_queue.specs.Order.{is_of}

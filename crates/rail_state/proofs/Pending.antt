@@ -7,7 +7,7 @@ use Rattle.rail_rules.specs.Lawful.{is_lawful}
 use Rattle.rail_rules.proofs.CallerLemmas.{gather_same}
 use Rattle.rail_laws_front.specs.Premises.{IsWellFormed}
 use Rattle.rail_laws_events.specs.Accounts.{is_train_event}
-use Rattle.rail_laws_run.proofs.CallerLemmas.{event_left}
+use Rattle.rail_laws_step.proofs.CallerLemmas.{event_left}
 use Rattle.rail_queue.specs.declared.event.Event.{Event}
 use Rattle.rail_state.specs.Events.{deferred_of, event_of}
 use Rattle.rail_state.specs.declared.train.TrainState.{TrainState}

@@ -6,11 +6,11 @@ use Rattle.rail_rules.specs.Numbers.{or_else}
 use Rattle.rail_rules.specs.Plant.{Plant, claimed}
 use Rattle.rail_rules.specs.Fronts.{Front, Line, is_admission}
 use Rattle.rail_rules.specs.Orders.{told, Dispatch, input_of}
-use Rattle.rail_laws_run.specs.HolderTables.{held_cause, own_overlap}
+use Rattle.rail_laws_step.specs.HolderTables.{held_cause, own_overlap}
 use Rattle.rail_laws_front.proofs.CallerLemmas.{told_kept}
 use Rattle.rail_rules.specs.LineCounts.{is_command}
 use Rattle.rail_state.specs.TrainStates.{is_blocked_at}
-use Rattle.rail_laws_run.proofs.CallerLemmas.{list_cause_kept}
+use Rattle.rail_laws_step.proofs.CallerLemmas.{list_cause_kept}
 use Rattle.rail_state.specs.SeenCauses.{seen_bar, seen_cause}
 use Rattle.rail_state.proofs.Freed.{cause_unfreed}
 

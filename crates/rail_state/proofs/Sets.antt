@@ -15,7 +15,7 @@ use Rattle.rail_sets.specs.declared.train_set.TrainSet.{TrainSet}
 use Rattle.rail_state.specs.declared.train_sets.TrainSets.{TrainSets}
 use Rattle.rail_sets.specs.TrainSets.{has_train}
 use Rattle.rail_state.specs.BlockedAt.{set_at}
-use Rattle.rail_laws_run.specs.HolderTables.{own_overlap}
+use Rattle.rail_laws_step.specs.HolderTables.{own_overlap}
 use Rattle.rail_state.specs.TrainStates.{IsAnyWaiting, IsNextOf, after_hold_line, after_taking, is_blocked_at, is_touched, is_untried, lacks_hold_line, no_state, outlasts_taking, state_of, state_told, without_known}
 use Rattle.rail_state.specs.TrainSearches.{AreBlockedAt, AreSetsOf, HaveNobody, IsSetOf, is_changeable, is_waiting, may_change}
 

@@ -7,8 +7,8 @@ use Rattle.rail_rules.specs.Fronts.{Front, Line, has_ended, instant}
 use Rattle.rail_rules.specs.Orders.{told, Dispatch, input_of}
 use Rattle.rail_rules.specs.Events.{due_lines, is_quiet}
 use Rattle.rail_rules.specs.Causes.{bar, cause, closed_cause, is_deciding, is_ready, is_settled, list_cause, place, stop_cause}
-use Rattle.rail_laws_run.proofs.CallerLemmas.{nobody_ready}
-use Rattle.rail_laws_run.specs.HolderTables.{own_overlap}
+use Rattle.rail_laws_step.proofs.CallerLemmas.{nobody_ready}
+use Rattle.rail_laws_step.specs.HolderTables.{own_overlap}
 use Rattle.rail_state.specs.TrainStates.{IsAnyWaiting}
 use Rattle.rail_state.specs.Representation.{Represents}
 use Rattle.rail_state.specs.SeenCauses.{seen_bar, seen_cause}

@@ -18,8 +18,8 @@ use Rattle.rail_rules.specs.LineCounts.{is_command}
 use Rattle.rail_queue.specs.declared.event.Event.{Event}
 use Rattle.rail_queue.specs.Order.{is_ready_of}
 use Rattle.rail_queue.proofs.CallerLemmas.{count_left}
-use Rattle.rail_laws_run.specs.KeptLines.{is_kept}
-use Rattle.rail_laws_run.proofs.CallerLemmas.{command_gone}
+use Rattle.rail_laws_step.specs.KeptLines.{is_kept}
+use Rattle.rail_laws_step.proofs.CallerLemmas.{command_gone}
 use Rattle.rail_state.specs.Events.{event_of}
 use Rattle.rail_state.specs.SeenCauses.{AreDue, is_uncancelled}
 use Rattle.rail_state.proofs.EventCodes.{count-cons, flip}

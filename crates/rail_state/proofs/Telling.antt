@@ -25,9 +25,9 @@ use Rattle.rail_laws_front.specs.EventLines.IsEvent.{entering, arriving, freeing
 use Rattle.rail_laws_front.proofs.CallerLemmas.{IsCommandDue, IsEventDue, due_found, well_formed_from_accepted, append_none}
 use Rattle.rail_laws_events.proofs.CallerLemmas.{one_entry}
 use Rattle.rail_rules.specs.LineCounts.{is_command}
-use Rattle.rail_laws_run.specs.HolderTables.{AreHolders}
-use Rattle.rail_laws_run.proofs.CallerLemmas.{kept as kept_holders, head_kept, unheld, out_kept, happens_follows, command_idle}
-use Rattle.rail_laws_run.specs.Heads.{IsHead}
+use Rattle.rail_laws_step.specs.HolderTables.{AreHolders}
+use Rattle.rail_laws_step.proofs.CallerLemmas.{kept as kept_holders, head_kept, unheld, out_kept, happens_follows, command_idle}
+use Rattle.rail_laws_step.specs.Heads.{IsHead}
 use Rattle.rail_queue.specs.declared.event.Event.{Event}
 use Rattle.rail_queue.specs.declared.event.Class.TheVariants as class
 use Rattle.rail_queue.specs.Order.{class_number, goes_before}
@@ -287,7 +287,7 @@ module _ (dispatch : Dispatch) (plant : Plant) (front : Front) (state : RunState
         ends_nothing true = refl
         ends_nothing false = refl
 
-        enters_nothing : (t : ℕ) (b : Bool) → Rattle.rail_laws_run.specs.Heads.enters t (cond b (Told (suc k)) (Untold (suc k))) ≡ false
+        enters_nothing : (t : ℕ) (b : Bool) → Rattle.rail_laws_step.specs.Heads.enters t (cond b (Told (suc k)) (Untold (suc k))) ≡ false
         enters_nothing t true = refl
         enters_nothing t false = refl
 

@@ -12,9 +12,9 @@ use Rattle.rail_rules.specs.Plant.{claimed}
 use Rattle.rail_rules.specs.Fronts.{Front, Line}
 use Rattle.rail_rules.specs.Orders.{Input, is_closed, is_stopped, orders_of, told}
 use Rattle.rail_rules.specs.Causes.{closed_cause, list_cause, place, stop_cause}
-use Rattle.rail_laws_run.specs.HolderTables.{held_cause, own_overlap}
+use Rattle.rail_laws_step.specs.HolderTables.{held_cause, own_overlap}
 use Rattle.rail_rules.specs.LineCounts.{is_command}
-use Rattle.rail_laws_run.proofs.CallerLemmas.{list_cause_kept, command_idle}
+use Rattle.rail_laws_step.proofs.CallerLemmas.{list_cause_kept, command_idle}
 use Rattle.rail_state.proofs.EventCodes.{flip}
 use Rattle.rail_state.specs.SeenCauses.{seen_bar, seen_cause, touches}
 

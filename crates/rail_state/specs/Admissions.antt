@@ -6,7 +6,7 @@ use Rattle.rail_rules.specs.Plant.{Plant, moves, trains}
 use Rattle.rail_rules.specs.Fronts.{Front, admissions}
 use Rattle.rail_rules.specs.Causes.{place}
 use Rattle.rail_block.specs.CarriedTimes.{AreBelow, times_at}
-use Rattle.rail_laws_run.specs.HolderTables.{held_cause}
+use Rattle.rail_laws_step.specs.HolderTables.{held_cause}
 use Rattle.rail_state.specs.declared.train.TrainState.{TrainState}
 use Rattle.rail_state.specs.TrainStates.{state_of}
 

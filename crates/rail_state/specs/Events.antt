@@ -10,7 +10,7 @@ use Rattle.rail_rules.specs.Plant.{Plant, steps, step_section}
 use Rattle.rail_rules.specs.Intervals.{end_of}
 use Rattle.rail_rules.specs.Events.{arrive_line, enter_line, free_lines, out_lines}
 use Rattle.rail_laws_events.specs.Changes.{overlap_frees, ready_after}
-use Rattle.rail_laws_run.specs.HolderTables.{own_overlap}
+use Rattle.rail_laws_step.specs.HolderTables.{own_overlap}
 use Rattle.rail_queue.specs.Order.{is_of}
 use Rattle.rail_queue.specs.declared.event.Event.{Event}
 use Rattle.rail_queue.specs.declared.event.Class.{Class}

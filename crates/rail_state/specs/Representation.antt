@@ -23,8 +23,8 @@ use Rattle.rail_rules.specs.Places.{after, completes, place_of}
 use Rattle.rail_list.specs.Repairs.{repaired_for}
 use Rattle.rail_state.specs.SeenCauses.{AreDue, seen_bar, seen_cause, is_uncancelled}
 use Rattle.rail_laws_events.specs.Accounts.{tally}
-use Rattle.rail_laws_run.specs.HolderTables.{AreHolders, is_train, own_overlap, taken_by}
-use Rattle.rail_laws_run.specs.Heads.{IsHead}
+use Rattle.rail_laws_step.specs.HolderTables.{AreHolders, is_train, own_overlap, taken_by}
+use Rattle.rail_laws_step.specs.Heads.{IsHead}
 use Rattle.rail_laws_events.specs.Changes.{freed_before}
 use Rattle.rail_block.specs.declared.times.MoveTimes.{MoveTimes}
 use Rattle.rail_block.specs.CarriedTimes.{times_at}

@@ -11,7 +11,7 @@ use Rattle.rail_rules.specs.Orders.{Input, told}
 use Rattle.rail_rules.specs.Causes.{closed_cause, list_cause, place, stop_cause}
 use Rattle.rail_rules.specs.Events.{due_lines}
 use Rattle.rail_laws_events.specs.Accounts.{tally}
-use Rattle.rail_laws_run.specs.HolderTables.{held_cause, own_overlap}
+use Rattle.rail_laws_step.specs.HolderTables.{held_cause, own_overlap}
 use Rattle.rail_queue.specs.declared.event.Event.{Event}
 use Rattle.rail_queue.specs.Order.{is_ready_of}
 use Rattle.rail_state.specs.Events.{event_of}

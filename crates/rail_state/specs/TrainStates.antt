@@ -11,7 +11,7 @@ use Rattle.rail_rules.specs.Plant.{Plant, claimed, steps, trains}
 use Rattle.rail_rules.specs.Fronts.{same_cause}
 use Rattle.rail_rules.specs.Numbers.{comes_before, or_else}
 use Rattle.rail_orders.specs.OrderTables.{Told, closed_in, stop_in}
-use Rattle.rail_laws_run.specs.HolderTables.{bar_holder, held_cause, own_overlap}
+use Rattle.rail_laws_step.specs.HolderTables.{bar_holder, held_cause, own_overlap}
 use Rattle.rail_block.specs.declared.times.MoveTimes.{MoveTimes}
 use Rattle.rail_block.specs.CarriedTimes.{times_at}
 use Rattle.rail_state.specs.SeenCauses.{touches}

@@ -10,7 +10,7 @@ ghost use Rattle.rail_block.specs.KnownMoves.{of_move, of_place, own_times, time
 ghost use Rattle.rail_block.specs.declared.times.MoveTimes.{MoveTimes};
 ghost use Rattle.rail_state.specs.Admissions.{CanBeTaken};
 ghost use Rattle.rail_state.specs.Events.{AreFreedOnce, deferred_of, end_lines, event_of, is_free_of, step_lines};
-ghost use Rattle.rail_laws_run.specs.HolderTables.{held_cause, is_train, own_overlap, taken_by};
+ghost use Rattle.rail_laws_step.specs.HolderTables.{held_cause, is_train, own_overlap, taken_by};
 ghost use Rattle.rail_queue.specs.declared.event.Event.{Event};
 ghost use Rattle.rail_queue.specs.declared.event.Class.TheVariants.{Free};
 ghost use Rattle.rail_queue.specs.Order.{is_of};
@@ -25,8 +25,8 @@ use crate::pushes::{push_end, push_passing, push_steps, push_stood, stop_timer};
 use crate::train::{claimed_sections, overlap_behind};
 use rail_base::{SectionNo, Time, TrainNo};
 use rail_block::{KnownMove, MoveTimes};
+use rail_holders::Holders;
 use rail_queue::{Class, EventQueue};
-use rail_release::Holders;
 
 /// Pushes the events that are known once the move is admitted, and takes out the ends of what it takes over of the
 /// train's own overlap. `last` is the times of the move before, which tell when these ends are pending. The answer is

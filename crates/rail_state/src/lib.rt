@@ -2,7 +2,7 @@
 //! that represents.
 //!
 //! This layer stands on `rail_block` for the times carried from move to move, on `rail_queue` for what is
-//! pending and on `rail_release` for the holders of sections. Contracts see the trains as a list with an entry
+//! pending and on `rail_holders` for the holders of sections. Contracts see the trains as a list with an entry
 //! for each; `specs/TrainStates.antt` says how a line of a history changes an entry, and the contracts of
 //! `pushes` say for every test which events an admission adds. `specs/Representation.antt` says when a state
 //! represents a front, which may be any lawful one of any plant, commands and deck. That each kind of line

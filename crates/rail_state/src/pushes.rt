@@ -7,7 +7,7 @@ ghost use Rattle.rail_block.specs.CarriedTimes.{AreBelow};
 ghost use Rattle.rail_block.specs.KnownMoves.{of_move, of_place, of_step, own_times, timed, timed_step, times_after};
 ghost use Rattle.std.specs.List.{filter};
 ghost use Rattle.rail_base.specs.declared.limits.TheConstants.{OVERLAP_SECTIONS};
-ghost use Rattle.rail_laws_run.specs.HolderTables.{own_overlap};
+ghost use Rattle.rail_laws_step.specs.HolderTables.{own_overlap};
 ghost use Rattle.rail_rules.specs.Numbers.{is_in};
 ghost use Rattle.rail_state.specs.Events.{deferred_of, end_lines, event_of, free_events, section_event, step_lines, train_event};
 ghost use Rattle.rail_state.specs.Representation.{passing_event, passing_frees};

@@ -4,8 +4,8 @@ ghost use Rattle.std.specs.Prelude.{◌≡◌, ℕ, suc, ◌+◌, ◌<◌, ◌�
 ghost use Rattle.rail_base.specs.declared.history.Cause.{Cause};
 ghost use Rattle.rail_base.specs.declared.history.What.TheVariants.{Hold};
 ghost use Rattle.rail_block.specs.declared.times.MoveTimes.{MoveTimes};
-ghost use Rattle.rail_laws_run.specs.HolderTables.{held_cause, own_overlap};
-ghost use Rattle.rail_laws_run.specs.MostDue.{most_due};
+ghost use Rattle.rail_laws_step.specs.HolderTables.{held_cause, own_overlap};
+ghost use Rattle.rail_laws_step.specs.MostDue.{most_due};
 ghost use Rattle.rail_queue.specs.declared.event.Class.TheVariants.{Ready};
 ghost use Rattle.rail_queue.specs.declared.event.Event.{Event};
 ghost use Rattle.rail_rules.specs.Fronts.{Front};
@@ -26,9 +26,9 @@ use crate::pushes::{MOVE_EVENTS, push_entry, push_overlap};
 use crate::trains::TrainStates;
 use rail_base::{Cause, Command, Order, OutOfMemory, SectionNo, Time, TrainNo, What};
 use rail_block::{KnownMove, times_of};
+use rail_holders::Holders;
 use rail_plan::Plant;
 use rail_queue::{Class, Event, EventQueue};
-use rail_release::Holders;
 use std::alloc::Global;
 
 /// What is kept of a run beside its plant, its places and its lists.

@@ -6,7 +6,7 @@ ghost use Rattle.rail_base.specs.declared.limits.TheConstants.{ITINERARY_ROUTES,
 ghost use Rattle.rail_sets.specs.TrainSets.{has_train};
 ghost use Rattle.rail_state.specs.BlockedAt.{set_at};
 ghost use Rattle.rail_rules.specs.Plant.{claimed, moves, step_section, steps, trains};
-ghost use Rattle.rail_laws_run.specs.HolderTables.{bar_holder, held_cause, own_overlap};
+ghost use Rattle.rail_laws_step.specs.HolderTables.{bar_holder, held_cause, own_overlap};
 ghost use Rattle.rail_state.specs.TrainStates.{is_touched, state_told};
 ghost use Rattle.rail_state.specs.TrainStates.{admitted, after_taking, bar_by, head_behind, is_at_first, is_blocked_at, is_blocked_before, lacks_hold_line, is_untried, looked_at, outside, outlasts_taking, after_hold_line, without_known};
 ghost use Rattle.rail_state.specs.TrainSearches.{is_changeable};
@@ -14,9 +14,9 @@ ghost use Rattle.rail_state.specs.TrainSearches.{is_changeable};
 use crate::blocked_at::BlockedAt;
 use rail_base::{Cause, Order, SectionNo, Time, TrainNo};
 use rail_block::{MoveTimes, entry_times};
+use rail_holders::Holders;
 use rail_orders::ToldOrders;
 use rail_plan::Plant;
-use rail_release::Holders;
 
 /// Where the head of a train enters a section next: a move and a step of it, both counted from 1.
 #[derive(Clone, Copy, Debug, PartialEq, Eq)]

@@ -13,9 +13,9 @@ use crate::blocked_at::BlockedAt;
 use crate::train::TrainState;
 use crate::train_sets::TrainSets;
 use rail_base::{Order, SectionNo, Time, TrainNo};
+use rail_holders::Holders;
 use rail_orders::ToldOrders;
 use rail_plan::Plant;
-use rail_release::Holders;
 use rail_sets::TrainSet;
 
 /// Looks at each untried train. Of those that are untried then, the one that was ready first, and of several that

@@ -16,9 +16,9 @@ use crate::train_sets::TrainSets;
 use crate::train_walks::{look_again_at_each, look_at_each, note_taking_each, tell_each};
 use rail_base::{Cause, Order, OutOfMemory, SectionNo, Time, TrainNo};
 use rail_block::MoveTimes;
+use rail_holders::Holders;
 use rail_orders::ToldOrders;
 use rail_plan::Plant;
-use rail_release::Holders;
 use std::alloc::Global;
 use std::marker::Model;
 

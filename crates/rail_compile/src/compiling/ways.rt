@@ -12,7 +12,7 @@ ghost use Rattle.rail_compile.specs.Ways.{AreWays, is_known_step, way_over};
 use indexmap::IndexSet;
 use rail_base::limits::SECTIONS;
 use rail_base::{MoveRow, Name, SectionNo, Seq};
-use rail_routes::{Network, Post, Role, Route, Step};
+use rail_routes::{Network, Post, PostRole, Route, Step};
 use std::alloc::{AllocError, Global};
 
 /// What a route gives to each itinerary over it.
@@ -73,9 +73,9 @@ fn way_over(alloc: Global, network: &Network, route: &Route) -> Result<Way, Allo
     let row = move_over(alloc, network, route, &begin)?;
     Ok(Way {
         row,
-        begins_at_portal: matches!(begin.role, Role::Portal),
-        ends_at_portal: matches!(end.role, Role::Portal),
-        ends_at_signal: matches!(end.role, Role::Signal),
+        begins_at_portal: matches!(begin.role, PostRole::Portal),
+        ends_at_portal: matches!(end.role, PostRole::Portal),
+        ends_at_signal: matches!(end.role, PostRole::Signal),
     })
 }
 

@@ -15,7 +15,7 @@ ghost use Rattle.rail_consequence.specs.Stops.{AreSettledBelow, AreSettledFrom, 
 ghost use Rattle.rail_consequence.specs.Workspace.{GoesOn, IsBack, IsListing, IsReady};
 
 use super::Worksheet;
-use crate::notes::{Notes, Stop};
+use crate::notes::{SearchNotes, Stop};
 use crate::tally::stands_inside;
 use crate::width::Width;
 use rail_base::{SectionNo, TrainNo};
@@ -51,7 +51,7 @@ impl Worksheet {
         &mut self,
         moves: &Moves,
         inside: &[TrainNo],
-        notes: &mut Notes,
+        notes: &mut SearchNotes,
         settled: usize,
     )
         requires words { AreWords (moves_in moves.now) W.WORDS }
@@ -83,7 +83,7 @@ impl Worksheet {
         &mut self,
         moves: &Moves,
         inside: &[TrainNo],
-        notes: &mut Notes,
+        notes: &mut SearchNotes,
         from: usize,
         upto: usize,
     ) -> usize
@@ -122,7 +122,12 @@ impl Worksheet {
     /// Makes the farthest safe leg of the train; or notes what stops it, where it has none. A train is
     /// not looked at again as long as what stopped it does.
     #[inline(always)]
-    fn make_safe_leg<W: Width>(&mut self, moves: &Moves, train: TrainNo, notes: &mut Notes) -> bool
+    fn make_safe_leg<W: Width>(
+        &mut self,
+        moves: &Moves,
+        train: TrainNo,
+        notes: &mut SearchNotes,
+    ) -> bool
         requires words { AreWords (moves_in moves.now) W.WORDS }
         requires ready { IsReady moves.now self.old }
         requires train { train < length moves.now }
@@ -181,7 +186,7 @@ impl Worksheet {
         &self,
         moves: &Moves,
         inside: &[TrainNo],
-        notes: &mut Notes,
+        notes: &mut SearchNotes,
     ) -> usize
         requires words { AreWords (moves_in moves.now) W.WORDS }
         requires ready { IsReady moves.now self.now }
@@ -204,7 +209,7 @@ impl Worksheet {
 
     /// Looks at the train if nothing of what is noted stops it, and notes what does. Whether it has no safe leg.
     #[inline(always)]
-    fn look_at<W: Width>(&self, moves: &Moves, train: TrainNo, notes: &mut Notes) -> bool
+    fn look_at<W: Width>(&self, moves: &Moves, train: TrainNo, notes: &mut SearchNotes) -> bool
         requires words { AreWords (moves_in moves.now) W.WORDS }
         requires ready { IsReady moves.now self.now }
         requires train { train < length moves.now }
@@ -244,7 +249,7 @@ impl Worksheet {
         moves: &Moves,
         train: TrainNo,
         place: u16,
-        notes: &mut Notes,
+        notes: &mut SearchNotes,
     )
         requires words { AreWords (moves_in moves.now) W.WORDS }
         requires ready { IsReady moves.now self.now }
@@ -266,7 +271,7 @@ impl Worksheet {
     }
 
     /// What is noted of the train stops it still.
-    fn is_stopped<W: Width>(&self, moves: &Moves, notes: &Notes, train: TrainNo) -> bool
+    fn is_stopped<W: Width>(&self, moves: &Moves, notes: &SearchNotes, train: TrainNo) -> bool
         requires words { AreWords (moves_in moves.now) W.WORDS }
         requires ready { IsReady moves.now self.now }
         requires train { train < length moves.now }
@@ -285,7 +290,7 @@ impl Worksheet {
     }
 
     /// A section fell to one train that this train may need.
-    fn is_touched<W: Width>(&self, moves: &Moves, notes: &Notes, train: TrainNo) -> bool
+    fn is_touched<W: Width>(&self, moves: &Moves, notes: &SearchNotes, train: TrainNo) -> bool
         requires words { AreWords (moves_in moves.now) W.WORDS }
         requires ready { IsReady moves.now self.now }
         requires train { train < length moves.now }

@@ -16,7 +16,7 @@ ghost use Rattle.rail_base.specs.declared.limits.TheConstants.{TRAINS};
 
 use super::Worksheet;
 use crate::lookahead::Lookahead;
-use crate::notes::{Notes, Stop};
+use crate::notes::{SearchNotes, Stop};
 use crate::tally::stands_inside;
 use crate::train_list::insert_each;
 use crate::width::Width;
@@ -37,7 +37,7 @@ impl Worksheet {
         &self,
         moves: &Moves,
         inside: &[TrainNo],
-        notes: &Notes,
+        notes: &SearchNotes,
     ) -> TrainSet
         requires words { AreWords (moves_in moves.now) W.WORDS }
         requires ready { IsReady moves.now self.now }
@@ -63,7 +63,7 @@ impl Worksheet {
         &self,
         moves: &Moves,
         inside: &[TrainNo],
-        notes: &Notes,
+        notes: &SearchNotes,
         other: TrainNo,
         openers: &mut TrainSet,
     )
@@ -94,7 +94,7 @@ impl Worksheet {
     }
 
     /// The train that holds the section that is noted to stop this one.
-    fn awaited(&self, moves: &Moves, notes: &Notes, train: TrainNo) -> Option<TrainNo>
+    fn awaited(&self, moves: &Moves, notes: &SearchNotes, train: TrainNo) -> Option<TrainNo>
         requires ready { IsReady moves.now self.now }
         requires train { train < length moves.now }
         ensures exact { (key : Option ℕ)
@@ -113,7 +113,7 @@ impl Worksheet {
         &self,
         moves: &Moves,
         inside: &[TrainNo],
-        notes: &Notes,
+        notes: &SearchNotes,
         train: TrainNo,
         openers: &mut TrainSet,
     )
@@ -161,7 +161,7 @@ impl Worksheet {
         &self,
         moves: &Moves,
         inside: &[TrainNo],
-        notes: &Notes,
+        notes: &SearchNotes,
         train: TrainNo,
         place: u16,
     ) -> bool
@@ -249,7 +249,7 @@ impl Worksheet {
         &self,
         moves: &Moves,
         inside: &[TrainNo],
-        notes: &Notes,
+        notes: &SearchNotes,
         ahead: &Lookahead,
         train: TrainNo,
         place: u16,
@@ -279,7 +279,13 @@ impl Worksheet {
     }
 
     /// Whether the one train waits for the other, or for none.
-    fn may_wait_for(&self, moves: &Moves, notes: &Notes, other: TrainNo, train: TrainNo) -> bool
+    fn may_wait_for(
+        &self,
+        moves: &Moves,
+        notes: &SearchNotes,
+        other: TrainNo,
+        train: TrainNo,
+    ) -> bool
         requires ready { IsReady moves.now self.now }
         requires other { other < length moves.now }
         ensures { result ≡ false → MayWaitFor (moves_in moves.now) self.now.places.positions notes.now.stops other train → ⊥ }
@@ -296,7 +302,7 @@ impl Worksheet {
         &self,
         moves: &Moves,
         inside: &[TrainNo],
-        notes: &Notes,
+        notes: &SearchNotes,
         ahead: &Lookahead,
         train: TrainNo,
         place: u16,
@@ -330,7 +336,7 @@ impl Worksheet {
     fn falls_in_vain<W: Width>(
         &self,
         moves: &Moves,
-        notes: &Notes,
+        notes: &SearchNotes,
         ahead: &Lookahead,
         other: TrainNo,
         train: TrainNo,

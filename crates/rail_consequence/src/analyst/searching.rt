@@ -11,7 +11,7 @@ ghost use Rattle.rail_consequence.specs.Stops.{AreSettledBelow, IsNotedTo, IsSet
 ghost use Rattle.rail_consequence.specs.Workspace.{GoesOn, IsBack, IsListing, IsReady};
 
 use super::Worksheet;
-use crate::notes::Notes;
+use crate::notes::SearchNotes;
 use crate::train_list::all_of;
 use crate::width::Width;
 use rail_base::TrainNo;
@@ -31,7 +31,7 @@ impl Worksheet {
         &mut self,
         moves: &Moves,
         inside: &[TrainNo],
-        notes: &mut Notes,
+        notes: &mut SearchNotes,
         depth: u8,
     ) -> bool
         requires words { AreWords (moves_in moves.now) W.WORDS }
@@ -59,7 +59,7 @@ impl Worksheet {
         &mut self,
         moves: &Moves,
         inside: &[TrainNo],
-        noted: &Notes,
+        noted: &SearchNotes,
         settled: usize,
         depth: u8,
     ) -> bool
@@ -86,7 +86,7 @@ impl Worksheet {
         &mut self,
         moves: &Moves,
         inside: &[TrainNo],
-        notes: &Notes,
+        notes: &SearchNotes,
         depth: u8,
     ) -> bool
         requires words { AreWords (moves_in moves.now) W.WORDS }
@@ -114,7 +114,7 @@ impl Worksheet {
         &mut self,
         moves: &Moves,
         inside: &[TrainNo],
-        notes: &Notes,
+        notes: &SearchNotes,
         depth: u8,
     ) -> bool
         requires words { AreWords (moves_in moves.now) W.WORDS }
@@ -147,7 +147,7 @@ impl Worksheet {
         &mut self,
         moves: &Moves,
         inside: &[TrainNo],
-        notes: &Notes,
+        notes: &SearchNotes,
         train: TrainNo,
         depth: u8,
     ) -> bool
@@ -185,7 +185,7 @@ impl Worksheet {
         &mut self,
         moves: &Moves,
         inside: &[TrainNo],
-        notes: &Notes,
+        notes: &SearchNotes,
         train: TrainNo,
         place: u16,
         depth: u8,
@@ -216,7 +216,7 @@ impl Worksheet {
         &mut self,
         moves: &Moves,
         inside: &[TrainNo],
-        notes: &Notes,
+        notes: &SearchNotes,
         train: TrainNo,
         place: u16,
         depth: u8,
@@ -253,7 +253,7 @@ impl Worksheet {
         &mut self,
         moves: &Moves,
         inside: &[TrainNo],
-        notes: &Notes,
+        notes: &SearchNotes,
         train: TrainNo,
         depth: u8,
     ) -> bool
@@ -284,7 +284,7 @@ impl Worksheet {
         &mut self,
         moves: &Moves,
         inside: &[TrainNo],
-        notes: &Notes,
+        notes: &SearchNotes,
         train: TrainNo,
         depth: u8,
     ) -> bool
@@ -329,7 +329,7 @@ impl Worksheet {
 
     /// The train is inside, and no other one holds a section that its next move needs. No leg of it leads on
     /// otherwise.
-    fn can_go_on<W: Width>(&self, moves: &Moves, notes: &Notes, train: TrainNo) -> bool
+    fn can_go_on<W: Width>(&self, moves: &Moves, notes: &SearchNotes, train: TrainNo) -> bool
         requires words { AreWords (moves_in moves.now) W.WORDS }
         requires ready { IsReady moves.now self.now }
         requires train { train < length moves.now }

@@ -6,7 +6,7 @@ ghost use Rattle.rail_routes.specs.PostRules.{time_key, has_times};
 
 use super::Network;
 use super::leading::{repeat_refusal, way_refusal};
-use crate::items::{Post, Role, Route, Step, Turn};
+use crate::items::{Post, PostRole, Route, Step, Turn};
 use rail_base::limits::{
     APPROACH, OVERLAP_SECTIONS, POSTS, ROUTE_SECTIONS, ROUTES, SETTING, TURN_TIME, TURNS, WATCHING,
 };
@@ -104,9 +104,9 @@ impl Network {
     {
         let sections = self.track.sections_at(post.joint);
         match post.role {
-            Role::Portal => sections == 1,
-            Role::Signal => sections == 2 && self.has_joint_ahead(post),
-            Role::Board => sections == 1 || sections == 2,
+            PostRole::Portal => sections == 1,
+            PostRole::Signal => sections == 2 && self.has_joint_ahead(post),
+            PostRole::Board => sections == 1 || sections == 2,
         }
     }
 
@@ -125,10 +125,10 @@ impl Network {
         ensures { result ≡ is_taken self.now post.now }
     {
         match post.role {
-            Role::Portal | Role::Board => {
+            PostRole::Portal | PostRole::Board => {
                 self.portals.stands_at(post.joint) || self.boards.stands_at(post.joint)
             }
-            Role::Signal => self.is_guarded(post),
+            PostRole::Signal => self.is_guarded(post),
         }
     }
 
@@ -309,23 +309,23 @@ impl Network {
 }
 
 /// The key of the setting time, behind which the two other times come.
-fn time_key(role: Role) -> u32
+fn time_key(role: PostRole) -> u32
     ensures key { result ≡ time_key role }
     ensures small { result < 2 ^ 8 }
 {
     match role {
-        Role::Portal => 3,
-        Role::Signal => 4,
-        Role::Board => 0,
+        PostRole::Portal => 3,
+        PostRole::Signal => 4,
+        PostRole::Board => 0,
     }
 }
 
 /// Whether a post of the role has times of its own.
-fn has_times(role: Role) -> bool
+fn has_times(role: PostRole) -> bool
     ensures { result ≡ has_times role }
 {
     match role {
-        Role::Portal | Role::Signal => true,
-        Role::Board => false,
+        PostRole::Portal | PostRole::Signal => true,
+        PostRole::Board => false,
     }
 }

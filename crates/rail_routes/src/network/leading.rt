@@ -7,7 +7,7 @@ ghost use Rattle.rail_routes.specs.declared.items.Step.{Step};
 ghost use Rattle.rail_routes.specs.Net.{guards};
 ghost use Rattle.rail_routes.specs.RouteRules.{repeat_tests, repeats_behind, way_from, path_from, overlap_from, step_tests, lead_tests, begins, ends, leads_from, is_beyond};
 
-use crate::items::{Post, Role, Step};
+use crate::items::{Post, PostRole, Step};
 use rail_base::{Name, Reason};
 use rail_track::{NetFault, Track};
 
@@ -93,8 +93,8 @@ fn begins(track: &Track, post: &Post, steps: &[Step]) -> bool
     ensures { result ≡ begins post.now track.now steps.now }
 {
     match (post.role, steps.first()) {
-        (Role::Portal, Some(step)) => track.section_has(step.section, post.joint),
-        (Role::Signal, Some(step)) => guards(post, step.section),
+        (PostRole::Portal, Some(step)) => track.section_has(step.section, post.joint),
+        (PostRole::Signal, Some(step)) => guards(post, step.section),
         _ => false,
     }
 }
@@ -164,12 +164,12 @@ fn overlap_refusal(track: &Track, end: &Post, first: u32, overlap: &[Step]) -> O
 }
 
 /// Whether an overlap lies behind a portal.
-fn is_beyond(role: Role, overlap: &[Step]) -> bool
+fn is_beyond(role: PostRole, overlap: &[Step]) -> bool
     ensures { result ≡ is_beyond role overlap.now }
 {
     match role {
-        Role::Portal => !overlap.is_empty(),
-        Role::Signal | Role::Board => false,
+        PostRole::Portal => !overlap.is_empty(),
+        PostRole::Signal | PostRole::Board => false,
     }
 }
 

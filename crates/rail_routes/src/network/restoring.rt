@@ -4,7 +4,7 @@ ghost use Rattle.std.specs.List.{find};
 
 use super::Network;
 use super::claiming::{count_of_sections, count_sections};
-use crate::items::{Post, Role, Route, Turn};
+use crate::items::{Post, PostRole, Route, Turn};
 use rail_base::Name;
 use rail_track::{Section, count_each};
 use std::alloc::{AllocError, AllocFailed};
@@ -17,13 +17,13 @@ impl Network {
     ghost use Rattle.rail_routes.specs.SoundNetworks.{IsSoundNetwork};
 
     /// The posts of this role in order.
-    pub fn posts(&self, role: Role) -> &[Post]
+    pub fn posts(&self, role: PostRole) -> &[Post]
         ensures { result.now ≡ posts_of role self.now }
     {
         match role {
-            Role::Portal => self.portals.as_slice(),
-            Role::Signal => self.signals.as_slice(),
-            Role::Board => self.boards.as_slice(),
+            PostRole::Portal => self.portals.as_slice(),
+            PostRole::Signal => self.signals.as_slice(),
+            PostRole::Board => self.boards.as_slice(),
         }
     }
 
@@ -80,9 +80,9 @@ impl Network {
         ensures unchanged { OnErr result (self.new ≡ self.old) }
     {
         match post.role {
-            Role::Portal => self.portals.insert(index, post),
-            Role::Signal => self.signals.insert(index, post),
-            Role::Board => self.boards.insert(index, post),
+            PostRole::Portal => self.portals.insert(index, post),
+            PostRole::Signal => self.signals.insert(index, post),
+            PostRole::Board => self.boards.insert(index, post),
         }
     }
 

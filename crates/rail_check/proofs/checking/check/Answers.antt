@@ -3,7 +3,7 @@ use Rattle.rail_history.specs.LineReads.{lists_of}
 use Rattle.rail_history.specs.LinesLeft.{beside, lines_left}
 use Rattle.rail_history.specs.Lines.{line_of}
 use Rattle.rail_history.proofs.CallerLemmas.{length-lines_in}
-use Rattle.rail_judging.specs.Verdicts.{verdict}
+use Rattle.rail_laws_verdict.specs.Verdicts.{verdict}
 use Rattle.rail_ledger.specs.Inputs.{input_in}
 use Rattle.rail_ledger.specs.Ledgers.{line_taken}
 use Rattle.rail_rules.specs.Fronts.{Line}

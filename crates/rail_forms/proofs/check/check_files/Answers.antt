@@ -1,7 +1,7 @@
 use Rattle.std.proofs.Common.{◌≡◌, ◌∙◌, List, ℕ, None, true, length, map, sym, ap, subst, arith}
 use Rattle.std.specs.Option.{option_copied}
 use Rattle.rail_check.specs.Answers.{judged_in}
-use Rattle.rail_judging.specs.Verdicts.{Verdict}
+use Rattle.rail_laws_verdict.specs.Verdicts.{Verdict}
 use Rattle.rail_rules.specs.Fronts.{Line}
 use Rattle.rail_forms.proofs.Writes.{ended-failed}
 use Rattle.rail_input.specs.Inputs.{input_in, input_refusal}

@@ -1,6 +1,6 @@
 use Rattle.std.proofs.Common.{◌≡◌, ◌<◌, ◌≤◌, refl, ap, arith}
-use Rattle.rail_words.specs.Forms.{scenario_in}
-use Rattle.rail_words.specs.declared.forms.PathRequest.{PathRequest}
+use Rattle.rail_command_line.specs.Forms.{scenario_in}
+use Rattle.rail_command_line.specs.declared.forms.PathRequest.{PathRequest}
 use Rattle.rail_forms.proofs.Behind.{paths_answered, same_paths}
 use Rattle.rail_forms.proofs.insertion.answer.Goals as goal
 

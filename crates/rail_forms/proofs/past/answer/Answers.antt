@@ -1,10 +1,10 @@
 use Rattle.std.proofs.Common.{◌∷◌, [], Some, refl, sym, ap, subst, ◌∙◌, arith}
 use Rattle.std.specs.Option.{option_copied}
 use Rattle.rail_forms.specs.declared.status.Status.{Status}
-use Rattle.rail_words.specs.Files.{file_as}
-use Rattle.rail_words.specs.Forms.{scenario_in}
-use Rattle.rail_words.specs.declared.files.Role.{Role}
-use Rattle.rail_words.specs.declared.files.Role.TheVariants as role
+use Rattle.rail_command_line.specs.Files.{file_as}
+use Rattle.rail_command_line.specs.Forms.{scenario_in}
+use Rattle.rail_command_line.specs.declared.files.FileRole.{FileRole}
+use Rattle.rail_command_line.specs.declared.files.FileRole.TheVariants as role
 use Rattle.rail_forms.specs.Answers.{Told}
 use Rattle.rail_forms.specs.Files.{IsFileAnswer, content_of, told_of, too_large, too_large_if_any}
 use Rattle.rail_forms.specs.Pasts.{role_of}
@@ -42,7 +42,7 @@ returns-in_err-lines-clause-answer g c =
     (content_of c.in_ok-commands.commands) (λ content at. c.in_ok-commands.ensures.content content (ap (λ (t : Told). told_of t (scenario_in c.args.scenario.now).commands) still_then ∙ at)) c.in_ok-commands.ensures.fits
     g.S.Shelf _ _ c.in_err-lines.field-0.0 (ended_with c.from_residual-in_err-lines.result c.in_err-lines.field-0.0 c.from_residual-in_err-lines.ensures.1)
     (c.in_ok-commands.ensures.told_stays ∙ still_then)
-    (subst (λ (r : Role). IsFileAnswer g.S.Shelf r c.args.lines.now c.read_if_named-2.new.shelf c.read_file-2.new.shelf c.in_err-lines.field-0.0) c.role.ensures c.in_err-lines.ensures.refused)
+    (subst (λ (r : FileRole). IsFileAnswer g.S.Shelf r c.args.lines.now c.read_if_named-2.new.shelf c.read_file-2.new.shelf c.in_err-lines.field-0.0) c.role.ensures c.in_err-lines.ensures.refused)
 
 pub returns-in_err-commands-clause-kept : goal.returns-in_err-commands-clause-kept
 returns-in_err-commands-clause-kept g c =
@@ -69,7 +69,7 @@ returns-in_err-lines-clause-kept g c =
     (c.in_ok-commands.ensures.told_stays ∙ still_then)
     (omega (arith, c.in_ok-scene.ensures.faults_never_fall, c.in_ok-timetable.ensures.faults_never_fall, c.in_ok-commands.ensures.faults_never_fall))
     c.in_err-lines.ensures.told_stays c.in_err-lines.ensures.faults_never_fall g.O.Sink c.args.out.now c.in_err-lines.field-0.0
-    (subst (λ (r : Role). IsFileAnswer g.S.Shelf r c.args.lines.now c.read_if_named-2.new.shelf c.read_file-2.new.shelf c.in_err-lines.field-0.0) c.role.ensures c.in_err-lines.ensures.refused))
+    (subst (λ (r : FileRole). IsFileAnswer g.S.Shelf r c.args.lines.now c.read_if_named-2.new.shelf c.read_file-2.new.shelf c.in_err-lines.field-0.0) c.role.ensures c.in_err-lines.ensures.refused))
 
 pub returns-clause-answer : goal.returns-clause-answer
 returns-clause-answer g c =
@@ -84,7 +84,7 @@ returns-clause-answer g c =
     (option_copied c.as_deref-2.result) (λ content at. commands ∙ c.in_ok-commands.ensures.content content (ap (λ (t : Told). told_of t (scenario_in c.args.scenario.now).commands) still_then ∙ at))
     (ap (too_large_if_any role.Commands) commands ∙ c.in_ok-commands.ensures.fits)
     c.deref-2.result.now (λ bytes at. c.deref-2.ensures.value ∙ c.in_ok-lines.ensures.bytes bytes (ap (λ (t : Told). t c.args.lines.now) still_last ∙ at))
-    (ap (too_large (role_of c.args.past)) c.deref-2.ensures.value ∙ ap (λ (r : Role). too_large r c.in_ok-lines.lines.items) (sym c.role.ensures) ∙ c.in_ok-lines.ensures.fits) c.answer_files.ensures.answer
+    (ap (too_large (role_of c.args.past)) c.deref-2.ensures.value ∙ ap (λ (r : FileRole). too_large r c.in_ok-lines.lines.items) (sym c.role.ensures) ∙ c.in_ok-lines.ensures.fits) c.answer_files.ensures.answer
 
 pub returns-in_err-timetable-clause-kept : goal.returns-in_err-timetable-clause-kept
 returns-in_err-timetable-clause-kept g c =

@@ -1,5 +1,5 @@
 use Rattle.std.proofs.Common.{refl, ap, ◌∙◌}
-use Rattle.rail_words.specs.declared.files.Role.TheVariants as role
+use Rattle.rail_command_line.specs.declared.files.FileRole.TheVariants as role
 use Rattle.rail_forms.specs.Answers.{Told}
 use Rattle.rail_forms.specs.Files.{too_large}
 use Rattle.rail_forms.proofs.Answers.{ended_with}

@@ -1,9 +1,9 @@
 use Rattle.std.proofs.Common.{◌∷◌, [], Some, None, refl, sym, ap, subst, ◌∙◌, arith}
 use Rattle.std.specs.Option.{option_copied}
 use Rattle.rail_forms.specs.declared.status.Status.{Status}
-use Rattle.rail_words.specs.Files.{file_as}
-use Rattle.rail_words.specs.Forms.{scenario_in}
-use Rattle.rail_words.specs.declared.files.Role.TheVariants as role
+use Rattle.rail_command_line.specs.Files.{file_as}
+use Rattle.rail_command_line.specs.Forms.{scenario_in}
+use Rattle.rail_command_line.specs.declared.files.FileRole.TheVariants as role
 use Rattle.rail_forms.specs.Answers.{Told}
 use Rattle.rail_forms.specs.Files.{content_of, told_of, too_large, too_large_if_any}
 use Rattle.rail_forms.specs.Promises.{KeepsPromise}

@@ -1,6 +1,6 @@
 use Rattle.std.proofs.Common.{ℕ, List, drop, Some, sym, ap, ◌∙◌, subst}
 use Rattle.rail_rules.specs.Texts.{cause_words}
-use Rattle.rail_history.specs.declared.read_words.Reason.{Reason}
+use Rattle.rail_history.specs.declared.read_words.HoldReason.{HoldReason}
 use Rattle.rail_history.proofs.Spelled.{Causes, cause_spaceless, causes, spaceless_drop}
 use Rattle.rail_history.proofs.read_words.cause_of.Goals as goal
 
@@ -12,7 +12,7 @@ returns-in-Stopped c = λ plant has named why writable spelled same.
     let free2 = spaceless_drop (drop 1 ws) free1 in
     let cut2 = c.cut-2.ensures.words (drop 1 (drop 1 ws)) free2 cut1.1 in
     let by_word = causes plant why writable c.args.word.now c.cut.result.0.now c.cut-2.result.0.now (spelled, cut1.0, cut2.0) in
-    let told = subst (λ (r : Reason). Causes plant c.cut.result.0.now c.cut-2.result.0.now why r) (sym c.reason_of.ensures ∙ c.in-Stopped.is) by_word in
+    let told = subst (λ (r : HoldReason). Causes plant c.cut.result.0.now c.cut-2.result.0.now why r) (sym c.reason_of.ensures ∙ c.in-Stopped.is) by_word in
     ap Some (sym told)
 
 pub returns-in-Closed : goal.returns-in-Closed
@@ -23,7 +23,7 @@ returns-in-Closed c = λ plant has named why writable spelled same.
     let free2 = spaceless_drop (drop 1 ws) free1 in
     let cut2 = c.cut-2.ensures.words (drop 1 (drop 1 ws)) free2 cut1.1 in
     let by_word = causes plant why writable c.args.word.now c.cut.result.0.now c.cut-2.result.0.now (spelled, cut1.0, cut2.0) in
-    let told = subst (λ (r : Reason). Causes plant c.cut.result.0.now c.cut-2.result.0.now why r) (sym c.reason_of.ensures ∙ c.in-Closed.is) by_word in
+    let told = subst (λ (r : HoldReason). Causes plant c.cut.result.0.now c.cut-2.result.0.now why r) (sym c.reason_of.ensures ∙ c.in-Closed.is) by_word in
     c.read_closed.ensures plant has named told.0 told.2 told.3 ∙ ap Some (sym told.1)
 
 pub returns-in-Blocked : goal.returns-in-Blocked
@@ -34,7 +34,7 @@ returns-in-Blocked c = λ plant has named why writable spelled same.
     let free2 = spaceless_drop (drop 1 ws) free1 in
     let cut2 = c.cut-2.ensures.words (drop 1 (drop 1 ws)) free2 cut1.1 in
     let by_word = causes plant why writable c.args.word.now c.cut.result.0.now c.cut-2.result.0.now (spelled, cut1.0, cut2.0) in
-    let told = subst (λ (r : Reason). Causes plant c.cut.result.0.now c.cut-2.result.0.now why r) (sym c.reason_of.ensures ∙ c.in-Blocked.is) by_word in
+    let told = subst (λ (r : HoldReason). Causes plant c.cut.result.0.now c.cut-2.result.0.now why r) (sym c.reason_of.ensures ∙ c.in-Blocked.is) by_word in
     c.read_blocked.ensures plant has named told.0 told.1 told.3 told.4 told.5 told.6 ∙ ap Some (sym told.2)
 
 pub returns-in-NoList : goal.returns-in-NoList
@@ -45,7 +45,7 @@ returns-in-NoList c = λ plant has named why writable spelled same.
     let free2 = spaceless_drop (drop 1 ws) free1 in
     let cut2 = c.cut-2.ensures.words (drop 1 (drop 1 ws)) free2 cut1.1 in
     let by_word = causes plant why writable c.args.word.now c.cut.result.0.now c.cut-2.result.0.now (spelled, cut1.0, cut2.0) in
-    let told = subst (λ (r : Reason). Causes plant c.cut.result.0.now c.cut-2.result.0.now why r) (sym c.reason_of.ensures ∙ c.in-NoList.is) by_word in
+    let told = subst (λ (r : HoldReason). Causes plant c.cut.result.0.now c.cut-2.result.0.now why r) (sym c.reason_of.ensures ∙ c.in-NoList.is) by_word in
     ap Some (sym told)
 
 pub returns-in-Other : goal.returns-in-Other
@@ -56,5 +56,5 @@ returns-in-Other c = λ plant has named why writable spelled same.
     let free2 = spaceless_drop (drop 1 ws) free1 in
     let cut2 = c.cut-2.ensures.words (drop 1 (drop 1 ws)) free2 cut1.1 in
     let by_word = causes plant why writable c.args.word.now c.cut.result.0.now c.cut-2.result.0.now (spelled, cut1.0, cut2.0) in
-    let told = subst (λ (r : Reason). Causes plant c.cut.result.0.now c.cut-2.result.0.now why r) (sym c.reason_of.ensures ∙ c.in-Other.is) by_word in
+    let told = subst (λ (r : HoldReason). Causes plant c.cut.result.0.now c.cut-2.result.0.now why r) (sym c.reason_of.ensures ∙ c.in-Other.is) by_word in
     absurd told

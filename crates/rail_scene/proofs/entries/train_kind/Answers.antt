@@ -6,7 +6,7 @@ use Rattle.toml.specs.Data.{Data, as_integer}
 use Rattle.rail_base.specs.Limits.{is_from_one, most, Speed, TrainLength, StartSupplement, StopSupplement}
 use Rattle.rail_scene.specs.declared.keys.TheConstants.{KIND_KEYS, NAME, SPEED, START, STOP, TRAIN_LENGTH}
 use Rattle.rail_scene.specs.declared.keys.Bounds.{Bounds}
-use Rattle.rail_scene.specs.declared.keys.Form.TheVariants.{Whole}
+use Rattle.rail_scene.specs.declared.keys.KeyForm.TheVariants.{Whole}
 use Rattle.rail_scene.specs.Fields.{bounded, counted, name_at, name_in, number_at, number_by}
 use Rattle.toml.specs.View.{view}
 use Rattle.rail_scene.proofs.MemberWalk.{at_key}

@@ -1,6 +1,6 @@
 use Rattle.std.proofs.Common.{◌≡◌, false, true, get_or, sym, ap, ◌∙◌}
 use Rattle.rail_base.specs.NameForms.{same_name}
-use Rattle.rail_scene.specs.declared.keys.Form.TheVariants.{Name}
+use Rattle.rail_scene.specs.declared.keys.KeyForm.TheVariants.{Name}
 use Rattle.rail_scene.specs.declared.keys.Key.{Key}
 use Rattle.rail_scene.specs.declared.keys.KeyName.TheVariants.{Version}
 use Rattle.rail_scene.proofs.MemberWalk.{is_position, is_text}

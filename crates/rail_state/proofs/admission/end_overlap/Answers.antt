@@ -4,7 +4,7 @@ use Rattle.std.specs.List.{filter}
 use Rattle.std.proofs.lemmas.Bool.{and_right}
 use Rattle.rail_rules.specs.Numbers.{is_in}
 use Rattle.rail_rules.specs.Plant.{claimed}
-use Rattle.rail_laws_run.specs.HolderTables.{own_overlap}
+use Rattle.rail_laws_step.specs.HolderTables.{own_overlap}
 use Rattle.rail_queue.specs.declared.event.Class.TheVariants as class
 use Rattle.rail_state.specs.Events.{free_events, is_free_of, train_event}
 use Rattle.rail_state.specs.Representation.{taken_over}

@@ -3,7 +3,7 @@ use Rattle.std.specs.List.{filter}
 use Rattle.std.proofs.lemmas.List.{drop_all}
 use Rattle.rail_queue.specs.declared.event.Event.{Event}
 use Rattle.rail_rules.specs.Numbers.{is_in}
-use Rattle.rail_laws_run.specs.HolderTables.{is_train}
+use Rattle.rail_laws_step.specs.HolderTables.{is_train}
 use Rattle.rail_state.specs.Events.{AreFreedOnce, is_free_of}
 use Rattle.rail_state.proofs.FreeEvents.{forget_step, once_first, once_rest}
 use Rattle.rail_state.proofs.GivenMoves.{first_of_rest}

@@ -2,7 +2,7 @@ use Rattle.std.proofs.Common.{◌≡◌, ℕ, ◌+◌, ◌&&◌, Bool, not, None
 use Rattle.std.specs.List.{filter}
 use Rattle.rail_queue.specs.declared.event.Event.{Event}
 use Rattle.rail_rules.specs.Numbers.{is_in}
-use Rattle.rail_laws_run.specs.HolderTables.{is_train}
+use Rattle.rail_laws_step.specs.HolderTables.{is_train}
 use Rattle.rail_state.specs.Events.{AreFreedOnce, is_free_of}
 use Rattle.rail_state.proofs.admission.forget_each.Given as goal
 

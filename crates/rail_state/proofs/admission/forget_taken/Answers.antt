@@ -1,7 +1,7 @@
 use Rattle.std.proofs.Common.{◌&&◌, not, None, get_or, count_by, sym, subst, ◌∙◌}
 use Rattle.std.specs.List.{filter}
 use Rattle.rail_rules.specs.Numbers.{is_in}
-use Rattle.rail_laws_run.specs.HolderTables.{is_train}
+use Rattle.rail_laws_step.specs.HolderTables.{is_train}
 use Rattle.rail_state.specs.Events.{AreFreedOnce, is_free_of}
 use Rattle.rail_state.proofs.admission.forget_taken.Goals as goal
 

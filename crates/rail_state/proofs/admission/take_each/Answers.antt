@@ -1,5 +1,5 @@
 use Rattle.std.proofs.Common.{◌≡◌, ℕ, ◌+◌, List, ◌∷◌, drop, Option, sym, subst}
-use Rattle.rail_laws_run.specs.HolderTables.{taken_by}
+use Rattle.rail_laws_step.specs.HolderTables.{taken_by}
 use Rattle.rail_state.specs.Admissions.{CanBeTaken}
 use Rattle.rail_state.proofs.GivenMoves.{first_holder, first_known, first_of_rest, rest_after, taken_next}
 use Rattle.rail_state.proofs.admission.take_each.Goals as goal

@@ -1,6 +1,6 @@
 use Rattle.std.proofs.Common.{◌≡◌, drop}
 use Rattle.rail_state.specs.Admissions.{CanBeTaken}
-use Rattle.rail_laws_run.specs.HolderTables.{taken_by}
+use Rattle.rail_laws_step.specs.HolderTables.{taken_by}
 use Rattle.rail_state.proofs.admission.take_each.Given as goal
 
 abbrev pub invariant-loop-section : goal.invariant-loop-section

@@ -2,7 +2,7 @@ use Rattle.std.proofs.Common.{◌≡◌, ◌-◌, ◌<◌, ℕ, true, ltb, List,
 use Rattle.std.specs.List.{list_all}
 use Rattle.rail_rules.specs.Plant.{claimed, move_row, moves}
 use Rattle.rail_rules.proofs.CallerLemmas.{accepted_parts, move_in_range, row_in_range}
-use Rattle.rail_laws_run.specs.HolderTables.{own_overlap}
+use Rattle.rail_laws_step.specs.HolderTables.{own_overlap}
 use Rattle.rail_state.specs.Admissions.{CanBeTaken}
 use Rattle.rail_state.proofs.admission.take_sections.Goals as goal
 

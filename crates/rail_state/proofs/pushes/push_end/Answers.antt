@@ -1,7 +1,7 @@
 use Rattle.std.proofs.Common.{◌≡◌, suc, ◌+◌, ◌-◌, ◌<◌, [], ◌∷◌, count_by, sym, ap, ◌∙◌, arith}
 use Rattle.rail_rules.specs.Plant.{moves}
 use Rattle.rail_block.specs.declared.times.MoveTimes.{MoveTimes}
-use Rattle.rail_laws_run.specs.HolderTables.{own_overlap}
+use Rattle.rail_laws_step.specs.HolderTables.{own_overlap}
 use Rattle.rail_queue.specs.declared.event.Event.{Event}
 use Rattle.rail_queue.specs.declared.event.Class.TheVariants.{Arrive}
 use Rattle.rail_state.specs.Events.{event_of, free_events, train_event}

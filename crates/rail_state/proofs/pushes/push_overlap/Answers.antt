@@ -1,6 +1,6 @@
 use Rattle.std.proofs.Common.{◌≡◌, ◌+◌, ap, arith}
 use Rattle.std.specs.Prelude.{count_by}
-use Rattle.rail_laws_run.specs.HolderTables.{own_overlap}
+use Rattle.rail_laws_step.specs.HolderTables.{own_overlap}
 use Rattle.rail_state.specs.Events.{free_events}
 use Rattle.rail_state.proofs.FreeEvents.{filter_nothing}
 use Rattle.rail_state.proofs.pushes.push_overlap.Goals as goal

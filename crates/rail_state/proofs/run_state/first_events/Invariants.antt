@@ -6,7 +6,7 @@ use Rattle.rail_queue.specs.declared.event.Class.TheVariants.{Ready}
 use Rattle.rail_state.specs.Events.{train_event}
 use Rattle.rail_state.specs.TrainStates.{state_of}
 use Rattle.rail_state.specs.declared.pushes.TheConstants.{MOVE_EVENTS}
-use Rattle.rail_laws_run.specs.MostDue.{most_due}
+use Rattle.rail_laws_step.specs.MostDue.{most_due}
 use Rattle.rail_state.proofs.run_state.first_events.Given as goal
 
 abbrev pub invariant-loop-number : goal.invariant-loop-number

@@ -1,5 +1,5 @@
 use Rattle.std.proofs.Common.{◌≡◌, drop}
-use Rattle.rail_laws_run.specs.HolderTables.{held_cause}
+use Rattle.rail_laws_step.specs.HolderTables.{held_cause}
 use Rattle.rail_state.proofs.train.held_cause.Given as goal
 
 abbrev pub invariant-loop-section : goal.invariant-loop-section

@@ -1,5 +1,5 @@
 use Rattle.std.proofs.Common.{ap, ◌∙◌, refl, arith}
-use Rattle.rail_judging.specs.Verdicts.Verdict.{no}
+use Rattle.rail_laws_verdict.specs.Verdicts.Verdict.{no}
 use Rattle.rail_check.proofs.SoFar.{missing, whole}
 use Rattle.rail_check.proofs.checker.Checker.end.Goals as goal
 

@@ -17,7 +17,7 @@ loop-init g c = record {
 pub returns-in_default-clause-noted : goal.returns-in_default-clause-noted
 returns-in_default-clause-noted g c =
     let so_far = c.loop.invariant.so_far in
-    noted_ended (λ input front. g.N.Notes.are_noted input front c.args.notes.now c.loop.notes) _ _ c.loop.engine.core _
+    noted_ended (λ input front. g.N.LineNotes.are_noted input front c.args.notes.now c.loop.notes) _ _ c.loop.engine.core _
     c.args.self.engine.core.input c.loop.invariant.input c.requires.begun.marks so_far
     (c.in_default.ensures.ended refl _ so_far.front so_far.stands)
 
@@ -30,7 +30,7 @@ note_line-requires g c =
     let engine = c.step.new.self.core in
     let stands = c.in-Some.ensures.line _ so_far.front so_far.stands in
     let line = line_in engine c.in-Some.entry in
-    let next = next_noted (λ input front. g.N.Notes.are_noted input front c.args.notes.now c.loop.notes) _ _ c.loop.engine.core _ so_far engine _ line
+    let next = next_noted (λ input front. g.N.LineNotes.are_noted input front c.args.notes.now c.loop.notes) _ _ c.loop.engine.core _ so_far engine _ line
     c.plant-in-loop.result.now c.listed.result.now c.in-Some.ensures.input stands c.plant-in-loop.ensures (c.listed.ensures _ _ stands) in (
       c.args.notes.now,
       record { input = input_in engine.input; front = so_far.front; line = line; next = next.0; noted = next.1 },
@@ -42,10 +42,10 @@ returns-in_err-note_line-clause-cut g c =
     let engine = c.step.new.self.core in
     let stands = c.in-Some.ensures.line _ so_far.front so_far.stands in
     let line = line_in engine c.in-Some.entry in
-    let next = next_noted (λ input front. g.N.Notes.are_noted input front c.args.notes.now c.loop.notes) _ _ c.loop.engine.core _ so_far engine _ line
+    let next = next_noted (λ input front. g.N.LineNotes.are_noted input front c.args.notes.now c.loop.notes) _ _ c.loop.engine.core _ so_far engine _ line
     c.plant-in-loop.result.now c.listed.result.now c.in-Some.ensures.input stands c.plant-in-loop.ensures (c.listed.ensures _ _ stands) in
     let failed = err_from_is_err_and c.from_residual.result c.from_residual.ensures.1 in
-    rw failed.1 (noted_cut (λ input front. g.N.Notes.is_cut input front c.args.notes.now c.note_line.new.self) _ _ engine _ c.args.self.engine.core.input
+    rw failed.1 (noted_cut (λ input front. g.N.LineNotes.is_cut input front c.args.notes.now c.note_line.new.self) _ _ engine _ c.args.self.engine.core.input
     (c.in-Some.ensures.input ∙ c.loop.invariant.input) stands
     (c.in_err-note_line.ensures.cut (input_in engine.input) so_far.front line c.args.notes.now next.0 next.1))
 
@@ -55,7 +55,7 @@ loop-preserved g c =
     let engine = c.step.new.self.core in
     let stands = c.in-Some.ensures.line _ so_far.front so_far.stands in
     let line = line_in engine c.in-Some.entry in
-    let next = next_noted (λ input front. g.N.Notes.are_noted input front c.args.notes.now c.loop.notes) _ _ c.loop.engine.core _ so_far engine _ line
+    let next = next_noted (λ input front. g.N.LineNotes.are_noted input front c.args.notes.now c.loop.notes) _ _ c.loop.engine.core _ so_far engine _ line
     c.plant-in-loop.result.now c.listed.result.now c.in-Some.ensures.input stands c.plant-in-loop.ensures (c.listed.ensures _ _ stands) in
     record {
       input = c.in-Some.ensures.input ∙ c.loop.invariant.input;

@@ -17,5 +17,5 @@ invariant-loop g l =
     } in
     record {
       input : l.engine.core.input ≡ l.initial.engine.core.input;
-      so_far : IsNotedSoFar (λ input front. g.N.Notes.are_noted input front l.initial.notes l.notes) l.counter (run_seats first) l.engine.core now;
+      so_far : IsNotedSoFar (λ input front. g.N.LineNotes.are_noted input front l.initial.notes l.notes) l.counter (run_seats first) l.engine.core now;
     }

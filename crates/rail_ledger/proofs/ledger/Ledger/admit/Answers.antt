@@ -8,7 +8,7 @@ use Rattle.rail_rules.specs.Causes.{place}
 use Rattle.rail_ledger.specs.Inputs.{dispatch_in, input_in}
 use Rattle.rail_rules.specs.Plant.{claimed, moves, trains}
 use Rattle.rail_rules.specs.RunHistories.{is_run}
-use Rattle.rail_laws_run.specs.HolderTables.{held_cause, own_overlap}
+use Rattle.rail_laws_step.specs.HolderTables.{held_cause, own_overlap}
 use Rattle.rail_state.specs.declared.pushes.TheConstants.{MOVE_EVENTS}
 use Rattle.rail_state.specs.declared.run_state.RunState.{RunState}
 use Rattle.rail_state.specs.declared.train.TrainState.{TrainState}

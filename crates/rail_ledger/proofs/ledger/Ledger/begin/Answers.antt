@@ -1,7 +1,7 @@
 use Rattle.std.proofs.Common.{ℕ, ◌+◌, List, length, replicate, refl, ap, ◌∙◌, arith}
 use Rattle.std.specs.Prelude.{count_by}
 use Rattle.rail_base.specs.declared.orders.Command.{Command}
-use Rattle.rail_laws_run.specs.MostDue.{most_due}
+use Rattle.rail_laws_step.specs.MostDue.{most_due}
 use Rattle.rail_orders.specs.OrderTables.{first_tables}
 use Rattle.rail_state.specs.Events.{command_events}
 use Rattle.rail_state.specs.declared.pushes.TheConstants.{MOVE_EVENTS}

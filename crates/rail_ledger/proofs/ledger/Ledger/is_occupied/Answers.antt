@@ -1,6 +1,6 @@
 use Rattle.std.proofs.Common.{◌≡◌, ◌+◌, ◌-◌, is_some, ap, ◌∙◌, arith}
 use Rattle.rail_rules.specs.Plant.{claimed}
-use Rattle.rail_laws_run.specs.HolderTables.{held_cause, own_overlap}
+use Rattle.rail_laws_step.specs.HolderTables.{held_cause, own_overlap}
 use Rattle.rail_state.specs.TrainStates.{state_of}
 use Rattle.rail_state.specs.declared.train.TrainState.{TrainState}
 use Rattle.rail_ledger.proofs.Admissions.{known_of, left_of}

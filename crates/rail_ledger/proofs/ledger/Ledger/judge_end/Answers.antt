@@ -6,8 +6,8 @@ use Rattle.rail_state.specs.TrainStates.{state_of}
 use Rattle.rail_state.proofs.CallerLemmas.{cause_known}
 use Rattle.rail_rules.specs.Fronts.{Line}
 use Rattle.rail_rules.specs.Lawful.{is_lawful}
-use Rattle.rail_judging.specs.Verdicts.{is_undecided}
-use Rattle.rail_judging.proofs.CallerLemmas.{undecided_before_hold, undecided_where_one_goes}
+use Rattle.rail_laws_verdict.specs.Verdicts.{is_undecided}
+use Rattle.rail_laws_verdict.proofs.CallerLemmas.{undecided_before_hold, undecided_where_one_goes}
 use Rattle.rail_ledger.specs.declared.input.RunInput.{RunInput}
 use Rattle.rail_ledger.specs.declared.ledger.Ledger.{Ledger}
 use Rattle.rail_ledger.specs.declared.ledger.Listed.TheVariants as which

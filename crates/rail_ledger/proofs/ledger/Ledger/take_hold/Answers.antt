@@ -1,6 +1,6 @@
 use Rattle.std.proofs.Common.{◌≡◌, ◌∷◌, true, sym, ap, ◌∙◌, subst, arith}
 use Rattle.std.proofs.lemmas.Bool.{and_parts, false≢true}
-use Rattle.rail_judging.proofs.CallerLemmas.{one_other, refused_held}
+use Rattle.rail_laws_verdict.proofs.CallerLemmas.{one_other, refused_held}
 use Rattle.rail_rules.specs.Fronts.{Line}
 use Rattle.rail_rules.specs.Lawful.{is_lawful, may_follow}
 use Rattle.rail_state.specs.Representation.{bare_at}

@@ -2,8 +2,8 @@ use Rattle.std.proofs.Common.{◌≡◌, ℕ, false, refl, sym, ◌∙◌, subst
 use Rattle.std.specs.Prelude.{IfSome, Option}
 use Rattle.rail_rules.specs.Fronts.{Line}
 use Rattle.rail_rules.specs.Lawful.{may_follow}
-use Rattle.rail_judging.specs.Verdicts.{broken_law}
-use Rattle.rail_judging.proofs.CallerLemmas.{refused_open}
+use Rattle.rail_laws_verdict.specs.Verdicts.{broken_law}
+use Rattle.rail_laws_verdict.proofs.CallerLemmas.{refused_open}
 use Rattle.rail_ledger.specs.declared.ledger.Ledger.{Ledger}
 use Rattle.rail_ledger.specs.Ledgers.{IsRefused, StandsAsBefore, line_with}
 use Rattle.rail_ledger.specs.declared.ledger.Listed.TheVariants as which

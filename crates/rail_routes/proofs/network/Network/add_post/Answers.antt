@@ -3,7 +3,7 @@ use Rattle.rail_routes.specs.Net.{Net}
 use Rattle.rail_routes.specs.PostRules.{post_refusal}
 use Rattle.rail_routes.specs.NetworkFields.{lists_of}
 use Rattle.rail_routes.proofs.PostChanges.{sound_with_portal, sound_with_signal, sound_with_board}
-use Rattle.rail_routes.specs.declared.items.Role.TheVariants.{Portal, Signal, Board}
+use Rattle.rail_routes.specs.declared.items.PostRole.TheVariants.{Portal, Signal, Board}
 use Rattle.rail_routes.proofs.Restorings.{added_found, added_taken, new_by_tests}
 use Rattle.rail_routes.proofs.network.Network.add_post.Goals as goal
 

@@ -4,14 +4,14 @@ use Rattle.rail_block.specs.declared.times.MoveTimes.{MoveTimes}
 use Rattle.rail_block.specs.CarriedTimes.{AreBelow, times_at}
 use Rattle.rail_block.specs.KnownMoves.{own_times}
 use Rattle.rail_queue.specs.declared.event.Event.{Event}
-use Rattle.rail_laws_run.specs.HolderTables.{taken_by}
+use Rattle.rail_laws_step.specs.HolderTables.{taken_by}
 use Rattle.rail_state.specs.Events.{AreFreedOnce}
 use Rattle.rail_state.specs.Representation.{taken_over}
 use Rattle.rail_state.specs.declared.train.TrainState.{TrainState}
 use Rattle.rail_rules.specs.Fronts.{Front, admissions}
 use Rattle.rail_rules.specs.Plant.{Plant, is_forced, moves, claimed}
 use Rattle.rail_rules.specs.Times.{stop_time}
-use Rattle.rail_laws_run.proofs.CallerLemmas.{taken_long}
+use Rattle.rail_laws_step.proofs.CallerLemmas.{taken_long}
 use Rattle.rail_state.proofs.GivenMoves.{ArePushed, as_made, next_place, next_times, pushed_at}
 use Rattle.rail_state.proofs.run_state.RunState.admit.Goals as goal
 
