@@ -1,3 +1,5 @@
+//! Times as text: the canonical form that is written, and the lenient one that is read.
+
 ghost use Rattle.std.specs.Prelude.{◌≡◌, ℕ, ◌+◌, ◌*◌, ◌/◌, ◌%◌, ◌-◌, ◌<◌, ◌≤◌, ◌^◌, ◌∷◌, [], ◌++◌, ◌⊎◌, ◌↔◌, IsTrue, MatchOption, take, drop, length, codes};
 ghost use Rattle.rail_base.specs.Clock.{IsLenientTime, hours_text, seconds_text, time_text, two_digits};
 

@@ -1,3 +1,5 @@
+//! The lines of a history, and the causes for which a ready move is held.
+
 use crate::numbers::{SectionNo, Time, TrainNo};
 
 /// One line of a history. The trains of a fresh list, or those that an end line names, go beside it.

@@ -1,3 +1,5 @@
+//! The blocking interval of a section by one move of a train, and its nine parts.
+
 use crate::numbers::{SectionNo, Time, TrainNo};
 
 /// The blocking interval of one section by one move of a train: from its begin to before its end.

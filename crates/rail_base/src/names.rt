@@ -1,3 +1,5 @@
+//! The names of the sections and trains of a plant, and the numbers that they stand for.
+
 ghost use Rattle.std.specs.Prelude.{◌≡◌, ◌≤◌, ◌^◌, length, position};
 ghost use Rattle.rail_base.specs.NameForms.{same_name};
 

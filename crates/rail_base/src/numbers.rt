@@ -1,3 +1,5 @@
+//! Times and the numbers of sections and trains, and a division that rounds up.
+
 ghost use Rattle.std.specs.Prelude.{◌≡◌, ℕ, ◌+◌, ◌*◌, ◌<◌, ◌≤◌, ◌^◌};
 
 use std::marker::Model;

@@ -1,3 +1,5 @@
+//! Commands and what they order, and the kinds of dispatching policies.
+
 use crate::numbers::{SectionNo, Time, TrainNo};
 use crate::text::Name;
 

@@ -1,3 +1,5 @@
+//! The plain data of a plant: its sections, its trains with their kinds and moves, and the calls of a timetable.
+
 use crate::numbers::{SectionNo, Time};
 use crate::sequence::Seq;
 use crate::shared::Shared;

@@ -1,3 +1,5 @@
+//! Why an input is refused and where, and that memory was not found.
+
 ghost use Rattle.std.specs.Prelude.{◌≡◌};
 ghost use Rattle.rail_base.specs.Refusals.{number_of};
 
@@ -157,12 +159,10 @@ pub enum Reason {
     RerouteForm,
     /// A name of a rerouting is unknown.
     RerouteName,
-    /// The form is not built yet.
-    NotYet,
 }
 
 impl Reason {
-    /// The number that the refusal's text shows, from 1 to 39.
+    /// The number that the refusal's text shows, from 1 to 38; 39 is kept free.
     pub fn number(self) -> u8
         ensures { result ≡ number_of self }
     {

@@ -1,3 +1,5 @@
+//! A list of items with one owner, which contracts see as that list.
+
 ghost use Rattle.std.specs.Prelude.{◌≡◌};
 
 use std::marker::Model;

@@ -1,7 +1,8 @@
 //! The times of a train's moves, carried from move to move, and blocking intervals.
 //!
-//! This layer stands on plants (`rail_plan`), on the running times of `rail_train` and on the
-//! definitions of `rail_rules`, which compute every time from the list of a train's admissions. Here
+//! This layer stands on plants (`rail_plan`) and on the definitions of `rail_rules`, which compute every time
+//! from the list of a train's admissions. How long a train takes over a section and to clear it are the two formulas of
+//! `src/running_times.rt`; a change of `specs/RunningTimes.antt` changes every time of a run. Here
 //! five numbers of a move stand for that list: with them each time of the move and of the one after it
 //! is found without a look at earlier moves. The contracts say so for every list of admissions whose
 //! times they are; `specs/` says which numbers those are. A move whose train and place the plant has is a
@@ -18,6 +19,7 @@ mod laws;
 mod moves;
 mod overlaps;
 mod running;
+mod running_times;
 mod signals;
 mod steps;
 mod times;
@@ -28,5 +30,5 @@ pub use laws::later_admissions_change_no_earlier_times;
 pub use moves::{KnownMove, KnownOver, KnownStep};
 pub use rail_base::{Interval, Parts};
 pub use running::{after, clear_time_of, start_loss};
-pub use steps::enter_time;
+pub use running_times::{clear_time, run_time};
 pub use times::{MoveTimes, entry_times, times_of};

@@ -11,9 +11,9 @@ ghost use Rattle.rail_block.specs.KnownMoves.{of_move, of_step};
 ghost use Rattle.rail_block.specs.Steps.{step_clearing, step_time};
 
 use crate::moves::{KnownMove, KnownStep};
+use crate::running_times::{clear_time, run_time};
 use rail_base::{MoveRow, SectionNo, SectionRow, Time, TrainKind, TrainNo};
 use rail_plan::Plant;
-use rail_train::{clear_time, run_time};
 
 /// The plant may be run, as each plant that was made.
 pub fn may_be_run(plant: &Plant)

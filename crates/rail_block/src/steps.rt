@@ -12,23 +12,6 @@ use crate::times::MoveTimes;
 use rail_base::{Time, TrainNo};
 use rail_plan::Plant;
 
-/// When the head of the train enters the section of the step, counted from 1, of the move whose times
-/// these are. The work grows with the number of the step.
-pub fn enter_time(plant: &Plant, train: TrainNo, place: u16, times: &MoveTimes, step: u16) -> Time
-    requires train { train < trains plant.now }
-    requires first { 1 ≤ place }
-    requires last { place ≤ moves plant.now train }
-    requires times { AreBelow (2 ^ 51) times.now }
-    requires first_step { 1 ≤ step }
-    requires last_step { step ≤ steps plant.now train (place - 1) }
-    ensures time { (adms : List ℕ) → times.now ≡ times_at plant.now train adms place
-        → result ≡ enter plant.now train adms (place - 1) (step - 1) }
-    ensures soon { result ≤ times.now.go + 2 ^ 28 }
-{
-    let known = KnownMove::new(plant, train, place);
-    known.reach_time(times, step - 1)
-}
-
 impl KnownMove<'_> {
     /// When the head has run over the first sections of the move, so many, which began at `begun`.
     pub(crate) fn head_time(&self, begun: Time, passes: bool, count: u16) -> Time
@@ -44,8 +27,9 @@ impl KnownMove<'_> {
         after(begun, lost + self.run_over(count))
     }
 
-    /// When the head has run over the first sections of the move whose times these are, so many.
-    pub(crate) fn reach_time(&self, times: &MoveTimes, count: u16) -> Time
+    /// When the head has run over the first sections of the move whose times these are, so many: then it enters the next
+    /// one. The work grows with the number of sections.
+    pub fn reach_time(&self, times: &MoveTimes, count: u16) -> Time
         requires times { AreBelow (2 ^ 51) times.now }
         requires within { count ≤ of_move steps self.now }
         ensures time { (adms : List ℕ) → times.now ≡ own_times self.now adms → result ≡ timed enter self.now adms count }

@@ -1,3 +1,5 @@
+//! The blocking times of a line in a window, taken from the intervals of a run.
+
 ghost use Rattle.std.specs.Prelude.{◌≡◌, ◌==◌, IfOk, map};
 ghost use Rattle.std.specs.List.{filter, list_any};
 ghost use Rattle.std.specs.List.Sorted.{IsNonDecreasing};

@@ -1,3 +1,5 @@
+//! The compression: the trains of a line pass as early as their order allows; how full the line then is.
+
 ghost use Rattle.std.specs.Prelude.{◌≡◌, ◌≢◌, ◌-◌, ◌<◌, ◌≤◌, ◌↔◌, List, [], IfOk, IsTrue, map};
 ghost use Rattle.std.specs.List.{All};
 ghost use Rattle.std.specs.Result.{IsErrOf};

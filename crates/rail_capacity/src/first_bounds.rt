@@ -1,3 +1,5 @@
+//! The bounds that the begin of the window sets.
+
 ghost use Rattle.std.specs.Prelude.{◌≡◌, ◌<◌, ◌≤◌, length, [], IfOk};
 ghost use Rattle.std.specs.List.{All, Contains};
 ghost use Rattle.rail_capacity.specs.FirstBounds.{AreFirstBounds, with_block};

@@ -1,3 +1,5 @@
+//! The occupancy time of a compression: how much later a copy of the first train begins behind all others.
+
 ghost use Rattle.std.specs.Prelude.{◌≡◌, ℕ, ◌-◌, ◌<◌, ◌^◌, ◌==◌, cond, max, slice_index, length, IfOk, MatchOption, List, [], map};
 ghost use Rattle.std.specs.List.{All};
 ghost use Rattle.std.specs.Option.{option_map_or};

@@ -1,5 +1,5 @@
 -- How far a history was checked.
-use Rattle.std.proofs.Common.{◌≡◌, ℕ, suc, ◌+◌, true, false, List, [], ◌∷◌, ◌++◌, sym, ap, ◌∙◌, arith, append_assoc, length-append}
+use Rattle.std.proofs.Common.{◌≡◌, ℕ, suc, ◌+◌, true, List, [], ◌∷◌, ◌++◌, sym, ap, ◌∙◌, arith, append_assoc, length-append}
 use Rattle.std.proofs.lemmas.Bool.{and_parts, cond-false, cond-true}
 use Rattle.std.proofs.lemmas.List.{append-nil}
 use Rattle.rail_rules.specs.Fronts.{Line, has_ended, is_hold}
@@ -8,23 +8,11 @@ use Rattle.rail_laws_verdict.specs.Verdicts.{broken_law, missing_law, verdict, v
 use Rattle.rail_laws_verdict.specs.Verdicts.Verdict.{yes, no}
 use Rattle.rail_ledger.specs.declared.input.RunInput.{RunInput}
 use Rattle.rail_ledger.specs.Inputs.{input_in}
-use Rattle.rail_ledger.specs.Ledgers.{IsAt, IsEnded, IsRefusedWith, IsUnended, StandsAsBefore, TakesLineWith}
+use Rattle.rail_ledger.specs.Ledgers.{IsAt, IsEnded, IsUnended, TakesLineWith}
 use Rattle.rail_check.specs.Checkers.{IsChecked}
 use Rattle.rail_check.specs.declared.checker.Checker.{Checker}
 
 module _ (input : RunInput) (lines : List Line) (checker : Checker) (so_far : IsChecked input lines checker) where
-  -- a line that may not follow decides
-  pub refused : (line : Line) (rest : List Line) (law : ℕ) → IsRefusedWith checker.after_hold checker.ledger line law
-      → no (suc checker.lines) law ≡ verdict (input_in input) (lines ++ line ∷ rest)
-  refused line rest law broken =
-      let front = so_far.front in
-      let is = broken front (so_far.at, so_far.after_hold_is) in
-      let may : may_follow (input_in input) front line ≡ false = ap (λ (i : RunInput). may_follow (input_in i) front line) (sym so_far.input_is) ∙ is.0 in
-      let law_is : law ≡ broken_law (input_in input) front line = is.1 ∙ ap (λ (i : RunInput). broken_law (input_in i) front line) so_far.input_is in
-      ap (no (suc checker.lines)) law_is
-      ∙ sym (cond-false (may_follow (input_in input) front line) (verdict_behind (input_in input) (line ∷ front) (suc (suc checker.lines)) rest) (no (suc checker.lines) (broken_law (input_in input) front line)) may)
-      ∙ so_far.same (line ∷ rest)
-
   -- behind a line that may follow it is so again
   pub taken : (line : Line) (new : Checker) → new.ledger.input ≡ checker.ledger.input → TakesLineWith checker.after_hold checker.ledger new.ledger line
       → new.after_hold ≡ is_hold line.entry.what → new.lines ≡ checker.lines + 1 → IsChecked input (lines ++ line ∷ []) new
@@ -47,18 +35,6 @@ module _ (input : RunInput) (lines : List Line) (checker : Checker) (so_far : Is
             ∙ so_far.same (line ∷ rest)
             ∙ ap (verdict (input_in input)) (sym (append_assoc lines (line ∷ []) rest));
       }
-
-  -- a ledger that stands as before leaves what was checked
-  pub stays : (new : Checker) → new.ledger.input ≡ checker.ledger.input → StandsAsBefore checker.ledger new.ledger
-      → new.after_hold ≡ checker.after_hold → new.lines ≡ checker.lines → IsChecked input lines new
-  stays new input_new before held many = record {
-    front = so_far.front;
-    at = before so_far.front so_far.at;
-    input_is = input_new ∙ so_far.input_is;
-    after_hold_is = held ∙ so_far.after_hold_is;
-    counted = many ∙ so_far.counted;
-    same = λ rest. ap (λ (n : ℕ). verdict_behind (input_in input) so_far.front (suc n) rest) many ∙ so_far.same rest;
-  }
 
   -- behind the end line nothing is missing
   pub whole : IsEnded checker.ledger → yes ≡ verdict (input_in input) lines

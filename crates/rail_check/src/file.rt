@@ -15,12 +15,25 @@ use rail_history::{FileLines, put_bare_line};
 use rail_ledger::RunInput;
 use std::alloc::Global;
 
-/// Whether the history in the file of these bytes is lawful to its end, as `check` says it of a history that was read. The
-/// names of the file are those of the plant. It is refused where `read_history` refuses it, whatever the verdict on the
-/// lines before would be.
+/// Whether the history in the file of these bytes is lawful to its end: a history of the plant with its calls, under the
+/// commands, and with the names of the deck, of which one is in force first. The input is handed over, since the ledger
+/// that is made here keeps it. The names of the file are those of the plant. The file is refused where `read_history`
+/// refuses it, whatever the verdict on the lines before would be.
+///
+/// The law of a `No` is the least of those that the line breaks, except that law 6 goes before laws 1 and 7:
+///
+/// 1. an event line or the end line is not the due one, or a line follows the end line;
+/// 2. a train is admitted that is not waiting at this instant, or another move of it, or after a hold line of the
+///    round;
+/// 3. a train is admitted that is stopped, or over a closed section;
+/// 4. a train is admitted over a section that is blocked at the instant;
+/// 5. a train is admitted after which the kept list does not bring every train inside to its exit;
+/// 6. a hold line is not the due one, or a line other than an admission stands where a train could be admitted
+///    or a hold line is due;
+/// 7. the end line is missing.
 ///
 /// A line is read only where it is not the due one: the text of the line that is due is compared with the bytes of the
-/// file.
+/// file. `OutOfMemory` comes where memory is not found.
 pub fn check_file(alloc: Global, input: RunInput, bytes: &[u8]) -> Result<Verdict, Fault>
     requires accepted { is_accepted_input (input_in input) ≡ true }
     requires short { length bytes.now < 2 ^ 32 - 1 }

@@ -1,3 +1,5 @@
+//! The verdict on a history: lawful to its end, or the first wrong line and the law that it breaks.
+
 /// What is answered to a history.
 #[derive(Clone, Copy, Debug, PartialEq, Eq)]
 pub enum Verdict {

@@ -1,3 +1,5 @@
+//! Words of a command line that are numbers.
+
 ghost use Rattle.std.specs.Prelude.{◌≡◌, ℕ, MatchOption};
 ghost use Rattle.rail_command_line.specs.Forms.{IsNumber};
 

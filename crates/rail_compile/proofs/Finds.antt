@@ -1,9 +1,7 @@
 -- What is found by a test in a list.
-use Rattle.std.proofs.Common.{Bor, ◌≡◌, ℕ, ◌+◌, ◌<◌, Bool, true, false, not, ◌||◌, cond, List, [], ◌∷◌, length, get_or, map, is_some, unwrap_or, Option, Some, None, refl, sym, ap, ◌∙◌, ⊎_elim, arith}
+use Rattle.std.proofs.Common.{◌≡◌, ℕ, ◌+◌, ◌<◌, Bool, true, false, not, ◌||◌, cond, List, [], ◌∷◌, length, get_or, is_some, unwrap_or, Option, Some, None, refl, sym, ap, ◌∙◌, ⊎_elim, arith}
 use Rattle.std.specs.List.{find, list_any, list_all, position, position_or_len}
-use Rattle.std.specs.Option.{option_copied}
 use Rattle.std.proofs.lemmas.Bool.{and_parts, cases_Bool, cond-true, cond-false, lt-ltb, false≢true}
-use Rattle.std.proofs.lemmas.List.{get_or-map}
 use Rattle.std.proofs.lemmas.List.Folds.{list_all_at}
 
 -- a list that is tested has an item that is found exactly where one passes
@@ -14,15 +12,6 @@ is_some-find p (x ∷ xs) = by (p x) (is_some-find p xs)
     by : (b : Bool) → is_some (find p xs) ≡ list_any p xs → is_some (cond b (Some x) (find p xs)) ≡ (b || list_any p xs)
     by true rest = refl
     by false rest = rest
-
--- what is found passes
-pub found_itself : {X : Type 0} (p : X → Bool) (xs : List X) (x : X) → find p xs ≡ Some x → p x ≡ true
-found_itself p [] x is = absurd (cc)
-found_itself {X} p (y ∷ ys) x is =
-    ⊎_elim
-    (λ yes. let here : Some y ≡ Some x = sym (cond-true (p y) (Some y) (find p ys) yes) ∙ is in let same : y ≡ x = cc in ap p (sym same) ∙ yes)
-    (λ no. found_itself p ys x (sym (cond-false (p y) (Some y) (find p ys) no) ∙ is))
-    (cases_Bool (p y))
 
 -- and passes what each item passes
 pub found_passes : {X : Type 0} (p q : X → Bool) (xs : List X) (x : X) → find p xs ≡ Some x → list_all q xs ≡ true → q x ≡ true
@@ -58,12 +47,3 @@ unwrapped o x d is = ap (λ p. unwrap_or p d) is
 pub some_unwrapped : {X : Type 0} (o : Option X) (d : X) → is_some o ≡ true → o ≡ Some (unwrap_or o d)
 some_unwrapped None d some = absurd (false≢true some)
 some_unwrapped (Some x) d some = refl
-
--- an item of a list under a map
-pub mapped_read : {X Y : Type 0} (f : X → Y) (xs : List X) (i : ℕ) (x : X) (e : Y) → i < length xs → x ≡ get_or xs i x → get_or (map f xs) i e ≡ f x
-mapped_read f xs i x e lt is = get_or-map f xs i x e lt ∙ ap f (sym is)
-
--- a reference is there where what it points to is
-pub copied_some : {X : Type 0} (o : Option (Bor X)) → is_some o ≡ is_some (option_copied o)
-copied_some None = refl
-copied_some (Some x) = refl

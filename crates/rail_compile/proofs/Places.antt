@@ -9,47 +9,8 @@ use Rattle.rail_base.specs.FirstRefusals.{first_failing}
 use Rattle.rail_base.proofs.CallerLemmas.{first_failing-append}
 use Rattle.rail_routes.specs.declared.items.Route.{Route}
 use Rattle.rail_routes.specs.Net.{Net, no_route}
-use Rattle.rail_compile.specs.Itineraries.{is_portal, goes_on_to}
+use Rattle.rail_compile.specs.Itineraries.{is_portal}
 use Rattle.rail_compile.specs.Refusals.{of_train, train_refused, begins_at_portal, ends_at_portal, place_tests, route_tests}
-
--- two routes that follow one another, in front of the rest
-two_ahead : (routes : List Route) (place : ℕ) → 1 ≤ place → place < length routes → drop (place - 1) routes ≡ get_or routes (place - 1) no_route ∷ get_or routes place no_route ∷ drop (place + 1) routes
-two_ahead routes place first lt =
-    let back : place - 1 + 1 ≡ place = omega arith in
-    drop_more routes (place - 1) no_route (omega arith)
-    ∙ ap (λ k. get_or routes (place - 1) no_route ∷ drop k routes) back
-    ∙ ap (λ rest. get_or routes (place - 1) no_route ∷ rest) (drop_more routes place no_route lt)
-
-tests_ahead : (net : Net) (item : ℕ) (routes : List Route) (place : ℕ) → 1 ≤ place → place < length routes →
-    first_failing (place_tests net item place (drop (place - 1) routes))
-    ≡ cond (not (goes_on_to net (get_or routes (place - 1) no_route) (get_or routes place no_route)))
-    (Some (of_train reason.ItineraryBroken item place))
-    (first_failing (place_tests net item (place + 1) (drop (place + 1 - 1) routes)))
-tests_ahead net item routes place first lt =
-    let on : Bool = not (goes_on_to net (get_or routes (place - 1) no_route) (get_or routes place no_route)) in
-    let answer : Option Refusal = Some (of_train reason.ItineraryBroken item place) in
-    let next : suc place ≡ place + 1 = omega arith in
-    let here : place ≡ place + 1 - 1 = omega arith in
-    ap (λ rest. first_failing (place_tests net item place rest)) (two_ahead routes place first lt)
-    ∙ ap (λ rest. cond on answer (first_failing (place_tests net item (suc place) rest))) (sym (drop_more routes place no_route lt))
-    ∙ ap (λ k. cond on answer (first_failing (place_tests net item k (drop place routes)))) next
-    ∙ ap (λ k. cond on answer (first_failing (place_tests net item (place + 1) (drop k routes)))) here
-
--- it stops at a place where the train can't go on
-pub broken_at : (net : Net) (item : ℕ) (routes : List Route) (place : ℕ) → 1 ≤ place → place < length routes →
-    goes_on_to net (get_or routes (place - 1) no_route) (get_or routes place no_route) ≡ false →
-    first_failing (place_tests net item place (drop (place - 1) routes)) ≡ Some (of_train reason.ItineraryBroken item place)
-broken_at net item routes place first lt stuck =
-    tests_ahead net item routes place first lt
-    ∙ ap (λ b. cond (not b) (Some (of_train reason.ItineraryBroken item place)) (first_failing (place_tests net item (place + 1) (drop (place + 1 - 1) routes)))) stuck
-
--- and goes on where the train can
-pub going_on : (net : Net) (item : ℕ) (routes : List Route) (place : ℕ) → 1 ≤ place → place < length routes →
-    goes_on_to net (get_or routes (place - 1) no_route) (get_or routes place no_route) ≡ true →
-    first_failing (place_tests net item place (drop (place - 1) routes)) ≡ first_failing (place_tests net item (place + 1) (drop (place + 1 - 1) routes))
-going_on net item routes place first lt free =
-    tests_ahead net item routes place first lt
-    ∙ ap (λ b. cond (not b) (Some (of_train reason.ItineraryBroken item place)) (first_failing (place_tests net item (place + 1) (drop (place + 1 - 1) routes)))) free
 
 few_left : (net : Net) (item place : ℕ) (routes : List Route) → length routes ≤ 1 → first_failing (place_tests net item place routes) ≡ None
 few_left net item place [] few = refl

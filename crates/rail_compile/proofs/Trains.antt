@@ -1,9 +1,9 @@
 -- The tests of the trains, train by train.
-use Rattle.std.proofs.Common.{◌≡◌, ℕ, zero, suc, ◌+◌, ◌<◌, ◌≤◌, Bool, true, false, not, cond, List, [], ◌∷◌, ◌++◌, length, get_or, drop, map, take, is_some, Option, Some, None, refl, sym, ap, ◌∙◌, subst, ⊎_elim, arith}
+use Rattle.std.proofs.Common.{◌≡◌, ℕ, zero, suc, ◌+◌, ◌<◌, ◌≤◌, Bool, true, false, not, cond, List, [], ◌∷◌, ◌++◌, length, get_or, drop, map, is_some, Option, Some, None, refl, sym, ap, ◌∙◌, subst, ⊎_elim, arith}
 use Rattle.std.proofs.lemmas.Bool.{cases_lt}
 use Rattle.std.specs.List.{list_any}
 use Rattle.std.specs.Option.{option_or}
-use Rattle.std.proofs.lemmas.List.{drop_more, drop_all, get_or-take, get_or_default, length-take}
+use Rattle.std.proofs.lemmas.List.{drop_more, get_or_default}
 use Rattle.rail_base.specs.NameForms.{same_name}
 use Rattle.rail_base.specs.declared.plant.TrainKind.{TrainKind}
 use Rattle.rail_base.specs.declared.refusals.Fault.{Fault}
@@ -12,16 +12,14 @@ use Rattle.rail_base.specs.declared.refusals.Refusal.{Refusal}
 use Rattle.rail_base.specs.Refusals.{AnswersFirst}
 use Rattle.rail_base.specs.declared.refusals.Reason.TheVariants as reason
 use Rattle.rail_base.specs.FirstRefusals.{first_failing}
-use Rattle.rail_base.specs.declared.plant.TrainRow.{TrainRow}
 use Rattle.rail_base.proofs.CallerLemmas.{AllPassed, all_passed, first_failing-append, none_failing}
 use Rattle.rail_track.proofs.CallerLemmas.{list_any-map}
 use Rattle.rail_scene.specs.declared.scene.Scene.{Scene}
 use Rattle.rail_scene.specs.declared.scene.SceneTrain.{SceneTrain}
 use Rattle.rail_routes.specs.declared.items.Route.{Route}
 use Rattle.rail_routes.specs.Net.{Net}
-use Rattle.rail_compile.specs.Itineraries.{routes_of, train_row}
+use Rattle.rail_compile.specs.Itineraries.{routes_of}
 use Rattle.rail_compile.specs.Refusals.{are_known, ends_at_portal, of_train, place_tests, route_tests, train_refused, train_tests, trains_tests}
-use Rattle.rail_compile.proofs.Finds.{mapped_read}
 use Rattle.rail_compile.proofs.Places.{or-some, or-none}
 
 -- a train in front of those after it
@@ -56,9 +54,6 @@ pub answers_at : (scene : Scene) (trains : List SceneTrain) (i : ℕ) (train : S
     AnswersFirst (first_failing (train_tests scene (i + 1) train)) fault → AnswersFirst (first_failing (trains_tests scene 1 trains)) fault
 answers_at scene trains i train (Refused refusal) lt is passed told = sym passed ∙ train_refused_at scene trains i train (Some refusal) lt is (sym told) refl
 answers_at scene trains i train OutOfMemory lt is passed told = tt
-
-pub trains_done : (scene : Scene) (trains : List SceneTrain) (i : ℕ) → length trains ≤ i → first_failing (trains_tests scene (i + 1) (drop i trains)) ≡ None
-trains_done scene trains i past = ap (λ rest. first_failing (trains_tests scene (i + 1) rest)) (drop_all i trains past)
 
 -- the tests of a train, with what they look at
 pub train_is : (scene : Scene) (item : ℕ) (train : SceneTrain) (kind routes : Bool) →
@@ -139,14 +134,6 @@ pub passed_behind : (scene : Scene) (item : ℕ) (train before : SceneTrain) →
 passed_behind scene item train before kind same none =
     let P : List (List ℕ) → Type 0 = λ names. AllPassed (train_refused reason.Unknown item 5 (not (are_known scene.network names)) ∷ route_tests scene.network item (routes_of scene.network names)) in
     none_failing (train_tests scene item train) (ap not kind, subst P same (all_passed (train_tests scene item before) none).1)
-
--- the row of a train before
-pub row_before : (scene : Scene) (rows : List TrainRow) (i k : ℕ) (before : SceneTrain) (row : TrainRow) → rows ≡ map (train_row scene) (take i scene.trains) →
-    k < i → i < length scene.trains → before ≡ get_or scene.trains k before → row ≡ get_or rows k row → row ≡ train_row scene before
-row_before scene rows i k before row are some within is here =
-    here
-    ∙ ap (λ rs. get_or rs k row) are
-    ∙ mapped_read (train_row scene) (take i scene.trains) k before row (omega (arith, length-take i scene.trains)) (is ∙ sym (get_or-take i scene.trains k before some))
 
 -- no train that was looked at is refused
 pub each_passed : (scene : Scene) (i : ℕ) (train : SceneTrain) → i < length scene.trains → train ≡ get_or scene.trains i train → first_failing (train_tests scene (i + 1) train) ≡ None

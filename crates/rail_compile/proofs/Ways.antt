@@ -2,7 +2,7 @@
 use Rattle.std.proofs.Common.{◌≡◌, ℕ, ◌<◌, ◌≤◌, true, false, not, ◌&&◌, cond, List, [], ◌∷◌, length, get_or, map, is_some, Option, Some, IfSome, Vec, Global, refl, sym, ap, ◌∙◌, subst, arith}
 use Rattle.std.specs.Prelude.{count_by, nat_lt}
 use Rattle.std.specs.List.{find, list_any, list_all, position}
-use Rattle.std.proofs.lemmas.Bool.{and_parts, and_from, lt-ltb, ltb-true, not_from_false}
+use Rattle.std.proofs.lemmas.Bool.{and_parts, and_from, lt-ltb, not_from_false}
 use Rattle.std.proofs.lemmas.List.{length-map, get_or_default}
 use Rattle.std.proofs.lemmas.List.Sums.{sum_by-cons}
 use Rattle.std.proofs.lemmas.List.Quantifiers.{position-Some}
@@ -14,7 +14,7 @@ use Rattle.rail_routes.specs.Net.{Net, is_route, no_route}
 use Rattle.rail_compile.specs.Itineraries.{route_of, routes_of}
 use Rattle.rail_compile.specs.Refusals.{is_known, are_known}
 use Rattle.rail_compile.specs.Ways.{is_among, place_among, route_at, routes_at, are_numbers}
-use Rattle.rail_compile.proofs.Finds.{position_some, some_unwrapped, unwrapped, all_at}
+use Rattle.rail_compile.proofs.Finds.{position_some, some_unwrapped, unwrapped}
 
 -- where each name counts once at most, no two routes have one name
 none_behind : (route : Route) (rest : List Route) → count_by (is_route route.name) (route ∷ rest) ≤ 1 → list_any (is_route route.name) rest ≡ false
@@ -30,10 +30,6 @@ routes_apart (route ∷ rest) few =
     and_from (not (list_any (is_route route.name) rest)) (are_distinct (λ (a : Route) (b : Route). same_name a.name b.name) rest)
     (not_from_false (list_any (is_route route.name) rest) (none_behind route rest (few route.name)))
     (routes_apart rest (λ name. omega (arith, few name, sum_by-cons (λ r. cond (is_route name r) 1 0) route rest)))
-
--- a number of a list of numbers is that of a route
-pub number_within : (net : Net) (numbers : List ℕ) (i n : ℕ) → are_numbers net numbers ≡ true → i < length numbers → n ≡ get_or numbers i n → n < length net.routes
-number_within net numbers i n all lt is = ltb-true n (length net.routes) (ap (λ k. nat_lt k (length net.routes)) is ∙ all_at (λ k. nat_lt k (length net.routes)) numbers i n all lt)
 
 -- the numbers are those of the routes of these names, which are known
 pub record AreFound (net : Net) (itinerary : List (List ℕ)) (numbers : List ℕ) : Type 0 where

@@ -3,11 +3,9 @@
 -- Legs: which moves stay legal, and trains inside by their places.
 pub use Rattle.rail_consequence.proofs.Legs.{inside_from, inside_parts, inside_same, legal_kept, nobody_at}
 -- Safe: a leg is safe exactly where no other train inside needs its last standing set later.
-pub use Rattle.rail_consequence.proofs.Safe.{apart_none, clear_from_safe, safe_from_clear, stand_out}
+pub use Rattle.rail_consequence.proofs.Safe.{clear_from_safe, safe_from_clear, stand_out}
 -- Counts: how often a number stands in a list, number by number.
 pub use Rattle.rail_consequence.proofs.Counts.{times-cons}
--- a list of zeros holds 0 at each index
-pub use Rattle.rail_consequence.proofs.Counts.{zeros_at}
 -- the number that is read at an index stands in the list
 pub use Rattle.rail_consequence.proofs.Counts.{in_at}
 -- Aside: the sets of one train alone, for the moves of all

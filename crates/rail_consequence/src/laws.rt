@@ -1,3 +1,5 @@
+//! Laws of the analysis: which legs lose nothing, and how long a search that failed is known to fail.
+
 ghost use Rattle.std.specs.Prelude.{◌≡◌, ◌≢◌, ℕ, ◌<◌, Bool, List, false, length, set, IsTrue};
 ghost use Rattle.rail_rules.specs.Analysis.{Finds, Leg, after_leg, is_leg, is_safe};
 ghost use Rattle.rail_rules.specs.Moves.{Moves};

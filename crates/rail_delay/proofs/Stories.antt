@@ -195,9 +195,6 @@ module _ (input : Input) (fine : IsWellFormed input.plant) (line : Line) (front 
     same_admissions : admissions (line ∷ front) t ≡ admissions front t
     same_admissions = ap (λ (b : Bool). cond b (admissions front t ++ line.entry.at ∷ []) (admissions front t)) elsewhere
 
-    same_place : place (line ∷ front) t ≡ place front t
-    same_place = ap (length {A = ℕ}) same_admissions
-
     same_cancelled : is_cancelled t (told input.commands (line ∷ front)) ≡ is_cancelled t (told input.commands front)
     same_cancelled = cancelled_both t (orders_of input.commands line.entry.what) (told input.commands front) ∙ ap (λ (b : Bool). b || is_cancelled t (told input.commands front)) running
 

@@ -6,4 +6,3 @@ pub mod Accounts
 pub mod Reports
 pub mod Noting
 pub mod VisitRows
-pub mod WorkedReports

@@ -3,8 +3,7 @@
 //! This layer stands on plants (`rail_plan`), on sinks (`rail_io`), on the room for a line of `rail_text`, and for
 //! its laws on the lemmas on lawful fronts (`rail_laws_front`, `rail_laws_events`, `rail_laws_step`). `specs/Waits.antt`
 //! and `specs/Visits.antt` say what is counted, from the lines of a history alone, and `specs/Reports.antt` how it is
-//! written; three worked histories of `rail_worked` have their reports in `rows`. The lines are noted one by one, as
-//! they come; contracts see what is kept of them as a list of accounts and one of visits.
+//! written. The lines are noted one by one, as they come; contracts see what is kept of them as a list of accounts and one of visits.
 //!
 //! What is kept may be changed as long as the contracts hold. What may not change is that only `Delays::new` takes
 //! memory, and that a line costs no look at other trains than its own, but for the end line.
@@ -15,7 +14,6 @@ mod delays;
 mod laws;
 mod lines;
 mod report;
-mod rows;
 mod totals;
 mod visits;
 
@@ -26,6 +24,3 @@ pub use laws::{
 };
 pub use lines::put_count;
 pub use report::write_report;
-pub use rows::{
-    a_report_of_a_cancelled_train, a_report_of_a_closed_section, a_report_of_a_deadlock_avoided,
-};

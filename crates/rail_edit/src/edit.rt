@@ -1,3 +1,5 @@
+//! The edits of a network, and what is kept to take each of them back.
+
 use rail_base::Name;
 use rail_routes::{Post, Route, Turn};
 use rail_track::Section;

@@ -1,3 +1,5 @@
+//! The editor: a network, the edits that led to it, and those that were undone.
+
 ghost use Rattle.std.specs.Prelude.{◌≡◌, ◌↔◌, ◌⊎◌, [], None, Some, IsTrue, OnOk, OnErr, IfErr, Err};
 ghost use Rattle.rail_track.specs.NetFaults.{Answers};
 

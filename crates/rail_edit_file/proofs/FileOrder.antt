@@ -23,16 +23,6 @@ first_answers (Some r) other answer is = is
 first_answers None other (fault.Refused r) is = cc
 first_answers None other fault.OutOfMemory is = tt
 
--- where the first is none, what answers the other answers both
-pub later_answers : (first other : Option Refusal) (answer : Fault) → first ≡ None → AnswersFirst other answer → AnswersFirst (or_else first other) answer
-later_answers None other answer none is = is
-later_answers (Some r) other answer none is = cc
-
--- where both are none, there is none
-pub none_of_both : (first other : Option Refusal) → first ≡ None → other ≡ None → or_else first other ≡ None
-none_of_both None other none is = is
-none_of_both (Some r) other none is = cc
-
 -- a refusal of a line is none of a file
 on_line_part : (n : ℕ) (o : Option NetFault) (r : Refusal) → on_line n o ≡ Some r → is_file r.part ≡ false
 on_line_part n None r is = cc

@@ -1,26 +1,10 @@
 -- Steps that are read one by one.
-use Rattle.std.proofs.Common.{◌≡◌, ℕ, ◌&&◌, true, false, cond, List, [], ◌∷◌, ◌++◌, Option, Some, None, if◌then◌else◌, option_map, refl, sym, ap, ◌∙◌, append_assoc}
-use Rattle.std.proofs.lemmas.List.{append-nil}
+use Rattle.std.proofs.Common.{◌≡◌, ℕ, ◌&&◌, false, cond, List, [], ◌∷◌, ◌++◌, Option, Some, None, if◌then◌else◌, option_map, refl, sym, ap, ◌∙◌, append_assoc}
 use Rattle.rail_base.specs.NameForms.{is_name}
 use Rattle.rail_text.proofs.CallerLemmas.{read_as}
 use Rattle.rail_routes.specs.declared.items.Step.{Step}
 use Rattle.rail_edit_file.specs.declared.lists.Way.{Way}
 use Rattle.rail_edit_file.specs.EditLines.{is_slash, overlap_from, steps_from, way_from}
-
--- the words of a way behind a `/`
-pub way_slash : (from word : List ℕ) (behind : List (List ℕ)) → is_slash word ≡ true
-    → way_from from (word ∷ behind) ≡ option_map (λ (overlap : List Step). record { steps = []; overlap = overlap }) (overlap_from from behind)
-way_slash from word [] is = refl
-way_slash from word (next ∷ rest) is =
-    ap (λ b. cond b (option_map (λ (overlap : List Step). record { steps = []; overlap = overlap }) (overlap_from from (next ∷ rest)))
-    (cond (is_name word && is_name next) (option_map (λ (way : Way). record way { steps = record { section = word; from = from; to = next } ∷ way.steps }) (way_from next rest)) None)) is
-
--- an overlap behind steps that were read
-pub with_slash : (steps : List Step) (o : Option (List Step))
-    → option_map (λ (way : Way). record way { steps = steps ++ way.steps }) (option_map (λ (overlap : List Step). record { steps = []; overlap = overlap }) o)
-    ≡ option_map (λ (overlap : List Step). record { steps = steps; overlap = overlap }) o
-with_slash steps None = refl
-with_slash steps (Some overlap) = ap (λ (ss : List Step). Some record { steps = ss; overlap = overlap }) (append-nil steps)
 
 -- one step more before a way
 pub one_more_step : (steps pushed : List Step) (step : Step) (way : Option Way) → pushed ≡ steps ++ step ∷ []

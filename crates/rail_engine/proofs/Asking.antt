@@ -63,19 +63,6 @@ pub record IsAfterTurns (all : Bool) (ledger : Ledger) (before now : Table) (lef
   pub exact : all ≡ true → offers ≡ offers_in ledger
   pub tried : AllChoose (IsTried ledger) offers answers
 
--- before the first turn
-pub no_turns : (all : Bool) (ledger : Ledger) (table : Table) (left : List Offer) → length left ≤ TRAINS → (all ≡ true → left ≡ offers_in ledger) → IsAfterTurns all ledger table table left
-no_turns all ledger table left few exact = record {
-  offers = left;
-  answers = [];
-  table = refl;
-  rest = refl;
-  many = omega arith;
-  few = few;
-  exact = exact;
-  tried = tt;
-}
-
 -- one turn more
 counted_on : (first now then turns : ℕ) → now % 65536 ≡ (first + turns) % 65536 → then ≡ (now + 1) % 65536 → then % 65536 ≡ (first + (turns + 1)) % 65536
 counted_on first now then turns so_far is = omega (arith, so_far, is)

@@ -4,11 +4,9 @@ use Rattle.std.specs.List.{All, Contains}
 use Rattle.std.proofs.lemmas.Bool.{and_parts, cases_lt, false≢true, not-true}
 use Rattle.std.proofs.lemmas.List.{append-nil, length-append}
 use Rattle.std.proofs.lemmas.List.Elements.{All-push, Contains-append_left, Contains-push}
-use Rattle.rail_base.specs.declared.limits.TheConstants.{TRAINS}
 use Rattle.rail_policy.specs.declared.offer.Offer.{Offer}
 use Rattle.rail_rules.specs.Fronts.{Front}
 use Rattle.rail_rules.specs.Numbers.{gather}
-use Rattle.rail_rules.proofs.CallerLemmas.{accepted_parts}
 use Rattle.rail_state.specs.declared.train.TrainState.{TrainState}
 use Rattle.rail_state.specs.Representation.{AreAllKnown}
 use Rattle.rail_state.specs.TrainStates.{IsNextOf, is_untried, state_of}
@@ -25,10 +23,6 @@ offered_waits false train_state is = (and_parts train_state.waits (not (is_some 
 pub untried_offered : (all : Bool) (train_state : TrainState) → is_untried train_state ≡ true → is_offered all train_state ≡ true
 untried_offered true train_state is = (and_parts train_state.waits (not (is_some train_state.known)) is).0
 untried_offered false train_state is = is
-
--- there are at most so many trains
-pub few_trains : (front : Front) (ledger : Ledger) → IsAt front ledger → length ledger.state.trains ≤ TRAINS
-few_trains front ledger at = omega (arith, at.rep.times.many, (accepted_parts ledger.input.plant at.rep.accepted).few_trains)
 
 -- nothing is gathered of numbers that give nothing
 gather_on : {X : Type 0} (f : ℕ → List X) (from n : ℕ) → ((i : ℕ) → from ≤ i → i < from + n → f i ≡ []) → gather f (from + n) ≡ gather f from
@@ -90,17 +84,6 @@ offered_more all ledger number train old new offer next offer_is new_is are =
           ∙ ap (λ l. offered_below all ledger train ++ l) (ap (λ (o : Offer). o ∷ []) offer_is ∙ sym (ap (λ (b : Bool). cond b (offer_in ledger train ∷ []) []) next.2))
           ∙ ap (offered_below all ledger) (sym here);
     })
-
--- nobody else is offered
-pub offered_all : (all : Bool) (ledger : Ledger) (number : ℕ) (offers : List Offer) → IsNextOf (is_offered all) ledger.state.trains number None → AreOffersBelow all ledger number offers → AreOffers ledger offers
-offered_all all ledger number offers none are = record {
-  each = are.each;
-  untried = λ t _ untried.
-      ⊎_elim
-      (λ below. are.untried t below untried)
-      (λ from. absurd (false≢true (sym (none t from) ∙ untried_offered all (state_of ledger.state.trains t) untried)))
-      (cases_lt t number);
-}
 
 -- what is offered of the trains below the number is all
 pub offered_exact : (all : Bool) (ledger : Ledger) (number : ℕ) (offers : List Offer) → number ≤ length ledger.state.trains → IsNextOf (is_offered all) ledger.state.trains number None

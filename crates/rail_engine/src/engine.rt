@@ -220,13 +220,6 @@ impl Engine {
     {
         &self.core.ledger.input.commands
     }
-
-    /// The policies, and which one is in force.
-    pub fn desk(&self) -> &Desk
-        ensures { let table = ⟦<Desk as Seen>⟧.table in table result.now ≡ table self.now.desk }
-    {
-        &self.desk
-    }
 }
 
 /// What a run is of: the plant with its calls, the commands, and the names of the policies of the desk with the

@@ -3,7 +3,7 @@ use Rattle.std.specs.Prelude.{ℕ, ◌==◌, cond, nat_lt, List, [], ◌∷◌, 
 use Rattle.rail_base.specs.declared.refusals.Part.{Part}
 use Rattle.rail_base.specs.declared.refusals.Part.TheVariants as part
 use Rattle.rail_base.specs.declared.refusals.Reason.{Reason}
-use Rattle.rail_base.specs.declared.refusals.Reason.TheVariants.{NotToml, KeyMissing, WrongKind, KeyUnknown, BadName, Repeated, Unknown, Range, JointCrowded, PostPlace, RouteBroken, RouteRepeat, ItineraryBroken, NotPortal, TooLong, SelfBlocked, TooMany, TimetableForm, TimetableValue, InUse, UnknownPolicy, CommandForm, CommandName, CommandOrder, HistoryForm, LineEmpty, WindowEmpty, SnapshotForm, SnapshotOther, NoPath, EditForm, NothingToUndo, NothingToRedo, ListForm, ListName, ListPlaces, RerouteForm, RerouteName, NotYet}
+use Rattle.rail_base.specs.declared.refusals.Reason.TheVariants.{NotToml, KeyMissing, WrongKind, KeyUnknown, BadName, Repeated, Unknown, Range, JointCrowded, PostPlace, RouteBroken, RouteRepeat, ItineraryBroken, NotPortal, TooLong, SelfBlocked, TooMany, TimetableForm, TimetableValue, InUse, UnknownPolicy, CommandForm, CommandName, CommandOrder, HistoryForm, LineEmpty, WindowEmpty, SnapshotForm, SnapshotOther, NoPath, EditForm, NothingToUndo, NothingToRedo, ListForm, ListName, ListPlaces, RerouteForm, RerouteName}
 use Rattle.rail_base.specs.declared.refusals.Refusal.{Refusal}
 use Rattle.rail_scene.specs.declared.keys.Bounds.{Bounds}
 use Rattle.rail_scene.specs.declared.keys.KeyForm.{KeyForm}
@@ -102,7 +102,6 @@ reason_text SnapshotOther refusal = codes " is no line that a run of this scene,
 reason_text NoPath refusal = no_path refusal.item
 reason_text RerouteForm refusal = codes " does not say how a train is rerouted"
 reason_text RerouteName refusal = codes " names a train or a route that is not in the scene"
-reason_text NotYet refusal = codes ": the command has a form that is not built"
 
 -- the least and the greatest number that a key may have
 abbrev pub bounds_text : Bounds → List ℕ

@@ -83,7 +83,6 @@ pub fn reason_text(refusal: &Refusal) -> &'static [u8]
         Reason::NoPath => no_path(refusal.item),
         Reason::RerouteForm => b" does not say how a train is rerouted",
         Reason::RerouteName => b" names a train or a route that is not in the scene",
-        Reason::NotYet => b": the command has a form that is not built",
     }
 }
 

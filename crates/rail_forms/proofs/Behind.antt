@@ -37,10 +37,6 @@ never_refused first whole part status answer none refusal is = none-some refusal
 no_refusal : (refusal : Refusal) → OutOfMemory ≡ Refused refusal → ⊥
 no_refusal refusal is = cc
 
--- where memory is not found nothing is refused
-pub none_behind : (purpose : Purpose) (status : Status) (input : Input) (seats : List Seat) → status ≡ OutOfMemory → IsRefusedIfAny purpose status input seats
-none_behind purpose status input seats is = λ refusal ends. absurd (no_refusal refusal (sym is ∙ ends))
-
 -- what an error of a call ends with, where it is no refusal
 pub no_refusal_of : (status end : Status) → status ≡ end → refused_with end ≡ None → (X : Refusal → Type 0) → (refusal : Refusal) → status ≡ Refused refusal → X refusal
 no_refusal_of status end is none X refusal ends = absurd (none-some refusal (sym none ∙ ap refused_with (sym is ∙ ends)))

@@ -17,7 +17,7 @@ use Rattle.rail_delay.specs.declared.account.Account.{Account}
 use Rattle.rail_insert.specs.Insertions.{IsInsertion}
 use Rattle.rail_insert.specs.Texts.{inserted_text}
 use Rattle.rail_insert.specs.TimeBounds.{are_timely}
-use Rattle.rail_insert.specs.declared.insertion.PlacedList.{PlacedList}
+use Rattle.rail_insert.specs.declared.insertion.Placed.{Placed}
 use Rattle.rail_input.specs.Inputs.{train_names}
 use Rattle.rail_laws_front.proofs.CallerLemmas.{length-listed}
 use Rattle.rail_laws_step.proofs.CallerLemmas.{run_lawful}
@@ -128,7 +128,7 @@ module _ (input : Input) (seats : List Seat) (stairs : Stairs) (plant : Plant) (
     noted_timely timely = ap are_timely open_intervals ∙ timely noted.front (run_complete input seats noted.front noted.run)
 
     -- the text of the trains that are placed there
-    pub insertion_told : (word : List ℕ) (train : ℕ) (window : Window) (count : ℕ) (names : NameLists) (copies : List PlacedList) (X : List ℕ → Type 0)
+    pub insertion_told : (word : List ℕ) (train : ℕ) (window : Window) (count : ℕ) (names : NameLists) (copies : List Placed) (X : List ℕ → Type 0)
         → train_named (train_names input.plant.tables) word ≡ Some train → names ≡ names_of input.plant → IsInsertion intervals train window count copies
         → X (inserted_text names train copies) → ReportsRun (IsInsertionText word window count) input seats X
     insertion_told word train window count names copies X named names_are insertion added = record {

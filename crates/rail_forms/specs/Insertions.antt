@@ -10,7 +10,7 @@ use Rattle.rail_capacity.specs.declared.compression.Window.{Window}
 use Rattle.rail_insert.specs.Copies.{has_stairway, obstacle_of, stairs_of}
 use Rattle.rail_insert.specs.Insertions.{FitsNowhere, IsInsertion}
 use Rattle.rail_insert.specs.Texts.{inserted_text}
-use Rattle.rail_insert.specs.declared.insertion.PlacedList.{PlacedList}
+use Rattle.rail_insert.specs.declared.insertion.Placed.{Placed}
 use Rattle.rail_input.specs.Inputs.{input_in, plant_refusal, train_names}
 use Rattle.rail_io.specs.Writes.{Adds, AddsPrefix}
 use Rattle.rail_policy.specs.Seats.{DeskSeat, handed_in, names_of as policies_of}
@@ -61,7 +61,7 @@ train_refusal plant word = name_refusal (train_names plant.tables) word
 -- open ones stay open
 pub record IsInsertionText (word : List ℕ) (window : Window) (count : ℕ) (input : Input) (front : Front) (text : List ℕ) : Type 0 where
   pub train : ℕ
-  pub copies : List PlacedList
+  pub copies : List Placed
   pub named : train_named (train_names input.plant.tables) word ≡ Some train
   pub insertion : IsInsertion (stairway input.plant front) train window count copies
   pub is : text ≡ inserted_text (names_of input.plant) train copies

@@ -3,7 +3,7 @@ use Rattle.std.specs.Prelude.{ℕ, List, [], ◌∷◌, ◌++◌, codes, decimal
 use Rattle.rail_base.specs.Refusals.{number_of}
 use Rattle.rail_base.specs.declared.refusals.Refusal.{Refusal}
 use Rattle.rail_base.specs.declared.refusals.Reason.{Reason}
-use Rattle.rail_base.specs.declared.refusals.Reason.TheVariants.{NotToml, KeyMissing, WrongKind, KeyUnknown, BadName, Repeated, Unknown, Range, JointCrowded, PostPlace, RouteBroken, RouteRepeat, ItineraryBroken, NotPortal, TooLong, SelfBlocked, TooMany, TimetableForm, TimetableValue, InUse, UnknownPolicy, CommandForm, CommandName, CommandOrder, HistoryForm, LineEmpty, WindowEmpty, SnapshotForm, SnapshotOther, NoPath, EditForm, NothingToUndo, NothingToRedo, ListForm, ListName, ListPlaces, RerouteForm, RerouteName, NotYet}
+use Rattle.rail_base.specs.declared.refusals.Reason.TheVariants.{NotToml, KeyMissing, WrongKind, KeyUnknown, BadName, Repeated, Unknown, Range, JointCrowded, PostPlace, RouteBroken, RouteRepeat, ItineraryBroken, NotPortal, TooLong, SelfBlocked, TooMany, TimetableForm, TimetableValue, InUse, UnknownPolicy, CommandForm, CommandName, CommandOrder, HistoryForm, LineEmpty, WindowEmpty, SnapshotForm, SnapshotOther, NoPath, EditForm, NothingToUndo, NothingToRedo, ListForm, ListName, ListPlaces, RerouteForm, RerouteName}
 use Rattle.rail_base.specs.declared.refusals.Part.{Part}
 use Rattle.rail_base.specs.declared.refusals.Part.TheVariants.{Bytes, Root, Section, Portal, Signal, Board, Turn, Route, Kind, Train, Row, Line, Word, File}
 use Rattle.rail_rules.specs.Texts.{behind}
@@ -60,7 +60,6 @@ reason_text ListName = codes "ListName"
 reason_text ListPlaces = codes "ListPlaces"
 reason_text RerouteForm = codes "RerouteForm"
 reason_text RerouteName = codes "RerouteName"
-reason_text NotYet = codes "NotYet"
 
 -- the word for a part of the input
 abbrev pub part_text : Part → List ℕ

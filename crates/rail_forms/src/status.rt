@@ -180,7 +180,6 @@ fn reason_text(reason: Reason) -> &'static [u8]
         Reason::ListPlaces => b"ListPlaces",
         Reason::RerouteForm => b"RerouteForm",
         Reason::RerouteName => b"RerouteName",
-        Reason::NotYet => b"NotYet",
     }
 }
 

@@ -2,7 +2,7 @@
 use Rattle.std.proofs.Common.{◌≡◌, ℕ, suc, ◌+◌, ◌<◌, ◌≤◌, Bool, true, false, ◌&&◌, cond, List, [], ◌∷◌, ◌++◌, length, drop, get_or, refl, sym, ap, ◌∙◌, arith, append_assoc, length-append}
 use Rattle.std.specs.List.{count_by, list_all, list_any}
 use Rattle.std.proofs.lemmas.Bool.{and_parts, and_from}
-use Rattle.std.proofs.lemmas.List.{append-nil, reverse-append}
+use Rattle.std.proofs.lemmas.List.{reverse-append}
 use Rattle.std.proofs.lemmas.List.Folds.{list_all-append}
 use Rattle.std.proofs.lemmas.List.Sums.{sum_by-append, sum_by-cons}
 use Rattle.rail_base.specs.declared.history.Entry.{Entry}
@@ -15,7 +15,7 @@ use Rattle.rail_rules.specs.Fronts.{Line}
 use Rattle.rail_rules.specs.Texts.{line_text, line_words, text}
 use Rattle.rail_rules.specs.WritableLines.{IsNamed, is_writable}
 use Rattle.rail_laws_text.proofs.CallerLemmas.{text_same}
-use Rattle.rail_history.specs.HistoryLines.{IsFirstWrong, IsHistory, IsSpelled, does_list, is_fresh, is_history_line, lines_in, lines_text}
+use Rattle.rail_history.specs.HistoryLines.{IsFirstWrong, IsSpelled, does_list, is_fresh, is_history_line, lines_in, lines_text}
 use Rattle.rail_history.specs.Lines.{brought, line_of}
 use Rattle.rail_history.specs.ReadFiles.{IsFront}
 use Rattle.rail_history.specs.ReadWords.{joined}
@@ -101,21 +101,12 @@ each_push : (plant : Plant) (lines : List Line) (line : Line) → list_all (is_h
 each_push plant lines line each one =
     list_all-append (is_history_line plant) lines (line ∷ []) ∙ and_from (list_all (is_history_line plant) lines) (is_history_line plant line && true) each (and_from (is_history_line plant line) true one refl)
 
-pub front_none : (plant : Plant) (bytes : List ℕ) → IsFront plant bytes [] bytes
-front_none plant bytes = record { each = refl; whole = refl }
-
 pub front_next : (plant : Plant) (bytes : List ℕ) (lines : List Line) (line : Line) (left piece rest : List ℕ) → IsFront plant bytes lines left → IsSpelled plant line piece → left ≡ piece ++ rest → IsFront plant bytes (lines ++ line ∷ []) rest
 front_next plant bytes lines line left piece rest front is split = record {
   each = each_push plant lines line front.each is.is_line;
   whole = front.whole ∙ ap (λ (xs : List ℕ). lines_text plant lines ++ xs) (split ∙ ap (λ (xs : List ℕ). xs ++ rest) (sym is.spelled))
       ∙ sym (append_assoc (lines_text plant lines) (line_text plant line) rest)
       ∙ ap (λ (xs : List ℕ). xs ++ rest) (sym (text_push plant lines line));
-}
-
-pub front_all : (plant : Plant) (bytes : List ℕ) (lines : List Line) (rest : List ℕ) → IsFront plant bytes lines rest → rest ≡ [] → count_by (λ (line : Line). is_fresh line.entry.what) lines ≤ FRESH_LINES → IsHistory plant bytes lines
-front_all plant bytes lines rest front none few = record {
-  are_lines = record { each = front.each; few_fresh = few };
-  whole = front.whole ∙ ap (λ (xs : List ℕ). lines_text plant lines ++ xs) none ∙ append-nil (lines_text plant lines);
 }
 
 -- two lines with one text are one

@@ -14,8 +14,6 @@ use Rattle.rail_rules.specs.Fronts.{Line}
 use Rattle.rail_rules.specs.Texts.{behind, line_text, line_words, what_words}
 use Rattle.rail_rules.specs.WritableLines.{IsNamed, does_fit_counter, is_writable, is_writable_what}
 use Rattle.rail_laws_text.proofs.CallerLemmas.{AreWords, of_what, one_more}
-use Rattle.rail_io.specs.Writes.{Adds}
-use Rattle.std.specs.Io.KnownBytes.{append_known}
 use Rattle.std.specs.Prelude.{Option, IsSomeAnd}
 use Rattle.rail_text.specs.Names.{HasNames}
 use Rattle.rail_history.specs.declared.read_line.ReadLine.{ReadLine}
@@ -118,10 +116,3 @@ found_none line read none some = subst (λ (o : Option ReadLine). IsSomeAnd o (�
 
 pub found_some : (line : Line) (read : Option ReadLine) (found : ReadLine) → read ≡ Some found → IsSomeAnd read (λ (found : ReadLine). line_read found ≡ line) → line_read found ≡ line
 found_some line read found is some = subst (λ (o : Option ReadLine). IsSomeAnd o (λ (found : ReadLine). line_read found ≡ line)) is some
-
--- what is written to a sink without a byte
-pub written_is : (before after text : List ℕ) → before ≡ [] → Adds (Some before) (Some after) text → after ≡ text
-written_is before after text none adds =
-    let known : append_known (Some before) text ≡ Some after = adds.appended after refl in
-    let nothing : append_known (Some before) text ≡ Some text = ap (λ (xs : List ℕ). Some (xs ++ text)) none in
-    cc (known, nothing)

@@ -165,10 +165,6 @@ module _ {plant : Plant} (named : IsNamed plant) {items : List Item} {list left 
     so_far = append_assoc list (replicate next.item.count next.item.train) (expanded next.rest) ∙ next.so_far;
   }
 
--- before the first item
-pub none_read : (plant : Plant) (items : List Item) (text : List ℕ) → list_all (is_small_item plant) items ≡ true → text ≡ joined (map (item_word plant) items) → AreBehind plant items [] text
-none_read plant items text small same = record { rest = items; small = small; spelled = same; so_far = refl }
-
 -- a list that was made longer by copies
 pub copies_behind : (list after : List ℕ) (long size n t : ℕ) → long ≡ length list → size ≡ length list → after ≡ take (long + n) list ++ replicate (long + n - size) t → after ≡ list ++ replicate n t
 copies_behind list after long size n t same sized is =

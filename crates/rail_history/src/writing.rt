@@ -1,3 +1,5 @@
+//! The line of an entry of a history, written to a sink.
+
 ghost use Rattle.std.specs.Prelude.{◌≤◌, IsTrue, OnOk, OnErr};
 ghost use Rattle.rail_io.specs.FaultCounts.{Rose};
 ghost use Rattle.rail_io.specs.Writes.{Adds, AddsPrefix};

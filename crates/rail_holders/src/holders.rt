@@ -1,3 +1,5 @@
+//! Which train holds each section, in a table by section number.
+
 ghost use Rattle.std.specs.Prelude.{◌≡◌, ℕ, ◌<◌, length, get_or, set, replicate, IfOk, IsSome, Some, None};
 ghost use Rattle.std.specs.List.{All};
 ghost use Rattle.rail_holders.specs.FirstHeld.{first_held};

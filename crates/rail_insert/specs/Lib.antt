@@ -9,4 +9,3 @@ pub mod Tables
 pub mod NextCopies
 -- How it is written.
 pub mod Texts
-pub mod Rows

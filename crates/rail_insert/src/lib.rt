@@ -16,7 +16,6 @@
 mod bars;
 mod insertion;
 mod laws;
-mod rows;
 mod stairway;
 mod table;
 mod writing;
@@ -27,5 +26,4 @@ pub use laws::{
     bars_are_a_certificate, bars_cover_all_earlier_begins, copies_run_into_no_copy,
     copies_run_into_no_train,
 };
-pub use rows::worked_insertions;
 pub use writing::write_inserted;

@@ -1,6 +1,6 @@
 -- What several writes in a row add.
 use Rattle.std.proofs.Common.{◌≡◌, ℕ, ◌+◌, ◌≤◌, min, List, [], ◌++◌, length, refl, arith, append_assoc}
-use Rattle.std.proofs.Math.Seq.{take-append-add, take-length}
+use Rattle.std.proofs.Math.Seq.{take-append-add}
 use Rattle.std.proofs.lemmas.List.{append-nil, take-append-le, take_min}
 use Rattle.std.proofs.lemmas.Option.{same_Some}
 use Rattle.std.specs.Prelude.{Option, Some, None}
@@ -11,10 +11,6 @@ use Rattle.rail_io.specs.Writes.{Adds, AddsPrefix}
 pub Adds-same : (old : Option (List ℕ)) → Adds old old []
 Adds-same None = record { appended = λ after h. h }
 Adds-same (Some before) = record { appended = λ after h. rw append-nil h }
-
--- where nothing is told, nothing is claimed
-pub Adds-untold : (old : Option (List ℕ)) (bytes : List ℕ) → Adds old None bytes
-Adds-untold old bytes = record { appended = λ after h. cc }
 
 append_known_twice : (old middle : Option (List ℕ)) (first second after : List ℕ) → append_known middle second ≡ Some after → Adds old middle first → append_known old (first ++ second) ≡ Some after
 append_known_twice old None first second after two one = cc
@@ -27,10 +23,6 @@ pub Adds-append : {old middle new : Option (List ℕ)} {first second : List ℕ}
 Adds-append {old} {middle} {new} {first} {second} one two =
     record { appended = λ after h. append_known_twice old middle first second after (two.appended after h) one }
 
--- what adds all adds a first part
-pub AddsPrefix-all : {old new : Option (List ℕ)} {bytes : List ℕ} → Adds old new bytes → AddsPrefix old new bytes
-AddsPrefix-all {old} {new} {bytes} all = record { count = length bytes; added = rw take-length all }
-
 -- a first part of a piece is a first part of what begins with the piece
 pub AddsPrefix-more : {old new : Option (List ℕ)} {first : List ℕ} (second : List ℕ) → AddsPrefix old new first → AddsPrefix old new (first ++ second)
 AddsPrefix-more {old} {new} {first} second one =
@@ -42,6 +34,3 @@ AddsPrefix-more {old} {new} {first} second one =
 pub AddsPrefix-append : {old middle new : Option (List ℕ)} {first second : List ℕ} → Adds old middle first → AddsPrefix middle new second → AddsPrefix old new (first ++ second)
 AddsPrefix-append {old} {middle} {new} {first} {second} one two =
     record { count = length first + two.count; added = rw (take-append-add first second two.count) (Adds-append one two.added) }
-
--- for `grind`: the writes of a call in a row
-pub ruleset adding = (Adds-same, Adds-untold, Adds-append, AddsPrefix-all, AddsPrefix-more, AddsPrefix-append)

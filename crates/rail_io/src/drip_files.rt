@@ -1,3 +1,5 @@
+//! A shelf and a sink in memory that never fail, and move one byte in each call.
+
 ghost use Rattle.std.specs.Prelude.{◌≡◌, ◌≢◌, ◌+◌, ◌^◌, ◌<◌, ◌≤◌, [], Some, None, Ok, IsSome, IfOk, length, min, take, option_copied};
 ghost use Rattle.std.specs.Io.KnownBytes.{prepend_known, IsAtEnd};
 ghost use Rattle.rail_io.specs.Reads.{fresh, begun_name};

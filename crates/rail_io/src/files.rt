@@ -1,3 +1,5 @@
+//! The adapters to the system: a shelf over its files, and a sink to standard output.
+
 ghost use Rattle.std.specs.Prelude.{◌≡◌, ◌+◌, ◌^◌, ◌<◌, ◌≤◌, None, IfSome, length, option_copied};
 ghost use Rattle.rail_io.specs.Reads.{begun_name, failed_name};
 

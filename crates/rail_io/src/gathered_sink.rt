@@ -1,3 +1,5 @@
+//! A sink that gathers what is written, and hands it on in large pieces to the sink behind it.
+
 ghost use Rattle.std.specs.Prelude.{◌≡◌, ◌<◌, ◌≤◌, [], ◌++◌, Ok, IsOk, IfOk, OnOk, OnErr, length, take};
 ghost use Rattle.rail_io.specs.FaultCounts.{Rose};
 ghost use Rattle.rail_io.specs.Room.{size_of};

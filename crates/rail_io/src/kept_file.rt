@@ -1,3 +1,5 @@
+//! One file in memory, found by its name among others and read piece by piece.
+
 ghost use Rattle.std.specs.Prelude.{◌≡◌, ◌≢◌, ◌+◌, ◌^◌, ◌<◌, ◌≤◌, [], ◌++◌, length, min, take, drop, option_copied, unwrap_or, option_and_then};
 ghost use Rattle.rail_io.specs.File.{bytes_named};
 

@@ -1,3 +1,5 @@
+//! Files in memory, and how far the begun one is read.
+
 ghost use Rattle.std.specs.Prelude.{◌≡◌, ◌≢◌, ◌↔◌, ◌+◌, ◌^◌, ◌<◌, ◌≤◌, [], ◌++◌, IsTrue, IsSome, OnOk, OnErr, length, min, take};
 ghost use Rattle.rail_io.specs.File.{bytes_named};
 ghost use Rattle.rail_io.specs.KeptFiles.{after_start, after_read, files_on, unread};

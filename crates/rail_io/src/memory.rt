@@ -1,3 +1,5 @@
+//! A shelf and a sink in memory, on which planned calls fail.
+
 ghost use Rattle.std.specs.Prelude.{◌≡◌, ◌≢◌, ◌⊎◌, ◌↔◌, ◌+◌, ◌^◌, ◌<◌, ◌≤◌, [], Some, None, Ok, Err, IsNone, IsSome, IsErr, IfOk, OnOk, OnErr, length, take, option_copied};
 ghost use Rattle.std.specs.Io.KnownBytes.{prepend_known, IsAtEnd};
 ghost use Rattle.rail_io.specs.FaultCounts.{raised};

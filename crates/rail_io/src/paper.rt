@@ -1,3 +1,5 @@
+//! The bytes that were written to a sink in memory.
+
 ghost use Rattle.std.specs.Prelude.{◌≡◌, ◌≤◌, [], Some, None, IfOk, option_copied, vec_capacity, vec_len};
 
 use rail_base::OutOfMemory;

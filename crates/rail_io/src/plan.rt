@@ -1,3 +1,5 @@
+//! Which calls of a shelf or sink in memory are to fail.
+
 ghost use Rattle.std.specs.Prelude.{◌≡◌, ◌↔◌, IsTrue, Contains};
 ghost use Rattle.rail_io.specs.FaultCounts.{raised};
 

@@ -1,3 +1,5 @@
+//! Where the reading of a shelf stands: the begun file, how much of it was moved, and what failed.
+
 ghost use Rattle.std.specs.Prelude.{◌≡◌, ◌+◌, ◌^◌, ◌<◌, ◌≤◌, option_copied};
 ghost use Rattle.rail_io.specs.Reads.{failed_name, fresh, after_begin, after_refusal, after_failure, after_move};
 

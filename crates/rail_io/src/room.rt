@@ -1,3 +1,5 @@
+//! A room of a fixed size, in which the bytes of a gathered sink wait until they are handed on.
+
 ghost use Rattle.std.specs.Prelude.{◌≡◌, ◌+◌, ◌-◌, ◌<◌, ◌≤◌, [], ◌++◌, IfOk, length, take, drop, min, vec_len, vec_capacity};
 
 use rail_base::OutOfMemory;

@@ -1,3 +1,5 @@
+//! The trait of shelves, from which named files are read, and why a file is not begun.
+
 ghost use Rattle.std.specs.Prelude.{◌≡◌, ◌≢◌, ℕ, ◌+◌, ◌^◌, ◌<◌, ◌≤◌, Bool, false, List, [], length, take, Option, Some, None, Err, IsTrue, IsSome, IfOk, OnOk, OnErr};
 ghost use Rattle.std.specs.Io.KnownBytes.{prepend_known, IsAtEnd};
 ghost use Rattle.rail_io.specs.FaultCounts.{Rose};

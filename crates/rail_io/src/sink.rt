@@ -1,3 +1,5 @@
+//! The trait of sinks, to which bytes are written, and the fault of a read or a write.
+
 ghost use Rattle.std.specs.Prelude.{ℕ, ◌<◌, ◌≤◌, List, [], length, take, Option, IfOk, OnErr};
 ghost use Rattle.rail_io.specs.FaultCounts.{Rose};
 ghost use Rattle.rail_io.specs.Writes.{Adds};

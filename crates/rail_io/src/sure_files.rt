@@ -1,3 +1,5 @@
+//! A shelf and a sink in memory that never fail.
+
 ghost use Rattle.std.specs.Prelude.{◌≡◌, ◌<◌, [], Some, None, Ok, IfOk, length, option_copied};
 ghost use Rattle.rail_io.specs.Reads.{fresh, begun_name};
 

@@ -1,3 +1,5 @@
+//! A whole file read from a shelf, and a whole piece written to a sink.
+
 ghost use Rattle.std.specs.Prelude.{◌≡◌, ◌≢◌, ◌⊎◌, ◌+◌, ◌<◌, ◌≤◌, [], Some, None, Ok, Err, IsTrue, IsSome, IsOk, IfSome, IfOk, OnOk, OnErr, length, take, vec_len};
 ghost use Rattle.rail_io.specs.FaultCounts.{Rose};
 ghost use Rattle.rail_io.specs.Writes.{Adds, AddsPrefix};

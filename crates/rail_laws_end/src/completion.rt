@@ -1,3 +1,5 @@
+//! Nobody is stuck: which trains are out at the end of a history, and how many lines it has.
+
 ghost use Rattle.std.specs.Prelude.{◌≡◌, ◌⊎◌, ℕ, ◌+◌, ◌-◌, ◌<◌, IsTrue, Bool, false, is_some, List, [], ◌∷◌, length, replicate};
 ghost use Rattle.rail_laws_end.specs.Remaining.{NobodyIsCancelled, NothingIsBarred};
 ghost use Rattle.rail_rules.specs.Causes.{cause, place, waits};

@@ -1,3 +1,5 @@
+//! Every lawful front can be continued to an end.
+
 ghost use Rattle.std.specs.Prelude.{◌≡◌, ◌++◌, IsTrue, false, List};
 ghost use Rattle.rail_rules.specs.Fronts.{Front, Line, has_ended};
 ghost use Rattle.rail_rules.specs.Lawful.{is_complete, is_lawful, may_follow};

@@ -1,3 +1,5 @@
+//! How far an input determines its run history.
+
 ghost use Rattle.std.specs.Prelude.{◌≡◌, ◌⊎◌, IsTrue, List};
 ghost use Rattle.rail_rules.specs.Accepted.{is_accepted};
 ghost use Rattle.rail_rules.specs.Fronts.{Front};

@@ -1,3 +1,5 @@
+//! The account of event lines: those that stand in a front, and those to come.
+
 ghost use Rattle.std.specs.Prelude.{◌≡◌, ℕ, ◌+◌, ◌≤◌, ◌∷◌, [], IsTrue, Bool, false};
 ghost use Rattle.std.specs.List.{list_any};
 ghost use Rattle.rail_laws_events.specs.Accounts.{all_events, is_train_event, tally, to_come, written};

@@ -1,3 +1,5 @@
+//! How many lines a history has at most.
+
 ghost use Rattle.std.specs.Prelude.{ℕ, ◌≤◌, IsTrue, length};
 ghost use Rattle.rail_rules.specs.LineCounts.{holds_train, lines_that};
 ghost use Rattle.rail_rules.specs.Fronts.{Front, lines_beside_holds};

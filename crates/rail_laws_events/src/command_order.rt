@@ -1,3 +1,5 @@
+//! The order of the lines of commands.
+
 ghost use Rattle.std.specs.Prelude.{IsTrue};
 ghost use Rattle.rail_rules.specs.LineCounts.{is_command, lines_that};
 ghost use Rattle.rail_laws_events.specs.CommandOrder.{AreFirst};

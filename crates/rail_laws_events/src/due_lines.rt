@@ -1,3 +1,5 @@
+//! Due lines are told apart by time, class and number.
+
 ghost use Rattle.std.specs.Prelude.{ℕ, ◌≤◌, IsTrue, List};
 ghost use Rattle.rail_laws_events.specs.Accounts.{tally};
 ghost use Rattle.rail_rules.specs.Events.{due_lines};

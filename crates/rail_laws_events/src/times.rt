@@ -1,3 +1,5 @@
+//! How large the times of a history get.
+
 ghost use Rattle.std.specs.Prelude.{◌<◌, ◌^◌, ◌∷◌, IsTrue};
 ghost use Rattle.rail_rules.specs.Accepted.{is_accepted_input};
 ghost use Rattle.rail_rules.specs.Fronts.{Front, Line};

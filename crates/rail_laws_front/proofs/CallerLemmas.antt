@@ -40,12 +40,10 @@ pub use Rattle.rail_laws_front.proofs.Timely.{times_rise}
 pub use Rattle.rail_laws_front.proofs.Unblocked.{neither}
 -- which steps may bar a train: the needed ones, and all but those of the overlap of the train's own last move
 pub use Rattle.rail_laws_front.proofs.Unblocked.{bars_claimed, needed_bars, other_bars}
--- a claimed section of a train that nothing bars: each interval on it that may bar the train has ended by the instant
-pub use Rattle.rail_laws_front.proofs.Unblocked.{ended_on_claimed}
 -- Claimed: the sections that a move claims, by step.
-pub use Rattle.rail_laws_front.proofs.Claimed.{claimed_step, needed_claimed, needed_step, step_claimed, step_needed}
+pub use Rattle.rail_laws_front.proofs.Claimed.{claimed_step, step_claimed}
 -- Standing: a train stands on needed sections alone, and on none of an overlap.
-pub use Rattle.rail_laws_front.proofs.Standing.{over_not_open, over_not_stood, stands_inside, stands_needed}
+pub use Rattle.rail_laws_front.proofs.Standing.{over_not_open}
 -- Apart: blocking intervals of one section never overlap.
 pub use Rattle.rail_laws_front.proofs.Apart.{never_overlap}
 -- PlacesKept: the places of a lawful front are a valid state from which the kept list completes.
@@ -87,7 +85,7 @@ pub use Rattle.rail_laws_front.proofs.Indexing.{event_found, event_from, front_e
 -- the event lines of all trains
 pub use Rattle.rail_laws_front.proofs.Indexing.{PassesIn}
 -- Agreeing: the times of a move depend on the admissions so far alone.
-pub use Rattle.rail_laws_front.proofs.Agreeing.{arrive_agrees, end_agrees, end_inner_agrees, enter_agrees, free_run_agrees, is_added, is_open_agrees, length_added, ready_agrees, stop_agrees, taken_agrees, unfreed_agrees}
+pub use Rattle.rail_laws_front.proofs.Agreeing.{arrive_agrees, end_agrees, end_inner_agrees, enter_agrees, free_run_agrees, is_added, length_added, ready_agrees, stop_agrees, taken_agrees, unfreed_agrees}
 -- two lists of admissions have the same first k admissions
 pub use Rattle.rail_laws_front.proofs.Agreeing.{Agree}
 -- the admission that was added
@@ -95,7 +93,7 @@ pub use Rattle.rail_laws_front.proofs.Agreeing.{admitted_added}
 -- more admissions agree with those that they were added to
 pub use Rattle.rail_laws_front.proofs.Agreeing.{agree_added}
 -- Adding: what one more admission of a train adds to its event lines and leaves of its intervals.
-pub use Rattle.rail_laws_front.proofs.Adding.{arrives_passing, arrives_stopping, end_after_begin, end_kept, go_after_admission, KeepsEnd, last_does_stand, not_admitted, own_overlap_ended, passes_before_stop, passes_unadmitted, run_after_go}
+pub use Rattle.rail_laws_front.proofs.Adding.{arrives_passing, arrives_stopping, end_after_begin, end_kept, go_after_admission, KeepsEnd, last_does_stand, not_admitted, passes_before_stop, passes_unadmitted, run_after_go}
 -- Accepting: a plant that may be run is fine.
 pub use Rattle.rail_laws_front.proofs.Accepting.{well_formed_from_accepted}
 -- a train with a move is one of the plant's

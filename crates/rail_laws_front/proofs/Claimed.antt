@@ -1,9 +1,8 @@
 -- The sections that a move claims, by step.
-use Rattle.std.proofs.Common.{◌≡◌, ℕ, zero, suc, ◌<◌, true, eqb, List, [], ◌∷◌, length, get_or, sym, ◌∙◌, subst, ⊎_elim, arith}
-use Rattle.std.proofs.lemmas.Bool.{or_left, or_right, or_cases, false≢true, eqb-true}
-use Rattle.std.proofs.lemmas.List.Folds.{list_any-append}
+use Rattle.std.proofs.Common.{◌≡◌, ℕ, zero, suc, ◌<◌, true, eqb, List, [], ◌∷◌, length, get_or, ◌∙◌, ⊎_elim, arith}
+use Rattle.std.proofs.lemmas.Bool.{or_right, or_cases, false≢true, eqb-true}
 use Rattle.rail_rules.specs.Numbers.{is_in}
-use Rattle.rail_rules.specs.Plant.{Plant, needed, overlap, claimed, steps, claims, step_section}
+use Rattle.rail_rules.specs.Plant.{Plant, needed, claimed, steps, claims, step_section}
 use Rattle.rail_rules.proofs.CallerLemmas.{is_in-head, needed_section}
 
 -- the item at an index is in the list
@@ -28,17 +27,6 @@ step_claimed plant t m j lt = get_or_is_in (claimed plant t m) j lt
 -- and a claimed section is that of a step
 pub claimed_step : (plant : Plant) (t m x : ℕ) → is_in x (claimed plant t m) ≡ true → (j : ℕ) × (j < claims plant t m) × (step_section plant t m j ≡ x)
 claimed_step plant t m x is = find_in x (claimed plant t m) is
-
--- a needed section is claimed
-pub needed_claimed : (plant : Plant) (t m x : ℕ) → is_in x (needed plant t m) ≡ true → is_in x (claimed plant t m) ≡ true
-needed_claimed plant t m x is =
-    list_any-append (λ y. eqb y x) (needed plant t m) (overlap plant t m) ∙ or_left (is_in x (needed plant t m)) (is_in x (overlap plant t m)) is
-
--- the section of a step before the overlap is a needed one
-pub step_needed : (plant : Plant) (t m j : ℕ) → j < steps plant t m → is_in (step_section plant t m j) (needed plant t m) ≡ true
-step_needed plant t m j lt =
-    let P : ℕ → Type 0 = λ x. is_in x (needed plant t m) ≡ true in
-    subst P (sym (needed_section plant t m j lt)) (get_or_is_in (needed plant t m) j lt)
 
 -- and a needed section is that of such a step
 pub needed_step : (plant : Plant) (t m x : ℕ) → is_in x (needed plant t m) ≡ true → (j : ℕ) × (j < steps plant t m) × (step_section plant t m j ≡ x)

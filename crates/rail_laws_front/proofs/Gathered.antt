@@ -40,10 +40,6 @@ module _ {X : Type 0} (p : X → Bool) where
   pub one_from : (x : X) → p x ≡ true → list_any p (x ∷ []) ≡ true
   one_from x h = or_left (p x) false h
 
-  pub any_found : (xs : List X) → list_any p xs ≡ true → (x : X) × (p x ≡ true)
-  any_found [] h = absurd (false≢true h)
-  any_found (x ∷ xs) h = ⊎_elim (λ here. (x, here)) (λ later. any_found xs later) (or_cases (p x) (list_any p xs) h)
-
 -- an element that passes a test passes another one too, or the other fails there
 pub both_found : {X : Type 0} (p q : X → Bool) (xs : List X) → list_any p xs ≡ true → ((x : X) → p x ≡ true → q x ≡ true) → list_any q xs ≡ true
 both_found p q [] h k = absurd (false≢true h)

@@ -1,3 +1,5 @@
+//! What every lawful front keeps: its times, places, kept list, due lines and blocking intervals.
+
 ghost use Rattle.std.specs.Prelude.{◌≡◌, ℕ, ◌<◌, ◌≤◌, ◌⊎◌, ◌∷◌, ◌&&◌, ◌==◌, IsTrue, Bool, false, not};
 ghost use Rattle.std.specs.List.{list_any};
 ghost use Rattle.rail_base.specs.declared.history.What.TheVariants.{Free};

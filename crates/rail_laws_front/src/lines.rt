@@ -1,3 +1,5 @@
+//! The four ways in which a line follows a front, and what the laws ask of a plant.
+
 ghost use Rattle.std.specs.Prelude.{IsTrue};
 ghost use Rattle.rail_rules.specs.Accepted.{is_accepted};
 ghost use Rattle.rail_rules.specs.Fronts.{Front, Line};

@@ -42,8 +42,6 @@ pub use Rattle.rail_laws_step.proofs.HoldersKept.{taken_long, taken_out}
 pub use Rattle.rail_laws_step.proofs.Blocking.{blocked_is}
 -- Owning: the overlap of a train's last admitted move, and that admissions come in order.
 
--- Admissions of a train come in the order of its moves.
-pub use Rattle.rail_laws_step.proofs.Owning.{admissions_rise}
 -- An interval that there is isn't empty.
 pub use Rattle.rail_laws_step.proofs.Owning.{interval_lasts}
 -- A section of a train's own overlap is that of a step behind the needed ones of its last admitted move.
@@ -52,8 +50,6 @@ pub use Rattle.rail_laws_step.proofs.Owning.{IsOwnStep, own_step}
 
 -- An admission over sections whose holders don't bar its train makes the train their holder.
 pub use Rattle.rail_laws_step.proofs.Taking.{takes}
--- A section of the own overlap is taken over exactly where the move claims it and the table says that the train holds it.
-pub use Rattle.rail_laws_step.proofs.Taking.{taken_over_is}
 -- A train that passes still holds its whole own overlap.
 pub use Rattle.rail_laws_step.proofs.Taking.{passing_holds}
 -- So the free lines of the own overlap after an admission are those of the sections that aren't taken over, at the end of the timer.
@@ -64,8 +60,6 @@ pub use Rattle.rail_laws_step.proofs.Taking.{overlap_frees_after}
 pub use Rattle.rail_laws_step.proofs.OneFree.{one_free_due}
 -- Coming: without commands what is due is what is to come; how much that is, and what it is.
 
--- Only event lines of trains are to come: tests that agree on these count the same.
-pub use Rattle.rail_laws_step.proofs.Coming.{tally_events}
 -- A line to come is an event line of a train of the plant that does not stand in the front.
 pub use Rattle.rail_laws_step.proofs.Coming.{to_come_found}
 -- An event line of a train of the plant that does not stand in the front is to come.
@@ -80,8 +74,6 @@ pub use Rattle.rail_laws_step.proofs.Heads.{head_first}
 pub use Rattle.rail_laws_step.proofs.Heads.{head_kept}
 -- The enter line of a train before which none of its enter lines is to come is that of the step at which its head is.
 pub use Rattle.rail_laws_step.proofs.Heads.{next_enter}
--- Readiness: what each kind of line does to who is ready.
-pub use Rattle.rail_laws_step.proofs.Readiness.{nothing_told}
 -- Before the first line no train is ready.
 pub use Rattle.rail_laws_step.proofs.Readiness.{nobody_ready}
 -- A ready line is that of the next move of its train, at its ready time; the train was not ready before, and is so after it.

@@ -21,7 +21,7 @@ use Rattle.rail_laws_front.specs.EventLines.IsEvent.{entering, arriving, freeing
 use Rattle.rail_laws_front.proofs.CallerLemmas.{over_not_open, same_entry_refl, timely, well_formed_from_accepted}
 use Rattle.rail_laws_events.specs.Accounts.{all_events, tally, to_come}
 use Rattle.rail_laws_events.proofs.CallerLemmas.{account, one_entry, tally-filter, tally-le, tally-same, tally-split}
-use Rattle.rail_laws_step.specs.HolderTables.{AreHolders, frees, frees_for, gives_free, is_train}
+use Rattle.rail_laws_step.specs.HolderTables.{AreHolders, frees, gives_free, is_train}
 use Rattle.rail_laws_step.specs.KeptLines.{is_kept}
 use Rattle.rail_laws_step.specs.LinesToCome.{ToCome}
 use Rattle.rail_laws_step.proofs.Blocking.{blocks_is, own_contains}
@@ -51,19 +51,6 @@ tally-fixed q false es = tally-same (λ e. q e && false) (λ e. false) es (λ e.
     and_none : (b : Bool) → (b && false) ≡ false
     and_none true = refl
     and_none false = refl
-
--- a free line behind a train gives its section free
-gives_by : (x t : ℕ) (w : What) → frees_for x t w ≡ true → gives_free x w ≡ true
-gives_by x t (Free y u) is = (and_parts (eqb y x) (eqb u t) is).0
-gives_by x t (Arrive u m) is = absurd (false≢true is)
-gives_by x t (Enter u m y) is = absurd (false≢true is)
-gives_by x t (Out u) is = absurd (false≢true is)
-gives_by x t (Ready u m) is = absurd (false≢true is)
-gives_by x t (Told k) is = absurd (false≢true is)
-gives_by x t (Untold k) is = absurd (false≢true is)
-gives_by x t (Admit u m note) is = absurd (false≢true is)
-gives_by x t (Hold u m why) is = absurd (false≢true is)
-gives_by x t End is = absurd (false≢true is)
 
 -- a line that gives the section free stays due whatever is told
 stays_due : (orders : List Order) (x : ℕ) (b : Bool) (w : What) → (is_kept orders w && (gives_free x w && b)) ≡ (gives_free x w && b)

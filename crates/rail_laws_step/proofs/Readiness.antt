@@ -3,12 +3,12 @@ use Rattle.std.proofs.Common.{◌≡◌, ℕ, suc, ◌≤◌, Bool, true, false,
 use Rattle.std.proofs.lemmas.Bool.{false≢true, and_parts, and_from, and_right, or_cases, or_left, lt-ltb, not_from_false, false_from_ne_true}
 use Rattle.rail_base.specs.declared.history.Entry.{Entry}
 use Rattle.rail_base.specs.declared.history.What.{What}
-use Rattle.rail_base.specs.declared.history.What.TheVariants.{Free, Arrive, Enter, Out, Ready, Told, Untold, Admit, Hold, End}
+use Rattle.rail_base.specs.declared.history.What.TheVariants.{Ready, Told, Admit}
 use Rattle.rail_base.specs.declared.history.Note.{Note}
 use Rattle.rail_base.specs.declared.orders.Order.{Order}
 use Rattle.rail_rules.specs.Plant.{moves}
 use Rattle.rail_rules.specs.Fronts.{Line, Front, instant, is_admission, admissions, same_entry, stands}
-use Rattle.rail_rules.specs.Orders.{Input, orders_of, told, is_cancelled}
+use Rattle.rail_rules.specs.Orders.{Input, told, is_cancelled}
 use Rattle.rail_rules.specs.Times.{ready}
 use Rattle.rail_rules.specs.Events.{ready_line}
 use Rattle.rail_rules.specs.Causes.{place, is_ready}
@@ -20,26 +20,6 @@ use Rattle.rail_laws_front.proofs.CallerLemmas.{lawful_before, lawful_last, leng
 use Rattle.rail_laws_events.proofs.CallerLemmas.{one_entry}
 use Rattle.rail_laws_step.specs.LineKinds.{is_ready_line}
 use Rattle.rail_laws_step.proofs.ReadyLines.{names_train, IsReadyDue, ready_followed, next_is_ready, ready_reached}
-
--- without commands nothing is told
-none_of : (what : What) → orders_of [] what ≡ []
-none_of (Told k) = refl
-none_of (Free x t) = refl
-none_of (Arrive t m) = refl
-none_of (Enter t m x) = refl
-none_of (Out t) = refl
-none_of (Ready t m) = refl
-none_of (Untold k) = refl
-none_of (Admit t m note) = refl
-none_of (Hold t m why) = refl
-none_of End = refl
-
-none_told : (front : Front) → told [] front ≡ []
-none_told [] = refl
-none_told (line ∷ front) = λ i. none_of line.entry.what i ++ none_told front i
-
-pub nothing_told : (input : Input) → input.commands ≡ [] → (front : Front) → told input.commands front ≡ []
-nothing_told input none front = ap (λ commands. told commands front) none ∙ none_told front
 
 -- whether a train is ready, where its admissions and the orders are these
 readies : Input → Front → ℕ → List ℕ → List Order → Bool

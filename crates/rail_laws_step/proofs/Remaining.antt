@@ -1,5 +1,5 @@
 -- Which trains are out, and which remain.
-use Rattle.std.proofs.Common.{◌≡◌, ℕ, Bool, true, false, not, ◌||◌, [], ◌∷◌, refl, ap, ◌∙◌}
+use Rattle.std.proofs.Common.{◌≡◌, ℕ, true, false, ◌||◌, [], ◌∷◌, refl, ap, ◌∙◌}
 use Rattle.std.proofs.lemmas.Bool.{or_left, eq-eqb}
 use Rattle.rail_base.specs.declared.history.What.TheVariants.{Out}
 use Rattle.rail_rules.specs.Fronts.{Line, Front}
@@ -14,8 +14,3 @@ out_kept line front t other = ap (λ b. b || is_out front t) other
 
 pub out_by_line : (line : Line) (front : Front) (t : ℕ) → line.entry.what ≡ Out t → is_out (line ∷ front) t ≡ true
 out_by_line line front t what = or_left (is_out_line t line.entry.what) (is_out front t) (ap (is_out_line t) what ∙ eq-eqb t t refl)
-
--- without commands nobody is cancelled
-neither : (b : Bool) → not (b || false) ≡ not b
-neither true = refl
-neither false = refl

@@ -1,19 +1,12 @@
 -- Run fronts: what continues a run.
-use Rattle.std.proofs.Common.{◌≡◌, ℕ, ◌<◌, Bool, true, false, not, ◌&&◌, List, [], ◌∷◌, refl, sym, subst, ⊎_elim}
-use Rattle.std.proofs.lemmas.Bool.{cases_Bool, false≢true, and_parts, and_from, and_left, and_right, not_from_false}
-use Rattle.rail_base.specs.declared.orders.PolicyKind.{PolicyKind}
-use Rattle.rail_base.specs.declared.orders.PolicyKind.TheVariants.{Fcfs}
+use Rattle.std.proofs.Common.{◌≡◌, ℕ, ◌<◌, true, false, ◌&&◌, List, [], ◌∷◌, refl, sym, ⊎_elim}
+use Rattle.std.proofs.lemmas.Bool.{false≢true, and_parts, and_from}
 use Rattle.rail_base.specs.declared.history.What.{What}
 use Rattle.rail_base.specs.declared.history.What.TheVariants.{Free, Arrive, Enter, Out, Ready, Told, Untold, Admit, Hold, End}
-use Rattle.rail_rules.specs.Numbers.{all_below, comes_before}
-use Rattle.rail_rules.specs.Plant.{trains}
-use Rattle.rail_rules.specs.Fronts.{Line, Front, is_admission, admissions}
+use Rattle.rail_rules.specs.Fronts.{Line, Front, is_admission}
 use Rattle.rail_rules.specs.Orders.{Input}
-use Rattle.rail_rules.specs.Times.{ready}
-use Rattle.rail_rules.specs.Causes.{place, could_go}
 use Rattle.rail_rules.specs.Lawful.{may_follow, is_lawful}
-use Rattle.rail_rules.specs.RunHistories.{Seat, seat_of, force_of, key, is_chosen, is_run_line, is_run}
-use Rattle.rail_rules.proofs.CallerLemmas.{all_below_from}
+use Rattle.rail_rules.specs.RunHistories.{Seat, is_run_line, is_run}
 
 -- a run front is lawful
 pub run_lawful : (input : Input) (seats : List Seat) (front : Front) → is_run input seats front ≡ true → is_lawful input front ≡ true
@@ -42,21 +35,3 @@ idle_of_run input seats front (Untold k) idle = refl
 
 pub run_idle : (input : Input) (seats : List Seat) (line : Line) (front : Front) → is_run input seats front ≡ true → may_follow input front line ≡ true → is_admission line.entry.what ≡ false → is_run input seats (line ∷ front) ≡ true
 run_idle input seats line front run may idle = run_continued input seats line front run may (idle_of_run input seats front line.entry.what idle)
-
--- the train that was ready first is chosen
-chosen : (input : Input) (seats : List Seat) (front : Front) (t : ℕ)
-    → (seat_of seats (force_of input front)).kind ≡ Fcfs
-    → ((u : ℕ) → u < trains input.plant → could_go input front u ≡ true
-    → comes_before (ready input.plant u (admissions front u) (place front u) ∷ u ∷ [])
-    (ready input.plant t (admissions front t) (place front t) ∷ t ∷ [])
-    ≡ false)
-    → is_chosen input seats front t ≡ true
-chosen input seats front t kind first =
-    let test : PolicyKind → ℕ → Bool = λ k u. could_go input front u && comes_before (key input seats front u k) (key input seats front t k) in
-    let P : PolicyKind → Type 0 = λ k. all_below (λ u. not (test k u)) (trains input.plant) ≡ true in
-    subst P (sym kind) (all_below_from (λ u. not (test Fcfs u)) (trains input.plant) (λ u lt.
-    not_from_false (test Fcfs u)
-    (⊎_elim
-    (λ goes. and_right (could_go input front u) (comes_before (key input seats front u Fcfs) (key input seats front t Fcfs)) (first u lt goes))
-    (λ stays. and_left (could_go input front u) (comes_before (key input seats front u Fcfs) (key input seats front t Fcfs)) stays)
-    (cases_Bool (could_go input front u)))))

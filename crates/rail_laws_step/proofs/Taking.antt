@@ -396,9 +396,6 @@ module _ (input : Input) (accepted : is_accepted input.plant ≡ true) (line : L
     section_in : (x : ℕ) → is_in x (claimed input.plant t (place front t)) ≡ true → x < length h
     section_in x there = omega (arith, in_range input.plant accepted t (place front t) room known x there, are.long)
 
-    abbrev after : List (Option ℕ)
-    after = taken_by h (claimed input.plant t (place front t)) t
-
     own_each : (x : ℕ) → cond (is_train t (get_or (taken_by h (claimed input.plant t (place front t)) t) x None)) 1 0 + tally (frees x t) (written (line ∷ front)) ≡ taken input.plant t (admissions (line ∷ front) t) x
     unfolding own_taken
     own_each x =

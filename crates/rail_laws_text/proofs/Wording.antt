@@ -4,7 +4,7 @@ use Rattle.std.specs.List.{list_any, list_all}
 use Rattle.std.specs.Char.{is_ascii_digit}
 use Rattle.std.specs.Str.{all_ascii_digits}
 use Rattle.std.proofs.lemmas.Bool.{cases_Bool, false≢true, and_parts, or_from, eqb-true, ne_eqb, ltb-true, leb-true, le-leb, and_from, cond-true, cond-false, false_from_ne_true}
-use Rattle.std.proofs.lemmas.Fmt.{decimal_nonempty, digits_decimal, digits_value-decimal}
+use Rattle.std.proofs.lemmas.Fmt.{digits_decimal, digits_value-decimal}
 use Rattle.std.proofs.lemmas.Str.Parse.{IsNumeralModel, numerals_by_fold}
 use Rattle.rail_base.specs.NameForms.{is_name, is_name_byte}
 use Rattle.rail_base.specs.Clock.{two_digits, hours_text, time_text}
@@ -34,9 +34,6 @@ own = numerals_by_fold _ (search rules) read_on (search rules)
 -- a number is read back from its digits
 pub number_back : (n : ℕ) → n < 2 ^ 64 → read_on 0 (decimal n) ≡ n
 number_back n fits = digits_value-decimal own n fits
-
-pub some_digit : (n : ℕ) → n < 2 ^ 64 → 0 < length (decimal n)
-some_digit n fits = decimal_nonempty n fits
 
 not_this : (p : ℕ → Bool) (b c : ℕ) → p b ≡ false → p c ≡ true → eqb c b ≡ false
 not_this p b c out passes =

@@ -1,3 +1,5 @@
+//! The lines of a history can be written, and their numbers are within the limits.
+
 ghost use Rattle.std.specs.Prelude.{◌∷◌, ◌≤◌, IsTrue};
 ghost use Rattle.rail_base.specs.Limits.{most, FreshLines};
 ghost use Rattle.rail_laws_text.specs.LimitedLines.{is_limited_what};

@@ -1,3 +1,5 @@
+//! The text of a history determines the history.
+
 ghost use Rattle.std.specs.Prelude.{◌≡◌, IsTrue};
 ghost use Rattle.std.specs.List.{list_all};
 ghost use Rattle.rail_rules.specs.Accepted.{is_accepted};

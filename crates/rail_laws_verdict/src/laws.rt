@@ -1,3 +1,5 @@
+//! Laws of the verdict on a history: what may follow a front, and which law a wrong line breaks.
+
 ghost use Rattle.std.specs.Prelude.{◌≡◌, ◌↔◌, not, ℕ, List, [], IsTrue, true, false};
 ghost use Rattle.rail_rules.specs.Causes.{could_go, is_deciding};
 ghost use Rattle.rail_rules.specs.Fronts.{Front, Line, has_ended, is_admission, is_hold};

@@ -12,7 +12,5 @@ pub use Rattle.rail_ledger.proofs.Judged.{admission_taken, other_taken}
 pub use Rattle.rail_ledger.proofs.Looking.{next_unbarred}
 -- A train that waits has a move left.
 pub use Rattle.rail_ledger.proofs.Admissions.{left_of}
--- What an accepted input says of its plant and its commands.
-pub use Rattle.rail_ledger.proofs.Ordered.{InputParts, input_parts}
 -- The number of a train's next move fits.
 pub use Rattle.rail_ledger.proofs.Room.{place_fits}

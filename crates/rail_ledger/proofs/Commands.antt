@@ -70,9 +70,6 @@ module _ (front : Front) (ledger : Ledger) (at : IsAt front ledger) (going : led
   pub is_listed : slice_get ledger.input.commands.items (event.number - 1) ≡ Some it.command
   is_listed = ap (slice_get ledger.input.commands.items) (omega (arith, it.numbered)) ∙ it.listed
 
-  what_of_it : What
-  what_of_it = (command_line (input_in ledger.input) front it.command it.index).what
-
   decided : is_effective (without_first ledger queue) it.command.what ≡ takes_effect (input_in ledger.input) front (told ledger.input.commands.items front) it.command.what
   decided = effective front ledger at it.command.what
       (command_in_range ledger.input.plant 0 ledger.input.commands.items it.index it.command (input_parts (input_in ledger.input) at.accepted).commands it.listed)

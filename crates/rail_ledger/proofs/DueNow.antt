@@ -13,13 +13,11 @@ use Rattle.rail_state.specs.TrainStates.{state_of}
 use Rattle.rail_state.proofs.CallerLemmas.{cause_known}
 use Rattle.rail_ledger.specs.Inputs.{input_in}
 use Rattle.rail_ledger.specs.DueLines.{IsDue}
-use Rattle.rail_ledger.specs.Ledgers.{CouldGo, IsAt, IsHoldDue, TakesLine, line_in, line_with}
+use Rattle.rail_ledger.specs.Ledgers.{IsAt, IsHoldDue, TakesLine, line_in, line_with}
 use Rattle.rail_ledger.specs.declared.due.Due.{Due}
 use Rattle.rail_ledger.specs.declared.input.RunInput.{RunInput}
 use Rattle.rail_ledger.specs.declared.ledger.Ledger.{Ledger}
-use Rattle.rail_ledger.specs.declared.ledger.Listed.TheVariants as listed
 use Rattle.rail_ledger.proofs.Holding.{hold_next, known_why}
-use Rattle.rail_ledger.proofs.Judged.{listed_as}
 
 -- the hold line that is due may follow
 pub due_lawful : (front : Front) (ledger : Ledger) → IsAt front ledger → (t : ℕ) → IsHoldDue ledger t → (said : What)
@@ -44,7 +42,3 @@ given_due old new due is told other same_input takes front at =
     (and_parts (is_lawful input front) (may_follow input front given) (is.lawful front at)).1
     other is.other in
     subst (λ (l : Line). IsAt (l ∷ front) new) same stands
-
--- whether some train could be admitted does not hang on the list of the last line
-pub could_before : (old : Ledger) → CouldGo (record old { listed = listed.Nothing }) → CouldGo old
-could_before old could front at = could front (listed_as front old listed.Nothing at)

@@ -1,7 +1,7 @@
 -- A list for the next move of a train.
 use Rattle.std.proofs.Common.{◌≡◌, ℕ, zero, suc, ◌<◌, ◌≤◌, true, false, not, cond, List, length, get_or, set, Some, None, is_some, refl, sym, ap, ◌∙◌, subst, ⊎_elim, arith}
 use Rattle.std.specs.Prelude.{◌↔◌}
-use Rattle.std.proofs.lemmas.Bool.{and_parts, and_right, cases_Bool, cond-true, cond-false, eq-eqb, ne_eqb, false≢true, ltb-true}
+use Rattle.std.proofs.lemmas.Bool.{and_parts, and_right, cond-true, cond-false}
 use Rattle.std.proofs.lemmas.List.{get_or-set_same, get_or-set_other, length-set}
 use Rattle.rail_base.specs.declared.history.Cause.TheVariants.{NoList}
 use Rattle.rail_base.specs.declared.history.Note.{Note}
@@ -16,7 +16,7 @@ use Rattle.rail_consequence.specs.AnalystStates.{IsAnalystFor, Tallied}
 use Rattle.rail_place.specs.PlaceStates.{IsMadeFor, State}
 use Rattle.rail_place.specs.Tables.{IsTable, moves_in, MoveLists}
 use Rattle.rail_list.specs.Failures.{AreFailures, Failed}
-use Rattle.rail_list.specs.KeptLists.{HasRoomFor, Kept}
+use Rattle.rail_list.specs.KeptLists.{Kept}
 use Rattle.rail_list.specs.Repairs.{IsNoted, is_known}
 use Rattle.rail_state.specs.declared.train.TrainState.{TrainState}
 use Rattle.rail_state.specs.TrainStates.{is_untried, state_of}
@@ -36,9 +36,6 @@ made_for table front ledger is_table same at = record {
   counted = at.placed.counted;
   told = subst (λ (plan : Moves). (x u : ℕ) → (get_or ledger.places.owners x None ≡ Some u) ↔ (holds plan ledger.places.positions u x ≡ true)) (sym same) at.placed.told;
 }
-
-pub has_room : (table : List MoveLists) (front : Front) (ledger : Ledger) → moves_in table ≡ moves_of ledger.input.plant → IsAt front ledger → HasRoomFor table ledger.kept
-has_room table front ledger same at = subst (λ (plan : Moves). sum_below plan.moves plan.trains ≤ ledger.kept.room) (sym same) at.keeps.room
 
 pub list_completes : (table : List MoveLists) (front : Front) (ledger : Ledger) → moves_in table ≡ moves_of ledger.input.plant → IsAt front ledger → completes (moves_in table) ledger.places.positions ledger.kept.trains ≡ true
 list_completes table front ledger same at =

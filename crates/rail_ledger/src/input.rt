@@ -1,3 +1,5 @@
+//! The input of a run: a plant, its commands, and a deck with the policy that is in force first.
+
 use rail_base::{Command, Name};
 use rail_plan::Plant;
 

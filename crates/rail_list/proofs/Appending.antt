@@ -1,7 +1,7 @@
 -- The list with the moves that are left to an entering train at its end: it completes exactly where the first move ended safely. How long a list that completes is.
 use Rattle.std.proofs.Common.{◌≡◌, ◌≢◌, ℕ, zero, suc, ◌+◌, ◌-◌, ◌<◌, ◌≤◌, Bool, true, false, not, ◌&&◌, ltb, leb, List, [], ◌∷◌, ◌++◌, length, replicate, refl, sym, ap, ◌∙◌, subst, ⊎_elim, arith}
 use Rattle.std.specs.List.{All, list_any, list_all}
-use Rattle.std.proofs.lemmas.Bool.{and_parts, and_from, and_left, and_right, le-ltb, cases_eq, cases_lt, cases_Bool, cond-false, lt-ltb, ltb-true, not-true, not_from_false, false≢true, and_cases}
+use Rattle.std.proofs.lemmas.Bool.{and_parts, and_from, and_right, le-ltb, cases_eq, cases_lt, cases_Bool, cond-false, lt-ltb, ltb-true, not-true, not_from_false, false≢true, and_cases}
 use Rattle.std.proofs.lemmas.List.{get_or-set_same, length-set}
 use Rattle.std.proofs.lemmas.List.Elements.{All-nil, All-cons}
 use Rattle.rail_rules.specs.Numbers.{any_below, sum_below, is_in, are_apart}
@@ -14,9 +14,7 @@ use Rattle.rail_place.proofs.CallerLemmas.{move_valid, inside_listed, played_lef
 use Rattle.rail_consequence.specs.Cores.{IsClear}
 use Rattle.rail_consequence.proofs.CallerLemmas.{clear_from_safe, inside_from, inside_parts, inside_same, nobody_at, safe_from_clear}
 use Rattle.rail_list.proofs.Pulling.{place_kept, inside_kept, after_comm}
-use Rattle.rail_consequence.specs.Needs.{times}
 use Rattle.rail_list.proofs.Beside.{legal_beside}
-use Rattle.rail_list.proofs.MovesLeft.{none_left}
 
 -- each train named is inside at its turn, and its move is legal
 abbrev plays : Moves → List ℕ → List ℕ → Bool
@@ -98,11 +96,6 @@ appended_completes plan s (u ∷ rest) t valid lt listed some out done =
     let rest_is = appended_completes plan (after s u) rest t valid lt (omega (arith, listed, length-set s u (suc (place_of s u)))) some (place_kept s t u ne ∙ out) parts.1 in
     ap (λ b. is_inside plan r u && is_legal plan r u && b)
     (ap (λ q. plays plan q rest) turned ∙ rest_is ∙ ap (λ q. completes plan q whole) (sym turned))
-
--- a train that stands outside has no entry in a list that completes
-pub outside_has_none : (plan : Moves) (s list : List ℕ) (t : ℕ) → place_of s t ≡ 0 → completes plan s list ≡ true → times t list ≡ 0
-outside_has_none plan s list t out done =
-    none_left plan s list t done (and_left (ltb 0 (place_of s t)) (ltb (place_of s t) (plan.moves t)) (ap (ltb 0) out))
 
 -- what no other train needs later it doesn't need later after a move of another train
 clear_on : (plan : Moves) (s : List ℕ) (t u : ℕ) (sections : List ℕ) → is_inside plan s u ≡ true → IsClear plan s t sections → IsClear plan (after s u) t sections

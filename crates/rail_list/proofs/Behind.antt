@@ -1,7 +1,7 @@
 -- Safe moves: which of them are safe legs behind the next move of another train, too.
 use Rattle.std.proofs.Common.{◌≡◌, ◌≢◌, ℕ, suc, ◌+◌, ◌-◌, ◌<◌, ◌≤◌, Bool, true, false, not, ◌&&◌, ◌||◌, ltb, leb, List, length, set, refl, sym, ap, ◌∙◌, subst, ⊎_elim, arith}
 use Rattle.std.proofs.lemmas.Bool.{and_from, and_left, and_parts, and_right, cases_Bool, cases_eq, cases_lt, false≢true, le-leb, lt-leb, lt-ltb, not-true, not_from_false, or_left, or_right}
-use Rattle.std.proofs.lemmas.List.{get_or-set_same, set-get_or, set_past}
+use Rattle.std.proofs.lemmas.List.{get_or-set_same, set-get_or}
 use Rattle.rail_rules.specs.Numbers.{all_below, any_below, are_apart}
 use Rattle.rail_rules.specs.Moves.{Moves, stand}
 use Rattle.rail_rules.specs.Places.{after, is_inside, is_legal, place_of}
@@ -73,13 +73,6 @@ safe_moved plan s t p =
     (safe_alike plan (after s t) s leg (λ u ne. sym (place_kept s u t ne)))
     (safe_alike plan s (after s t) leg (λ u ne. place_kept s u t ne))
 
--- the first move of a train is no leg
-pub first_is_free : (plan : Moves) (s : List ℕ) (t : ℕ) → place_of s t ≡ 0 → is_safe_move plan s t ≡ false
-first_is_free plan s t out =
-    and_left (is_inside plan s t && is_legal plan s t) (is_safe plan s (next s t))
-    (and_left (is_inside plan s t) (is_legal plan s t)
-    (and_left (ltb 0 (place_of s t)) (ltb (place_of s t) (plan.moves t)) (ap (ltb 0) out)))
-
 and_yes : (a b : Bool) → a ≡ true → (a && b) ≡ b
 and_yes a b is = ap (λ c. c && b) is
 
@@ -141,10 +134,6 @@ safe_move_behind plan s t u lt ne safe =
     let legs : is_safe plan r (next r u) ≡ is_safe plan r (next s u) = ap (λ p. is_safe plan r (record { train = u; place = suc p })) (place_kept s u t other) in
     ap (λ b. b && is_safe plan r (next r u)) (and_yes (is_inside plan r u) (is_legal plan r u) inside ∙ legal_beside plan s t u lt other one.1)
     ∙ ap (λ b. are_apart (stand plan t (suc (place_of s t))) (plan.claim u (place_of s u)) && b) (legs ∙ safe_behind plan s t (next s u) lt ne two.1)
-
--- behind a move of a train that is not there
-pub safe_move_past : (plan : Moves) (s : List ℕ) (t u : ℕ) → length s ≤ t → is_safe_move plan s u ≡ true → is_safe_move plan (after s t) u ≡ true
-safe_move_past plan s t u past safe = ap (λ r. is_safe_move plan r u) (set_past s t (suc (place_of s t)) past) ∙ safe
 
 -- and behind the next place of a train that is out
 pub safe_move_out : (plan : Moves) (s : List ℕ) (t u : ℕ) → t < length s → t ≢ u → plan.moves t ≤ place_of s t → is_safe_move plan s u ≡ true → is_safe_move plan (after s t) u ≡ true

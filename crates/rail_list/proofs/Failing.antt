@@ -99,27 +99,11 @@ pub record IsForgetting (plan : Moves) (r : List ℕ) (old : Failed) (moved : �
   pub told : IfSome known (TellsSafe plan moved r)
   pub forgotten : (s : List ℕ) → HasMoved plan s moved r → IsForgotten plan s old moved kept left
 
-ended_from : (own kept ended : Bool) → (not own && kept) ≡ false → (kept && not (own || ended)) ≡ false
-ended_from true kept ended none = and_right kept (not (true || ended)) refl
-ended_from false kept ended none = ap (λ k. k && not ended) none
-
 ended_is : (own kept ended : Bool) → ended ≡ false → (not own && kept) ≡ (kept && not (own || ended))
 ended_is true true ended off = refl
 ended_is true false ended off = refl
 ended_is false true ended off = ap not (sym off)
 ended_is false false ended off = refl
-
--- at first only the train that moved is taken out
-pub forgetting_first : (plan : Moves) (r : List ℕ) (old : Failed) (moved : ℕ) (kept : TrainSet) (known : Option Bool) → IfSome known (TellsSafe plan moved r)
-    → ((t : ℕ) → has_train kept t ≡ (not (t == moved) && is_kept old t)) → IsForgetting plan r old moved kept kept known
-forgetting_first plan r old moved kept known told taken = record {
-  other = λ t on e. false≢true (sym (not-true (t == moved) (and_parts (not (t == moved)) (is_kept old t) (sym (taken t) ∙ on)).0) ∙ eq-eqb t moved e);
-  told = told;
-  forgotten = λ s came. record {
-    later = λ t on. taken t;
-    done = λ t off. off ∙ sym (ended_from (t == moved) (is_kept old t) (is_ended plan s old moved t) (sym (taken t) ∙ off));
-  };
-}
 
 -- one train of those that are left is done, and the others are as before
 forgotten_next : (plan : Moves) (s : List ℕ) (old : Failed) (moved t : ℕ) (kept next left fewer : TrainSet)

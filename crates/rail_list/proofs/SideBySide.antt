@@ -57,23 +57,6 @@ split_run list counts i u n are lt is many =
     let few : n ≤ entries_at_start u (drop i list) = omega (arith, known, many, ap (λ k. entries_at_start k (drop i list)) is) in
     split_start n u (drop i list) few ∙ ap (λ xs. replicate n u ++ xs) (drop-drop n i list)
 
--- one entry more of the train behind those at the start
-pub start_longer : (u n : ℕ) (list : List ℕ) → n ≤ entries_at_start u list → n < length list → get_or list n 0 ≡ u → suc n ≤ entries_at_start u list
-start_longer u n [] few lt same = absurd (omega (arith, lt))
-start_longer u zero (v ∷ rest) few lt same =
-    let Q : ℕ → Type 0 = λ k. 1 ≤ entries_at_start u (k ∷ rest) in
-    subst Q (sym same) (omega (arith, start_same u rest))
-start_longer u (suc n) (v ∷ rest) few lt same =
-    ⊎_elim
-    (λ is.
-    let Q : ℕ → Type 0 = λ k. suc (suc n) ≤ entries_at_start u (k ∷ rest) in
-    let P : ℕ → Type 0 = λ k. suc n ≤ entries_at_start u (k ∷ rest) in
-    let here : suc n ≤ entries_at_start u (u ∷ rest) = subst P is few in
-    let more : suc n ≤ entries_at_start u rest = start_longer u n rest (omega (arith, here, start_same u rest)) (omega (arith, lt)) same in
-    subst Q (sym is) (omega (arith, more, start_same u rest)))
-    (λ other. absurd (omega (arith, few, start_other u v rest other)))
-    (cases_eq v u)
-
 -- a first entry with its count before the others with theirs
 runs_at : (u c : ℕ) (list counts : List ℕ) → 1 ≤ c → c ≤ suc (entries_at_start u list) → AreRuns list counts
     → (i : ℕ) → i < length (u ∷ list) → (1 ≤ get_or (c ∷ counts) i 0) × (get_or (c ∷ counts) i 0 ≤ entries_at_start (get_or (u ∷ list) i 0) (drop i (u ∷ list)))
@@ -127,11 +110,6 @@ each_alone (suc n) u = runs_cons u 1 (replicate n u) (replicate n 1) (omega arit
 pub runs_of_one : (n u : ℕ) → AreRuns (replicate n u) (counts_of_run n)
 runs_of_one zero u = λ i below. absurd (omega (arith, below))
 runs_of_one (suc n) u = runs_cons u (suc n) (replicate n u) (replicate n 1) (omega arith) (omega (arith, start_all n u)) (each_alone n u)
-
--- each entry by itself
-pub runs_of_ones : (list : List ℕ) → AreRuns list (replicate (length list) 1)
-runs_of_ones [] = λ i below. absurd (omega (arith, below))
-runs_of_ones (u ∷ list) = runs_cons u 1 list (replicate (length list) 1) (omega arith) (omega arith) (runs_of_ones list)
 
 -- another count that is one
 pub runs_set : (list counts : List ℕ) (k c : ℕ) → k < length counts → 1 ≤ c → c ≤ entries_at_start (get_or list k 0) (drop k list) → AreRuns list counts → AreRuns list (set counts k c)

@@ -1,3 +1,5 @@
+//! Laws of the kept list: when a repaired list completes, and how long none is known for a waiting train.
+
 ghost use Rattle.std.specs.Prelude.{◌≡◌, ◌≢◌, ℕ, suc, ◌<◌, ◌≤◌, Bool, false, List, length, IsTrue};
 ghost use Rattle.rail_rules.specs.Analysis.{is_safe};
 ghost use Rattle.rail_rules.specs.Fronts.{without_first};

@@ -1,3 +1,5 @@
+//! What the note of an admission promises of its list.
+
 ghost use Rattle.std.specs.Prelude.{ℕ, List, IsTrue};
 ghost use Rattle.rail_base.specs.declared.history.Note.{Note};
 ghost use Rattle.rail_rules.specs.Moves.{Moves};

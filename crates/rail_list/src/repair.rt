@@ -1,3 +1,5 @@
+//! A move by the kept list: the list is repaired, or a fresh one is searched for.
+
 ghost use Rattle.std.specs.Prelude.{◌≡◌, ℕ, ◌+◌, ◌<◌, ◌≤◌, true, false, length, IsTrue, IsNone, IsSome, IfSome};
 ghost use Rattle.rail_rules.specs.Analysis.{finds};
 ghost use Rattle.rail_rules.specs.Places.{after, completes, is_legal};

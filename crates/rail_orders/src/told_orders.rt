@@ -1,3 +1,5 @@
+//! What the commands told so far mean for sections, trains and policies.
+
 ghost use Rattle.std.specs.Prelude.{◌≡◌, ◌<◌, false, get_or, length, not, set, vec_capacity, IfOk};
 ghost use Rattle.std.specs.List.{filter};
 ghost use Rattle.rail_base.specs.NameForms.{same_name};
@@ -100,13 +102,6 @@ impl ToldOrders {
             .get(usize::from(train.0))
             .copied()
             .unwrap_or(0)
-    }
-
-    /// The name of the policy in force.
-    pub fn in_force(&self) -> Name
-        ensures { result ≡ self.now.force }
-    {
-        self.force
     }
 
     /// The cause that the train is stopped, where it is.

@@ -7,7 +7,7 @@ pub use Rattle.rail_place.proofs.Tables.{move_valid}
 -- Making: places that were made for moves: what they tell, and what a move of one train changes.
 pub use Rattle.rail_place.proofs.Making.{holder_listed, legal_ahead, made_long}
 -- Playing: lists played from one state to another: one move more, one move less, and how long such a list may be.
-pub use Rattle.rail_place.proofs.Playing.{played_last, played_left, step_back, way_back}
+pub use Rattle.rail_place.proofs.Playing.{played_left, way_back}
 -- after a move, the way back is free
 pub use Rattle.rail_place.proofs.Playing.{IsWayBack}
 -- a train inside is listed

@@ -46,15 +46,6 @@ noted_back claims firsts sections n wide none here m x from lt below =
     (cases_lt n m))
     (cases_Bool (is_in x sections))
 
--- it is no greater than the bound
-last_bound : (test : ℕ → Bool) (n : ℕ) → last_below test n ≤ n
-last_bound test zero = omega arith
-last_bound test (suc n) =
-    ⊎_elim
-    (λ is. omega (arith, cond-true (test n) (suc n) (last_below test n) is))
-    (λ out. omega (arith, cond-false (test n) (suc n) (last_below test n) out, last_bound test n))
-    (cases_Bool (test n))
-
 -- no number from it on passes
 pub past_last : (test : ℕ → Bool) (n m : ℕ) → last_below test n ≤ m → m < n → test m ≡ false
 past_last test zero m past lt = absurd (omega arith)

@@ -223,44 +223,6 @@ table_repeated table t h room lt =
     let here : u ≡ 0 = omega (arith, lu) in
     ap (λ k. row_test (get_or (row ∷ []) k no_lists)) here ∙ row_kept table t h lt))
 
--- the first trains, where one more comes that has its own
-pub firsts_pushed : (table : List MoveLists) (firsts : List ℕ) (row : MoveLists) (first : ℕ) → AreFirsts table firsts → length firsts ≡ length table
-    → first ≤ length table → get_or (table ++ row ∷ []) first no_lists ≡ row → AreFirsts (table ++ row ∷ []) (firsts ++ first ∷ [])
-firsts_pushed table firsts row first h all before same =
-    let whole : List MoveLists = table ++ row ∷ [] in
-    let size : length (firsts ++ first ∷ []) ≡ length firsts + 1 = length_push firsts first in
-    let at : (t : ℕ) → t < length firsts → get_or (firsts ++ first ∷ []) t 0 ≡ get_or firsts t 0 = λ t lt. get_or_append_left firsts (first ∷ []) 0 t lt in
-    let last : (t : ℕ) → t ≡ length firsts → get_or (firsts ++ first ∷ []) t 0 ≡ first = λ t is. get_or_push firsts first 0 t (sym is) in
-    record {
-      known = omega (arith, size, all, length_push table row);
-      before = λ t lt. ⊎_elim
-          (λ below. omega (arith, at t below, h.before t below))
-          (λ above. let is : t ≡ length firsts = omega (arith, lt, size, above) in omega (arith, last t is, is, all, before))
-          (cases_lt t (length firsts));
-      same = λ t lt. ⊎_elim
-          (λ below.
-          let low : get_or firsts t 0 < length table = omega (arith, h.before t below, below, all) in
-          ap (λ k. get_or whole k no_lists) (at t below)
-          ∙ get_or_append_left table (row ∷ []) no_lists (get_or firsts t 0) low
-          ∙ h.same t below
-          ∙ sym (get_or_append_left table (row ∷ []) no_lists t (omega (arith, below, all))))
-          (λ above.
-          let is : t ≡ length firsts = omega (arith, lt, size, above) in
-          ap (λ k. get_or whole k no_lists) (last t is) ∙ same ∙ sym (get_or_push table row no_lists t (omega (arith, is, all))))
-          (cases_lt t (length firsts));
-    }
-
--- and where it is not known of all before it
-pub firsts_kept : (table : List MoveLists) (firsts : List ℕ) (row : MoveLists) → AreFirsts table firsts → AreFirsts (table ++ row ∷ []) firsts
-firsts_kept table firsts row h = record {
-  known = omega (arith, h.known, length_push table row);
-  before = h.before;
-  same = λ t lt.
-      get_or_append_left table (row ∷ []) no_lists (get_or firsts t 0) (omega (arith, h.before t lt, lt, h.known))
-      ∙ h.same t lt
-      ∙ sym (get_or_append_left table (row ∷ []) no_lists t (omega (arith, lt, h.known)));
-}
-
 -- nothing is known of the first trains
 pub no_firsts : (table : List MoveLists) → AreFirsts table []
 no_firsts table = record { known = omega arith; before = λ t lt. absurd (omega (arith, lt)); same = λ t lt. absurd (omega (arith, lt)) }

@@ -1,3 +1,5 @@
+//! What stands against a move, and what comes of playing a list.
+
 ghost use Rattle.std.specs.Prelude.{◌≡◌};
 
 use rail_base::{SectionNo, TrainNo};

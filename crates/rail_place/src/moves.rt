@@ -1,3 +1,5 @@
+//! The moves of the trains: what each of them claims, and where the train stands after it.
+
 ghost use Rattle.std.specs.Prelude.{◌≡◌, ℕ, suc, false, List, ◌+◌, ◌-◌, ◌<◌, ◌≤◌, ◌&&◌, [], ◌∷◌, ◌++◌, nat_le, length, get_or, set, IsTrue, OnOk, OnErr};
 ghost use Rattle.rail_rules.specs.Numbers.{any_below, is_in};
 ghost use Rattle.rail_rules.specs.Moves.{is_valid, stand};

@@ -1,3 +1,5 @@
+//! The places of the trains, and the holders of the sections.
+
 ghost use Rattle.std.specs.Prelude.{◌≡◌, ℕ, ◌+◌, ◌-◌, ◌<◌, ◌≤◌, ◌^◌, ◌↔◌, ◌≢◌, List, min, length, replicate, get_or, set, IsTrue, IsOk, IfOk, IfErr, MatchResult, Some, None, slice_index};
 ghost use Rattle.rail_rules.specs.Numbers.{are_apart};
 ghost use Rattle.rail_rules.specs.Moves.{stand};

@@ -7,6 +7,6 @@ pub use Rattle.rail_plan.proofs.Naming.{inserted}
 -- OtherRows: what of tables does not depend on the rows of their trains, and what depends on the row of one alone
 
 -- the shortest end of a route, how a train is spelled, and its fault at a place
-pub use Rattle.rail_plan.proofs.OtherRows.{end_same, fault_same, spelled_same}
+pub use Rattle.rail_plan.proofs.OtherRows.{fault_same, spelled_same}
 -- Spelled: the table that tables spell has their moves
 pub use Rattle.rail_plan.proofs.Spelled.{moves_spelled}

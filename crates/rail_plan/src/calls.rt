@@ -1,3 +1,5 @@
+//! The calls of a timetable, by train and place.
+
 ghost use Rattle.std.specs.Prelude.{◌≡◌, ℕ, ◌-◌, ◌==◌, ◌<◌, ◌≤◌, [], length, get_or, is_some, map, replicate, Option, Some, None, IsTrue, IfOk};
 ghost use Rattle.std.specs.Global.{Vec};
 ghost use Rattle.rail_base.specs.declared.plant.Call.{Call};

@@ -1,3 +1,5 @@
+//! A plant that may be run: its tables, moves and calls.
+
 ghost use Rattle.std.specs.Prelude.{◌≡◌, ◌-◌, ◌<◌, ◌≤◌, [], length, map, None, IsTrue, IfOk, IfErr, OnOk};
 ghost use Rattle.rail_base.specs.declared.limits.TheConstants.{COMMANDS, ITINERARY_ROUTES, SECTIONS, TRAINS};
 ghost use Rattle.rail_base.specs.declared.plant.SectionRow.{SectionRow};

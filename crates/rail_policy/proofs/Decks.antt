@@ -16,10 +16,6 @@ module _ {X : Type 0} (seat : X → DeskSeat) where
       map-set seat deck index new
       ∙ ap (set (map seat deck) index) (new_is ∙ ap change (sym (get_or-map seat deck index old no_seat lt)))
 
-  -- the policy at a index, as it is seen
-  pub seat_at-map : (deck : List X) (index : ℕ) (policy : X) → index < length deck → policy ≡ get_or deck index policy → seat_at (map seat deck) index ≡ seat policy
-  seat_at-map deck index policy lt policy_is = get_or-map seat deck index policy no_seat lt ∙ ap seat (sym policy_is)
-
   pub list_any-map : (test : DeskSeat → Bool) (deck : List X) → list_any test (map seat deck) ≡ list_any (λ x. test (seat x)) deck
   list_any-map test [] = refl
   list_any-map test (x ∷ deck) = ap (λ (b : Bool). test (seat x) || b) (list_any-map test deck)

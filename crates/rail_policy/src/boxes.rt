@@ -1,3 +1,5 @@
+//! A boxed policy is a policy itself.
+
 use crate::offer::Offer;
 use crate::policy::Policy;
 use rail_base::{Name, PolicyKind, TrainNo};

@@ -1,3 +1,5 @@
+//! The four built-in policies: by priority, by timetable, first come first served, and in rotation.
+
 ghost use Rattle.std.specs.Prelude.{◌≡◌, ◌<◌, length, codes};
 ghost use Rattle.rail_base.specs.declared.orders.PolicyKind.TheVariants.{Priority, Timetable, Fcfs, Rotating};
 ghost use Rattle.rail_policy.specs.Choices.{HasLeastKey};

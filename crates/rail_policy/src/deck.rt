@@ -1,3 +1,5 @@
+//! A deck of policies: whether it is fine, and its policies by index and name.
+
 ghost use Rattle.std.specs.Prelude.{◌≡◌, ◌+◌, ◌<◌, true, length, map, set, vec_capacity, vec_len, IfOk};
 ghost use Rattle.std.specs.List.{list_any, remove};
 ghost use Rattle.rail_policy.specs.Choices.{MayChoose};

@@ -1,3 +1,5 @@
+//! The desk: it keeps the policies of a deck, and asks the one in force.
+
 ghost use Rattle.std.specs.Prelude.{◌≡◌, ◌≢◌, ◌<◌, ◌↔◌, IfOk, IfSome, Some, None, IsErr, IsErrOf, IsTrue, OnOk, OnErr, length, map, vec_capacity, vec_len};
 ghost use Rattle.rail_policy.specs.Choices.{HasLeastKey, MayChoose};
 ghost use Rattle.rail_policy.specs.Desks.{Drops, PutsInForce, after_answer, after_note, after_turn, seat_in_force, within, without};

@@ -1,3 +1,5 @@
+//! `Seen`: the table that contracts see of a desk.
+
 ghost use Rattle.std.specs.Prelude.{map};
 ghost use Rattle.rail_policy.specs.Desks.{Table};
 

@@ -1,3 +1,5 @@
+//! What a policy is told of a waiting train, and which of two offers goes first.
+
 ghost use Rattle.std.specs.Prelude.{◌≡◌};
 
 use rail_base::{PolicyKind, Time, TrainNo};

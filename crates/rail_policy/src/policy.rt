@@ -1,3 +1,5 @@
+//! The trait of dispatching policies.
+
 ghost use Rattle.std.specs.Prelude.{◌≡◌, ◌<◌, length};
 ghost use Rattle.rail_policy.specs.Choices.{MayChoose};
 ghost use Rattle.rail_policy.specs.Seats.{DeskSeat, asked, noted};

@@ -1,3 +1,5 @@
+//! A policy that answers from a list, whatever it is offered.
+
 ghost use Rattle.std.specs.Prelude.{◌≡◌, ◌<◌, length};
 ghost use Rattle.rail_base.specs.declared.orders.PolicyKind.TheVariants.{Custom};
 ghost use Rattle.rail_policy.specs.Scripts.{answer_to_come, answers_of, index_after, index_to_come};

@@ -152,9 +152,6 @@ first_in_word words start s bits some few so_far is pos small =
       bare = later_bare words start s tz bits some (omega (arith, low)) so_far is found.2;
     }
 
-pub all_bare : (words : List ℕ) (start : ℕ) → AreBare words start (64 * 17 - start % 64) → AreBare words start 1024
-all_bare words start all j low = all j (omega (arith, low))
-
 -- what the marks say of the chains
 unmarked : (list : List (ℕ × Event)) → mark_of list ≡ 0 → list ≡ []
 unmarked [] none = refl

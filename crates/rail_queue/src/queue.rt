@@ -1,3 +1,5 @@
+//! The queue of pending events.
+
 ghost use Rattle.std.specs.Prelude.{◌≡◌, ℕ, ◌+◌, ◌/◌, ◌<◌, ◌≤◌, Bool, false, List, [], ◌∷◌, IfOk, IsTrue, IsNone, IfSome, ◌↔◌, MatchOption, max, count_by, drop, length, nat_eq, not, ◌&&◌};
 ghost use Rattle.std.specs.List.{filter, list_any};
 ghost use Rattle.rail_queue.specs.declared.event.Event.{Event};

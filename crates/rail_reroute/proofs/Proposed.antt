@@ -4,7 +4,7 @@ use Rattle.std.specs.Prelude.{nat_le}
 use Rattle.std.specs.List.{list_all}
 use Rattle.std.proofs.Math.Seq.{map-set_same}
 use Rattle.std.proofs.lemmas.Bool.{and_from, and_parts, cases_eq, le-leb, leb-true}
-use Rattle.std.proofs.lemmas.List.{get_or-set_other, get_or-set_same, length-append, length-map, length-set, length-take}
+use Rattle.std.proofs.lemmas.List.{get_or-set_other, get_or-set_same, length-append, length-set, length-take}
 use Rattle.rail_base.specs.Limits.{is_from_one, most, InputTime, ItineraryRoutes}
 use Rattle.rail_base.specs.Lists.{are_distinct}
 use Rattle.rail_base.specs.NameForms.{same_name}
@@ -14,7 +14,7 @@ use Rattle.rail_scene.specs.Scenes.{IsScene, is_fit_train, is_one_train}
 use Rattle.rail_scene.specs.declared.scene.Scene.{Scene}
 use Rattle.rail_scene.specs.declared.scene.SceneTrain.{SceneTrain}
 use Rattle.rail_track.proofs.CallerLemmas.{list_any-map}
-use Rattle.rail_compile.specs.Itineraries.{plant_of_scene, train_row}
+use Rattle.rail_compile.specs.Itineraries.{plant_of_scene}
 use Rattle.rail_compile.proofs.CallerLemmas.{all_at}
 use Rattle.rail_reroute.specs.Judgements.{IsProposed, no_scene_train, rerouted, rerouted_train}
 use Rattle.rail_reroute.proofs.Refused.{few_routes, moves_are}
@@ -83,10 +83,6 @@ module _ (scene : Scene) (s : List ℕ) (t : ℕ) (routes : List (List ℕ)) (h 
         ∙ sym (apart_by_names scene.trains)
         ∙ h.kept.trains_apart;
   }
-
-  -- its plant has as many trains, and each stands within its moves
-  pub as_many : trains (plant_of_scene (rerouted scene s t routes)) ≡ length scene.trains
-  as_many = length-map (set scene.trains t after) (train_row (rerouted scene s t routes)) ∙ length-set scene.trains t after
 
   pub within_still : (u : ℕ) → u < length scene.trains → place_of s u ≤ moves (plant_of_scene (rerouted scene s t routes)) u
   within_still u lt =

@@ -41,32 +41,6 @@ pub enum Judged {
     List(Seq<TrainNo>),
 }
 
-/// The answer to the proposal that the train takes these routes from where it stands, where it is the only one for the
-/// scene: it is that of `Judge::judge`.
-pub fn judge(
-    alloc: Global,
-    scene: &Scene,
-    positions: &[u16],
-    train: TrainNo,
-    routes: &[Name],
-) -> Result<Judged, OutOfMemory>
-    requires kept { IsScene scene.now }
-    requires compiled { compile_refusal scene.now ≡ None }
-    requires train { train < length scene.now.trains }
-    requires long { length positions.now ≡ length scene.now.trains }
-    requires within { (t : ℕ) → t < length scene.now.trains → slice_index positions.now t ≤ moves (plant_of_scene scene.now) t }
-    requires valid { IsTrue (is_valid_state (moves_of (plant_of_scene scene.now)) positions.now) }
-    requires some { 0 < length routes.now }
-    requires known { IsTrue (are_known scene.now.network routes.now) }
-    ensures { IfOk result (IsJudged scene.now positions.now train routes.now) }
-{
-    let Ok(plant) = compile(alloc, scene) else {
-        return Err(OutOfMemory);
-    };
-    let mut judge = Judge::new(alloc, scene, plant)?;
-    judge.judge(alloc, scene, positions, train, routes)
-}
-
 /// Whether the train has made all its moves at the place.
 pub fn is_out_at(scene: &Scene, train: TrainNo, place: u16) -> bool
     requires { train < length scene.now.trains }

@@ -14,7 +14,7 @@ mod proposals;
 mod state;
 mod trains;
 
-pub use judgements::{Judged, judge};
+pub use judgements::Judged;
 pub use judges::Judge;
 pub use laws::{a_proposal_has_one_answer, a_refused_rerouting_is_refused_for_its_itinerary};
 pub use lines::write_judged;

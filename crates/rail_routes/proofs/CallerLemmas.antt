@@ -6,6 +6,5 @@ pub use Rattle.rail_routes.proofs.PostAcceptance.{portal_after, signal_after, bo
 pub use Rattle.rail_routes.proofs.WayAcceptance.{turn_after, route_after}
 -- what the rule of a sound route says of it, and that the first items of a list whose items are apart are so, too
 pub use Rattle.rail_routes.proofs.WayChanges.{IsWellLed, well_led}
-pub use Rattle.rail_routes.proofs.Lists.{distinct_front}
 -- Roles: two that are the same are one.
 pub use Rattle.rail_routes.proofs.SectionChanges.{same_from_role}

@@ -44,18 +44,12 @@ module _ (sections : List Section) (end : Post) (steps : List Step) (n i : ℕ) 
   pub step_refused : wrong ≡ true → first_failing (step_tests sections end n joint (drop i steps)) ≡ Some (Refused RouteBroken n)
   step_refused failed = step_at ∙ ap (λ b. cond b (Some (Refused RouteBroken n)) (first_failing (step_tests sections end (n + 1) step.to (drop (i + 1) steps)))) failed
 
-  pub step_passed : wrong ≡ false → first_failing (step_tests sections end n joint (drop i steps)) ≡ first_failing (step_tests sections end (n + 1) step.to (drop (i + 1) steps))
-  step_passed fine = step_at ∙ ap (λ b. cond b (Some (Refused RouteBroken n)) (first_failing (step_tests sections end (n + 1) step.to (drop (i + 1) steps)))) fine
-
 -- the steps of an overlap: n is the number of the step at i
 module _ (sections : List Section) (steps : List Step) (n i : ℕ) (joint : List ℕ) (step : Step) (within : i < length steps) (is : step ≡ get_or steps i step) where
   lead_at : first_failing (lead_tests sections n joint (drop i steps)) ≡ cond (not (leads_from sections joint step)) (Some (Refused RouteBroken n)) (first_failing (lead_tests sections (n + 1) step.to (drop (i + 1) steps)))
   lead_at =
       at_drop_more (λ ys. first_failing (lead_tests sections n joint ys)) steps i step within
       ∙ ap (λ y. first_failing (lead_tests sections n joint (y ∷ drop (i + 1) steps))) (sym is)
-
-  pub lead_refused : leads_from sections joint step ≡ false → first_failing (lead_tests sections n joint (drop i steps)) ≡ Some (Refused RouteBroken n)
-  lead_refused fails = lead_at ∙ ap (λ b. cond (not b) (Some (Refused RouteBroken n)) (first_failing (lead_tests sections (n + 1) step.to (drop (i + 1) steps)))) fails
 
   pub lead_passed : leads_from sections joint step ≡ true → first_failing (lead_tests sections n joint (drop i steps)) ≡ first_failing (lead_tests sections (n + 1) step.to (drop (i + 1) steps))
   lead_passed leads = lead_at ∙ ap (λ b. cond (not b) (Some (Refused RouteBroken n)) (first_failing (lead_tests sections (n + 1) step.to (drop (i + 1) steps)))) leads

@@ -33,9 +33,6 @@ module _ (posts : List Post) (post : Post) (joint ahead : List ℕ) where
   pub guards-push : (section : List ℕ) → post.ahead ≡ Some section → count_by (guards_at joint ahead) (posts ++ post ∷ []) ≡ count_by (guards_at joint ahead) posts + cond (same_pair (joint, ahead) (post.joint, section)) 1 0
   guards-push section is = omega (arith, count_by-push (guards_at joint ahead) posts post, guarded post joint ahead section is)
 
-  pub guards-push_none : post.ahead ≡ None → count_by (guards_at joint ahead) (posts ++ post ∷ []) ≡ count_by (guards_at joint ahead) posts
-  guards-push_none none = omega (arith, count_by-push (guards_at joint ahead) posts post, unguarded post joint ahead none)
-
   module _ (name : List ℕ) (found : find (is_post name) posts ≡ Some post) where
     pub guards-without : (section : List ℕ) → post.ahead ≡ Some section → count_by (guards_at joint ahead) (without (is_post name) posts) + cond (same_pair (joint, ahead) (post.joint, section)) 1 0 ≡ count_by (guards_at joint ahead) posts
     guards-without section is = omega (arith, count_by-without (is_post name) (guards_at joint ahead) posts post found, guarded post joint ahead section is)

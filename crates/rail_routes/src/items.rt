@@ -1,3 +1,5 @@
+//! The items of a network: posts, turns, and routes with their steps.
+
 use rail_base::{Name, Seq};
 use rail_track::Keyed;
 

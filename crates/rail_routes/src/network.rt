@@ -1,3 +1,5 @@
+//! The network: a track with posts, turns and routes, which are added and removed by the rules.
+
 ghost use Rattle.std.specs.Prelude.{◌≡◌, [], ◌∷◌, ◌++◌, Some, None, position, IsTrue, IsSomeAnd, IfOk, IfErr, OnOk, OnErr};
 ghost use Rattle.std.specs.List.{find, list_any};
 ghost use Rattle.std.specs.Option.{option_copied};

@@ -47,11 +47,6 @@ any_below_none f zero h = refl
 any_below_none f (suc n) h =
     or_from (any_below f n) (f n) (any_below_none f n (λ i below. h i (omega arith))) (h n (omega arith))
 
--- a test that passes no more often passes nowhere where the other doesn't
-pub any_below_same : (f g : ℕ → Bool) (n : ℕ) → ((i : ℕ) → i < n → f i ≡ g i) → any_below f n ≡ any_below g n
-any_below_same f g zero h = refl
-any_below_same f g (suc n) h = λ k. any_below_same f g n (λ i below. h i (omega arith)) k || h n (omega arith) k
-
 pub sum_below_same : (f g : ℕ → ℕ) (n : ℕ) → ((i : ℕ) → i < n → f i ≡ g i) → sum_below f n ≡ sum_below g n
 sum_below_same f g zero h = refl
 sum_below_same f g (suc n) h = λ k. sum_below_same f g n (λ i below. h i (omega arith)) k + h n (omega arith) k

@@ -16,26 +16,10 @@ list_any_at p (y ∷ ys) x none is =
     (λ later. list_any_at p ys x parts.1 later)
     (or_cases (eqb y x) (is_in x ys) is)
 
-pub list_any_from : (p : ℕ → Bool) (xs : List ℕ) (x : ℕ) → is_in x xs ≡ true → p x ≡ true → list_any p xs ≡ true
-list_any_from p [] x is h = absurd (false≢true is)
-list_any_from p (y ∷ ys) x is h =
-    ⊎_elim
-    (λ same. let P : ℕ → Type 0 = λ k. p k ≡ true in or_left (p y) (list_any p ys) (subst P (sym (eqb-true y x same)) h))
-    (λ later. or_right (p y) (list_any p ys) (list_any_from p ys x later h))
-    (or_cases (eqb y x) (is_in x ys) is)
-
 pub list_any_none : (p : ℕ → Bool) (xs : List ℕ) → ((x : ℕ) → is_in x xs ≡ true → p x ≡ false) → list_any p xs ≡ false
 list_any_none p [] h = refl
 list_any_none p (y ∷ ys) h =
     or_from (p y) (list_any p ys) (h y (is_in-head y ys)) (list_any_none p ys (λ x is. h x (or_right (eqb y x) (is_in x ys) is)))
-
-pub list_any_found : (p : ℕ → Bool) (xs : List ℕ) → list_any p xs ≡ true → (x : ℕ) × (is_in x xs ≡ true) × (p x ≡ true)
-list_any_found p [] h = absurd (false≢true h)
-list_any_found p (y ∷ ys) h =
-    ⊎_elim
-    (λ here. (y, is_in-head y ys, here))
-    (λ later. let found = list_any_found p ys later in (found.0, or_right (eqb y found.0) (is_in found.0 ys) found.1, found.2))
-    (or_cases (p y) (list_any p ys) h)
 
 pub list_all_at : (p : ℕ → Bool) (xs : List ℕ) (x : ℕ) → list_all p xs ≡ true → is_in x xs ≡ true → p x ≡ true
 list_all_at p [] x all is = absurd (false≢true is)

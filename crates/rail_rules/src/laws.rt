@@ -1,3 +1,5 @@
+//! Laws about the definitions: legal moves, lists that complete, the search, blocking intervals and overlaps.
+
 ghost use Rattle.std.specs.Prelude.{◌≡◌, ℕ, ◌+◌, ◌*◌, ◌-◌, ◌<◌, ◌↔◌, ◌∷◌, List, IsTrue, false, ◌==◌, count_by, if◌then◌else◌};
 ghost use Rattle.rail_rules.specs.Analysis.{Finds, finds};
 ghost use Rattle.rail_rules.specs.Events.{moved_lines};

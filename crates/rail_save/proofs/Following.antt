@@ -1,7 +1,7 @@
 -- How far the lines of a snapshot were followed.
-use Rattle.std.proofs.Common.{◌≡◌, ℕ, suc, ◌+◌, true, false, List, [], ◌∷◌, length, Some, refl, sym, ap, ◌∙◌, subst, arith}
+use Rattle.std.proofs.Common.{◌≡◌, ℕ, suc, ◌+◌, true, List, [], ◌∷◌, length, Some, refl, sym, ap, ◌∙◌, subst, arith}
 use Rattle.std.specs.Prelude.{reverse}
-use Rattle.std.proofs.lemmas.Bool.{cond-false, cond-true}
+use Rattle.std.proofs.lemmas.Bool.{cond-true}
 use Rattle.std.proofs.lemmas.List.{append-nil}
 use Rattle.rail_base.specs.declared.history.Entry.{Entry}
 use Rattle.rail_check.proofs.CallerLemmas.{behind_is, taken_line}
@@ -47,18 +47,6 @@ module _ (input : RunInput) (seats : List Seat) (all : List Line) (number : ℕ)
   taken_is : line_taken entry trains ≡ line
   taken_is = ap (line_taken entry) beside_is ∙ taken_line entry (beside new) next.brings
 
-  -- with the next line the front is none of a run
-  pub next_other : is_run (input_in ledger.input) seats (line_taken entry trains ∷ so_far.front) ≡ false → other_behind (input_in input) seats [] 2 all ≡ Some (number + 1)
-  next_other refused =
-      let front = so_far.front in
-      let none : is_run (input_in input) seats (line ∷ front) ≡ false =
-      (λ i. is_run (input_in (sym so_far.input_is i)) seats (sym taken_is i ∷ front)) ∙ refused in
-      let one_more : suc number ≡ number + 1 = omega arith in
-      sym so_far.other
-      ∙ ap (other_behind (input_in input) seats front (suc number)) next.next
-      ∙ cond-false (is_run (input_in input) seats (line ∷ front)) (other_behind (input_in input) seats (line ∷ front) (suc (suc number)) (lines_left new)) (Some (suc number)) none
-      ∙ ap (λ (n : ℕ). Some n) one_more
-
   -- the next line was followed
   pub next_followed : (now : Ledger) (after : Table) → now.input ≡ ledger.input → StandsFor seats (line_taken entry trains ∷ so_far.front) now after
       → IsFollowed input seats all (number + 1) (lines_left new) now after
@@ -78,9 +66,3 @@ module _ (input : RunInput) (seats : List Seat) (all : List Line) (number : ℕ)
         whole = sym (ap (behind front) next.next) ∙ so_far.whole;
         counted = omega (arith, so_far.counted, ap (length {A = Line}) next.next);
       })
-
--- all were followed
-pub all_followed : (input : RunInput) (seats : List Seat) (all : List Line) (number : ℕ) (left : List Line) (ledger : Ledger) (table : Table) → IsFollowed input seats all number left ledger table → left ≡ []
-    → StandsFor seats (reverse all) ledger table
-all_followed input seats all number left ledger table so_far none =
-    subst (λ (front : Front). StandsFor seats front ledger table) (sym (ap (behind so_far.front) none) ∙ so_far.whole) so_far.stands

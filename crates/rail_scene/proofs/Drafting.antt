@@ -1,6 +1,6 @@
 -- One step of the loops that add items.
 use Rattle.std.proofs.Common.{◌≡◌, ℕ, ◌+◌, ◌<◌, List, [], ◌∷◌, ◌++◌, map, length, drop, get_or, None, sym, ap, subst, ◌∙◌, append_assoc}
-use Rattle.std.proofs.lemmas.List.{at_drop_more, append-nil}
+use Rattle.std.proofs.lemmas.List.{at_drop_more}
 use Rattle.toml.specs.Data.{Data}
 use Rattle.toml.specs.View.{view}
 use Rattle.toml.specs.declared.value.Value.{Value}
@@ -34,17 +34,6 @@ with_more Turn version node nodes draft = ap (λ xs. record draft { network = re
 with_more Route version node nodes draft = ap (λ xs. record draft { network = record draft.network { routes = xs } }) (append_assoc draft.network.routes (route_of version node ∷ []) (map (route_of version) nodes))
 with_more Kind version node nodes draft = ap (λ xs. record draft { kinds = xs }) (append_assoc draft.kinds (kind_of node ∷ []) (map kind_of nodes))
 with_more Train version node nodes draft = ap (λ xs. record draft { trains = xs }) (append_assoc draft.trains (train_of node ∷ []) (map train_of nodes))
-
--- no tables add nothing
-pub with_none : (part : ListPart) (version : Version) (draft : SceneItems) → with_items part version [] draft ≡ draft
-with_none Section version draft = ap (λ xs. record draft { network = record draft.network { sections = xs } }) (append-nil draft.network.sections)
-with_none Portal version draft = ap (λ xs. record draft { network = record draft.network { portals = xs } }) (append-nil draft.network.portals)
-with_none Signal version draft = ap (λ xs. record draft { network = record draft.network { signals = xs } }) (append-nil draft.network.signals)
-with_none Board version draft = ap (λ xs. record draft { network = record draft.network { boards = xs } }) (append-nil draft.network.boards)
-with_none Turn version draft = ap (λ xs. record draft { network = record draft.network { turns = xs } }) (append-nil draft.network.turns)
-with_none Route version draft = ap (λ xs. record draft { network = record draft.network { routes = xs } }) (append-nil draft.network.routes)
-with_none Kind version draft = ap (λ xs. record draft { kinds = xs }) (append-nil draft.kinds)
-with_none Train version draft = ap (λ xs. record draft { trains = xs }) (append-nil draft.trains)
 
 module _ (part : ListPart) (version : Version) (draft : SceneItems) (tables : List Value) (i : ℕ) (table : Value) (within : i < length tables) (is : table ≡ get_or tables i table) where
   abbrev own : List (Test NetFault)

@@ -1,8 +1,8 @@
 -- A walk over the members of a table, which tells that the table is of its form.
-use Rattle.std.proofs.Common.{◌≡◌, ◌≢◌, ℕ, zero, suc, ◌<◌, ◌≤◌, ◌+◌, Bool, true, false, not, ◌||◌, List, [], ◌∷◌, length, get_or, set, replicate, Option, Some, None, is_some, String, Global, string_bytes, nat_cmp, is_eq, Ordering, Less, Equal, Greater, refl, sym, ap, ◌∙◌, subst, ⊎_elim, arith}
+use Rattle.std.proofs.Common.{◌≡◌, ◌≢◌, ℕ, zero, suc, ◌<◌, ◌≤◌, ◌+◌, Bool, true, false, not, ◌||◌, List, [], ◌∷◌, length, get_or, set, Option, Some, None, is_some, String, Global, string_bytes, nat_cmp, is_eq, Ordering, Less, Equal, Greater, refl, sym, ap, ◌∙◌, subst, ⊎_elim, arith}
 use Rattle.std.proofs.lemmas.Bool.{and_parts, cases_Bool, false≢true, true≢false}
 use Rattle.std.proofs.lemmas.Cmp.{nat_list_cmp_total}
-use Rattle.std.proofs.lemmas.List.{get_or-replicate, get_or-set_other, get_or_default, length-replicate, length-set}
+use Rattle.std.proofs.lemmas.List.{get_or-set_other, get_or_default, length-set}
 use Rattle.std.proofs.lemmas.List.Folds.{list_any_at}
 use Rattle.std.proofs.lemmas.List.Quantifiers.{position-Some}
 use Rattle.std.proofs.lemmas.Map.Text.{is_eq-slice_cmp}
@@ -78,15 +78,6 @@ pub record IsWalked (keys : List Key) (all rest : List Entry) (met : List Bool) 
   pub there : (k : List ℕ) → is_some (get_member k (members_view rest)) ≡ true → is_some (get_member k (members_view all)) ≡ true
   pub found : (i : ℕ) (d : Key) → i < length keys → get_or met i false ≡ true → is_some (get_member (text_of (get_or keys i d).name) (members_view all)) ≡ true
   pub known : list_any (is_strange keys) (member_keys (members_view rest)) ≡ list_any (is_strange keys) (member_keys (members_view all))
-
-pub walk_begun : (keys : List Key) (all : List Entry) → length keys ≤ MOST_KEYS → IsWalked keys all all (replicate MOST_KEYS false)
-walk_begun keys all few = record {
-  long = length-replicate MOST_KEYS false;
-  kinds = λ i d lt fit. fit;
-  there = λ k some. some;
-  found = λ i d lt met. absurd (false≢true (sym (get_or-replicate MOST_KEYS i false false (omega (arith, few, lt))) ∙ met));
-  known = refl;
-}
 
 module _ (keys : List Key) (all rest : List Entry) (met : List Bool) (e : Entry) (at : ℕ) (key : Key) (few : length keys ≤ MOST_KEYS) (apart : are_distinct have_one_text keys ≡ true)
     (is : position (λ (k : Key). same_name (text_of k.name) (string_bytes e.0)) keys ≡ Some at) (fit : is_of (get_or keys at key).form (view e.1) ≡ true)

@@ -2,7 +2,7 @@
 use Rattle.std.proofs.Common.{Bor, ◌≡◌, ◌≢◌, ℕ, zero, suc, ◌<◌, ◌≤◌, Bool, true, false, List, [], ◌∷◌, length, get_or, map, set, take, replicate, Option, Some, None, is_some, string_bytes, refl, sym, ap, ◌∙◌, ⊎_elim, arith, ext_get_or}
 use Rattle.std.proofs.lemmas.Bool.{cases_Bool, cases_lt, false≢true, true≢false}
 use Rattle.std.proofs.lemmas.Grind.{common_steps}
-use Rattle.std.proofs.lemmas.List.{get_or_default, get_or-map, get_or-replicate, get_or-set_other, get_or-set_same, get_or-take, length-map, length-replicate, length-set, length-take, length-take-le}
+use Rattle.std.proofs.lemmas.List.{get_or_default, get_or-map, get_or-set_other, get_or-set_same, get_or-take, length-map, length-set, length-take, length-take-le}
 use Rattle.std.proofs.lemmas.List.Quantifiers.{position-Some}
 use Rattle.std.proofs.lemmas.List.Sums.{fails_before_first, passes_at_first}
 use Rattle.std.proofs.lemmas.Slice.Eq.{bytes_eq-Decides}
@@ -78,12 +78,6 @@ module _ {V : Type 0} (look : V → Data) where
   pub record IsFound (keys : List Key) (all rest : List Entry) (values : List (Option V)) : Type 0 where
     pub long : length keys ≤ length values
     pub found : (i : ℕ) (d : Key) → i < length keys → get_member (text_of (get_or keys i d).name) (members_view all) ≡ or_later (get_or values i None) (get_member (text_of (get_or keys i d).name) (members_view rest))
-
-  pub none_found : (keys : List Key) (all : List Entry) (n : ℕ) → length keys ≤ n → IsFound keys all all (replicate n None)
-  none_found keys all n few = record {
-    long = (let nothing : Option V = None in rw (length-replicate n nothing) few);
-    found = λ i d lt. ap (λ o. or_later o (get_member (text_of (get_or keys i d).name) (members_view all))) (sym (get_or-replicate n i None None (omega (arith, few, lt))));
-  }
 
   module _ (keys : List Key) (all rest : List Entry) (values : List (Option V)) (e : Entry) (before : IsFound keys all (e ∷ rest) values) where
     abbrev text : ℕ → Key → List ℕ

@@ -9,7 +9,7 @@ use Rattle.toml_parser.specs.Lexical.{comma, equals, left_bracket, right_bracket
 use Rattle.toml_parser.specs.Numbers.{unquoted, word_len, word_value}
 use Rattle.toml.specs.Data.{Data, Items, no_items, push_item}
 use Rattle.toml.specs.Tables.{Nodes, no_nodes, array_table, put}
-use Rattle.toml.specs.Parse.{after_byte, after_element, key_equals, keyval, items, members, atom, val, header_key, expression, ends_line, line}
+use Rattle.toml.specs.Parse.{after_byte, after_element, key_equals, keyval, items, members, atom, val, header_key, expression}
 
 -- what is read leaves at most so many bytes
 abbrev pub Within : {A : Type 0} → ℕ → Read A → Type 0
@@ -229,7 +229,3 @@ expression-within n text le =
     (within-bind n (header_key (drop 2 text)) _ (header-within n (drop 2 text) (dropped n 2 text le)) (λ k h. rest-within n (k.0, array_table) (after_byte right_bracket k.1) (byte-within n right_bracket k.1 h)))
     (within-if n (first text == left_bracket) _ _ (within-map n (header_key (drop 1 text)) _ (header-within n (drop 1 text) (dropped n 1 text le)) (λ p h. h))
     (within-map n (keyval (val recursion_limit) text) _ (keyval-within n (val recursion_limit) (val-within n recursion_limit) text le) (λ p h. h)))
-
-pub line-within : (n : ℕ) (text : List ℕ) → length text ≤ n → Within n (line text)
-unfolding line
-line-within n text le = within-bind n (expression text) _ (expression-within n text le) (λ e h. within-if n (ends_line (skip_ws e.1)) _ None h tt)

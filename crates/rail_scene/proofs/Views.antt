@@ -24,7 +24,3 @@ any_key p (e ∷ es) = ap (λ b. p (string_bytes e.0) || b) (any_key p es)
 -- the values from an index on, seen as data
 pub view_more : {A : Type 0} (G : List Data → A) (vs : List Value) (i : ℕ) (v : Value) → i < length vs → v ≡ get_or vs i v → G (map view (drop i vs)) ≡ G (view v ∷ map view (drop (i + 1) vs))
 view_more G vs i v within is = at_drop_more (λ ys. G (map view ys)) vs i v within ∙ ap (λ y. G (view y ∷ map view (drop (i + 1) vs))) (sym is)
-
--- any items from an index on
-pub items_more : {X A : Type 0} (G : List X → A) (xs : List X) (i : ℕ) (x : X) → i < length xs → x ≡ get_or xs i x → G (drop i xs) ≡ G (x ∷ drop (i + 1) xs)
-items_more G xs i x within is = at_drop_more G xs i x within ∙ ap (λ y. G (y ∷ drop (i + 1) xs)) (sym is)

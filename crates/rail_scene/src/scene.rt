@@ -1,3 +1,5 @@
+//! A scene as its file spells it: the infrastructure, and the trains with their itineraries.
+
 use rail_base::{Name, Seq, Time, TrainKind};
 use rail_routes::Network;
 

@@ -2,7 +2,5 @@
 
 -- where the sections of a set stand
 pub use Rattle.rail_sets.proofs.Words.{has_within, none_in_zeros, has_first}
--- how far counts go
-pub use Rattle.rail_sets.proofs.Digits.{count_fits, count_past}
 -- a set of no words has no train
 pub use Rattle.rail_sets.proofs.TrainSetLemmas.{no_train}

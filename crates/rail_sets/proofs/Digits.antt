@@ -241,9 +241,6 @@ digits_fit d (suc n) bit = omega (arith, digits_fit d n bit, digit_fits (2 ^ n) 
 pub column_fits : (d : List ℕ) (bit : ℕ) → column d bit < 2 ^ DIGITS
 column_fits d bit = digits_fit d DIGITS bit
 
-pub count_fits : (columns : Columns) (x : ℕ) → count_of columns x < 2 ^ DIGITS
-count_fits columns x = column_fits (get_or columns (x / 64) []) (x % 64)
-
 -- where there are no digits, nothing is counted
 pub no_column : (bit : ℕ) → column [] bit ≡ 0
 no_column bit = let none = bit_at-zero bit in omega (arith, none)

@@ -1,6 +1,6 @@
 -- Bits of words.
 use Rattle.std.proofs.Common.{◌≡◌, ◌≢◌, ℕ, ◌+◌, ◌-◌, ◌*◌, ◌/◌, ◌%◌, ◌^◌, ◌<◌, ◌≤◌, min, max, Bool, List, length, get_or, replicate, take, true, false, not, ◌&&◌, ◌||◌, set, refl, sym, ap, ◌∙◌, ⊎_elim, arith, eq-eqb, eqb-true, w64}
-use Rattle.std.proofs.lemmas.Bool.{cases_Bool, cases_eq, cases_lt, false≢true, ne_eqb, or_right}
+use Rattle.std.proofs.lemmas.Bool.{cases_Bool, cases_eq, cases_lt, ne_eqb, or_right}
 use Rattle.std.proofs.lemmas.List.{get_or_past, get_or-set_same, get_or-set_other, get_or-replicate, get_or-take, length-replicate, length-set, length-take}
 use Rattle.std.proofs.lemmas.Nat.{and_le_l}
 use Rattle.std.proofs.lemmas.Nat.Bits.{bit_at_and, bit_at-lt, bit_at-zero, bit_at_not, bit_at_or, bit_at_set_same, bit_at_set_other, bit_at-trailing_zeros}
@@ -26,13 +26,6 @@ has_within set x is =
 -- and no section of it is one that is not set
 pub has_no_bit : (set : List ℕ) (x : ℕ) → bit_at (get_or set (x / 64) 0) (x % 64) ≡ 0 → has set x ≡ false
 has_no_bit set x none = ⊎_elim (λ is. absurd (omega (arith, has_bit set x is, none))) (λ out. out) (cases_Bool (has set x))
-
-pub no_bit : (set : List ℕ) (x : ℕ) → has set x ≡ false → bit_at (get_or set (x / 64) 0) (x % 64) ≡ 0
-no_bit set x none =
-    ⊎_elim
-    (λ one. absurd (false≢true (sym none ∙ bit_has set x one)))
-    (λ other. omega (arith, other, bit_at-lt (get_or set (x / 64) 0) (x % 64)))
-    (cases_eq (bit_at (get_or set (x / 64) 0) (x % 64)) 1)
 
 -- the section of the bit of the word
 module _ (k bit : ℕ) (low : bit < 64) where

@@ -1,3 +1,5 @@
+//! Chains of slots, each slot with an item, in one room.
+
 ghost use Rattle.std.specs.Prelude.{◌≡◌, ℕ, ◌+◌, ◌^◌, ◌-◌, ◌<◌, ◌≤◌, min, List, [], ◌∷◌, ◌++◌, get_or, set, replicate, length, IfOk, IfSome, MatchOption, Some, None, vec_capacity, vec_len};
 ghost use Rattle.rail_slots.specs.Slots.{Stands, StandsAt, first_slot, first_item, behind_first, left_from, places};
 ghost use Rattle.rail_slots.specs.Links.{HasSlot, IsNewSlot};

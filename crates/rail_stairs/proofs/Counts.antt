@@ -2,7 +2,6 @@
 use Rattle.std.proofs.Common.{◌≡◌, ℕ, ◌+◌, ◌*◌, ◌<◌, ◌≤◌, ◌^◌, true, ltb, length, length-append, arith}
 use Rattle.std.proofs.lemmas.Bool.{ltb-true}
 use Rattle.rail_base.specs.Limits.{most, Trains, ItineraryRoutes, OverlapSections, RouteSections}
-use Rattle.rail_base.specs.declared.limits.TheConstants.{SECTIONS}
 use Rattle.rail_rules.specs.Accepted.{is_accepted}
 use Rattle.rail_rules.specs.Intervals.{has_interval, interval_of}
 use Rattle.rail_rules.specs.Numbers.{gather}
@@ -20,10 +19,7 @@ abbrev pub move_most : ℕ
 move_most = most RouteSections + most OverlapSections
 
 module _ (plant : Plant) (accepted : is_accepted plant ≡ true) where
-  pub few_sections : length plant.tables.sections ≤ SECTIONS
-  few_sections = (accepted_parts plant accepted).few_sections
-
-  pub few_trains : trains plant ≤ most Trains
+  few_trains : trains plant ≤ most Trains
   few_trains = (accepted_parts plant accepted).few_trains
 
   pub few_moves : (t : ℕ) → t < trains plant → moves plant t ≤ most ItineraryRoutes
@@ -32,7 +28,7 @@ module _ (plant : Plant) (accepted : is_accepted plant ≡ true) where
   fine_move : (t m : ℕ) → t < trains plant → m < moves plant t → IsMoveInRange (length plant.tables.sections) (move_row plant t m)
   fine_move t m lt lm = move_in_range (length plant.tables.sections) (move_row plant t m) ((row_in_range plant (accepted_parts plant accepted).trains_in_range t lt).each_move m lm)
 
-  pub few_claims : (t m : ℕ) → t < trains plant → m < moves plant t → claims plant t m ≤ most RouteSections + most OverlapSections
+  few_claims : (t m : ℕ) → t < trains plant → m < moves plant t → claims plant t m ≤ most RouteSections + most OverlapSections
   few_claims t m lt lm = omega (arith, claims_are plant t m, (fine_move t m lt lm).few_steps, (fine_move t m lt lm).few_over)
 
   -- the section of a step is one of the plant's

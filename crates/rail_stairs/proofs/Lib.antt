@@ -11,11 +11,9 @@ mod Carried
 -- Lists that are gathered, tables that count them, and texts that are written part by part.
 mod Gathered
 mod There
-mod Kept
 mod Has
 mod OpenIntervals
 mod Counts
 mod Before
 mod Tallied
-mod Totals
 mod Written

@@ -14,11 +14,7 @@ pub there_none : {X : Type 0} (b : Bool) (x : X) → (let nothing : Option X = N
 there_none true x h = absurd (none-some x h)
 there_none false x h = refl
 
--- such a list has one item or none
-pub there_length : {X : Type 0} (b : Bool) (x : X) → length (cond b (x ∷ []) []) ≡ cond b 1 0
-there_length true x = refl
-there_length false x = refl
-
+-- such a list has no more than one item
 pub there_short : {X : Type 0} (b : Bool) (x : X) → length (cond b (x ∷ []) []) ≤ 1
 there_short true x = omega arith
 there_short false x = omega arith

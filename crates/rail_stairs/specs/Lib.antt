@@ -8,5 +8,3 @@ pub mod NotedHistories
 pub mod Journeys
 pub mod JourneyTrains
 pub mod Tallies
--- Worked stairways.
-pub mod Rows

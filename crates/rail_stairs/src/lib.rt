@@ -1,4 +1,4 @@
-//! Blocking time stairways: the blocking intervals of a run, those of overlaps among them, as a table and as a text.
+//! Blocking time stairways: the blocking intervals of a run, those of overlaps among them, as a list and as a text.
 //!
 //! This layer stands on the blocking intervals of `rail_block`, on the laws of lawful histories, on the lines of
 //! `rail_text`, and for two of its laws on what `rail_capacity` calls without conflict and `rail_insert` calls timely. Everything follows
@@ -15,13 +15,9 @@
 #![tactic(auto)]
 
 mod admissions;
-mod counting;
-mod finding;
 mod intervals;
 mod journey;
 mod laws;
-mod move_counts;
-mod rows;
 mod stairs;
 mod steps;
 mod tallies;
@@ -34,6 +30,5 @@ pub use laws::{
     a_lawful_line_finds_room, an_over_line_is_of_an_overlap, ended_intervals_are_positive,
     ended_intervals_are_without_conflict, ended_intervals_never_overlap, intervals_are_timely,
 };
-pub use rows::{worked_overlaps, worked_stairways};
 pub use stairs::Stairs;
 pub use writing::write_stairs;

@@ -1,14 +1,13 @@
 //! What is noted of a history.
 
-ghost use Rattle.std.specs.Prelude.{◌≡◌, ◌<◌, ◌≤◌, ◌^◌, [], ◌∷◌, ◌++◌, get_or, set, length, IsSome, IsTrue, IfOk, Some};
+ghost use Rattle.std.specs.Prelude.{◌≡◌, ◌<◌, ◌≤◌, [], ◌∷◌, ◌++◌, get_or, set, length, IsSome, IsTrue, IfOk, Some};
 ghost use Rattle.rail_base.specs.declared.limits.TheConstants.{ITINERARY_ROUTES};
 ghost use Rattle.rail_rules.specs.Fronts.{Front, Line};
 ghost use Rattle.rail_rules.specs.Numbers.{listed};
 ghost use Rattle.rail_rules.specs.Plant.{Plant};
-ghost use Rattle.rail_stairs.specs.NotedHistories.{AreNoted, has_room, noted_counts, noted_of};
+ghost use Rattle.rail_stairs.specs.NotedHistories.{AreNoted, has_room, noted_of};
 
 use crate::admissions::Admissions;
-use crate::move_counts::{MoveCounts, plant_counts};
 use rail_base::{Entry, OutOfMemory, Time, TrainNo, What};
 use rail_plan::Plant;
 use std::alloc::{AllocError, Global};
@@ -18,8 +17,6 @@ use std::alloc::{AllocError, Global};
 pub struct Stairs {
     /// By train number.
     admissions: Vec<Admissions>,
-    /// By train number, how many intervals each of its moves has.
-    counts: Vec<Vec<MoveCounts>>,
     /// The time of the end line.
     ended: Option<Time>,
 }
@@ -28,7 +25,6 @@ impl Drop for Stairs {
     fn drop(self) {
         let Stairs {
             admissions: _admissions,
-            counts: _counts,
             ended: _ended,
         } = self;
     }
@@ -39,11 +35,9 @@ impl Stairs {
     pub fn new(alloc: Global, plant: &Plant) -> Result<Stairs, OutOfMemory>
         ensures { IfOk result (λ stairs. AreNoted plant.now [] stairs) }
     {
-        let counts = plant_counts(alloc, plant)?;
         let admissions = none_of(alloc, plant.moves().trains())?;
         Ok(Stairs {
             admissions,
-            counts,
             ended: None,
         })
     }
@@ -55,22 +49,6 @@ impl Stairs {
         ensures few { length result.now ≤ ITINERARY_ROUTES }
     {
         self.admissions[usize::from(train.0)].as_slice()
-    }
-
-    /// How many intervals each move of the train has.
-    pub(crate) fn counts(&self, train: TrainNo) -> &[MoveCounts]
-        requires { train < length self.now.counts.items }
-        ensures { result.now ≡ noted_counts self.now train }
-    {
-        &self.counts[usize::from(train.0)]
-    }
-
-    /// How many trains there are.
-    pub(crate) fn trains(&self) -> u16
-        requires { length self.now.admissions.items < 2 ^ 16 }
-        ensures { result ≡ length self.now.admissions.items }
-    {
-        self.admissions.len() as u16
     }
 
     /// The time of the end line, which was noted.

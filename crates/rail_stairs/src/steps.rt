@@ -11,7 +11,6 @@ ghost use Rattle.rail_stairs.specs.Journeys.{AreTimesTo};
 ghost use Rattle.rail_stairs.specs.JourneyTrains.{admissions_in, of_train};
 
 use crate::journey::{Journey, PLACES};
-use crate::move_counts::claims_of;
 use rail_base::Interval;
 use rail_block::{KnownMove, KnownOver, MoveTimes, interval_of};
 
@@ -74,6 +73,17 @@ impl Journey<'_> {
         let (times, next) = times_at(&self.times, index + 1, self.moves());
         interval_of(self.plant, self.train, index + 1, step + 1, times, next)
     }
+}
+
+/// How many sections the move claims: those that it needs, and those of its overlap.
+fn claims_of(known: &KnownMove) -> u16
+    ensures claims { result ≡ of_move claims known.now }
+    ensures few { result ≤ ROUTE_SECTIONS + OVERLAP_SECTIONS }
+{
+    let row = known.row();
+    let steps = row.sections.as_slice().len();
+    let over = row.overlap.as_slice().len();
+    (steps + over) as u16
 }
 
 /// The step of the move, which counts from 1, has an interval: it is no section of the overlap that the next move takes

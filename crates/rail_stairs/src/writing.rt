@@ -1,12 +1,11 @@
 //! The text of a stairway.
 
-ghost use Rattle.std.specs.Prelude.{◌≡◌, ℕ, ◌+◌, ◌*◌, ◌<◌, ◌≤◌, ◌^◌, [], ◌++◌, List, length, flat_map, IsSome, OnOk};
+ghost use Rattle.std.specs.Prelude.{◌≡◌, ℕ, ◌+◌, ◌<◌, [], List, length, flat_map, IsSome, OnOk};
 ghost use Rattle.rail_base.specs.declared.intervals.Interval.{Interval};
 ghost use Rattle.rail_base.specs.declared.limits.TheConstants.{OVERLAP_SECTIONS, ROUTE_SECTIONS, SECTIONS};
 ghost use Rattle.rail_rules.specs.Fronts.{Front};
-ghost use Rattle.rail_rules.specs.Numbers.{gather};
 ghost use Rattle.rail_rules.specs.Plant.{claims, trains};
-ghost use Rattle.rail_stairs.specs.NotedHistories.{AreNoted, IsNoted, noted_of};
+ghost use Rattle.rail_stairs.specs.NotedHistories.{AreNoted, IsNoted};
 ghost use Rattle.rail_stairs.specs.Journeys.{AreAllAdmissible, before_move, before_step, before_train};
 ghost use Rattle.rail_stairs.specs.JourneyTrains.{admissions_in, at_train, of_train};
 ghost use Rattle.rail_stairs.specs.Stairways.{move_intervals, step_intervals, train_intervals};

@@ -65,9 +65,6 @@ module _ (dispatch : Dispatch) (plant : Plant) (front : Front) (state : RunState
   abbrev line : Line
   line = admit_line state.instant t (suc (place front t)) note list
 
-  abbrev adms : List ℕ
-  adms = admissions front t
-
   fine : IsWellFormed plant
   fine = well_formed_plant plant rep.accepted
 

@@ -15,13 +15,12 @@ use Rattle.rail_rules.specs.Times.{ready, enter}
 use Rattle.rail_rules.specs.Events.{enter_line, ready_line}
 use Rattle.rail_rules.proofs.CallerLemmas.{admissions_kept}
 use Rattle.rail_laws_step.specs.LineKinds.{is_ready_line}
-use Rattle.rail_laws_step.proofs.CallerLemmas.{ready_by_line, held_last, held_other, hold_due, settled_where_told, unheld, list_cause_kept as cause_kept, ends_follows, happens_follows, holds_follows, out_by_line, out_kept as kept_out, tally_events as pending_events, to_come_found as pending_found, to_come_from as pending_from, ready_same, head_enters as pending_enters, head_first, head_kept as pending_kept, next_enter as pending_enter, blocked_is, at_first, frees_one, kept as kept_holders, takes}
-use Rattle.rail_rules.specs.Causes.{blocked_cause, cause, list_cause, is_settled, is_deciding, is_ready, last_hold, place}
+use Rattle.rail_laws_step.proofs.CallerLemmas.{ready_by_line, held_last, held_other, hold_due, settled_where_told, unheld, ends_follows, happens_follows, holds_follows, out_by_line, out_kept as kept_out, to_come_found as pending_found, ready_same, head_enters as pending_enters, head_first, head_kept as pending_kept, next_enter as pending_enter, blocked_is, at_first, frees_one, kept as kept_holders, takes}
+use Rattle.rail_rules.specs.Causes.{blocked_cause, cause, is_settled, is_deciding, is_ready, last_hold, place}
 use Rattle.rail_rules.specs.Lawful.{is_lawful, is_out, is_out_line, may_follow}
 use Rattle.rail_laws_front.specs.Premises.{IsWellFormed}
 use Rattle.rail_laws_front.specs.Views.{Admits, Happens, Holds, Ends}
-use Rattle.rail_laws_front.specs.EventLines.{IsEvent}
-use Rattle.rail_laws_events.specs.Accounts.{is_train_event, tally, to_come}
+use Rattle.rail_laws_events.specs.Accounts.{tally, to_come}
 use Rattle.rail_laws_step.specs.HolderTables.{AreHolders, bar_holder, held_cause, own_overlap, taken_by}
 use Rattle.rail_laws_step.specs.LinesToCome.{ToCome}
 use Rattle.rail_laws_front.proofs.CallerLemmas.{lawful_before, told_kept, well_formed_from_accepted}
@@ -82,14 +81,8 @@ becomes_ready input fine line front lawful t m what =
 pub unheld_before_ready : (input : Input) (front : Front) → is_lawful input front ≡ true → (t : ℕ) → is_cancelled t (told input.commands front) ≡ false → is_ready input front t ≡ false → last_hold front t (suc (place front t)) ≡ None
 unheld_before_ready input front lawful t runs h = told_no_early input front t lawful runs h
 
-pub tally_events : (plant : Plant) (front : Front) (p q : Entry → Bool) → ((e : Entry) → is_train_event e.what ≡ true → p e ≡ q e) → tally p (to_come plant front) ≡ tally q (to_come plant front)
-tally_events plant front p q same = pending_events plant front p q same
-
 pub to_come_found : (plant : Plant) (front : Front) (p : Entry → Bool) → 0 < tally p (to_come plant front) → ToCome plant front p
 to_come_found plant front p some = pending_found plant front p some
-
-pub to_come_from : (plant : Plant) (front : Front) (p : Entry → Bool) (t : ℕ) (e : Entry) → t < trains plant → IsEvent plant t (admissions front t) false e → stands front e ≡ false → p e ≡ true → 0 < tally p (to_come plant front)
-to_come_from plant front p t e known event fresh passes = pending_from plant front p t e known event fresh passes
 
 pub next_enter : (input : Input) → IsWellFormed input.plant → (front : Front) → is_lawful input front ≡ true → (t n i m j : ℕ) → t < trains input.plant → IsHead input.plant front t n i → m < place front t → j < steps input.plant t m
     → stands front (enter_line input.plant t (admissions front t) m j) ≡ false
@@ -133,9 +126,6 @@ out_kept line front t other = kept_out line front t other
 
 pub out_now : (line : Line) (front : Front) (t : ℕ) → is_out_line t line.entry.what ≡ true → is_out (line ∷ front) t ≡ true
 out_now line front t now = out_by_line line front t (is_out_of t line.entry.what now)
-
-pub list_cause_kept : (input : Input) (line : Line) (front : Front) (t : ℕ) → is_admission line.entry.what ≡ false → list_cause input (line ∷ front) t ≡ list_cause input front t
-list_cause_kept input line front t idle = (cause_kept input line front t idle).0
 
 pub follows_event : (input : Input) (front : Front) (line : Line) → has_ended front ≡ false → Happens input front line → may_follow input front line ≡ true
 follows_event input front line going happens = happens_follows input front line going happens

@@ -101,24 +101,14 @@ pub use Rattle.rail_state.proofs.Judging.{deciding_is}
 pub use Rattle.rail_state.proofs.Judging.{judged}
 -- Least: the first pending event is the least due line.
 
--- Where the pending events and the arrivals that are deferred are the due lines, the first event is the least due line.
-pub use Rattle.rail_state.proofs.Least.{first_is_least}
 -- Taking: what a command's line takes out of the queue.
 
--- The line of a command takes its event out of the queue, and a told cancel the ready event of its train.
-pub use Rattle.rail_state.proofs.Taking.{command_taken}
 -- Ceasing: who waits after a command's line.
 
--- A told cancel ends the waiting of its train, and no command changes who waits but that.
-pub use Rattle.rail_state.proofs.Ceasing.{ceases}
 -- Touching: which causes a command's line leaves.
 
--- A command's line leaves the causes of the trains that its order does not touch.
-pub use Rattle.rail_state.proofs.Touching.{causes_left}
 -- Early: a move that isn't ready has no hold line, unless its train was cancelled.
 
--- A move that is not ready has no hold line, unless its train was cancelled.
-pub use Rattle.rail_state.proofs.Early.{no_early_hold}
 -- TrainNumbers: two tests that agree below a bound are passed by the same numbers below it.
 pub use Rattle.rail_state.proofs.TrainNumbers.{same_pass}
 -- CommandEvents: where all events pass a test, a filter by it keeps them.

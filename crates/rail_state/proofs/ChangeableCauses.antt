@@ -16,7 +16,7 @@ use Rattle.rail_laws_step.specs.HolderTables.{bar_holder, own_overlap}
 use Rattle.rail_state.specs.TrainStates.{AreAtFirst, admitted, after_taking, is_at_first, is_blocked, is_blocked_at, is_blocked_before, is_touched, no_state, outlasts_taking, state_admitted, state_of, state_told, without_known}
 use Rattle.rail_state.specs.TrainSearches.{is_changeable}
 use Rattle.rail_state.proofs.Sets.{written}
-use Rattle.rail_state.proofs.Turned.{IsTaken, IsTurned, others_left, taken_out, turned_at, turned_none, turned_not}
+use Rattle.rail_state.proofs.Turned.{IsTaken, IsTurned, others_left, taken_out, turned_at, turned_not}
 
 -- ---- a section is free again
 
@@ -36,14 +36,6 @@ pub record IsForgotten (x : ℕ) (old now : List TrainState) (left : TrainSet) (
   pub turned : IsTurned (λ _. without_known x) old now left
   pub none : any ≡ false → (t : ℕ) → state_of now t ≡ state_of old t
   pub some : any ≡ true → (t : ℕ) × (is_blocked_at x (state_of old t).known ≡ true)
-
-pub forgotten_none : (x : ℕ) (old : List TrainState) (blocked : TrainSet) → ((t : ℕ) → is_blocked_at x (state_of old t).known ≡ true → has_train blocked t ≡ true) → IsForgotten x old old blocked false
-forgotten_none x old blocked all = record {
-  turned = turned_none (λ _. without_known x) old blocked (λ t off.
-      unblocked x (state_of old t) (⊎_elim (λ is. absurd (false≢true (sym off ∙ all t is))) (λ none. none) (cases_Bool (is_blocked_at x (state_of old t).known))));
-  none = λ _ t. refl;
-  some = λ is. absurd (false≢true is);
-}
 
 module _ (x : ℕ) (old now : List TrainState) (left fewer : TrainSet) (any : Bool) (t : ℕ) (on : has_train left t ≡ true) (taken : IsTaken left fewer t) where
   -- the train was blocked at the section

@@ -38,15 +38,6 @@ pub count-le : (p q : Event → Bool) (es : List Event) → ((e : Event) → p e
 count-le p q [] h = omega arith
 count-le p q (e ∷ es) h = omega (arith, count-cons p e es, count-cons q e es, cond-le (p e) (q e) (h e), count-le p q es h)
 
--- one of the lists of the numbers has an event that passes
-pub count-gather_found : (p : Event → Bool) (f : ℕ → List Event) (n : ℕ) → 0 < count_by p (gather f n) → (i : ℕ) × (i < n) × (0 < count_by p (f i))
-count-gather_found p f zero h = absurd (omega (arith, h))
-count-gather_found p f (suc n) h =
-    ⊎_elim
-    (λ earlier. let found = count-gather_found p f n earlier in (found.0, omega (arith, found.1), found.2))
-    (λ not_earlier. (n, omega arith, omega (arith, h, count-append p (gather f n) (f n), not_earlier)))
-    (cases_lt 0 (count_by p (gather f n)))
-
 -- lists that differ at one number
 pub count-exchanged : (p : Event → Bool) (f g : ℕ → List Event) (n t : ℕ) → t < n → ((i : ℕ) → i < n → (i ≡ t → ⊥) → f i ≡ g i) → count_by p (gather f n) + count_by p (g t) ≡ count_by p (gather g n) + count_by p (f t)
 count-exchanged p f g zero t lt others = absurd (omega (arith, lt))

@@ -1,9 +1,7 @@
 -- The trains that are looked at one after the other: which of those that are untried then is the first.
-use Rattle.std.proofs.Common.{◌≡◌, ◌≢◌, ℕ, ◌<◌, Bool, true, false, not, cond, is_some, List, [], ◌∷◌, length, Option, Some, None, MatchOption, refl, sym, ◌∙◌, ap, subst, ⊎_elim, arith}
-use Rattle.std.specs.Option.{ForSome}
+use Rattle.std.proofs.Common.{◌≡◌, ◌≢◌, ℕ, ◌<◌, Bool, true, false, not, cond, List, [], ◌∷◌, length, Option, Some, None, MatchOption, refl, sym, ◌∙◌, ap, subst, ⊎_elim, arith}
 use Rattle.std.proofs.lemmas.Bool.{cases_Bool, cond-true, cond-false, false≢true}
 use Rattle.std.proofs.lemmas.Bool.Decides.{nat_tests}
-use Rattle.std.proofs.lemmas.Option.{same_Some}
 use Rattle.rail_base.specs.declared.history.Cause.{Cause}
 use Rattle.rail_rules.specs.Plant.{Plant, claimed}
 use Rattle.rail_rules.specs.Numbers.{comes_before}
@@ -40,11 +38,6 @@ looked_not plant bar t train_state off =
     let sections : List ℕ = claimed plant t train_state.place in
     let own : List ℕ = own_overlap plant t train_state.place in
     ap (λ b. record train_state { known = cond b (bar t own sections) train_state.known; at_first = cond b (is_at_first (bar t own sections) sections) train_state.at_first }) off
-
--- the first one is one of the trains
-pub first_known : (states : List TrainState) (left : TrainSet) (first : Option ℕ) → IsFirstOf states left first → ForSome first (λ u. u < length states)
-first_known states left None h = λ u is. absurd (false≢true (ap is_some is))
-first_known states left (Some t) h = λ u is. subst (λ k. k < length states) (same_Some t u is) (passing_known is_untried states t refl h.untried)
 
 -- the first one of the trains that were taken out before, where those are as they were
 first_same : (old now : List TrainState) (left : TrainSet) (first : Option ℕ) → ((t : ℕ) → has_train left t ≡ false → state_of now t ≡ state_of old t) → IsFirstOf old left first → IsFirstOf now left first

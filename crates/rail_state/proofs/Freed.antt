@@ -17,14 +17,6 @@ freed_self h x =
     (λ past. get_or_past (set h x None) x None (omega (arith, past, length-set h x None)))
     (cases_lt x (length h))
 
--- a free section stays free
-pub freed_other : (h : List (Option ℕ)) (x y : ℕ) → get_or h y None ≡ None → get_or (set h x None) y None ≡ None
-freed_other h x y free =
-    ⊎_elim
-    (λ here. subst (λ z. get_or (set h x None) z None ≡ None) (eqb-true x y here) (freed_self h x))
-    (λ other. get_or-set_other h x y None None (λ e. false≢true (sym other ∙ eq-eqb x y (sym e))) ∙ free)
-    (cases_Bool (eqb x y))
-
 -- whose holder barred nobody bars nobody, and the holders of other sections stay
 bar_freed : (h : List (Option ℕ)) (x t : ℕ) (own : List ℕ) (y : ℕ) → bar_holder h t own y ≡ None → bar_holder (set h x None) t own y ≡ None
 bar_freed h x t own y free =

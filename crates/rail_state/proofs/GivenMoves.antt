@@ -3,7 +3,7 @@ use Rattle.std.proofs.Common.{◌≡◌, ℕ, suc, ◌+◌, ◌-◌, ◌<◌, Bo
 use Rattle.std.proofs.Math.Seq.{drop-cons}
 use Rattle.std.specs.List.{list_all}
 use Rattle.std.specs.Option.{option_map}
-use Rattle.std.proofs.lemmas.Bool.{and_parts, cases_Bool, not-true, lt-ltb, ltb-true, false≢true, eq-eqb, or_left, or_right}
+use Rattle.std.proofs.lemmas.Bool.{and_parts, cases_Bool, not-true, ltb-true, false≢true, eq-eqb, or_left, or_right}
 use Rattle.std.proofs.lemmas.List.{length-set, get_or-set_other}
 use Rattle.std.proofs.lemmas.Option.{none-some}
 use Rattle.rail_base.specs.declared.history.Cause.TheVariants.{Blocked}
@@ -11,8 +11,7 @@ use Rattle.rail_laws_events.specs.Accounts.{tally}
 use Rattle.rail_laws_events.specs.Changes.{freed_before}
 use Rattle.rail_block.specs.declared.times.MoveTimes.{MoveTimes}
 use Rattle.rail_block.specs.CarriedTimes.{times_at}
-use Rattle.rail_queue.specs.declared.event.Class.TheVariants as class
-use Rattle.rail_state.specs.Events.{deferred_of, end_lines, event_of, is_free_of, step_lines, train_event}
+use Rattle.rail_state.specs.Events.{deferred_of, end_lines, event_of, is_free_of, step_lines}
 use Rattle.rail_laws_step.specs.HolderTables.{bar_holder, held_cause, is_train, taken_by}
 use Rattle.rail_queue.specs.declared.event.Event.{Event}
 use Rattle.rail_state.specs.declared.train.TrainState.{TrainState}
@@ -102,15 +101,6 @@ next_times plant front states now t train_state times givable is made =
     let carried : train_state.times ≡ times_at plant t (admissions front t) (place front t) = ap (λ (r : TrainState). r.times) is ∙ givable.times_are in
     made (admissions front t) (sym at.before) (carried ∙ ap (times_at plant t (admissions front t)) (sym at.before))
     ∙ ap (times_at plant t (admissions front t ++ now ∷ [])) at.after
-
--- the arrival at a place behind the entry is counted where the train passes
-pub passing_counted : (q : Event → Bool) (t p : ℕ) (times : MoveTimes) → 0 < p → cond times.passes (count_by q (train_event times.go class.Arrive t p ∷ [])) 0 ≡ count_by q (passing_event t p times)
-passing_counted q t p times some =
-    of times.passes ∙ ap (λ b. count_by q (cond (b && times.passes) (train_event times.go class.Arrive t p ∷ []) [])) (sym (lt-ltb 0 p some))
-  where
-    of : (passes : Bool) → cond passes (count_by q (train_event times.go class.Arrive t p ∷ [])) 0 ≡ count_by q (cond (true && passes) (train_event times.go class.Arrive t p ∷ []) [])
-    of true = refl
-    of false = refl
 
 -- the events of the move to a place are pending: those known before its beginning, behind which it goes on
 abbrev pub ArePushed : Plant → List (Option ℕ) → ℕ → List ℕ → MoveTimes → Option ℕ → (Event → Bool) → List Event → List Event → ℕ → ℕ → Type 0

@@ -129,9 +129,6 @@ module _ (dispatch : Dispatch) (plant : Plant) (front : Front) (state : RunState
       (sym (ap (stands front) is) ∙ it.fresh)
       (ap (λ at. tally (λ d. enters it.train d.what && nat_lt d.at at) (to_come plant front)) (sym (same_time ∙ ap (λ (e : Entry). e.at) is)) ∙ none_earlier it.train)
 
-  pub says : What
-  says = what_of plant state.trains event
-
   -- what the event says is its line
   pub what_is : what_of plant state.trains event ≡ it.entry.what
   what_is = of it.event

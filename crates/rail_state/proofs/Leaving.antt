@@ -30,10 +30,6 @@ use Rattle.rail_laws_front.proofs.CallerLemmas.{well_formed_from_accepted}
 pub before : (place : ℕ) → 1 ≤ place → place ≡ suc (place - 1)
 before place le = omega arith
 
--- where as many moves are admitted as lead to a place, the next one isn't
-pub not_after : (adms : List ℕ) (place : ℕ) → 1 ≤ place → length adms ≡ place → is_admitted adms (suc (place - 1)) ≡ false
-not_after adms place le long = le-ltb (suc (place - 1)) (length adms) (omega (arith, long))
-
 -- before its last place a train stands on the last section of its move
 pub stands_last : (plant : Plant) (t m j : ℕ) → is_accepted plant ≡ true → suc m < moves plant t → suc j ≡ steps plant t m → does_stand plant t m j ≡ true
 stands_last plant t m j accepted more last =

@@ -1,3 +1,5 @@
+//! Times and names as text, and what the other calls of the ground layer give.
+
 use indexmap::IndexSet;
 use rail_base::{
     Name, Names, Reason, SectionNo, Seq, Time, TrainNo, Word, ceil_div, read_time, write_time,
@@ -164,9 +166,9 @@ fn numbers_the_reasons(rt: HostRuntime) {
     let numbers = [
         Reason::NotToml.number(),
         Reason::InUse.number(),
-        Reason::NotYet.number(),
+        Reason::RerouteName.number(),
     ];
-    assert!(rt; numbers == [1, 20, 39]);
+    assert!(rt; numbers == [1, 20, 38]);
 }
 
 fn three_numbers(alloc: Global) -> Result<Vec<u16>, AllocError> {

@@ -1,3 +1,5 @@
+//! A section that goes from one train to the next.
+
 use rail_base::{OutOfMemory, SectionNo, TrainNo};
 use rail_holders::Holders;
 use std::alloc::Global;

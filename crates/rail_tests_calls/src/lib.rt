@@ -31,5 +31,3 @@ mod policies;
 mod sets;
 #[cfg(test)]
 mod shelves;
-#[cfg(test)]
-mod times;

@@ -1,3 +1,5 @@
+//! How far the trains of a line are pushed together, how full it is, and where there is no compression.
+
 use rail_base::{Interval, Parts, SectionNo, Time, TrainNo};
 use rail_capacity::{CapacityFault, Compressed, Shift, Tight, Window, compress};
 

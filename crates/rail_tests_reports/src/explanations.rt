@@ -10,7 +10,7 @@ use rail_io::{File, MemoryShelf, MemorySink, read_whole};
 use std::alloc::{AllocError, Global};
 
 /// What is said of item 2 of the part, at this step.
-const TOLD: [(Reason, Part, u32, &str); 46] = [
+const TOLD: [(Reason, Part, u32, &str); 45] = [
     (
         Reason::NotToml,
         Part::Bytes,
@@ -258,12 +258,6 @@ const TOLD: [(Reason, Part, u32, &str); 46] = [
         "line 2 names a train or a route that is not in the scene",
     ),
     (
-        Reason::NotYet,
-        Part::Root,
-        0,
-        "the root: the command has a form that is not built",
-    ),
-    (
         Reason::Range,
         Part::Line,
         3,
@@ -376,7 +370,7 @@ fn shows_how_a_form_is_typed(rt: HostRuntime) {
             == b"    rail stairs SCENE [TIMETABLE [COMMANDS]] blocking intervals of the trains, and how long each section is occupied\n".as_slice(),
         help_line(Form::Check).as_slice()
             == b"    rail check SCENE TIMETABLE COMMANDS HISTORY\n                                             whether a history is lawful to its end, or its first wrong line\n".as_slice(),
-        VERSION == "rail 0.1.0\n",
+        VERSION == "rail 0.20.1\n",
     ];
     assert_eq!(rt; are_shown, [true; 5]);
 }

@@ -1,3 +1,5 @@
+//! Where copies of a train are placed, which bars keep them from earlier begins, and where none fits.
+
 use crate::capacity::NO_PARTS;
 use rail_base::{Interval, SectionNo, Time, TrainNo};
 use rail_capacity::Window;

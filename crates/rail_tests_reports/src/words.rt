@@ -1,3 +1,5 @@
+//! Which form a command line has.
+
 use rail_base::Word;
 use rail_command_line::{Form, Request, request_of};
 use std::alloc::{AllocError, Global};

@@ -1,3 +1,5 @@
+//! Instances of the laws: two trains that pass at a loop, and a deadlock that is avoided.
+
 ghost use Rattle.std.specs.Prelude.{◌≡◌, ◌+◌, ◌⊎◌, ℕ, ◌<◌, IsTrue, List, [], length};
 ghost use Rattle.std.specs.List.{list_all};
 ghost use Rattle.rail_laws_end.specs.Remaining.{NobodyIsCancelled, NothingIsBarred};

@@ -8,6 +8,8 @@
 
 mod laws;
 #[cfg(test)]
+mod running_times;
+#[cfg(test)]
 mod tests;
 
 pub use laws::{the_deadlock_avoided_is_an_instance, the_loop_is_an_instance};

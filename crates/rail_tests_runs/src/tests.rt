@@ -6,7 +6,7 @@ ghost use Rattle.rail_rules.specs.Plant.{moves, steps, trains};
 ghost use Rattle.rail_block.specs.CarriedTimes.{AreBelow};
 
 use rail_base::{Cause, Fault, Interval, Parts, SectionNo, Time, TrainNo, What};
-use rail_block::{KnownMove, KnownStep, MoveTimes, enter_time, entry_times, interval_of, times_of};
+use rail_block::{KnownMove, KnownStep, MoveTimes, entry_times, interval_of, times_of};
 use rail_compile::compile;
 use rail_engine::Engine;
 use rail_plan::Plant;
@@ -75,9 +75,9 @@ fn runs_in_time(rt: &impl Abort, plant: &Plant) {
     assert_eq!(rt; there.stop_at(&first), Time(2_020));
     assert_eq!(rt; there.arrive_time(&first, Some(&second)), Time(2_020));
     assert_eq!(rt; back.arrive_time(&second, None), Time(2_580));
-    assert_eq!(rt; enter_time(plant, A, 2, &second, 1), Time(2_060));
+    assert_eq!(rt; back.reach_time(&second, 0), Time(2_060));
     // The start supplement and PW.
-    assert_eq!(rt; enter_time(plant, A, 2, &second, 2), Time(2_180));
+    assert_eq!(rt; back.reach_time(&second, 1), Time(2_180));
     // W, and then PW.
     let over_pw = KnownStep::new(&there, 2);
     let over_l1 = KnownStep::new(&there, 3);

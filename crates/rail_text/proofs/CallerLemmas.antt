@@ -1,7 +1,7 @@
 -- Lemmas for the crates above: what may be cited of this crate beside its definitions and public clauses. The other proof files are private to it.
 
 -- Items: the items of a list, and the words of its items, from the first train on.
-pub use Rattle.rail_text.proofs.Items.{first_item, first_word}
+pub use Rattle.rail_text.proofs.Items.{first_word}
 -- SpacedLines: a line that is put together word by word: one more word, the first one, and all of them.
 pub use Rattle.rail_text.proofs.SpacedLines.{behind_append, line_is, word_before, word_first}
 -- NameWords: a word that is read as a name is that name.

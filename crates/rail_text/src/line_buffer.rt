@@ -1,3 +1,5 @@
+//! The room in which a line of output is put together.
+
 ghost use Rattle.std.specs.Prelude.{◌≡◌, ◌+◌, ◌<◌, ◌≤◌, [], ◌∷◌, ◌++◌, decimal, length, take};
 ghost use Rattle.rail_base.specs.Clock.{time_text};
 ghost use Rattle.rail_text.specs.Minutes.{tenths_text};

@@ -1,5 +1,5 @@
 -- A record behind the header, and those behind it.
-use Rattle.std.proofs.Common.{◌≡◌, ℕ, ◌+◌, List, ◌∷◌, Option, None, ap, ◌∙◌}
+use Rattle.std.proofs.Common.{◌≡◌, ℕ, ◌+◌, List, ◌∷◌, Option, ap, ◌∙◌}
 use Rattle.std.specs.Option.{option_or}
 use Rattle.rail_base.specs.FirstRefusals.{first_failing}
 use Rattle.rail_base.specs.Refusals.{AnswersFirst}
@@ -15,11 +15,6 @@ module _ (tables : Tables) (calls : List (List (Option Call))) (n : ℕ) (fields
   apart : first_failing (records_tests tables calls n (fields ∷ later))
       ≡ option_or (first_failing (record_tests tables calls n fields)) (first_failing (records_tests tables (with_record tables calls fields) (n + 1) later))
   apart = first_failing-append (record_tests tables calls n fields) (records_tests tables (with_record tables calls fields) (n + 1) later)
-
-  -- behind a record that passes its tests, the refusal is that of the records behind it
-  pub passed : first_failing (record_tests tables calls n fields) ≡ None
-      → first_failing (records_tests tables calls n (fields ∷ later)) ≡ first_failing (records_tests tables (with_record tables calls fields) (n + 1) later)
-  passed h = apart ∙ ap (λ (o : Option Refusal). option_or o (first_failing (records_tests tables (with_record tables calls fields) (n + 1) later))) h
 
   -- the refusal of a record is that of the records from it on
   pub refused : (fault : Fault) → AnswersFirst (first_failing (record_tests tables calls n fields)) fault → AnswersFirst (first_failing (records_tests tables calls n (fields ∷ later))) fault

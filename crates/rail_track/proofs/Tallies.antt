@@ -4,7 +4,7 @@ use Rattle.std.specs.Cmp.{IsEquivalence}
 use Rattle.std.specs.List.{sum_by}
 use Rattle.std.specs.Map.{lookup}
 use Rattle.std.specs.Cmp.Lexicographic.{bytes_decides, nat_list_eq_equiv}
-use Rattle.std.proofs.lemmas.List.Sums.{sum_by-cons, sum_by_more, sum_by_more_le}
+use Rattle.std.proofs.lemmas.List.Sums.{sum_by-cons, sum_by_more_le}
 use Rattle.indexmap.specs.IndexMap.{IndexMap, get, Updates}
 use Rattle.rail_base.specs.NameForms.{same_name}
 use Rattle.rail_track.specs.KeyCounts.{times}
@@ -49,13 +49,6 @@ sum_by-map h f [] = refl
 sum_by-map h f (x ∷ xs) = sum_by-cons h (f x) (map f xs) ∙ ap (λ n. h (f x) + n) (sum_by-map h f xs) ∙ sym (sum_by-cons (λ y. h (f y)) x xs)
 
 module _ {K X : Type 0} (eq : K → K → Bool) (laws : IsEquivalence eq) (f : X → K) (items : List X) (i : ℕ) (item : X) (within : i < length items) (is : item ≡ get_or items i item) where
-  -- one more of the items is counted
-  pub count_by_next : (other : K) → count_by (eq other) (map f (take (i + 1) items)) ≡ count_by (eq other) (map f (take i items)) + count_by (eq other) (f item ∷ [])
-  count_by_next other =
-      let g : X → ℕ = λ x. cond (eq other (f x)) 1 0 in
-      let h : K → ℕ = λ k. cond (eq other k) 1 0 in
-      omega (arith, sum_by_more g items i item within, sum_by-cons h (f item) [], ap g is, sum_by-map h f (take i items), sum_by-map h f (take (i + 1) items))
-
   -- a key that is still to be counted is among the keys
   pub count_by_own : count_by (eq (f item)) (map f (take i items)) + 1 ≤ count_by (eq (f item)) (map f items)
   count_by_own =

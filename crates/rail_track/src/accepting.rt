@@ -1,3 +1,5 @@
+//! The joints of a new section: how many it needs, and which of them are refused.
+
 ghost use Rattle.std.specs.Prelude.{◌≡◌, ◌≤◌, ◌||◌, length};
 ghost use Rattle.rail_track.specs.SectionRules.{joint_count, joint_tests, stands_twice};
 ghost use Rattle.rail_base.specs.FirstRefusals.{first_failing};

@@ -1,3 +1,5 @@
+//! The joints of a section, and the passages between them.
+
 ghost use Rattle.std.specs.Prelude.{◌≡◌};
 ghost use Rattle.std.specs.List.{list_any};
 ghost use Rattle.rail_track.specs.Joints.{has_joint};

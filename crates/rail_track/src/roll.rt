@@ -1,3 +1,5 @@
+//! Rolls: items in order, each of them found by its key.
+
 ghost use Rattle.std.specs.Prelude.{◌≡◌, ◌≤◌, false, List, [], ◌∷◌, ◌++◌, length, insert, map, position, IsTrue, OnOk, OnErr, OnSome, IfErr, IfNone};
 ghost use Rattle.std.specs.List.{find, list_any};
 ghost use Rattle.std.specs.Option.{option_copied};

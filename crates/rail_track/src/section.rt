@@ -1,3 +1,5 @@
+//! Track sections and their kinds, and why a change of a track or network fails.
+
 ghost use Rattle.std.specs.Prelude.{◌≡◌, List, ℕ};
 
 use crate::roll::Keyed;

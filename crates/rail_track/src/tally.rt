@@ -1,3 +1,5 @@
+//! Tallies: how often each key is counted.
+
 ghost use Rattle.std.specs.Prelude.{◌≡◌, ◌+◌, ◌<◌, ◌≤◌, ◌^◌, [], ◌∷◌, length, map, count_by};
 ghost use Rattle.indexmap.specs.IndexMap.{spare};
 ghost use Rattle.rail_track.specs.KeyCounts.{times};

@@ -1,3 +1,5 @@
+//! The row of the analysis: without a free leg no list completes, and with one a list does.
+
 ghost use Rattle.std.specs.Prelude.{◌≡◌, IsTrue, false};
 ghost use Rattle.rail_rules.specs.Analysis.{finds};
 ghost use Rattle.rail_rules.specs.Plant.{moves_of};

@@ -1,3 +1,5 @@
+//! The row of a deadlock that is avoided.
+
 ghost use Rattle.std.specs.Prelude.{◌≡◌, ◌≤◌, IsTrue, false, length};
 ghost use Rattle.rail_rules.specs.Fronts.{lines_beside_holds};
 ghost use Rattle.rail_rules.specs.Lawful.{is_complete};

@@ -1,3 +1,5 @@
+//! The rows of blocking intervals: their parts, a blocking time stairway, and the intervals of overlaps.
+
 ghost use Rattle.std.specs.Prelude.{◌≡◌, ◌∷◌, []};
 ghost use Rattle.rail_worked.specs.Loop as loop;
 ghost use Rattle.rail_worked.specs.Overlap as overlap;

@@ -1,7 +1,7 @@
 //! Worked rows: small inputs with the histories that were computed for them by hand, on which the
 //! definitions of a lawful run are evaluated, and histories that break a rule. It stands on the definitions alone; the
 //! instances of the laws in `rail_tests_runs`, the worked stairways and the worked reports stand on it. The lines are written
-//! by `tools/write_rows.py` from `examples/`; a history is changed there and never here.
+//! by `tools/pages/write_rows.py` from `examples/`; a history is changed there and never here.
 #![tactic(auto)]
 
 mod analysis_row;

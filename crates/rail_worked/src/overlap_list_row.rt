@@ -1,3 +1,5 @@
+//! The row of a list with a move that is not legal because of its overlap.
+
 ghost use Rattle.std.specs.Prelude.{◌≡◌, ◌∷◌, [], IsTrue, false};
 ghost use Rattle.rail_rules.specs.Places.{completes, is_legal};
 ghost use Rattle.rail_rules.specs.Plant.{moves_of};

@@ -1,3 +1,5 @@
+//! The row of an overlap that the next move of its train takes over.
+
 ghost use Rattle.std.specs.Prelude.{◌≡◌, ◌≤◌, ◌+◌, IsTrue, false, length};
 ghost use Rattle.rail_rules.specs.Accepted.{is_accepted_input};
 ghost use Rattle.rail_rules.specs.Fronts.{lines_beside_holds};

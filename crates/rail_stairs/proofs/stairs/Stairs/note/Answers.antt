@@ -23,6 +23,5 @@ returns-in-Admit c =
             ∙ row_added (trains plant) front line rows c.in-Admit.train c.in-Admit.place c.in-Admit.train c.in-Admit.note _ h.admissions (ap (λ (e : Entry). e.what) is ∙ c.in-Admit.is) refl known
             (ap (λ (e : Entry). get_or rows c.in-Admit.train [] ++ e.at ∷ []) (sym is));
         ended = h.ended ∙ ap (λ (w : What). cond (is_end w) (Some line.entry.at) (ended_at front)) (sym (ap (λ (e : Entry). e.what) is ∙ c.in-Admit.is));
-        counts = h.counts;
       };
     }

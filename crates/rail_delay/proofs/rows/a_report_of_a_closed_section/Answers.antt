@@ -1,7 +1,0 @@
-use Rattle.std.proofs.Common.{refl}
-use Rattle.std.specs.Fmt.{digits}
-use Rattle.rail_delay.proofs.rows.a_report_of_a_closed_section.Goals as goal
-
-pub returns : goal.returns
-unfolding digits
-returns c = refl

@@ -1,2 +1,0 @@
--- What the contracts of this crate, and the definitions above it, speak of.
-pub mod RunningTimes
