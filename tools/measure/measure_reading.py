@@ -18,7 +18,9 @@ import subprocess
 import sys
 import tempfile
 
-REPOSITORY = pathlib.Path(__file__).resolve().parent.parent
+from instructions import counted
+
+REPOSITORY = pathlib.Path(__file__).resolve().parents[2]
 USED = "rail_scene rail_routes rail_track rail_base toml indexmap"
 
 
@@ -122,13 +124,13 @@ def large_scene():
     return "".join(out)
 
 
-def instructions(program, verb, scene, folder):
+def instructions(program, verb, scene):
     """The instructions of a run, which is to print what was done."""
-    run = subprocess.run(["valgrind", "--tool=callgrind", "--callgrind-out-file=%s" % (folder / "callgrind.out"), program, verb, scene], capture_output=True, text=True, check=True)
+    printed, count = counted([program, verb, scene])
     want = {"nothing": "nothing", "parse": "parsed", "read": "read"}[verb]
-    if run.stdout.strip() != want:
-        sys.exit("%s: the program said %r" % (verb, run.stdout))
-    return int(re.search(r"Collected : (\d+)", run.stderr).group(1))
+    if printed.strip() != want:
+        sys.exit("%s: the program said %r" % (verb, printed))
+    return count
 
 
 def main():
@@ -152,7 +154,7 @@ def main():
     programs = [path for path in (crate / "out").rglob("measure") if path.is_file()]
     if built.returncode != 0 or not programs:
         sys.exit(built.stdout[-3000:] + built.stderr[-3000:])
-    counts = {verb: instructions(programs[0], verb, scene, root) for verb in ("nothing", "parse", "read")}
+    counts = {verb: instructions(programs[0], verb, scene) for verb in ("nothing", "parse", "read")}
     parse, read = counts["parse"] - counts["nothing"], counts["read"] - counts["nothing"]
     print("%d bytes: parse %d instructions, read %d instructions, %.2f times" % (scene.stat().st_size, parse, read, read / parse))
     if not arguments.keep:

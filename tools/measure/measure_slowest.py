@@ -9,13 +9,14 @@ The growth is the power of the size to which the instructions of both agree, wha
 taken off; 1.00 is linear. Printed is a row of a table each, as docs/PERFORMANCE.md has it. ROW is a part of the name of a row.
 """
 
+import contextlib
 import math
 import pathlib
-import re
 import subprocess
 import sys
 import tempfile
 
+from instructions import run
 from measure_compiling import scene
 
 POST = "setting = 10\nwatching = 10\napproach = 100\n"
@@ -74,22 +75,25 @@ ROWS = [
 ]
 
 
-def run_in(folder, words, files, before=()):
-    for name, text in files.items():
-        (pathlib.Path(folder) / name).write_text(text)
-    return subprocess.run([*before, *words], cwd=folder, capture_output=True, text=True, errors="replace")
+@contextlib.contextmanager
+def written(files):
+    """A folder with these files."""
+    with tempfile.TemporaryDirectory() as folder:
+        for name, text in files.items():
+            (pathlib.Path(folder) / name).write_text(text)
+        yield folder
 
 
 def instructions(program, words, files):
-    with tempfile.TemporaryDirectory() as folder:
-        ran = run_in(folder, words, files, ("valgrind", "--tool=callgrind", "--callgrind-out-file=/dev/null", str(program)))
-    return int(re.search(r"Collected : (\d+)", ran.stderr).group(1))
+    with written(files) as folder:
+        return run([program, *words], cwd=folder)[1]
 
 
 def memory(program, words, files):
     """The most memory that the program held, in kilobytes."""
-    with tempfile.TemporaryDirectory() as folder:
-        return int(run_in(folder, words, files, ("/usr/bin/time", "-f", "%M", str(program))).stderr.splitlines()[-1])
+    with written(files) as folder:
+        timed = ["/usr/bin/time", "-f", "%M", str(program), *words]
+        return int(subprocess.run(timed, cwd=folder, capture_output=True, text=True, errors="replace").stderr.splitlines()[-1])
 
 
 def main():

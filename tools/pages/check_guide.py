@@ -6,11 +6,12 @@ usage: check_guide.py PROGRAM EXAMPLES PAGE [PAGE ..]
 A page shows commands in fenced blocks of the kind `console`. A line `$ rail WORDS` is a command, also where it is
 written as the command that builds the program first, `(cd crates/rail && rt try -- WORDS)`; and so is a line
 `$ examples/tools/NAME WORDS`, which runs this script. The lines below it are what it prints, standard output and then
-standard error; a line `...` stands for any lines. `> FILE` behind a command keeps what it prints. A fenced block `KIND FILE` gives a file, `KIND FILE +` more lines of it, and `diff FILE` a change:
-lines of the file that begin with `-` there give way to those that begin with `+`.
+standard error; a line `...` stands for any lines. `> FILE` behind a command keeps what it prints. A fenced block `KIND FILE`
+gives a file, `KIND FILE +` more lines of it, and `diff FILE` a change: lines of the file that begin with `-` there give way to
+those that begin with `+`.
 
-The commands of a page run in order in a folder of their own, in which `examples` is the folder EXAMPLES. The status
-is 1 where a page shows something else than is printed, or no command at all.
+The commands of a page run in order in a folder of their own, in which `examples` is the folder EXAMPLES. A page without a
+command is passed over. The status is 1 where a page shows something else than is printed, or no page has a command.
 """
 
 import argparse
@@ -53,6 +54,13 @@ def commands(start, lines):
             shown.append(line)
     if command is not None:
         yield at, command, shown
+
+
+def commands_of(text):
+    """Yields each command of a page with the line's number and the lines shown below it."""
+    for info, start, lines in blocks(text):
+        if info == "console":
+            yield from commands(start, lines)
 
 
 def words_of(command, program, folder):
@@ -144,14 +152,15 @@ def main():
     asks.add_argument("examples", type=pathlib.Path)
     asks.add_argument("page", type=pathlib.Path, nargs="+")
     asked = asks.parse_args()
+    shown = [page for page in asked.page if any(commands_of(page.read_text(encoding="utf-8")))]
     bad = 0
-    for page in asked.page:
+    for page in shown:
         count, other = check(asked.program, asked.examples, page)
         for line in other:
             print(line)
         print(f"{page}: {count} commands, {len(other)} differences")
-        bad += len(other) + (count == 0)
-    return 1 if bad else 0
+        bad += len(other)
+    return 0 if shown and not bad else 1
 
 
 if __name__ == "__main__":

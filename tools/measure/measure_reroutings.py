@@ -11,19 +11,11 @@ the ratio of a hundred to the run.
 """
 
 import pathlib
-import re
-import subprocess
 import sys
 import tempfile
 import tomllib
 
-
-def instructions(program, words):
-    counted = ["valgrind", "--tool=callgrind", "--callgrind-out-file=/dev/null", str(program), *map(str, words)]
-    ran = subprocess.run(counted, capture_output=True, text=True, errors="replace")
-    if ran.returncode:
-        sys.exit(f"{' '.join(map(str, words))}: {ran.stderr.splitlines()[-1]}")
-    return int(re.search(r"Collected : (\d+)", ran.stderr).group(1)), ran.stdout
+from instructions import counted
 
 
 def middle(history):
@@ -44,7 +36,7 @@ def main():
     print("| Scene | `run` | No proposal | One more | A hundred more | Ratio to the run |")
     print("|---|---|---|---|---|---|")
     for scene in map(pathlib.Path, sys.argv[2:]):
-        run, history = instructions(program, ["run", scene])
+        history, run = counted([program, "run", scene])
         made = middle(history)
         ways = {train["name"]: train["routes"] for train in tomllib.loads(scene.read_text())["train"]}
         inside = next(train for train, place in made.items() if place < len(ways[train]))
@@ -55,7 +47,7 @@ def main():
             places.write_text("".join(f"at {train} {place}\n" for train, place in made.items()))
             for count in (0, 1, 100):
                 proposals.write_text(proposal * count)
-                counts.append(instructions(program, ["reroute", scene, places, proposals])[0])
+                counts.append(counted([program, "reroute", scene, places, proposals])[1])
         more = counts[2] - counts[0]
         print(f"| {scene.stem} | {run:,} | {counts[0]:,} | {counts[1] - counts[0]:,} | {more:,} | {more / run:.2f} |", flush=True)
 

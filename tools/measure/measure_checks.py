@@ -9,33 +9,23 @@ run, those of the check, and their ratio. A check that does not answer `yes` end
 """
 
 import pathlib
-import re
-import subprocess
 import sys
 import tempfile
 
-
-def counted(folder, words):
-    """What the command prints, and its instructions."""
-    counts = folder / "counts"
-    ran = subprocess.run(
-        ["valgrind", "--tool=callgrind", f"--callgrind-out-file={counts}", *words], capture_output=True, check=True
-    )
-    whole = re.search(r"^summary: (\d+)", counts.read_text(), re.M)
-    return ran.stdout, int(whole[1])
+from instructions import counted
 
 
 def measure(program, files):
     """The lines of the history, and the instructions of its run and of its check."""
     files = (files + ["-", "-"])[:3]
-    with tempfile.TemporaryDirectory() as name:
-        folder = pathlib.Path(name)
-        history, run = counted(folder, [program, "run", *files])
-        (folder / "history").write_bytes(history)
-        answer, check = counted(folder, [program, "check", *files, str(folder / "history")])
-    if answer != b"yes\n":
+    history, run = counted([program, "run", *files])
+    with tempfile.TemporaryDirectory() as folder:
+        file = pathlib.Path(folder) / "history"
+        file.write_text(history)
+        answer, check = counted([program, "check", *files, file])
+    if answer != "yes\n":
         sys.exit("%s: %r" % (files[0], answer))
-    return history.count(b"\n"), run, check
+    return history.count("\n"), run, check
 
 
 def main(program, *inputs):

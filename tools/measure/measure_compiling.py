@@ -10,10 +10,10 @@ status is 0 where twice the trains never take more than 2.2 times the instructio
 """
 
 import pathlib
-import re
-import subprocess
 import sys
 import tempfile
+
+from instructions import counted_by_function, inclusive
 
 SECTIONS, LEGS = 512, 64
 
@@ -45,26 +45,19 @@ def scene(trains):
     return "\n".join(out) + "\n"
 
 
-def inclusive(listing, function):
-    """The instructions of a function, by its crate and name, with all that it calls."""
-    counts = [int(count.replace(",", "")) for count, name in re.findall(r"^ *([\d,]+) \([^)]*\) +\S*?:(\S+)", listing, re.M) if re.match(function, name)]
-    if not counts:
-        sys.exit("no count of " + function)
-    return max(counts)
-
-
 def main():
     program = pathlib.Path(sys.argv[1]).resolve()
     before = None
     good = True
     with tempfile.TemporaryDirectory() as folder:
         for trains in (16, 32, 64, 128):
-            file, counts = pathlib.Path(folder) / "scene.toml", pathlib.Path(folder) / "counts"
+            file = pathlib.Path(folder) / "scene.toml"
             file.write_text(scene(trains))
-            subprocess.run(["valgrind", "--tool=callgrind", "--callgrind-out-file=%s" % counts, program, "infra", file], capture_output=True, check=True)
-            listing = subprocess.run(["callgrind_annotate", "--inclusive=yes", "--threshold=100", counts], capture_output=True, text=True, check=True).stdout
-            compiled = inclusive(listing, r"rail_compile::[\w:]*compile\b")
-            read = inclusive(listing, r"rail_input::[\w:]*read_plant\b") - compiled
+            _, _, listing = counted_by_function([program, "infra", file])
+            compiled = inclusive(listing, r":rail_compile::[\w:]*compile")
+            read = inclusive(listing, r":rail_input::[\w:]*read_plant") - compiled
+            if not compiled or read < 0:
+                sys.exit("the program has no function for reading or for compiling that could be counted")
             print("%d trains of %d routes, %d bytes: read %d, compile %d" % (trains, LEGS, file.stat().st_size, read, compiled))
             good = good and (before is None or compiled <= 2.2 * before)
             before = compiled

@@ -14,10 +14,11 @@ directions pass each other; all sections are on the line. Then 20 trains run ove
 
 import math
 import pathlib
-import re
 import shutil
 import subprocess
 import sys
+
+from instructions import counted
 
 LIBRARIES = ("rail_base", "rail_capacity")
 CALLS = ((125, 8), (125, 80), (125, 240), (20, 500))
@@ -214,9 +215,7 @@ def make_program(repository, folder):
 
 
 def count(program, trains, sections, often):
-    run = subprocess.run(["valgrind", "--tool=callgrind", "--callgrind-out-file=/dev/null", program],
-                         input=f"{trains} {sections} {often}\n", capture_output=True, text=True, check=True)
-    return int(re.search(r"Collected : (\d+)", run.stderr).group(1))
+    return counted([program], input=f"{trains} {sections} {often}\n")[1]
 
 
 def main():

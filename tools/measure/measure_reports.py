@@ -10,21 +10,11 @@ history, the instructions of each command, and their ratios to the run.
 
 import pathlib
 import re
-import subprocess
 import sys
-import tempfile
+
+from instructions import counted
 
 NAME = re.compile(r'^name = "([^"]+)"$', re.M)
-
-
-def counted(folder, words):
-    """What the command prints, and its instructions."""
-    counts = folder / "counts"
-    ran = subprocess.run(
-        ["valgrind", "--tool=callgrind", f"--callgrind-out-file={counts}", *words], capture_output=True, check=True
-    )
-    whole = re.search(r"^summary: (\d+)", counts.read_text(), re.M)
-    return ran.stdout, int(whole[1])
 
 
 def sections_of(scene):
@@ -35,13 +25,10 @@ def sections_of(scene):
 
 def measure(program, files):
     """The lines of the history, and the instructions of the run and of each report."""
-    with tempfile.TemporaryDirectory() as name:
-        folder = pathlib.Path(name)
-        history, run = counted(folder, [program, "run", *files])
-        reports = [counted(folder, [program, form, *files])[1] for form in ("stairs", "report")]
-        line = [program, "capacity", sections_of(files[0]), "00:00:00", "9999:00:00", *files]
-        reports.append(counted(folder, line)[1])
-    return history.count(b"\n"), run, reports
+    history, run = counted([program, "run", *files])
+    line = ["capacity", sections_of(files[0]), "00:00:00", "9999:00:00"]
+    reports = [counted([program, *words, *files])[1] for words in (["stairs"], ["report"], line)]
+    return history.count("\n"), run, reports
 
 
 def main(program, *inputs):

@@ -25,7 +25,7 @@ import time
 sys.path.insert(0, str(pathlib.Path(__file__).resolve().parent))
 from rail_terms import Case, USES  # noqa: E402
 
-REPOSITORY = pathlib.Path(__file__).resolve().parent.parent
+REPOSITORY = pathlib.Path(__file__).resolve().parents[2]
 RULES_USES = """use Rattle.rail_rules.specs.Lawful.{is_complete}
 use Rattle.rail_rules.specs.RunHistories.{is_run_history}
 """

@@ -17,22 +17,35 @@ import sys
 sys.path.insert(0, str(pathlib.Path(__file__).resolve().parent))
 from rail_terms import Case, USES, time_of  # noqa: E402
 
-# name, function, what it shows, whether it is whole, whether every train leaves,
+# name, function, of what it is the row, what it shows, whether it is whole, whether every train leaves,
 # and the lines (from 1) to change in time, to drop and to double
 ROWS = [
-    ("one-train", "one_train_over_three_sections", "One train over three sections.", True, True, (5, 9, 3)),
-    ("loop", "two_trains_pass_at_a_loop", "Two trains pass at a loop.", True, True, (13, 20, 30)),
-    ("deadlock-avoided", "a_deadlock_avoided", "A train is held where its admission would lead into a deadlock.", True, True, (30, 4, 12)),
-    ("turn", "a_turn_that_waits_for_its_own_tail", "A train that turns waits until its own tail has cleared the points.", True, True, (14, 7, 8)),
-    ("closed-section", "a_closed_section_ends_the_run", "A closed section leaves a train inside at the end.", True, False, (12, 11, 6)),
-    ("stop-and-go", "stop_then_go_at_one_instant", "A stop and then a go at one instant hold nothing.", True, True, (16, 9, 11)),
-    ("go-and-stop", "go_then_stop_at_one_instant", "A go and then a stop at one instant hold the train.", True, False, (12, 10, 4)),
-    ("overlap", "an_overlap_taken_over", "A train takes over a section of its overlap, and another one waits for it.", True, True, (14, 17, 13)),
-    ("overlap-kept", "an_overlap_until_its_timer_runs_out", "The overlap of a train that goes no further is held until its timer runs out.", True, False, (13, 12, 8)),
-    ("cancelled", "a_cancelled_train", "A train that is cancelled before its first admission has no other line.", True, False, (1, 1, 1)),
-    ("cancelled-too-late", "a_train_cancelled_too_late", "A cancel after an admission changes nothing.", True, True, (6, 5, 6)),
-    ("following", "a_train_follows_another", "A train follows another one into each section as soon as that is free.", True, True, (17, 11, 22)),
-    ("policies", "policies_exchanged_and_retired", "A policy is exchanged, and one that is in force is not retired.", False, False, None),
+    ("one-train", "one_train_over_three_sections", "one train that runs alone",
+     "One train over three sections.", True, True, (5, 9, 3)),
+    ("loop", "two_trains_pass_at_a_loop", "two trains that pass at a loop",
+     "Two trains pass at a loop.", True, True, (13, 20, 30)),
+    ("deadlock-avoided", "a_deadlock_avoided", "a deadlock that is avoided",
+     "A train is held where its admission would lead into a deadlock.", True, True, (30, 4, 12)),
+    ("turn", "a_turn_that_waits_for_its_own_tail", "a train that turns",
+     "A train that turns waits until its own tail has cleared the points.", True, True, (14, 7, 8)),
+    ("closed-section", "a_closed_section_ends_the_run", "a closed section that keeps a train inside",
+     "A closed section leaves a train inside at the end.", True, False, (12, 11, 6)),
+    ("stop-and-go", "stop_then_go_at_one_instant", "a stop and then a go at one instant",
+     "A stop and then a go at one instant hold nothing.", True, True, (16, 9, 11)),
+    ("go-and-stop", "go_then_stop_at_one_instant", "a go and then a stop at one instant",
+     "A go and then a stop at one instant hold the train.", True, False, (12, 10, 4)),
+    ("overlap", "an_overlap_taken_over", "an overlap that the next move of its train takes over",
+     "A train takes over a section of its overlap, and another one waits for it.", True, True, (14, 17, 13)),
+    ("overlap-kept", "an_overlap_until_its_timer_runs_out", "an overlap that is held until its timer runs out",
+     "The overlap of a train that goes no further is held until its timer runs out.", True, False, (13, 12, 8)),
+    ("cancelled", "a_cancelled_train", "a train that is cancelled in time",
+     "A train that is cancelled before its first admission has no other line.", True, False, (1, 1, 1)),
+    ("cancelled-too-late", "a_train_cancelled_too_late", "a train that is cancelled too late",
+     "A cancel after an admission changes nothing.", True, True, (6, 5, 6)),
+    ("following", "a_train_follows_another", "a train that follows another one",
+     "A train follows another one into each section as soon as that is free.", True, True, (17, 11, 22)),
+    ("policies", "policies_exchanged_and_retired", "policies that are exchanged and retired",
+     "A policy is exchanged, and one that is in force is not retired.", False, False, None),
 ]
 
 # name, row of which it has the input, function, which rule it breaks, and its first wrong line (from 1)
@@ -94,7 +107,7 @@ def write(path, text):
     path.write_text(tidied(text) if path.suffix == ".antt" else text)
 
 
-def write_row(repository, name, function, says, whole, leaves, places):
+def write_row(repository, name, function, of, says, whole, leaves, places):
     crate = repository / "crates" / "rail_worked"
     path = repository / "examples" / name
     commands = path.with_suffix(".cmd")
@@ -135,7 +148,8 @@ def write_row(repository, name, function, says, whole, leaves, places):
         clauses.append(("fresh_lawful", "IsTrue (is_complete input with_fresh)"))
         clauses.append(("fresh_no_run", "is_run_history input seats with_fresh ≡ false"))
     names = ["plant", "seats", "input", "front", "printed"] + list(variants) + (["with_fresh"] if name == "loop" else [])
-    source = ["ghost use Rattle.std.specs.Prelude.{◌≡◌, ◌≤◌, %sIsTrue, false, length};" % ("◌+◌, " if over else ""),
+    source = ["//! The row of %s." % of, "",
+              "ghost use Rattle.std.specs.Prelude.{◌≡◌, ◌≤◌, %sIsTrue, false, length};" % ("◌+◌, " if over else ""),
               *(["ghost use Rattle.rail_rules.specs.Accepted.{is_accepted_input};"] if over else []),
               "ghost use Rattle.rail_rules.specs.Fronts.{lines_beside_holds};",
               *(["ghost use Rattle.rail_rules.specs.LineCounts.{taken_over};"] if over else []),

@@ -17,11 +17,12 @@ depth 0, 1 and 2.
 import itertools
 import math
 import pathlib
-import re
 import shutil
 import subprocess
 import sys
 import tomllib
+
+from instructions import counted
 
 LIBRARIES = ("rail_base", "rail_rules", "rail_sets", "rail_place", "rail_consequence")
 
@@ -288,16 +289,10 @@ def rows(trains, depth, calls):
     return "\n".join(lines) + "\n"
 
 
-def count(program, trains, depth, calls):
-    run = subprocess.run(["valgrind", "--tool=callgrind", "--callgrind-out-file=/dev/null", program],
-                         input=rows(trains, depth, calls), capture_output=True, text=True, check=True)
-    return int(re.search(r"Collected : (\d+)", run.stderr).group(1)), run.stdout.strip()
-
-
 def one_find(program, trains, depth):
-    before, _ = count(program, trains, depth, 1)
-    both, found = count(program, trains, depth, 2)
-    return both - before, found
+    _, before = counted([program], input=rows(trains, depth, 1))
+    found, both = counted([program], input=rows(trains, depth, 2))
+    return both - before, found.strip()
 
 
 def moves_left(trains):

@@ -191,7 +191,7 @@ class Page:
         """The headline part by part, with the clauses that say it."""
         parts = ["", "### The headline, part by part", ""] + paragraph(
             "Each part of the headline, and below it the clauses that say it, as they stand in `Runs.antt`, the first in `Scenarios.antt`.",
-            "README.md has them in plain words.")
+            "PROMISES.md has them in plain words.")
         for words, fields in HEADLINE:
             quoted = [line for record, field in fields for line in self.clause(record, field)]
             parts += ["", "**%s**" % words, "", "```antt"] + quoted + ["```"]

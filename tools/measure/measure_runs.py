@@ -9,36 +9,15 @@ What the system does in a write is not counted.
 """
 
 import pathlib
-import re
-import subprocess
 import sys
-import tempfile
 
-
-def inclusive(listing, name):
-    """The instructions of the function of this name with all that it calls."""
-    found = re.search(r"^\s*([\d,]+) \([ \d.]+%\)\s+\S*" + re.escape(name) + r"(?![\w'])", listing, re.M)
-    return int(found[1].replace(",", "")) if found else 0
+from instructions import counted_by_function, inclusive
 
 
 def measure(program, files):
     """The lines, the instructions, those of reading and compiling, and those of `write`."""
-    with tempfile.TemporaryDirectory() as folder:
-        counts = pathlib.Path(folder) / "counts"
-        ran = subprocess.run(
-            ["valgrind", "--tool=callgrind", f"--callgrind-out-file={counts}", program, "run", *files],
-            capture_output=True,
-            check=True,
-        )
-        listing = subprocess.run(
-            ["callgrind_annotate", "--inclusive=yes", "--threshold=100", counts],
-            capture_output=True,
-            text=True,
-            check=True,
-        ).stdout
-    whole = re.search(r"^\s*([\d,]+) \(100\.0%\)\s+PROGRAM TOTALS", listing, re.M)
-    parts = [inclusive(listing, it) for it in ("::read_plant", "/write.c:write")]
-    return ran.stdout.count(b"\n"), int(whole[1].replace(",", "")), *parts
+    history, whole, listing = counted_by_function([program, "run", *files])
+    return history.count("\n"), whole, *(inclusive(listing, it) for it in ("::read_plant", r"/write\.c:write"))
 
 
 def main(program, *scenes):
