@@ -29,6 +29,6 @@ pub use intervals::interval_of;
 pub use laws::later_admissions_change_no_earlier_times;
 pub use moves::{KnownMove, KnownOver, KnownStep};
 pub use rail_base::{Interval, Parts};
-pub use running::{after, clear_time_of, start_loss};
+pub use running::{after, start_loss};
 pub use running_times::{clear_time, run_time};
 pub use times::{MoveTimes, entry_times, times_of};

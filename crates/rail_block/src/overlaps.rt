@@ -31,7 +31,7 @@ impl KnownMove<'_> {
 
 impl KnownOver<'_> {
     /// The section.
-    pub fn section(&self) -> SectionNo
+    fn section(&self) -> SectionNo
         ensures section { result ≡ of_over step_section self.now }
         ensures known { result < length self.now.of.now.plant.now.tables.sections }
     {
@@ -41,7 +41,7 @@ impl KnownOver<'_> {
     }
 
     /// The next move claims the section.
-    pub fn is_claimed_next(&self) -> bool
+    fn is_claimed_next(&self) -> bool
         ensures { result ≡ is_in (of_over step_section self.now) (of_place claimed self.now.of.now) }
     {
         if self.of.place == self.of.last_place() {
@@ -73,7 +73,7 @@ impl KnownOver<'_> {
     }
 
     /// When the interval of the section ends: as the next move takes it over, else with the timer.
-    pub fn end_time(&self, times: &MoveTimes, next: Option<&MoveTimes>) -> Time
+    fn end_time(&self, times: &MoveTimes, next: Option<&MoveTimes>) -> Time
         requires times { AreBelow (2 ^ 51) times.now }
         requires next { ForSome (option_copied next) (AreBelow (2 ^ 51)) }
         ensures { (adms : List ℕ) → AreTimesOf self.now.of.now adms times.now (option_copied next.entry)

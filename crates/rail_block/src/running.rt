@@ -76,7 +76,7 @@ pub fn start_loss(plant: &Plant, train: TrainNo, passes: bool) -> u64
 
 /// The time in tenths of a second from the moment at which the train begins to clear the section to
 /// that at which its tail leaves it.
-pub fn clear_time_of(plant: &Plant, train: TrainNo, section: SectionNo) -> u64
+fn clear_time_of(plant: &Plant, train: TrainNo, section: SectionNo) -> u64
     requires train { train < trains plant.now }
     requires section { section < length plant.now.tables.sections }
     ensures time { result ≡ clearing plant.now train section }

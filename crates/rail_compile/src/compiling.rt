@@ -72,7 +72,7 @@ pub fn compile(alloc: Global, scene: &Scene) -> Result<Plant, Fault>
 
 /// The plant of the scene with these trains in place of its own, which has no calls. It is refused as `compile` refuses
 /// the scene with these trains.
-pub fn compile_with(
+fn compile_with(
     alloc: Global,
     scene: &Scene,
     lookups: &Lookups,

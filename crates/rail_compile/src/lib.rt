@@ -8,4 +8,4 @@
 
 mod compiling;
 
-pub use compiling::{Lookups, compile, compile_moves, compile_with, fault_for};
+pub use compiling::{Lookups, compile, compile_moves, fault_for};

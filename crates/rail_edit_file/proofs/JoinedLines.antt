@@ -32,10 +32,3 @@ module _ (lines : List Line) (before now : Editing) (left : List Line) (h : AreR
     answers_lines fault answer =
         rw (h.refusals ∙ ap (λ (ls : List Line). lines_refusal ls now) is)
         (first_answers (asked_at line.number (edit_line line.words) now) (lines_refusal rest (after_line line now)) fault answer)
-
-  -- behind the last line
-  pub at_end : left ≡ [] → AreReadTo lines before now []
-  at_end none = record {
-    edited = h.edited ∙ ap (λ (ls : List Line). after_lines ls now) none;
-    refusals = h.refusals ∙ ap (λ (ls : List Line). lines_refusal ls now) none;
-  }

@@ -3,8 +3,9 @@ use Rattle.std.proofs.Common.{◌≡◌, ℕ, List, length, map, true, Option, S
 use Rattle.rail_base.specs.Refusals.{AnswersFirst}
 use Rattle.rail_base.specs.declared.refusals.Fault.{Fault}
 use Rattle.rail_base.specs.declared.refusals.Fault.TheVariants as fault
+use Rattle.rail_base.specs.declared.refusals.Reason.TheVariants.{HistoryForm}
 use Rattle.rail_base.specs.declared.refusals.Refusal.{Refusal}
-use Rattle.rail_history.specs.HistoryLines.{IsHistory, IsRefusedIn, refusal_at}
+use Rattle.rail_history.specs.HistoryLines.{IsHistory, IsRefusedIn}
 use Rattle.rail_history.proofs.CallerLemmas.{no_history, one_history, one_wrong}
 use Rattle.rail_io.specs.Writes.{Adds, AddsPrefix}
 use Rattle.rail_laws_verdict.specs.Verdicts.{Verdict, verdict}
@@ -21,6 +22,7 @@ use Rattle.rail_rules.specs.Plant.{Plant}
 use Rattle.rail_rules.specs.WritableLines.{IsNamed}
 use Rattle.rail_laws_events.proofs.CallerLemmas.{input_parts}
 use Rattle.rail_laws_text.proofs.CallerLemmas.{accepted_named}
+use Rattle.rail_text.specs.Lines.{refusal_at}
 use Rattle.rail_ledger.specs.declared.input.RunInput.{RunInput}
 use Rattle.rail_ledger.specs.Inputs.{input_in as checked_input}
 use Rattle.rail_forms.specs.declared.status.Status.{Status}
@@ -35,8 +37,8 @@ pub history_unread : (limit later : Option Refusal) (input : Input) (text : List
     → ((rest : Option Refusal) (whole part : Type 0) → IsAnswer (or_else limit rest) whole part status) → AnswersHistory (or_else limit later) input text before now status
 history_unread limit later input text before now status done any = record {
   read = λ lines is. subst (IsAnswer (or_else limit later) _ _) (sym done) (any later _ _);
-  wrong = λ number is. subst (λ (o : Option Refusal). IsAnswer o ⊥ ⊥ (done_with status)) (sym (or_else_more limit later (Some (refusal_at number))))
-      (subst (IsAnswer (or_else limit (or_else later (Some (refusal_at number)))) ⊥ ⊥) (sym done) (any (or_else later (Some (refusal_at number))) ⊥ ⊥));
+  wrong = λ number is. subst (λ (o : Option Refusal). IsAnswer o ⊥ ⊥ (done_with status)) (sym (or_else_more limit later (Some (refusal_at HistoryForm number))))
+      (subst (IsAnswer (or_else limit (or_else later (Some (refusal_at HistoryForm number)))) ⊥ ⊥) (sym done) (any (or_else later (Some (refusal_at HistoryForm number))) ⊥ ⊥));
   of_first = answer_decides (or_else limit later) ⊥ ⊥ status (any later ⊥ ⊥);
 }
 
@@ -59,7 +61,7 @@ pub input_refused : (first : Option Refusal) (input : Input) (text : List ℕ) (
 input_refused first input text before now status fault.OutOfMemory is answers = no_memory first input text before now status is
 input_refused first input text before now status (fault.Refused refusal) is answers = subst (AnswersHistory first input text before now) (sym is) (record {
   read = λ lines history. answers;
-  wrong = λ number wrong. ap (λ (o : Option Refusal). or_else o (Some (refusal_at number))) answers;
+  wrong = λ number wrong. ap (λ (o : Option Refusal). or_else o (Some (refusal_at HistoryForm number))) answers;
   of_first = answer_decides first ⊥ ⊥ (Refused refusal) answers;
 })
 
@@ -70,8 +72,8 @@ module _ (first : Option Refusal) (none : first ≡ None) (input : Input) (named
   history_refused fault.OutOfMemory is refused = no_memory first input text before now status is
   history_refused (fault.Refused refusal) is refused = subst (AnswersHistory first input text before now) (sym is) (record {
     read = λ lines history. absurd (no_history input.plant named text refusal.item lines refused.1 history);
-    wrong = λ number wrong. ap (λ (o : Option Refusal). or_else o (Some (refusal_at number))) none
-        ∙ ap (λ (n : ℕ). Some (refusal_at n)) (one_wrong input.plant named text number refusal.item wrong refused.1) ∙ ap Some (sym refused.0);
+    wrong = λ number wrong. ap (λ (o : Option Refusal). or_else o (Some (refusal_at HistoryForm number))) none
+        ∙ ap (λ (n : ℕ). Some (refusal_at HistoryForm n)) (one_wrong input.plant named text number refusal.item wrong refused.1) ∙ ap Some (sym refused.0);
     of_first = none_decides first (Refused refusal) none;
   })
 

@@ -24,7 +24,8 @@ use Rattle.rail_rules.specs.Plant.{bound, trains}
 use Rattle.rail_rules.specs.RunHistories.{Seat, is_run}
 use Rattle.rail_rules.specs.WritableLines.{IsNamed}
 use Rattle.rail_save.specs.RunLines.{other_behind}
-use Rattle.rail_save.specs.Snapshots.{IsFirstUnread, IsOtherSnapshot, IsRefusedSnapshot, IsResumed, IsSnapshot, refusal_at}
+use Rattle.rail_save.specs.Snapshots.{IsFirstUnread, IsOtherSnapshot, IsRefusedSnapshot, IsResumed, IsSnapshot}
+use Rattle.rail_text.specs.Lines.{refusal_at}
 use Rattle.rail_save.specs.WrittenLines.{IsSaved, IsSavedInPart, IsWritten, IsWrittenInPart}
 use Rattle.rail_save.proofs.CallerLemmas.{no_snapshot, one_snapshot, one_unread, run_followed}
 use Rattle.rail_forms.specs.declared.status.Status.{Status}

@@ -1,7 +1,8 @@
 -- The form `check`: the verdict on a history of a scene.
 use Rattle.std.specs.Prelude.{◌≡◌, ℕ, IsTrue, List, [], ◌∷◌, ◌++◌, Option, Some, codes, decimal}
+use Rattle.rail_base.specs.declared.refusals.Reason.TheVariants.{HistoryForm}
 use Rattle.rail_base.specs.declared.refusals.Refusal.{Refusal}
-use Rattle.rail_history.specs.HistoryLines.{IsFirstWrong, IsHistory, refusal_at}
+use Rattle.rail_history.specs.HistoryLines.{IsFirstWrong, IsHistory}
 use Rattle.rail_io.specs.Writes.{Adds, AddsPrefix}
 use Rattle.rail_laws_verdict.specs.Verdicts.{IsBrokenAt, Verdict, behind as front_of, verdict}
 use Rattle.rail_laws_verdict.specs.Verdicts.Verdict.{yes, no}
@@ -10,6 +11,7 @@ use Rattle.rail_rules.specs.Lawful.{is_complete}
 use Rattle.rail_rules.specs.Numbers.{or_else}
 use Rattle.rail_rules.specs.Orders.{Input}
 use Rattle.rail_rules.specs.Texts.{behind}
+use Rattle.rail_text.specs.Lines.{refusal_at}
 use Rattle.rail_forms.specs.declared.status.Status.{Status}
 use Rattle.rail_forms.specs.declared.status.Status.TheVariants.{CheckedNo, Done}
 use Rattle.rail_forms.specs.Answers.{Decides, IsAnswer}
@@ -50,6 +52,6 @@ done_with status = status
 pub record AnswersHistory (first : Option Refusal) (input : Input) (text : List ℕ) (before now : Option (List ℕ)) (status : Status) : Type 0 where
   pub read : (lines : List Line) → IsHistory input.plant text lines
       → IsAnswer first (IsJudged input lines before now status) (AddsPrefix before now (verdict_text (verdict input lines))) (done_with status)
-  pub wrong : (number : ℕ) → IsFirstWrong input.plant text number → IsAnswer (or_else first (Some (refusal_at number))) ⊥ ⊥ (done_with status)
+  pub wrong : (number : ℕ) → IsFirstWrong input.plant text number → IsAnswer (or_else first (Some (refusal_at HistoryForm number))) ⊥ ⊥ (done_with status)
   -- whatever the history is
   pub of_first : Decides first status

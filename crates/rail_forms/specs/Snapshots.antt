@@ -11,7 +11,8 @@ use Rattle.rail_rules.specs.Orders.{Input}
 use Rattle.rail_rules.specs.RunHistories.{Seat}
 use Rattle.rail_rules.specs.Texts.{text}
 use Rattle.rail_save.specs.RunLines.{other_behind}
-use Rattle.rail_save.specs.Snapshots.{IsFirstUnread, IsSnapshot, refusal_at, snapshot}
+use Rattle.rail_save.specs.Snapshots.{IsFirstUnread, IsSnapshot, snapshot}
+use Rattle.rail_text.specs.Lines.{refusal_at}
 use Rattle.rail_command_line.specs.Forms.{Scenario}
 use Rattle.rail_forms.specs.declared.status.Status.{Status}
 use Rattle.rail_forms.specs.Answers.{Decides, IsAnswer, Told}

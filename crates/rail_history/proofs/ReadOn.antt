@@ -5,13 +5,15 @@ use Rattle.std.specs.List.{list_any}
 use Rattle.rail_base.specs.declared.names.Names.{Names}
 use Rattle.rail_base.specs.declared.refusals.Fault.{Fault}
 use Rattle.rail_base.specs.declared.refusals.Fault.TheVariants.{Refused, OutOfMemory}
+use Rattle.rail_base.specs.declared.refusals.Reason.TheVariants.{HistoryForm}
 use Rattle.rail_base.specs.declared.refusals.Refusal.{Refusal}
 use Rattle.rail_base.specs.Limits.{most, FreshLines}
 use Rattle.rail_rules.specs.Plant.{Plant}
 use Rattle.rail_rules.specs.Fronts.{Line}
+use Rattle.rail_text.specs.Lines.{refusal_at}
 use Rattle.rail_text.specs.Names.{HasNames}
 use Rattle.rail_history.specs.declared.file_lines.FileLines.{FileLines}
-use Rattle.rail_history.specs.HistoryLines.{IsRefusedFor, IsSpelled, is_fresh, refusal_at}
+use Rattle.rail_history.specs.HistoryLines.{IsRefusedFor, IsSpelled, is_fresh}
 use Rattle.rail_history.specs.LineReads.{IsWrongLine}
 use Rattle.rail_history.specs.ReadFiles.{IsReadTo, IsRefusedBehind}
 use Rattle.rail_history.proofs.LineFeeds.{is_feed}
@@ -40,7 +42,7 @@ pub refused_behind : (names : Names) (file : FileLines) (piece : List ℕ) (numb
     → (fault : Fault) → IsWrongLine names file.fresh number piece fault → IsRefusedBehind names file fault
 refused_behind names file piece number next some cuts (Refused refusal) wrong =
     let item : number ≡ refusal.item = sym (ap (λ (r : Refusal). r.item) wrong.0) in (
-      wrong.0 ∙ ap refusal_at item,
+      wrong.0 ∙ ap (refusal_at HistoryForm) item,
       λ plant has named bytes lines so_far.
           first_wrong plant named bytes lines file.text.now piece file.fresh refusal.item so_far.front so_far.counted so_far.few
           (omega (arith, item, next, so_far.numbered)) some cuts (wrong.1 plant has named),

@@ -10,13 +10,13 @@ use Rattle.rail_base.specs.Limits.{most, FreshLines, FreshTrains}
 use Rattle.rail_base.specs.declared.names.Names.{Names}
 use Rattle.rail_base.specs.declared.refusals.Fault.{Fault}
 use Rattle.rail_base.specs.declared.refusals.Fault.TheVariants.{Refused, OutOfMemory}
-use Rattle.rail_base.specs.declared.refusals.Part.TheVariants as part
 use Rattle.rail_base.specs.declared.refusals.Reason.TheVariants.{HistoryForm}
 use Rattle.rail_base.specs.declared.refusals.Refusal.{Refusal}
 use Rattle.rail_rules.specs.Plant.{Plant}
 use Rattle.rail_rules.specs.Fronts.{Line}
 use Rattle.rail_rules.specs.Texts.{Item, line_text, text}
 use Rattle.rail_rules.specs.WritableLines.{IsNamed, does_fit_counter, is_known_train, is_writable_what}
+use Rattle.rail_text.specs.Lines.{refusal_at}
 use Rattle.rail_text.specs.Names.{HasNames}
 use Rattle.rail_history.specs.Lines.{line_of}
 use Rattle.rail_history.specs.ReadWords.{is_small, is_small_what}
@@ -107,19 +107,15 @@ IsLine names bytes line = (plant : Plant) → HasNames plant names → IsSpelled
 abbrev pub IsNoLine : Names → List ℕ → Type 0
 IsNoLine names bytes = (plant : Plant) → HasNames plant names → IsNamed plant → (line : Line) → IsSpelled plant line bytes → ⊥
 
--- the refusal of a line
-abbrev pub refusal_at : ℕ → Refusal
-refusal_at number = record { reason = HistoryForm; part = part.Line; item = number; step = 0 }
-
 -- the fault names the first line that is none, unless memory was not found
 abbrev pub IsRefusedFor : Names → List ℕ → Fault → Type 0
-IsRefusedFor names bytes (Refused refusal) = (refusal ≡ refusal_at refusal.item)
+IsRefusedFor names bytes (Refused refusal) = (refusal ≡ refusal_at HistoryForm refusal.item)
     × ((plant : Plant) → HasNames plant names → IsNamed plant → IsFirstWrong plant bytes refusal.item)
 IsRefusedFor names bytes OutOfMemory = Unit {0}
 
 -- the same for the names of a plant
 abbrev pub IsRefusedIn : Plant → List ℕ → Fault → Type 0
-IsRefusedIn plant bytes (Refused refusal) = (refusal ≡ refusal_at refusal.item) × IsFirstWrong plant bytes refusal.item
+IsRefusedIn plant bytes (Refused refusal) = (refusal ≡ refusal_at HistoryForm refusal.item) × IsFirstWrong plant bytes refusal.item
 IsRefusedIn plant bytes OutOfMemory = Unit {0}
 
 -- the list may stand behind the note: a fresh one within its limits, of trains of the plant

@@ -7,14 +7,16 @@ use Rattle.rail_base.specs.Limits.{most, FreshLines}
 use Rattle.rail_base.specs.declared.names.Names.{Names}
 use Rattle.rail_base.specs.declared.refusals.Fault.{Fault}
 use Rattle.rail_base.specs.declared.refusals.Fault.TheVariants.{Refused, OutOfMemory}
+use Rattle.rail_base.specs.declared.refusals.Reason.TheVariants.{HistoryForm}
 use Rattle.rail_rules.specs.Plant.{Plant}
 use Rattle.rail_rules.specs.Fronts.{Line}
 use Rattle.rail_rules.specs.Texts.{line_words, note_words, what_words}
 use Rattle.rail_rules.specs.WritableLines.{IsNamed, is_writable_note, is_writable_what}
+use Rattle.rail_text.specs.Lines.{refusal_at}
 use Rattle.rail_text.specs.Names.{HasNames}
 use Rattle.rail_history.specs.declared.read_line.ReadLine.{ReadLine}
 use Rattle.rail_history.specs.declared.files.History.{History}
-use Rattle.rail_history.specs.HistoryLines.{IsSpelled, does_list, is_fresh, is_fresh_list, is_fresh_note, is_history_line, is_list_within, lines_in, refusal_at}
+use Rattle.rail_history.specs.HistoryLines.{IsSpelled, does_list, is_fresh, is_fresh_list, is_fresh_note, is_history_line, is_list_within, lines_in}
 use Rattle.rail_history.specs.Lines.{brought, brought_by_note, line_of}
 use Rattle.rail_history.specs.ListItems.{spelled_by}
 use Rattle.rail_history.specs.ReadWords.{joined}
@@ -58,6 +60,6 @@ IsPaired history = count_by (λ (entry : Entry). does_list entry.what) history.e
 
 -- behind so many fresh lists the bytes are no line, or one fresh list too many
 abbrev pub IsWrongLine : Names → ℕ → ℕ → List ℕ → Fault → Type 0
-IsWrongLine names fresh number bytes (Refused refusal) = (refusal ≡ refusal_at number)
+IsWrongLine names fresh number bytes (Refused refusal) = (refusal ≡ refusal_at HistoryForm number)
     × ((plant : Plant) → HasNames plant names → IsNamed plant → (line : Line) → IsSpelled plant line bytes → most FreshLines < fresh + cond (is_fresh line.entry.what) 1 0)
 IsWrongLine names fresh number bytes OutOfMemory = Unit {0}

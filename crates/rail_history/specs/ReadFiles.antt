@@ -5,12 +5,14 @@ use Rattle.rail_base.specs.Limits.{most, FreshLines}
 use Rattle.rail_base.specs.declared.names.Names.{Names}
 use Rattle.rail_base.specs.declared.refusals.Fault.{Fault}
 use Rattle.rail_base.specs.declared.refusals.Fault.TheVariants.{Refused, OutOfMemory}
+use Rattle.rail_base.specs.declared.refusals.Reason.TheVariants.{HistoryForm}
 use Rattle.rail_rules.specs.Fronts.{Line}
 use Rattle.rail_rules.specs.Plant.{Plant}
 use Rattle.rail_rules.specs.WritableLines.{IsNamed}
+use Rattle.rail_text.specs.Lines.{refusal_at}
 use Rattle.rail_text.specs.Names.{HasNames}
 use Rattle.rail_history.specs.declared.file_lines.FileLines.{FileLines}
-use Rattle.rail_history.specs.HistoryLines.{IsFirstWrong, is_fresh, is_history_line, lines_text, refusal_at}
+use Rattle.rail_history.specs.HistoryLines.{IsFirstWrong, is_fresh, is_history_line, lines_text}
 
 -- what is left of the file
 abbrev pub text_left : FileLines → List ℕ
@@ -48,6 +50,6 @@ pub record IsReading (file : FileLines) : Type 0 where
 
 -- behind the lines that were read a line is none, and the fault names it, unless memory was not found
 abbrev pub IsRefusedBehind : Names → FileLines → Fault → Type 0
-IsRefusedBehind names file (Refused refusal) = (refusal ≡ refusal_at refusal.item)
+IsRefusedBehind names file (Refused refusal) = (refusal ≡ refusal_at HistoryForm refusal.item)
     × ((plant : Plant) → HasNames plant names → IsNamed plant → (bytes : List ℕ) (lines : List Line) → IsReadTo plant bytes lines file → IsFirstWrong plant bytes refusal.item)
 IsRefusedBehind names file OutOfMemory = Unit {0}

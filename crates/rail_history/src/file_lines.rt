@@ -3,9 +3,8 @@
 ghost use Rattle.std.specs.Prelude.{◌≡◌, ◌≢◌, ◌==◌, ◌+◌, ◌-◌, ◌<◌, ◌≤◌, ◌^◌, [], ◌∷◌, ◌++◌, List, ℕ, IfOk, IfErr, IsTrue, OnOk, cond, false, length, position};
 ghost use Rattle.std.specs.List.{list_any};
 ghost use Rattle.rail_base.specs.declared.limits.TheConstants.{FRESH_LINES};
-ghost use Rattle.rail_base.specs.declared.refusals.Fault.TheVariants.{Refused};
 ghost use Rattle.rail_text.specs.Names.{HasNames};
-ghost use Rattle.rail_history.specs.HistoryLines.{IsHistory, IsLine, IsSpelled, is_fresh, refusal_at};
+ghost use Rattle.rail_history.specs.HistoryLines.{IsHistory, IsLine, IsSpelled, is_fresh};
 ghost use Rattle.rail_history.specs.LineReads.{IsWrongLine, line_read};
 ghost use Rattle.rail_history.specs.ReadFiles.{GoesOn, IsReadTo, IsReading, IsRefusedBehind, text_left};
 ghost use Rattle.rail_rules.specs.Fronts.{Line};
@@ -14,7 +13,8 @@ ghost use Rattle.rail_rules.specs.Plant.{Plant};
 use crate::lists::is_fresh;
 use crate::read_line::{ReadLine, read_line};
 use rail_base::limits::FRESH_LINES;
-use rail_base::{Fault, Names, Part, Reason, Refusal};
+use rail_base::{Fault, Names, Reason};
+use rail_text::refused_at;
 use std::alloc::Global;
 
 /// A history file of which the lines are read one by one. It is empty behind the last line.
@@ -130,11 +130,11 @@ fn line_of(
     ensures refused { IfErr result (IsWrongLine names.now fresh number bytes.now) }
 {
     let Some(line) = read_line(alloc, names, bytes)? else {
-        return Err(refused_at(number));
+        return Err(refused_at(Reason::HistoryForm, number));
     };
     let more = usize::from(is_fresh(&line.entry.what));
     if fresh + more > FRESH_LINES {
-        return Err(refused_at(number));
+        return Err(refused_at(Reason::HistoryForm, number));
     }
     Ok(line)
 }
@@ -157,16 +157,4 @@ fn line_feed(text: &[u8]) -> Option<usize>
     ensures { result ≡ position (λ b. b == 10) text.now }
 {
     text.iter().position(|byte| *byte == b'\n')
-}
-
-/// The refusal of the line of this number.
-fn refused_at(line: u32) -> Fault
-    ensures { result ≡ Refused (refusal_at line) }
-{
-    Fault::Refused(Refusal {
-        reason: Reason::HistoryForm,
-        part: Part::Line,
-        item: line,
-        step: 0,
-    })
 }

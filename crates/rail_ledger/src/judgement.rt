@@ -344,6 +344,7 @@ impl Ledger {
         ensures unchanged { result ≡ false → StandsAsBefore self.old self.new }
     {
         let moves = self.input.plant.moves();
+        // For its clauses alone: the moves are a table within the limits.
         moves.trains();
         admit_given(
             moves,

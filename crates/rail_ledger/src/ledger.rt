@@ -184,6 +184,7 @@ impl Ledger {
     {
         let moves = self.input.plant.moves();
         let depth = self.input.plant.depth();
+        // For its clauses alone: the moves are a table within the limits.
         moves.trains();
         match admit_by_list(
             moves,
@@ -218,6 +219,7 @@ impl Ledger {
     {
         let moves = self.input.plant.moves();
         let depth = self.input.plant.depth();
+        // For its clauses alone: the moves are a table within the limits.
         moves.trains();
         if is_list_known(
             moves,
@@ -245,6 +247,7 @@ impl Ledger {
         ensures exact { (front : Front) → IsAt front self.old → result ≡ is_repairable (input_in self.old.input) front train }
     {
         let moves = self.input.plant.moves();
+        // For its clauses alone: the moves are a table within the limits.
         moves.trains();
         self.kept.is_repairable(moves, &self.places, train)
     }

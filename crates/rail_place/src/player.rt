@@ -44,7 +44,7 @@ impl Places {
 
     /// Takes the moves of the list back, which were made in this order, the last first. The places are
     /// then as they were before these moves; the count of moves stays. It takes no memory.
-    pub fn take_back(&mut self, moves: &Moves, list: &[TrainNo])
+    fn take_back(&mut self, moves: &Moves, list: &[TrainNo])
         requires made { IsMadeFor moves.now self.old }
         requires trains { All (λ t. t < length moves.now) list.now }
         requires moves { (s : List ℕ) × IsTrue (is_valid_state (moves_in moves.now) s)

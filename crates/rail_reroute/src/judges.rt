@@ -173,6 +173,7 @@ impl Judge {
         ensures moves { IfOk result (IsRowFor (tables_of scene.now) train (tables_of (rerouted scene.now positions.now train routes.now))) }
         ensures refused { IfErr result (AnswersFirst (compile_refusal (rerouted scene.now positions.now train routes.now))) }
     {
+        // For its clauses alone: the network is sound.
         scene.network.sections();
         let index = usize::from(train.0);
         let before = &scene.trains.as_slice()[index];
@@ -208,6 +209,7 @@ impl Judge {
         let mut sets = Rows::new(alloc, &moves)?;
         self.places.put(&self.moves, train, 0);
         self.exchange(train, &mut moves, &mut sets);
+        // For its clauses alone: the moves are a table within the limits.
         self.moves.trains();
         let answer = find_way(
             alloc,
@@ -238,6 +240,7 @@ impl Judge {
         ensures analyst { IsAnalystFor (moves_in self.new.moves) self.new.analyst }
         ensures back { AreRowsFor (moves_in self.old.moves) train sets.new }
     {
+        // For its clauses alone: the moves are a table within the limits.
         self.moves.trains();
         self.analyst.set_aside(&self.moves, train);
         self.moves.exchange(train, moves);

@@ -2,8 +2,6 @@
 use Rattle.std.specs.Prelude.{◌≡◌, ◌≢◌, ◌⊎◌, ℕ, suc, List, [], ◌∷◌, ◌++◌, Some, codes, reverse}
 use Rattle.rail_base.specs.declared.refusals.Fault.{Fault}
 use Rattle.rail_base.specs.declared.refusals.Fault.TheVariants.{OutOfMemory, Refused}
-use Rattle.rail_base.specs.declared.refusals.Part.TheVariants as part
-use Rattle.rail_base.specs.declared.refusals.Reason.{Reason}
 use Rattle.rail_base.specs.declared.refusals.Reason.TheVariants.{SnapshotForm, SnapshotOther}
 use Rattle.rail_base.specs.declared.refusals.Refusal.{Refusal}
 use Rattle.rail_engine.specs.Engines.{StandsFor}
@@ -15,6 +13,7 @@ use Rattle.rail_rules.specs.Orders.{Input}
 use Rattle.rail_rules.specs.Plant.{Plant}
 use Rattle.rail_rules.specs.RunHistories.{Seat}
 use Rattle.rail_rules.specs.Texts.{text}
+use Rattle.rail_text.specs.Lines.{refusal_at}
 use Rattle.rail_save.specs.RunLines.{other_behind}
 
 -- the first line of a snapshot, with its line feed
@@ -47,10 +46,6 @@ pub record IsWrongBehind (plant : Plant) (bytes : List ℕ) (number : ℕ) : Typ
 -- the line of this number, the header counted, is the first that is none of a snapshot
 abbrev pub IsFirstUnread : Plant → List ℕ → ℕ → Type 0
 IsFirstUnread plant bytes number = (IsHeaderless bytes × (number ≡ 1)) ⊎ IsWrongBehind plant bytes number
-
--- the refusal of a line of a snapshot
-abbrev pub refusal_at : Reason → ℕ → Refusal
-refusal_at reason number = record { reason = reason; part = part.Line; item = number; step = 0 }
 
 -- the bytes are no snapshot, and the refusal names the first line that is none
 pub record IsNoSnapshot (plant : Plant) (bytes : List ℕ) (refusal : Refusal) : Type 0 where

@@ -1,7 +1,6 @@
 //! A saved run is resumed.
 
 ghost use Rattle.std.specs.Prelude.{◌≡◌, ◌-◌, ◌<◌, ◌^◌, [], IfErr, IfOk, IsTrue, OnOk, length, reverse};
-ghost use Rattle.rail_base.specs.declared.refusals.Fault.TheVariants.{Refused};
 ghost use Rattle.rail_engine.specs.Engines.{StandsFor};
 ghost use Rattle.rail_history.specs.LineReads.{lines_of};
 ghost use Rattle.rail_history.specs.LinesLeft.{lines_left};
@@ -9,14 +8,15 @@ ghost use Rattle.rail_laws_end.specs.Forks.{are_marks};
 ghost use Rattle.rail_ledger.specs.Inputs.{input_in};
 ghost use Rattle.rail_policy.specs.Desks.{run_seats};
 ghost use Rattle.rail_rules.specs.WritableLines.{IsNamed};
-ghost use Rattle.rail_save.specs.Snapshots.{IsOtherFault, IsRefusedSnapshot, IsRefusedUnread, IsResumed, IsSnapshot, refusal_at};
+ghost use Rattle.rail_save.specs.Snapshots.{IsOtherFault, IsRefusedSnapshot, IsRefusedUnread, IsResumed, IsSnapshot};
 
 use crate::saving::HEADER;
-use rail_base::{Fault, Part, Reason, Refusal};
+use rail_base::{Fault, Reason};
 use rail_engine::Engine;
 use rail_history::{History, Lines, read_history};
 use rail_plan::Plant;
 use rail_policy::{Desk, Seen};
+use rail_text::refused_at;
 use std::alloc::Global;
 
 /// Follows the lines of a snapshot. The engine has just begun, and is given back standing for the front of the snapshot; a
@@ -81,16 +81,4 @@ fn follow_lines(engine: &mut Engine, lines: &mut Lines<'_>) -> Result<(), Fault>
         }
     }
     Ok(())
-}
-
-/// The refusal of the line of this number.
-fn refused_at(reason: Reason, number: u32) -> Fault
-    ensures { result ≡ Refused (refusal_at reason number) }
-{
-    Fault::Refused(Refusal {
-        reason,
-        part: Part::Line,
-        item: number,
-        step: 0,
-    })
 }

@@ -172,9 +172,6 @@ define-narrow n doc e small h = of e.1 small
         (along-header (suc n) e.0.0 (at_key e.0.1 array_table) doc.0 (at-key n e.0.1 array_table doc.0 small h) (wider n (suc n) doc.0 (omega arith) h))
 
 -- how wide a value is that is read
-Wide : {A : Type 0} → (A → ℕ) → ℕ → Read A → Type 0
-Wide size n r = IfSome r (λ p. size p.0 ≤ n)
-
 wide-map : {A B : Type 0} (size : B → ℕ) (n : ℕ) (f : A → B) (r : Read A) → ((a : A) → size (f a) ≤ n) → IfSome (read_map f r) (λ p. size p.0 ≤ n)
 wide-map size n f None flat = tt
 wide-map size n f (Some p) flat = flat p.0

@@ -82,7 +82,7 @@ impl TrainState {
     }
 
     /// Whether the known cause is that this section is blocked.
-    pub fn is_blocked_at(&self, freed: SectionNo) -> bool
+    fn is_blocked_at(&self, freed: SectionNo) -> bool
         ensures { result ≡ is_blocked_at freed self.now.known }
     {
         is_blocked_at(&self.known, freed)

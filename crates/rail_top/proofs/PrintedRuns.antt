@@ -19,8 +19,9 @@ use Rattle.rail_rules.specs.Fronts.{Front, Line}
 use Rattle.rail_rules.specs.Numbers.{or_else}
 use Rattle.rail_rules.specs.Orders.{Input}
 use Rattle.rail_rules.specs.Texts.{text}
-use Rattle.rail_save.specs.Snapshots.{IsSnapshot, refusal_at, snapshot}
+use Rattle.rail_save.specs.Snapshots.{IsSnapshot, snapshot}
 use Rattle.rail_save.proofs.CallerLemmas.{saved_resumed}
+use Rattle.rail_text.specs.Lines.{refusal_at}
 use Rattle.rail_forms.specs.declared.status.Status.{Status}
 use Rattle.rail_forms.specs.declared.status.Status.TheVariants.{Done, Usage, Refused, ReadFault, WriteFault, OutOfMemory, CheckedNo}
 use Rattle.rail_forms.specs.Answers.{IsAnswer, Told}
