@@ -19,19 +19,25 @@ Looked at are all files *.md of the repository but those of folders `must-fail` 
 - the newest version of CHANGELOG.md is what `rail --version` prints;
 - each row of the table of keys of docs/FORMATS.md names the keys of its table in `crates/rail_scene/src/keys.rt` in their
   order, and tells the range and the default of each number;
-- each change of docs/CHANGING.md, and each file *.patch below docs/, could be made in the tree, where git is there to tell.
+- each change of docs/changes, a file *.patch, could be made in the tree by `git apply`, where git is there to tell;
+- what `catch_alls.py`, `dead_calls.py` and `dead_lemmas.py` look for is not there: an arm or a row that takes any form or role, a
+  public call that nobody makes, a lemma that nobody cites.
 
 The status is 1 where something is wrong.
 """
 
 import argparse
+import os
 import pathlib
 import re
 import subprocess
 import sys
 
 sys.path.insert(0, str(pathlib.Path(__file__).resolve().parent))
+from catch_alls import catch_alls  # noqa: E402
 from check_guide import commands_of  # noqa: E402
+from dead_calls import dead_calls  # noqa: E402
+from dead_lemmas import dead_lemmas  # noqa: E402
 from write_manual import newest, read_forms, read_help  # noqa: E402
 
 LEFT_OUT = {"must-fail", "out", ".git"}
@@ -224,17 +230,16 @@ def wrong_keys(repository):
 
 
 def wrong_changes(repository):
-    """Worked changes that cannot be made in the tree any more: those of docs/CHANGING.md, and the files *.patch below docs/."""
-    told = re.findall(r"^```diff\n(.*?)^```$", (repository / "docs/CHANGING.md").read_text(), re.M | re.S)
-    changes = [(f"docs/CHANGING.md: change {number}", text) for number, text in enumerate(told, 1)]
-    changes += [(str(path.relative_to(repository)), path.read_text()) for path in sorted((repository / "docs").rglob("*.patch"))]
-    for name, change in changes:
+    """Worked changes, the files of docs/changes, that cannot be made in the tree any more."""
+    # A repository further up would take the paths of a change for its own: `git apply` is to see this folder alone.
+    alone = os.environ | {"GIT_CEILING_DIRECTORIES": str(repository.parent)}
+    for path in sorted((repository / "docs/changes").glob("*.patch")):
         try:
-            ran = subprocess.run(["git", "apply", "--check", "-"], cwd=repository, input=change, capture_output=True, text=True)
+            ran = subprocess.run(["git", "apply", "--check", path], cwd=repository, env=alone, capture_output=True, text=True)
         except FileNotFoundError:  # no git
             return
         if ran.returncode:
-            yield f"{name} cannot be made: {ran.stderr.strip()}"
+            yield f"{path.relative_to(repository)} cannot be made: {ran.stderr.strip()}"
 
 
 def wrong_files(repository):
@@ -257,7 +262,7 @@ def main():
             wrong += [f"{name}: {it}" for it in found]
     wrong += [f"docs/ARCHITECTURE.md: {it}" for it in wrong_gate(repository)]
     wrong += [f"docs/FORMATS.md: {it}" for it in wrong_keys(repository)]
-    for look in (wrong_minutes, wrong_commands, wrong_version, wrong_changes, wrong_files):
+    for look in (wrong_minutes, wrong_commands, wrong_version, wrong_changes, wrong_files, catch_alls, dead_calls, dead_lemmas):
         wrong += look(repository)
     print("\n".join(wrong), end="\n" if wrong else "")
     sys.exit(1 if wrong else 0)

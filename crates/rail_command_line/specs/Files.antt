@@ -1,9 +1,13 @@
 -- The files of a command: their roles, and what words name them.
-use Rattle.std.specs.Prelude.{ℕ, Bool, true, false, cond, find, List, codes, option_and_then, Option, Some, None}
+use denote.Enum.Bare.{sameb}
+use Rattle.std.specs.Prelude.{◌≡◌, ◌-◌, ◌++◌, ℕ, Bool, cond, length, map, replicate, find, List, codes, option_and_then, Option, Some, None}
+use Rattle.std.specs.Option.{option_copied}
 use Rattle.std.specs.Str.{bytes_eq}
 use Rattle.rail_base.specs.Limits.{most, FileBytes, HistoryBytes}
+use Rattle.rail_command_line.specs.contracts.files.FileRole.{the_type}
 use Rattle.rail_command_line.specs.declared.files.FileRole.{FileRole}
 use Rattle.rail_command_line.specs.declared.files.FileRole.TheVariants as role
+use Rattle.rail_command_line.specs.declared.files.RequestFiles.{RequestFiles}
 
 -- how many bytes a file of the role may have
 abbrev pub most_bytes : FileRole → ℕ
@@ -29,15 +33,7 @@ number_of role.Snapshot = 4
 
 -- the two are one role
 abbrev pub same_role : FileRole → FileRole → Bool
-same_role role.Scene role.Scene = true
-same_role role.Timetable role.Timetable = true
-same_role role.Commands role.Commands = true
-same_role role.History role.History = true
-same_role role.List role.List = true
-same_role role.Edits role.Edits = true
-same_role role.Proposals role.Proposals = true
-same_role role.Snapshot role.Snapshot = true
-same_role _ _ = false
+same_role = sameb the_type
 
 -- the word that stands for no file
 abbrev pub no_file : List ℕ
@@ -55,6 +51,19 @@ pub record File : Type 0 where
 -- the file of the role with this name
 abbrev pub file_as : FileRole → Option (List ℕ) → File
 file_as role name = record { role = role; name = name }
+
+-- the roles of files, in their order
+abbrev pub roles_of : List File → List FileRole
+roles_of files = map (λ (file : File). file.role) files
+
+-- the names of files, in their order, where they are there
+abbrev pub names_of : List File → List (Option (List ℕ))
+names_of files = map (λ (file : File). file.name) files
+
+-- these are the files, in this order, by their roles and their names, of which there is room for four
+pub record AreFiles (told : RequestFiles) (files : List File) : Type 0 where
+  pub roles : told.roles.now ≡ roles_of files
+  pub names : map option_copied told.names ≡ names_of files ++ replicate (4 - length files) None
 
 -- the name of the file of a role among these, where it has one
 abbrev pub file_with : FileRole → List File → Option (List ℕ)

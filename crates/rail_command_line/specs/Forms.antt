@@ -258,19 +258,4 @@ values_in (request.Gen number) = number
 
 -- the files that a request reads, in this order: those of its form with its values
 abbrev pub files_in : Request → List File
-files_in (request.Run scenario) = scenario_files (scenario_in scenario)
-files_in (request.Infra scene) = file_as role.Scene (Some scene.now) ∷ []
-files_in (request.Play scene list) = file_as role.Scene (Some scene.now) ∷ file_as role.List (Some list.now) ∷ []
-files_in (request.Check scenario history) = scenario_files (scenario_in scenario) ++ file_as role.History (Some history.now) ∷ []
-files_in (request.Stairs scenario) = scenario_files (scenario_in scenario)
-files_in (request.Report scenario) = scenario_files (scenario_in scenario)
-files_in (request.Capacity line from to scenario) = scenario_files (scenario_in scenario)
-files_in (request.Insert paths) = scenario_files (scenario_in paths.scenario)
-files_in (request.Edit scene edits) = file_as role.Scene (Some scene.now) ∷ file_as role.Edits (Some edits.now) ∷ []
-files_in (request.Migrate scene) = file_as role.Scene (Some scene.now) ∷ []
-files_in (request.Reroute scene list proposals) = file_as role.Scene (Some scene.now) ∷ file_as role.List (Some list.now)
-    ∷ file_as role.Proposals (Some proposals.now) ∷ []
-files_in (request.Save count scenario) = scenario_files (scenario_in scenario)
-files_in (request.Resume scenario snapshot) = scenario_files (scenario_in scenario) ++ file_as role.Snapshot (Some snapshot.now) ∷ []
-files_in (request.Scene number) = []
-files_in (request.Gen number) = []
+files_in asked = files_of (form_in asked) (values_in asked)

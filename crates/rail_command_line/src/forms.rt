@@ -5,10 +5,10 @@ ghost use Rattle.std.specs.Prelude.{◌≡◌, ◌≤◌, ℕ, ◌∷◌, [], Li
 ghost use Rattle.std.specs.Option.{option_copied, option_map};
 ghost use Rattle.rail_command_line.specs.declared.forms.Form.{Form as AnyForm};
 ghost use Rattle.rail_command_line.specs.declared.forms.Form.TheVariants.{Capacity, Insert, Save};
-ghost use Rattle.rail_command_line.specs.Files.{file_with};
+ghost use Rattle.rail_command_line.specs.Files.{AreFiles, file_with};
 ghost use Rattle.rail_command_line.specs.Forms.{ArePaths, IsAsked, IsOneNumber, IsPathCount, IsSaving, IsStudy, Lacks, Paths, Saving, SceneAnd, SceneAndTwo, Spells, Study, Values, files_in, form_in, form_named, scenario_and_named, scenario_files, scenario_in, scenario_named, scenario_of, values_in, verb_of};
 
-use crate::files::{FileRole, named_file};
+use crate::files::{FileRole, RequestFiles, named_file};
 use crate::numbers::read_number;
 use rail_base::{Time, Word, read_time};
 
@@ -108,7 +108,14 @@ impl Form {
             Form::Capacity => ", where FROM and TO are times as 01:30:00",
             Form::Insert => ", where FROM and TO are times as 01:30:00, and COUNT is 1 to 128",
             Form::Scene | Form::Gen => ", where NUMBER is below 2^64 and has no leading zeros",
-            _ => "",
+            Form::Run
+            | Form::Infra
+            | Form::Play
+            | Form::Stairs
+            | Form::Report
+            | Form::Edit
+            | Form::Migrate
+            | Form::Reroute => "",
         }
     }
 
@@ -242,100 +249,88 @@ impl<'w> Request<'w> {
         }
     }
 
-    /// The name of the file of the role that the request reads, where it reads one.
-    pub fn file(&self, role: FileRole) -> Option<&'w str>
-        ensures { option_copied result ≡ file_with role (files_in self.now) }
+    /// The files that the request reads, in this order. A timetable or commands have their place there where they are missing
+    /// too; a made-up scene stands in no file.
+    pub fn files(&self) -> RequestFiles<'w>
+        ensures { AreFiles result (files_in self.now) }
     {
         match self {
-            Request::Run(scenario) => scenario.file(role),
-            Request::Infra { scene } | Request::Migrate { scene } => match role {
-                FileRole::Scene => Some(*scene),
-                FileRole::Timetable
-                | FileRole::Commands
-                | FileRole::History
-                | FileRole::List
-                | FileRole::Edits
-                | FileRole::Proposals
-                | FileRole::Snapshot => None,
+            Request::Run(scenario) | Request::Stairs(scenario) | Request::Report(scenario) => {
+                scenario.files()
+            }
+            Request::Capacity { scenario, .. } | Request::Save { scenario, .. } => scenario.files(),
+            Request::Insert(paths) => paths.scenario.files(),
+            Request::Infra { scene } | Request::Migrate { scene } => RequestFiles {
+                roles: &[FileRole::Scene],
+                names: [Some(*scene), None, None, None],
             },
-            Request::Play { scene, list } => match role {
-                FileRole::Scene => Some(*scene),
-                FileRole::List => Some(*list),
-                FileRole::Timetable
-                | FileRole::Commands
-                | FileRole::History
-                | FileRole::Edits
-                | FileRole::Proposals
-                | FileRole::Snapshot => None,
+            Request::Play { scene, list } => RequestFiles {
+                roles: &[FileRole::Scene, FileRole::List],
+                names: [Some(*scene), Some(*list), None, None],
             },
-            Request::Check { scenario, history } => match role {
-                FileRole::History => Some(*history),
-                FileRole::Scene
-                | FileRole::Timetable
-                | FileRole::Commands
-                | FileRole::List
-                | FileRole::Edits
-                | FileRole::Proposals
-                | FileRole::Snapshot => scenario.file(role),
-            },
-            Request::Stairs(scenario) => scenario.file(role),
-            Request::Report(scenario) => scenario.file(role),
-            Request::Capacity { scenario, .. } => scenario.file(role),
-            Request::Insert(paths) => paths.scenario.file(role),
-            Request::Edit { scene, edits } => match role {
-                FileRole::Scene => Some(*scene),
-                FileRole::Edits => Some(*edits),
-                FileRole::Timetable
-                | FileRole::Commands
-                | FileRole::History
-                | FileRole::List
-                | FileRole::Proposals
-                | FileRole::Snapshot => None,
+            Request::Edit { scene, edits } => RequestFiles {
+                roles: &[FileRole::Scene, FileRole::Edits],
+                names: [Some(*scene), Some(*edits), None, None],
             },
             Request::Reroute {
                 scene,
                 list,
                 proposals,
-            } => match role {
-                FileRole::Scene => Some(*scene),
-                FileRole::List => Some(*list),
-                FileRole::Proposals => Some(*proposals),
-                FileRole::Timetable
-                | FileRole::Commands
-                | FileRole::History
-                | FileRole::Edits
-                | FileRole::Snapshot => None,
+            } => RequestFiles {
+                roles: &[FileRole::Scene, FileRole::List, FileRole::Proposals],
+                names: [Some(*scene), Some(*list), Some(*proposals), None],
             },
-            Request::Save { scenario, .. } => scenario.file(role),
-            Request::Resume { scenario, snapshot } => match role {
-                FileRole::Snapshot => Some(*snapshot),
-                FileRole::Scene
-                | FileRole::Timetable
-                | FileRole::Commands
-                | FileRole::History
-                | FileRole::List
-                | FileRole::Edits
-                | FileRole::Proposals => scenario.file(role),
+            Request::Check { scenario, history } => RequestFiles {
+                roles: &[
+                    FileRole::Scene,
+                    FileRole::Timetable,
+                    FileRole::Commands,
+                    FileRole::History,
+                ],
+                names: [
+                    Some(scenario.scene),
+                    scenario.timetable,
+                    scenario.commands,
+                    Some(*history),
+                ],
             },
-            Request::Scene { .. } | Request::Gen { .. } => None,
+            Request::Resume { scenario, snapshot } => RequestFiles {
+                roles: &[
+                    FileRole::Scene,
+                    FileRole::Timetable,
+                    FileRole::Commands,
+                    FileRole::Snapshot,
+                ],
+                names: [
+                    Some(scenario.scene),
+                    scenario.timetable,
+                    scenario.commands,
+                    Some(*snapshot),
+                ],
+            },
+            Request::Scene { .. } | Request::Gen { .. } => RequestFiles {
+                roles: &[],
+                names: [None; 4],
+            },
         }
+    }
+
+    /// The name of the file of the role that the request reads, where it reads one.
+    pub fn file(&self, role: FileRole) -> Option<&'w str>
+        ensures { option_copied result ≡ file_with role (files_in self.now) }
+    {
+        self.files().name_of(role)
     }
 }
 
 impl<'w> Scenario<'w> {
-    /// The name of the file of the role, where it is there.
-    fn file(&self, role: FileRole) -> Option<&'w str>
-        ensures { option_copied result ≡ file_with role (scenario_files (scenario_in self.now)) }
+    /// The files of the scenario, in the order in which they are read.
+    fn files(&self) -> RequestFiles<'w>
+        ensures { AreFiles result (scenario_files (scenario_in self.now)) }
     {
-        match role {
-            FileRole::Scene => Some(self.scene),
-            FileRole::Timetable => self.timetable,
-            FileRole::Commands => self.commands,
-            FileRole::History
-            | FileRole::List
-            | FileRole::Edits
-            | FileRole::Proposals
-            | FileRole::Snapshot => None,
+        RequestFiles {
+            roles: &[FileRole::Scene, FileRole::Timetable, FileRole::Commands],
+            names: [Some(self.scene), self.timetable, self.commands, None],
         }
     }
 }

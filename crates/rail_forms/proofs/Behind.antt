@@ -1,5 +1,5 @@
 -- What the run of a scenario is refused for, behind all that is refused before it.
-use Rattle.std.proofs.Common.{◌≡◌, ℕ, ◌⊎◌, List, Option, Some, None, inl, inr, refl, sym, ap, ◌∙◌, subst, arith}
+use Rattle.std.proofs.Common.{◌≡◌, ℕ, ◌⊎◌, List, Option, Some, None, inl, inr, refl, sym, ap, ◌∙◌, subst}
 use Rattle.std.proofs.lemmas.Option.{none-some, same_Some}
 use Rattle.rail_base.specs.Refusals.{AnswersFirst}
 use Rattle.rail_base.specs.declared.refusals.Fault.{Fault}
@@ -8,26 +8,24 @@ use Rattle.rail_base.specs.declared.refusals.Refusal.{Refusal}
 use Rattle.rail_capacity.specs.declared.compression.Window.{Window}
 use Rattle.rail_input.specs.Inputs.{input_in, input_refusal}
 use Rattle.rail_io.specs.Writes.{Adds, AddsPrefix}
+use Rattle.rail_io.specs.declared.shelf.Shelf.{Ghosts}
 use Rattle.rail_io.specs.declared.sink.Sink.{Ghosts as SinkGhosts}
 use Rattle.rail_policy.specs.Seats.{DeskSeat, handed_in, names_of}
 use Rattle.rail_rules.specs.Numbers.{or_else}
 use Rattle.rail_rules.specs.Orders.{Input}
 use Rattle.rail_rules.specs.RunHistories.{Seat}
-use Rattle.rail_command_line.specs.Forms.{Scenario}
+use Rattle.rail_command_line.specs.Forms.{Scenario, scenario_files}
 use Rattle.rail_command_line.specs.declared.files.FileRole.TheVariants as role
-use Rattle.rail_forms.specs.declared.scenario.Purpose.{Purpose}
-use Rattle.rail_forms.specs.declared.scenario.Purpose.TheVariants.{History}
+use Rattle.rail_forms.specs.declared.scenario.ScenarioFiles.{ScenarioFiles}
 use Rattle.rail_forms.specs.declared.status.Status.{Status}
 use Rattle.rail_forms.specs.declared.status.Status.TheVariants.{CheckedNo, Done, OutOfMemory, ReadFault, Refused, Usage, WriteFault}
 use Rattle.rail_forms.specs.Answers.{IsAnswer, Told, status_of}
-use Rattle.rail_forms.specs.Files.{told_of, too_large, too_large_if_any}
+use Rattle.rail_forms.specs.Files.{content_of, told_of, too_large, too_large_if_any}
 use Rattle.rail_forms.specs.Insertions.{AnswersPaths, IsInsertionText, IsPathsAnswer, IsRefusedRun, refused_with, train_refusal, with_train}
 use Rattle.rail_forms.specs.NotedRuns.{ReportsRun}
-use Rattle.rail_forms.specs.Promises.{WritesAnswer}
-use Rattle.rail_forms.specs.Purposes.{AnswersPurpose, IsRefusedIfAny, RefusesBehind}
-use Rattle.rail_forms.specs.Scenarios.{AnswersScenario, nothing_else, scenario_refusal}
-use Rattle.rail_forms.proofs.ScenarioAnswers.{first_answers}
-use Rattle.rail_forms.proofs.Writes.{none_written}
+use Rattle.rail_forms.specs.Promises.{KeepsPromise}
+use Rattle.rail_forms.specs.Scenarios.{AnswersScenario, IsHeld, IsUnread, nothing_else, refusal_in, scenario_refusal, spelled_in}
+use Rattle.rail_forms.proofs.ScenarioAnswers.{answers_begun, answers_refused, answers_unread, runs_same}
 
 -- where nothing is refused first, no refusal is answered
 never_refused : (first : Option Refusal) (whole part : Type 0) (status : Status) → IsAnswer first whole part status → first ≡ None
@@ -75,56 +73,14 @@ run_refused first whole part why status none is =
     of (fault.Refused refusal) = refl
     of fault.OutOfMemory = tt
 
--- nothing is written where an error of a call comes before a byte was
-pub unwritten_fault : {O : Type 0} (sink : SinkGhosts O) (before : O) (why : Fault) (status : Status) → status ≡ status_of why → WritesAnswer sink before before status
-unwritten_fault sink before why status is = subst (WritesAnswer sink before before) (sym is) (of why)
-  where
-    of : (why : Fault) → WritesAnswer sink before before (status_of why)
-    of (fault.Refused refusal) = record {
-      write_fault = λ same. (cc);
-      unwritten = λ none. refl;
-      faults_never_fall = omega arith;
-    }
-    of fault.OutOfMemory = none_written sink before OutOfMemory refl
-
 -- where nothing is refused, a text that was not written to its end is told in part
 pub run_cut : (first : Option Refusal) (whole part : Type 0) (status : Status) → first ≡ None → status ≡ WriteFault → part → IsAnswer (or_else first (refused_with status)) whole part status
 run_cut first whole part status none is written =
     subst (λ (o : Option Refusal). IsAnswer (or_else o (refused_with status)) whole part status) (sym none) (subst (λ (s : Status). IsAnswer (refused_with s) whole part s) (sym is) (refl, written))
 
--- where a first refusal answers, none comes behind it
-pub none_first : (purpose : Purpose) (first : Option Refusal) (status : Status) (why : Fault) (input : Input) (seats : List Seat) → status ≡ status_of why → AnswersFirst first why → first ≡ None
-    → IsRefusedIfAny purpose status input seats
-none_first purpose first status why input seats is answers none = λ refusal ends.
-    absurd (never_refused first (Unit {0}) (Unit {0}) status (first_answers History first input (Unit {0}) (Unit {0}) why status is answers) none refusal ends)
-
--- nor where the files of the scenario are not read
-pub none_unread : (purpose : Purpose) (scenario : Scenario) (deck : List DeskSeat) (told : Told) (before now : Option (List ℕ)) (status : Status)
-    → AnswersPurpose History scenario deck told before now status → RefusesBehind purpose scenario deck told status
-none_unread purpose scenario deck told before now status answer = λ bytes calls orders at calls_at orders_at none refusal ends.
-    absurd (never_refused _ _ _ status (answer.all bytes calls orders at calls_at orders_at) none refusal ends)
-
 last_none : (a b : Option Refusal) → or_else a b ≡ None → b ≡ None
 last_none None b none = none
 last_none (Some refusal) b none = absurd (none-some refusal (sym none))
-
--- where they are read, what is refused is that of what they spell
-pub all_read : (purpose : Purpose) (scenario : Scenario) (deck : List DeskSeat) (told : Told) (status : Status)
-    (scene_read : List ℕ) → ((bytes : List ℕ) → told scenario.scene ≡ Some bytes → scene_read ≡ bytes)
-    → (timetable_read : Option (List ℕ)) → ((content : Option (List ℕ)) → told_of told scenario.timetable ≡ Some content → timetable_read ≡ content)
-    → (commands_read : Option (List ℕ)) → ((content : Option (List ℕ)) → told_of told scenario.commands ≡ Some content → commands_read ≡ content)
-    → (input_refusal scene_read timetable_read commands_read (names_of deck) ≡ None
-    → IsRefusedIfAny purpose status (input_in scene_read timetable_read commands_read (names_of deck)) (handed_in deck))
-    → RefusesBehind purpose scenario deck told status
-all_read purpose scenario deck told status scene_read scene_is timetable_read timetable_is commands_read commands_is behind = λ bytes calls orders at calls_at orders_at none.
-    let Holds : List ℕ → Option (List ℕ) → Option (List ℕ) → Type 0 = λ b c o. input_refusal b c o (names_of deck) ≡ None
-    → IsRefusedIfAny purpose status (input_in b c o (names_of deck)) (handed_in deck) in
-    subst (λ b. Holds b calls orders) (scene_is bytes at)
-    (subst (λ c. Holds scene_read c orders) (timetable_is calls calls_at)
-    (subst (λ o. Holds scene_read timetable_read o) (commands_is orders orders_at) behind))
-    (last_none (too_large_if_any role.Commands orders) (input_refusal bytes calls orders (names_of deck))
-    (last_none (too_large_if_any role.Timetable calls) (or_else (too_large_if_any role.Commands orders) (input_refusal bytes calls orders (names_of deck)))
-    (last_none (too_large role.Scene bytes) (or_else (too_large_if_any role.Timetable calls) (or_else (too_large_if_any role.Commands orders) (input_refusal bytes calls orders (names_of deck)))) none)))
 
 -- a refusal is the first one, or none of these refuses
 of_these : (a b c d e : Option Refusal) (refusal : Refusal) (X : Type 0)
@@ -178,6 +134,61 @@ module _ (word : List ℕ) (window : Window) (count : ℕ) (scenario : Scenario)
     of_scene = answer.of_scene;
   }
 
+  -- where a file was not read nothing is refused behind the sizes
+  pub paths_unread : {S : Type 0} (shelf : Ghosts S) (one two : S) (why status : Status) → status ≡ why → shelf.told one ≡ told → IsUnread shelf scenario one two why
+      → AnswersPaths word window count scenario deck told before now status
+  paths_unread shelf one two why status is still unread = paths_answered status
+      (subst (λ (t : Told). AnswersScenario (with_train word (refused_with status)) Whole Part scenario deck t status) still
+      (answers_unread shelf (with_train word (refused_with status)) Whole Part scenario deck one two why status is unread))
+      (λ bytes calls orders at calls_at orders_at none refusal ends known.
+      let first = subst (λ (t : Told). AnswersScenario nothing_else Whole Part scenario deck t status) still (answers_unread shelf nothing_else Whole Part scenario deck one two why status is unread) in
+      absurd (never_refused _ _ _ status (first.all bytes calls orders at calls_at orders_at) none refusal ends))
+
+  -- the files were read
+  module _ (status : Status) (files : ScenarioFiles) (held : IsHeld told scenario files) where
+    abbrev first : Option Refusal
+    first = refusal_in files (names_of deck)
+
+    abbrev input : Input
+    input = spelled_in files (names_of deck)
+
+    -- what is refused behind what they spell is refused behind what they hold
+    behind_held : (first ≡ None → (refusal : Refusal) → status ≡ Refused refusal → train_refusal input.plant word ≡ None → IsRefusedRun word window refusal input (handed_in deck))
+        → (bytes : List ℕ) (calls orders : Option (List ℕ)) → told scenario.scene ≡ Some bytes → told_of told scenario.timetable ≡ Some calls → told_of told scenario.commands ≡ Some orders
+        → Behind status bytes calls orders
+    behind_held behind = λ bytes calls orders at calls_at orders_at none.
+        let Holds : List ℕ → Option (List ℕ) → Option (List ℕ) → Type 0 = λ b c o. input_refusal b c o (names_of deck) ≡ None
+        → (refusal : Refusal) → status ≡ Refused refusal → train_refusal (spelled b c o).plant word ≡ None → IsRefusedRun word window refusal (spelled b c o) (handed_in deck) in
+        subst (λ b. Holds b calls orders) (held.scene bytes at)
+        (subst (λ c. Holds files.scene.items c orders) (held.timetable calls calls_at)
+        (subst (λ o. Holds files.scene.items (content_of files.timetable) o) (held.commands orders orders_at) behind))
+        (last_none (too_large_if_any role.Commands orders) (input_refusal bytes calls orders (names_of deck))
+        (last_none (too_large_if_any role.Timetable calls) (or_else (too_large_if_any role.Commands orders) (input_refusal bytes calls orders (names_of deck)))
+        (last_none (too_large role.Scene bytes) (or_else (too_large_if_any role.Timetable calls) (or_else (too_large_if_any role.Commands orders) (input_refusal bytes calls orders (names_of deck)))) none)))
+
+    abbrev late : Input → Option Refusal
+    late input = or_else (train_refusal input.plant word) (refused_with status)
+
+    -- they are refused, or memory was wanting
+    pub paths_refused : (why : Fault) → status ≡ status_of why → AnswersFirst first why → AnswersPaths word window count scenario deck told before now status
+    paths_refused why is answers = paths_answered status
+        (answers_refused (with_train word (refused_with status)) late (λ first input. refl) Whole Part scenario deck told status files held why is answers)
+        (behind_held (λ none refusal ends known. absurd (never_refused first (Unit {0}) (Unit {0}) status (of why is answers) none refusal ends)))
+      where
+        of : (why : Fault) → status ≡ status_of why → AnswersFirst first why → IsAnswer first (Unit {0}) (Unit {0}) status
+        of (fault.Refused refusal) is answers = subst (IsAnswer first (Unit {0}) (Unit {0})) (sym is) answers
+        of fault.OutOfMemory is answers = subst (IsAnswer first (Unit {0}) (Unit {0})) (sym is) tt
+
+    -- or the run of this has begun
+    pub paths_begun : (begun : Input) (seats : List Seat) → first ≡ None → begun ≡ input → seats ≡ handed_in deck
+        → IsAnswer (late begun) (Whole begun seats) (Part begun seats) status
+        → ((refusal : Refusal) → status ≡ Refused refusal → train_refusal begun.plant word ≡ None → IsRefusedRun word window refusal begun seats)
+        → AnswersPaths word window count scenario deck told before now status
+    paths_begun begun seats none same same_seats answer behind = paths_answered status
+        (answers_begun (with_train word (refused_with status)) late (λ first input. refl) Whole Part scenario deck told status files held begun seats none same same_seats answer)
+        (behind_held (λ accepted. runs_same (λ i s. (refusal : Refusal) → status ≡ Refused refusal → train_refusal i.plant word ≡ None → IsRefusedRun word window refusal i s)
+        begun input seats (handed_in deck) same same_seats behind))
+
 -- the same of paths that are equal
 pub same_paths : (word other_word : List ℕ) (window : Window) (count other_count : ℕ) (scenario other : Scenario) → word ≡ other_word → count ≡ other_count → scenario ≡ other
     → (deck : List DeskSeat) (told : Told) (before now : Option (List ℕ)) (status : Status)
@@ -186,3 +197,8 @@ same_paths word other_word window count other_count scenario other same_word sam
     subst (λ (w : List ℕ). AnswersPaths w window other_count other deck told before now status) same_word
     (subst (λ (k : ℕ). AnswersPaths word window k other deck told before now status) same_count
     (subst (λ (s : Scenario). AnswersPaths word window count s deck told before now status) same answer))
+
+-- what is promised of the files of one scenario is promised of those of an equal one
+pub keeps_same : {S O : Type 0} (shelf : Ghosts S) (sink : SinkGhosts O) (scenario other : Scenario) (before now : S) (out out_now : O) (status : Status) → scenario ≡ other
+    → KeepsPromise shelf sink (scenario_files scenario) before now out out_now status → KeepsPromise shelf sink (scenario_files other) before now out out_now status
+keeps_same shelf sink scenario other before now out out_now status same kept = subst (λ (s : Scenario). KeepsPromise shelf sink (scenario_files s) before now out out_now status) same kept

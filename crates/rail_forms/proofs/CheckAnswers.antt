@@ -26,14 +26,15 @@ use Rattle.rail_text.specs.Lines.{refusal_at}
 use Rattle.rail_ledger.specs.declared.input.RunInput.{RunInput}
 use Rattle.rail_ledger.specs.Inputs.{input_in as checked_input}
 use Rattle.rail_forms.specs.declared.status.Status.{Status}
-use Rattle.rail_forms.specs.declared.status.Status.TheVariants.{CheckedNo, Done, OutOfMemory, ReadFault, Refused, Usage, WriteFault}
-use Rattle.rail_forms.specs.Answers.{Decides, IsAnswer, Told, status_of}
+use Rattle.rail_forms.specs.declared.status.Status.TheVariants.{Done, OutOfMemory, Refused, WriteFault}
+use Rattle.rail_forms.specs.Answers.{Decides, IsAnswer, status_of}
 use Rattle.rail_forms.specs.Checks.{AnswersHistory, IsJudged, IsSaid, done_with, status_judged, verdict_text}
 use Rattle.rail_forms.proofs.Answers.{answer_decides, none_decides}
+use Rattle.rail_forms.proofs.PastAnswers.{AreLines}
 use Rattle.rail_forms.proofs.ScenarioAnswers.{or_else_more}
 
 -- where a file was not read
-pub history_unread : (limit later : Option Refusal) (input : Input) (text : List ℕ) (before now : Option (List ℕ)) (status : Status) → done_with status ≡ status
+history_unread : (limit later : Option Refusal) (input : Input) (text : List ℕ) (before now : Option (List ℕ)) (status : Status) → done_with status ≡ status
     → ((rest : Option Refusal) (whole part : Type 0) → IsAnswer (or_else limit rest) whole part status) → AnswersHistory (or_else limit later) input text before now status
 history_unread limit later input text before now status done any = record {
   read = λ lines is. subst (IsAnswer (or_else limit later) _ _) (sym done) (any later _ _);
@@ -42,10 +43,12 @@ history_unread limit later input text before now status done any = record {
   of_first = answer_decides (or_else limit later) ⊥ ⊥ status (any later ⊥ ⊥);
 }
 
--- where nothing is refused at first, the answer is that of what comes after it
-pub history_after : (first later : Option Refusal) (input : Input) (text : List ℕ) (before now : Option (List ℕ)) (status : Status) → first ≡ None
-    → AnswersHistory later input text before now status → AnswersHistory (or_else first later) input text before now status
-history_after first later input text before now status none answer = subst (λ (o : Option Refusal). AnswersHistory (or_else o later) input text before now status) (sym none) answer
+-- so it is a file of lines
+pub history_lines : (before now : Option (List ℕ)) (status : Status) → AreLines (λ first input seats text. AnswersHistory first input text before now status) status
+history_lines before now status = record {
+  unread = λ limit later input seats text done any. history_unread limit later input text before now status done any;
+  of_first = λ first input seats text answer. answer.of_first;
+}
 
 -- where memory was wanting
 pub no_memory : (first : Option Refusal) (input : Input) (text : List ℕ) (before now : Option (List ℕ)) (status : Status) → status ≡ OutOfMemory → AnswersHistory first input text before now status

@@ -25,3 +25,4 @@ mod Summaries
 mod Pieces
 mod CapacityTexts
 mod Studies
+mod Completing

@@ -1,5 +1,5 @@
 -- What was noted of a run, and what is told of it.
-use Rattle.std.proofs.Common.{◌≡◌, ℕ, true, cond, List, ◌∷◌, length, map, Option, Some, None, refl, sym, ap, ◌∙◌, subst}
+use Rattle.std.proofs.Common.{◌≡◌, ℕ, true, cond, List, length, map, Option, Some, refl, sym, ap, ◌∙◌, subst}
 use Rattle.std.specs.Prelude.{IsSome, unwrap_or}
 use Rattle.std.proofs.lemmas.Bool.{and_from, and_parts}
 use Rattle.rail_base.specs.declared.history.What.{What}

@@ -1,5 +1,5 @@
 -- What is promised of the files where one of them was not read.
-use Rattle.std.proofs.Common.{◌≡◌, ℕ, ◌≤◌, false, not, ◌&&◌, List, [], ◌∷◌, ◌++◌, Option, Some, refl, sym, ap, ◌∙◌, subst, inl, inr, arith}
+use Rattle.std.proofs.Common.{◌≡◌, ℕ, ◌≤◌, true, false, not, ◌&&◌, List, [], ◌∷◌, ◌++◌, Option, Some, refl, sym, ap, ◌∙◌, subst, inl, inr, IfSome, arith}
 use Rattle.std.proofs.lemmas.Bool.{false≢true}
 use Rattle.rail_base.specs.Refusals.{is_file}
 use Rattle.rail_base.specs.declared.refusals.Refusal.{Refusal}
@@ -9,8 +9,8 @@ use Rattle.rail_command_line.specs.Files.{File, file_as}
 use Rattle.rail_command_line.specs.declared.files.FileRole.{FileRole}
 use Rattle.rail_forms.specs.declared.status.Status.{Status}
 use Rattle.rail_forms.specs.declared.status.Status.TheVariants.{Done, Usage, Refused, ReadFault, WriteFault, OutOfMemory, CheckedNo}
-use Rattle.rail_forms.specs.Files.{FitsWhereTold, IsFileAnswer, IsOneOf, IsOneTooLarge, IsReadFault, IsTooLarge, comes_of_files, is_of_words}
-use Rattle.rail_forms.specs.Promises.{KeepsPromise, ReadsFiles}
+use Rattle.rail_forms.specs.Files.{FitsWhereTold, IsFileAnswer, IsOneOf, IsOneTooLarge, IsRead, IsReadFault, IsTooLarge, comes_of_files, is_of_words, last_file}
+use Rattle.rail_forms.specs.Promises.{KeepsPromise, ReadsFiles, WritesAnswer, is_of_bytes}
 
 -- the files are no larger than a file may have bytes, where these are told
 abbrev pub AreFit : (List ℕ → Option (List ℕ)) → List File → Type 0
@@ -90,3 +90,21 @@ module _ {S : Type 0} (shelf : Ghosts S) (first later : List File) (role : FileR
     };
     in_table = λ is. subst (IsFileAnswer shelf role file between now) is answer;
   }
+
+-- what is promised where all files were read, by a status that comes of what they hold
+pub keeps_read : {S O : Type 0} (shelf : Ghosts S) (sink : SinkGhosts O) (file : File) (files : List File) (before now : S) (out out_now : O) (status : Status)
+    → IfSome (last_file (file ∷ files)) (λ name. IsRead shelf name now) → shelf.told now ≡ shelf.told before → shelf.faults before ≤ shelf.faults now
+    → is_of_bytes status ≡ true → WritesAnswer sink out out_now status → KeepsPromise shelf sink (file ∷ files) before now out out_now status
+keeps_read shelf sink file files before now out out_now status read stays rise of_bytes writes = record {
+  reads = record {
+    read_fault = λ is. absurd (false≢true (sym (ap is_of_bytes is) ∙ of_bytes));
+    too_large = λ refusal is of_file. absurd (false≢true (ap not (sym of_file) ∙ sym (ap is_of_bytes is) ∙ of_bytes));
+    read = λ comes. read;
+    unread = λ empty. absurd (not_empty [] files file empty);
+    usage_unread = λ is. absurd (false≢true (sym (ap is_of_bytes is) ∙ of_bytes));
+    told_stays = stays;
+    faults_never_fall = rise;
+  };
+  writes = writes;
+  in_table = λ is. false≢true (sym (ap is_of_bytes is) ∙ of_bytes);
+}

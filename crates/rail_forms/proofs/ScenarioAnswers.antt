@@ -1,6 +1,8 @@
--- What is answered to a scenario, put together from what its files answer.
-use Rattle.std.proofs.Common.{Bor, ◌≡◌, ◌≢◌, ℕ, ◌≤◌, Bool, true, ◌&&◌, nat_lt, List, [], ◌∷◌, ◌++◌, length, map, Option, Some, None, refl, sym, ap, ◌∙◌, subst}
+-- What is answered to a scenario, put together from what its files answer, for any form: by what it refuses beside what a run
+-- does, and what it adds of the run.
+use Rattle.std.proofs.Common.{Bor, ◌≡◌, ◌≢◌, ℕ, ◌≤◌, Bool, true, false, ◌&&◌, IfSome, arith, nat_lt, List, [], ◌∷◌, ◌++◌, length, map, Option, Some, None, refl, sym, ap, ◌∙◌, subst}
 use Rattle.std.specs.Option.{option_copied, option_map}
+use Rattle.std.proofs.lemmas.Bool.{false≢true}
 use Rattle.std.proofs.lemmas.Option.{none-some, same_Some}
 use Rattle.rail_base.specs.Refusals.{AnswersFirst}
 use Rattle.rail_base.specs.declared.refusals.Fault.{Fault}
@@ -20,22 +22,23 @@ use Rattle.rail_policy.proofs.CallerLemmas.{fine_names}
 use Rattle.rail_policy.specs.Seats.{DeskSeat, are_marks_small, handed_in, is_fine_deck, names_of}
 use Rattle.rail_laws_end.specs.Forks.{are_marks}
 use Rattle.rail_engine.specs.Starts.{run_input}
-use Rattle.rail_input.specs.Inputs.{input_in, input_refusal, plant_refusal}
+use Rattle.rail_input.specs.Inputs.{input_in, input_refusal, plant_refusal, refuses_file}
 use Rattle.rail_forms.specs.declared.status.Status.{Status}
-use Rattle.rail_forms.specs.declared.status.Status.TheVariants.{Refused}
+use Rattle.rail_forms.specs.declared.status.Status.TheVariants.{CheckedNo, Done, OutOfMemory, ReadFault, Refused, Usage, WriteFault}
 use Rattle.rail_forms.specs.Answers.{Decides, IsAnswer, Told, status_of}
-use Rattle.rail_forms.specs.declared.scenario.Purpose.{Purpose}
-use Rattle.rail_forms.specs.declared.scenario.Purpose.TheVariants.{Capacity, History, Insertion, Report, Snapshot, Stairs}
+use Rattle.rail_forms.specs.declared.scenario.ScenarioFiles.{ScenarioFiles}
 use Rattle.rail_command_line.specs.Files.{File, file_as}
-use Rattle.rail_command_line.specs.Forms.{Scenario}
+use Rattle.rail_command_line.specs.Forms.{Scenario, scenario_files}
 use Rattle.rail_command_line.specs.declared.files.FileRole.{FileRole}
 use Rattle.rail_command_line.specs.declared.files.FileRole.TheVariants as role
-use Rattle.rail_forms.specs.Files.{IsFileAnswer, IsNamedAnswer, told_of, too_large, too_large_if_any, too_many_bytes}
-use Rattle.rail_forms.specs.Promises.{KeepsPromise}
-use Rattle.rail_forms.specs.Purposes.{AnswersPurpose, late_refusal, part_of, refusal_of, whole_of}
-use Rattle.rail_forms.specs.Scenarios.{scenario_refusal}
+use Rattle.rail_forms.specs.Files.{IsFileAnswer, IsNamedAnswer, IsRead, IsReadIfAny, content_of, last_file, told_of, too_large, too_large_if_any, too_many_bytes}
+use Rattle.rail_forms.specs.Checks.{done_with}
+use Rattle.rail_forms.specs.Promises.{KeepsPromise, ReadsFiles, is_of_bytes}
+use Rattle.rail_forms.specs.Scenarios.{AnswersScenario, IsHeld, IsUnread, is_unread, nothing_else, refusal_in, scenario_refusal, spelled_in}
 use Rattle.rail_forms.proofs.Answers.{answer_after, answer_decides, file_answer, first_decides, none_decides, unread_decides}
-use Rattle.rail_forms.proofs.Reading.{AreFit, keeps_failed}
+use Rattle.rail_forms.proofs.Writes.{unwritten_fault}
+use Rattle.rail_forms.proofs.Parts.{of_bytes_fault}
+use Rattle.rail_forms.proofs.Reading.{AreFit, keeps_read, reads_failed}
 
 -- the names of boxes that a reference shows
 pub names_shown : {X : Type 0} (seat : X → DeskSeat) (shown boxes : List X) → shown ≡ boxes → names_of (map seat shown) ≡ names_of (map seat boxes)
@@ -46,9 +49,16 @@ pub marks_shown : {X : Type 0} (seat : X → DeskSeat) (shown boxes : List X) �
 marks_shown seat shown boxes same small = subst (λ xs. are_marks_small (map seat xs) ≡ true) same small
 
 -- the bytes that a reference shows
-pub copied_is : (shown : Option (Bor (List ℕ))) → option_copied shown ≡ option_map (λ (r : Bor (List ℕ)). r.now) shown
+copied_is : (shown : Option (Bor (List ℕ))) → option_copied shown ≡ option_map (λ (r : Bor (List ℕ)). r.now) shown
 copied_is None = refl
 copied_is (Some bytes) = refl
+
+-- what holds of the bytes that references show holds of the bytes
+pub shown : (P : List ℕ → Option (List ℕ) → Option (List ℕ) → Type 0) {scene bytes : List ℕ} (calls orders : Option (Bor (List ℕ))) {timetable commands : Option (List ℕ)} → scene ≡ bytes
+    → option_map (λ (r : Bor (List ℕ)). r.now) calls ≡ timetable → option_map (λ (r : Bor (List ℕ)). r.now) orders ≡ commands
+    → P scene (option_copied calls) (option_copied orders) → P bytes timetable commands
+shown P {scene} {bytes} calls orders {timetable} {commands} same same_calls same_orders holds =
+    subst (λ b. P b timetable commands) same (subst (λ c. P scene c commands) (copied_is calls ∙ same_calls) (subst (λ o. P scene (option_copied calls) o) (copied_is orders ∙ same_orders) holds))
 
 -- a run begins with what was read
 pub begun_input : (input : Input) (plant : Plant) (commands : List Command) (table : Table) (seats : List DeskSeat) (force : ℕ) → table ≡ record { seats = seats; force = force; last = None }
@@ -94,40 +104,17 @@ pub answer_same : (late : Input → Option Refusal) (whole part : Input → List
 answer_same late whole part input other seats other_seats status same same_seats answer =
     runs_same (λ i s. IsAnswer (late i) (whole i s) (part i s) status) input other seats other_seats same same_seats answer
 
--- what is refused for a purpose behind a first refusal
 or_else_none : (first : Option Refusal) → or_else first None ≡ first
 or_else_none None = refl
 or_else_none (Some refusal) = refl
-
-pub refusal_split : (purpose : Purpose) (status : Status) (first : Option Refusal) (input : Input)
-    → refusal_of purpose status first input ≡ or_else first (late_refusal purpose status input)
-refusal_split History status first input = sym (or_else_none first)
-refusal_split (Snapshot count) status first input = sym (or_else_none first)
-refusal_split Stairs status first input = sym (or_else_none first)
-refusal_split Report status first input = sym (or_else_none first)
-refusal_split (Capacity study) status first input = refl
-refusal_split (Insertion demand) status first input = refl
 
 pub or_else_more : (a b c : Option Refusal) → or_else (or_else a b) c ≡ or_else a (or_else b c)
 or_else_more None b c = refl
 or_else_more (Some refusal) b c = refl
 
--- where the first refusal answers, so does it before all that is refused for the purpose
-pub first_answers : (purpose : Purpose) (first : Option Refusal) (input : Input) (whole part : Type 0) (why : Fault) (status : Status) → status ≡ status_of why → AnswersFirst first why
-    → IsAnswer (refusal_of purpose status first input) whole part status
-first_answers purpose first input whole part why status is answers =
-    subst (λ (o : Option Refusal). IsAnswer o whole part status) (sym (refusal_split purpose status first input))
-    (subst (IsAnswer (or_else first (late_refusal purpose status input)) whole part) (sym is) (of why answers))
-  where
-    of : (why : Fault) → AnswersFirst first why → IsAnswer (or_else first (late_refusal purpose status input)) whole part (status_of why)
-    of (fault.Refused refusal) answers = ap (λ (o : Option Refusal). or_else o (late_refusal purpose status input)) answers
-    of fault.OutOfMemory answers = tt
-
--- where there is none, all is as what else is refused
-pub late_answers : (purpose : Purpose) (first : Option Refusal) (input : Input) (whole part : Type 0) (status : Status) → first ≡ None
-    → IsAnswer (late_refusal purpose status input) whole part status → IsAnswer (refusal_of purpose status first input) whole part status
-late_answers purpose first input whole part status none answer =
-    subst (λ (o : Option Refusal). IsAnswer o whole part status) (sym (refusal_split purpose status first input)) (answer_after first (late_refusal purpose status input) whole part status none answer)
+-- a form that refuses nothing else refuses nothing behind the input
+pub nothing_behind : (first : Option Refusal) (input : Input) → nothing_else first input ≡ or_else first None
+nothing_behind first input = sym (or_else_none first)
 
 -- what is answered where a file that may be missing was not read
 pub named_answer : {S : Type 0} (shelf : Ghosts S) (role : FileRole) (file : Option (List ℕ)) (before now : S) (content : Option (List ℕ)) (later : Option Refusal) (whole part : Type 0) (status : Status)
@@ -148,14 +135,28 @@ pub named_decides : {S : Type 0} (shelf : Ghosts S) (role : FileRole) (file : Op
 named_decides shelf role None before now first status answer other = absurd answer
 named_decides shelf role (Some file) before now first status answer other = unread_decides shelf role file before now first status answer other
 
--- what is promised where it was not read
-pub keeps_unnamed : {S O : Type 0} (shelf : Ghosts S) (sink : SinkGhosts O) (first later : List File) (role : FileRole) (file : Option (List ℕ)) (before between now : S) (out : O) (status : Status)
+-- with which status a file was not read
+file_unread : {S : Type 0} (shelf : Ghosts S) (role : FileRole) (file : List ℕ) (before now : S) (status : Status) → IsFileAnswer shelf role file before now status → is_unread status ≡ true
+file_unread shelf role file before now Done is = absurd is
+file_unread shelf role file before now Usage is = absurd is
+file_unread shelf role file before now (Refused refusal) is = refl
+file_unread shelf role file before now ReadFault is = refl
+file_unread shelf role file before now WriteFault is = absurd is
+file_unread shelf role file before now OutOfMemory is = refl
+file_unread shelf role file before now (CheckedNo line law) is = absurd is
+
+named_unread : {S : Type 0} (shelf : Ghosts S) (role : FileRole) (file : Option (List ℕ)) (before now : S) (status : Status) → IsNamedAnswer shelf role file before now status → is_unread status ≡ true
+named_unread shelf role None before now status is = absurd is
+named_unread shelf role (Some file) before now status is = file_unread shelf role file before now status is
+
+-- what is promised of the files where one that may be missing was not read
+reads_unnamed : {S : Type 0} (shelf : Ghosts S) (first later : List File) (role : FileRole) (file : Option (List ℕ)) (before between now : S) (status : Status)
     → AreFit (shelf.told before) first → shelf.told between ≡ shelf.told before → shelf.faults before ≤ shelf.faults between
     → shelf.told now ≡ shelf.told between → shelf.faults between ≤ shelf.faults now
-    → IsNamedAnswer shelf role file between now status → KeepsPromise shelf sink (first ++ file_as role file ∷ later) before now out out status
-keeps_unnamed shelf sink first later role None before between now out status fit still faults_still stays rise answer = absurd answer
-keeps_unnamed shelf sink first later role (Some file) before between now out status fit still faults_still stays rise answer =
-    keeps_failed shelf first later role file before between now fit still faults_still stays rise sink out status answer
+    → IsNamedAnswer shelf role file between now status → ReadsFiles shelf (first ++ file_as role file ∷ later) before now status
+reads_unnamed shelf first later role None before between now status fit still faults_still stays rise answer = absurd answer
+reads_unnamed shelf first later role (Some file) before between now status fit still faults_still stays rise answer =
+    reads_failed shelf first later role file before between now fit still faults_still stays rise status answer
 
 -- a file that was read fits
 pub fit_read : (told : Told) (role : FileRole) (file : List ℕ) (later : List File) (read : List ℕ)
@@ -173,79 +174,215 @@ fit_named told role (Some file) later read is fits behind =
     (λ name bytes named at. ap (too_large_if_any role) (sym (is (Some bytes) (ap (option_map (λ b. Some b)) (ap told (same_Some file name named) ∙ at)))) ∙ fits, behind)
 
 -- the scene was not read
-pub no_scene : (purpose : Purpose) (scenario : Scenario) (deck : List DeskSeat) (told : Told) (before now : Option (List ℕ)) {S : Type 0} (shelf : Ghosts S) (one two : S) (status why : Status)
-    → status ≡ why → shelf.told one ≡ told → IsFileAnswer shelf role.Scene scenario.scene one two why → AnswersPurpose purpose scenario deck told before now status
-no_scene purpose scenario deck told before now shelf one two status why same still why_answer =
-    let answer : IsFileAnswer shelf role.Scene scenario.scene one two status = subst (IsFileAnswer shelf role.Scene scenario.scene one two) (sym same) why_answer in
-    let at_one = λ (bytes : List ℕ) (at : told scenario.scene ≡ Some bytes). ap (λ (t : Told). t scenario.scene) still ∙ at in
-    record {
-      all = λ bytes calls orders at calls_at orders_at. file_answer shelf role.Scene scenario.scene one two bytes _ _ _ status answer (at_one bytes at);
-      of_size = λ bytes at. first_decides (too_large role.Scene bytes) None (Unit {0}) (Unit {0}) status
-          (file_answer shelf role.Scene scenario.scene one two bytes None (Unit {0}) (Unit {0}) status answer (at_one bytes at));
-      of_scene = λ bytes at not_timetable not_commands. answer_decides _ (Unit {0}) (Unit {0}) status
-          (file_answer shelf role.Scene scenario.scene one two bytes (plant_refusal bytes) (Unit {0}) (Unit {0}) status answer (at_one bytes at));
-    }
+pub scene_unread : {S : Type 0} (shelf : Ghosts S) (scenario : Scenario) (before now : S) (status : Status)
+    → shelf.told now ≡ shelf.told before → shelf.faults before ≤ shelf.faults now
+    → IsFileAnswer shelf role.Scene scenario.scene before now status → IsUnread shelf scenario before now status
+scene_unread shelf scenario before now status stays rise answer = record {
+  answer = λ deck. record {
+    all = λ bytes calls orders at calls_at orders_at. file_answer shelf role.Scene scenario.scene before now bytes _ _ _ status answer at;
+    of_size = λ bytes at. first_decides (too_large role.Scene bytes) None (Unit {0}) (Unit {0}) status
+        (file_answer shelf role.Scene scenario.scene before now bytes None (Unit {0}) (Unit {0}) status answer at);
+    of_scene = λ bytes at not_timetable not_commands. answer_decides _ (Unit {0}) (Unit {0}) status
+        (file_answer shelf role.Scene scenario.scene before now bytes (plant_refusal bytes) (Unit {0}) (Unit {0}) status answer at);
+  };
+  reads = λ later. reads_failed shelf [] (file_as role.Timetable scenario.timetable ∷ file_as role.Commands scenario.commands ∷ later) role.Scene scenario.scene
+      before before now tt refl (omega arith) stays rise status answer;
+  unread = file_unread shelf role.Scene scenario.scene before now status answer;
+}
 
 -- it was read
-module _ (purpose : Purpose) (scenario : Scenario) (deck : List DeskSeat) (told : Told) (before now : Option (List ℕ)) (status : Status) (scene_read : List ℕ)
-    (scene_is : (bytes : List ℕ) → told scenario.scene ≡ Some bytes → scene_read ≡ bytes) (scene_fits : too_large role.Scene scene_read ≡ None) where
+module _ {S : Type 0} (shelf : Ghosts S) (scenario : Scenario) (before one : S) (still : shelf.told one ≡ shelf.told before) (rose : shelf.faults before ≤ shelf.faults one) (scene_read : List ℕ)
+    (scene_is : (bytes : List ℕ) → shelf.told before scenario.scene ≡ Some bytes → scene_read ≡ bytes) (scene_fits : too_large role.Scene scene_read ≡ None) where
+  abbrev told : Told
+  told = shelf.told before
+
   fits : (bytes : List ℕ) → told scenario.scene ≡ Some bytes → too_large role.Scene bytes ≡ None
   fits bytes at = ap (too_large role.Scene) (sym (scene_is bytes at)) ∙ scene_fits
 
   -- but not the timetable
-  pub no_timetable : {S : Type 0} (shelf : Ghosts S) (one two : S) (why : Status) → status ≡ why → shelf.told one ≡ told → IsNamedAnswer shelf role.Timetable scenario.timetable one two why
-      → AnswersPurpose purpose scenario deck told before now status
-  no_timetable shelf one two why same still why_answer =
-      let answer : IsNamedAnswer shelf role.Timetable scenario.timetable one two status = subst (IsNamedAnswer shelf role.Timetable scenario.timetable one two) (sym same) why_answer in
-      record {
-        all = λ bytes calls orders at calls_at orders_at. answer_after (too_large role.Scene bytes) _ _ _ status (fits bytes at)
-            (named_answer shelf role.Timetable scenario.timetable one two calls _ _ _ status answer (ap (λ (t : Told). told_of t scenario.timetable) still ∙ calls_at));
-        of_size = λ bytes at. none_decides (too_large role.Scene bytes) status (fits bytes at);
-        of_scene = λ bytes at not_timetable not_commands. named_decides shelf role.Timetable scenario.timetable one two _ status answer not_timetable;
-      }
+  pub timetable_unread : (now : S) (status : Status) → shelf.told now ≡ shelf.told one → shelf.faults one ≤ shelf.faults now
+      → IsNamedAnswer shelf role.Timetable scenario.timetable one now status → IsUnread shelf scenario before now status
+  timetable_unread now status stays rise answer = record {
+    answer = λ deck. record {
+      all = λ bytes calls orders at calls_at orders_at. answer_after (too_large role.Scene bytes) _ _ _ status (fits bytes at)
+          (named_answer shelf role.Timetable scenario.timetable one now calls _ _ _ status answer (ap (λ (t : Told). told_of t scenario.timetable) still ∙ calls_at));
+      of_size = λ bytes at. none_decides (too_large role.Scene bytes) status (fits bytes at);
+      of_scene = λ bytes at not_timetable not_commands. named_decides shelf role.Timetable scenario.timetable one now _ status answer not_timetable;
+    };
+    reads = λ later. reads_unnamed shelf (file_as role.Scene (Some scenario.scene) ∷ []) (file_as role.Commands scenario.commands ∷ later) role.Timetable scenario.timetable
+        before one now status (fit_read told role.Scene scenario.scene [] scene_read scene_is scene_fits tt) still rose stays rise answer;
+    unread = named_unread shelf role.Timetable scenario.timetable one now status answer;
+  }
 
-  module _ (timetable_read : Option (List ℕ)) (timetable_is : (content : Option (List ℕ)) → told_of told scenario.timetable ≡ Some content → timetable_read ≡ content)
-      (timetable_fits : too_large_if_any role.Timetable timetable_read ≡ None) where
+  module _ (two : S) (still_then : shelf.told two ≡ shelf.told one) (rose_then : shelf.faults one ≤ shelf.faults two) (timetable_read : Option (List ℕ))
+      (timetable_is : (content : Option (List ℕ)) → told_of told scenario.timetable ≡ Some content → timetable_read ≡ content) (timetable_fits : too_large_if_any role.Timetable timetable_read ≡ None) where
     -- nor the commands
-    pub no_commands : {S : Type 0} (shelf : Ghosts S) (one two : S) (why : Status) → status ≡ why → shelf.told one ≡ told → IsNamedAnswer shelf role.Commands scenario.commands one two why
-        → AnswersPurpose purpose scenario deck told before now status
-    no_commands shelf one two why same still why_answer =
-        let answer : IsNamedAnswer shelf role.Commands scenario.commands one two status = subst (IsNamedAnswer shelf role.Commands scenario.commands one two) (sym same) why_answer in
-        record {
-          all = λ bytes calls orders at calls_at orders_at. answer_after (too_large role.Scene bytes) _ _ _ status (fits bytes at)
-              (answer_after (too_large_if_any role.Timetable calls) _ _ _ status (ap (too_large_if_any role.Timetable) (sym (timetable_is calls calls_at)) ∙ timetable_fits)
-              (named_answer shelf role.Commands scenario.commands one two orders _ _ _ status answer (ap (λ (t : Told). told_of t scenario.commands) still ∙ orders_at)));
-          of_size = λ bytes at. none_decides (too_large role.Scene bytes) status (fits bytes at);
-          of_scene = λ bytes at not_timetable not_commands. named_decides shelf role.Commands scenario.commands one two _ status answer not_commands;
-        }
-
-    -- all were
-    module _ (commands_read : Option (List ℕ)) (commands_is : (content : Option (List ℕ)) → told_of told scenario.commands ≡ Some content → commands_read ≡ content)
-        (commands_fits : too_large_if_any role.Commands commands_read ≡ None) where
-      abbrev Answers : List ℕ → Option (List ℕ) → Option (List ℕ) → Option Refusal → Type 0
-      Answers b c o first = IsAnswer first (whole_of purpose before now (input_in b c o (names_of deck)) (handed_in deck)) (part_of purpose before now (input_in b c o (names_of deck)) (handed_in deck)) status
-
-      abbrev refused : List ℕ → Option (List ℕ) → Option (List ℕ) → Option Refusal
-      refused b c o = refusal_of purpose status (input_refusal b c o (names_of deck)) (input_in b c o (names_of deck))
-
-      of_plant : Answers scene_read timetable_read commands_read (refused scene_read timetable_read commands_read) → Decides (plant_refusal scene_read) status
-      of_plant answer =
-          let split : refused scene_read timetable_read commands_read ≡ or_else (plant_refusal scene_read) _
-          = refusal_split purpose status (input_refusal scene_read timetable_read commands_read (names_of deck)) (input_in scene_read timetable_read commands_read (names_of deck))
-          ∙ or_else_more (plant_refusal scene_read) _ (late_refusal purpose status (input_in scene_read timetable_read commands_read (names_of deck))) in
-          first_decides _ _ _ _ _ (subst (Answers scene_read timetable_read commands_read) split answer)
-
-      pub all_files : Answers scene_read timetable_read commands_read (refused scene_read timetable_read commands_read) → AnswersPurpose purpose scenario deck told before now status
-      all_files answer = record {
-        all = λ bytes calls orders at calls_at orders_at.
-            let Answer : List ℕ → Option (List ℕ) → Option (List ℕ) → Type 0 = λ b c o. Answers b c o (scenario_refusal (refusal_of purpose status) b c o deck) in
-            subst (λ b. Answer b calls orders) (scene_is bytes at)
-            (subst (λ c. Answer scene_read c orders) (timetable_is calls calls_at)
-            (subst (λ o. Answer scene_read timetable_read o) (commands_is orders orders_at)
-            (answer_after (too_large role.Scene scene_read) _ _ _ status scene_fits
-            (answer_after (too_large_if_any role.Timetable timetable_read) _ _ _ status timetable_fits
-            (answer_after (too_large_if_any role.Commands commands_read) _ _ _ status commands_fits answer)))));
+    pub commands_unread : (now : S) (status : Status) → shelf.told now ≡ shelf.told two → shelf.faults two ≤ shelf.faults now
+        → IsNamedAnswer shelf role.Commands scenario.commands two now status → IsUnread shelf scenario before now status
+    commands_unread now status stays rise answer = record {
+      answer = λ deck. record {
+        all = λ bytes calls orders at calls_at orders_at. answer_after (too_large role.Scene bytes) _ _ _ status (fits bytes at)
+            (answer_after (too_large_if_any role.Timetable calls) _ _ _ status (ap (too_large_if_any role.Timetable) (sym (timetable_is calls calls_at)) ∙ timetable_fits)
+            (named_answer shelf role.Commands scenario.commands two now orders _ _ _ status answer (ap (λ (t : Told). told_of t scenario.commands) (still_then ∙ still) ∙ orders_at)));
         of_size = λ bytes at. none_decides (too_large role.Scene bytes) status (fits bytes at);
-        of_scene = λ bytes at not_timetable not_commands. subst (λ xs. Decides (or_else (too_large role.Scene xs) (plant_refusal xs)) status) (scene_is bytes at)
-            (subst (λ (o : Option Refusal). Decides (or_else o (plant_refusal scene_read)) status) (sym scene_fits) (of_plant answer));
-      }
+        of_scene = λ bytes at not_timetable not_commands. named_decides shelf role.Commands scenario.commands two now _ status answer not_commands;
+      };
+      reads = λ later. reads_unnamed shelf (file_as role.Scene (Some scenario.scene) ∷ file_as role.Timetable scenario.timetable ∷ []) later role.Commands scenario.commands
+          before two now status (fit_read told role.Scene scenario.scene (file_as role.Timetable scenario.timetable ∷ []) scene_read scene_is scene_fits
+          (fit_named told role.Timetable scenario.timetable [] timetable_read timetable_is timetable_fits tt)) (still_then ∙ still) (omega (arith, rose, rose_then)) stays rise answer;
+      unread = named_unread shelf role.Commands scenario.commands two now status answer;
+    }
+
+-- the last of the files that are there was read to its end
+pub last_read : {S : Type 0} (shelf : Ghosts S) (scenario : Scenario) (one two three : S) → IsRead shelf scenario.scene one → IsReadIfAny shelf scenario.timetable one two
+    → IsReadIfAny shelf scenario.commands two three → IfSome (last_file (scenario_files scenario)) (λ file. IsRead shelf file three)
+last_read {S} shelf scenario one two three scene timetable commands = of scenario.timetable scenario.commands timetable commands
+  where
+    of : (calls orders : Option (List ℕ)) → IsReadIfAny shelf calls one two → IsReadIfAny shelf orders two three
+        → IfSome (or_else (or_else (or_else None orders) calls) (Some scenario.scene)) (λ file. IsRead shelf file three)
+    of calls (Some orders) second third = third
+    of (Some calls) None second third = subst (IsRead shelf calls) (sym third) second
+    of None None second third = subst (IsRead shelf scenario.scene) (sym (third ∙ second)) scene
+
+-- what is answered by a form that adds nothing is answered whatever the form adds
+refused_any : (refusal : Refusal) (whole part : Type 0) (status : Status) → IsAnswer (Some refusal) ⊥ ⊥ status → IsAnswer (Some refusal) whole part status
+refused_any refusal whole part Done answer = absurd answer.1
+refused_any refusal whole part Usage answer = absurd answer
+refused_any refusal whole part (Refused other) answer = answer
+refused_any refusal whole part ReadFault answer = tt
+refused_any refusal whole part WriteFault answer = absurd answer.1
+refused_any refusal whole part OutOfMemory answer = tt
+refused_any refusal whole part (CheckedNo line law) answer = absurd answer
+
+-- and where it refuses nothing, whatever else is refused
+accepted_any : (later : Option Refusal) (whole part : Type 0) (status : Status) → IsAnswer None ⊥ ⊥ status → IsAnswer later whole part status
+accepted_any later whole part Done answer = absurd answer.1
+accepted_any later whole part Usage answer = absurd answer
+accepted_any later whole part (Refused other) answer = absurd (none-some other answer)
+accepted_any later whole part ReadFault answer = tt
+accepted_any later whole part WriteFault answer = absurd answer.1
+accepted_any later whole part OutOfMemory answer = tt
+accepted_any later whole part (CheckedNo line law) answer = absurd answer
+
+-- so it is where sizes are refused, whatever else is refused behind the sizes
+pub sizes_behind : (a b c later : Option Refusal) (whole part : Type 0) (status : Status) → IsAnswer (or_else a (or_else b (or_else c None))) ⊥ ⊥ status
+    → IsAnswer (or_else a (or_else b (or_else c later))) whole part status
+sizes_behind (Some refusal) b c later whole part status answer = refused_any refusal whole part status answer
+sizes_behind None (Some refusal) c later whole part status answer = refused_any refusal whole part status answer
+sizes_behind None None (Some refusal) later whole part status answer = refused_any refusal whole part status answer
+sizes_behind None None None later whole part status answer = accepted_any later whole part status answer
+
+-- what follows where a file was not read: with this status nothing is written, and no verdict ends the command
+unread_ends : (P : Status → Type 0) → ((refusal : Refusal) → P (Refused refusal)) → P ReadFault → P OutOfMemory → (status : Status) → is_unread status ≡ true → P status
+unread_ends P refused read memory Done is = absurd (false≢true is)
+unread_ends P refused read memory Usage is = absurd (false≢true is)
+unread_ends P refused read memory (Refused refusal) is = refused refusal
+unread_ends P refused read memory ReadFault is = read
+unread_ends P refused read memory WriteFault is = absurd (false≢true is)
+unread_ends P refused read memory OutOfMemory is = memory
+unread_ends P refused read memory (CheckedNo line law) is = absurd (false≢true is)
+
+pub unread_done : (status : Status) → is_unread status ≡ true → done_with status ≡ status
+unread_done = unread_ends (λ status. done_with status ≡ status) (λ refusal. refl) refl refl
+
+-- the promise of every form is kept
+pub keeps_unread : {S O : Type 0} (shelf : Ghosts S) (sink : SinkGhosts O) (scenario : Scenario) (later : List File) (before now : S) (out : O) (why status : Status) → status ≡ why
+    → IsUnread shelf scenario before now why → KeepsPromise shelf sink (scenario_files scenario ++ later) before now out out status
+keeps_unread {S} {O} shelf sink scenario later before now out why status is unread =
+    subst (λ (s : Status). KeepsPromise shelf sink (scenario_files scenario ++ later) before now out out s) (sym is)
+    (unread_ends (λ (s : Status). ReadsFiles shelf (scenario_files scenario ++ later) before now s → KeepsPromise shelf sink (scenario_files scenario ++ later) before now out out s)
+    (λ refusal reads. kept (Refused refusal) (λ same. (cc)) (λ same. (cc)) reads)
+    (λ reads. kept ReadFault (λ same. (cc)) (λ same. (cc)) reads)
+    (λ reads. kept OutOfMemory (λ same. (cc)) (λ same. (cc)) reads) why unread.unread (unread.reads later))
+  where
+    kept : (s : Status) → s ≢ WriteFault → s ≢ Usage → ReadsFiles shelf (scenario_files scenario ++ later) before now s → KeepsPromise shelf sink (scenario_files scenario ++ later) before now out out s
+    kept s not_write not_usage reads = record {
+      reads = reads;
+      writes = record { write_fault = λ same. absurd (not_write same); unwritten = λ none. refl; faults_never_fall = omega arith };
+      in_table = not_usage;
+    }
+
+-- and the answer is that of the form
+pub answers_unread : {S : Type 0} (shelf : Ghosts S) (refusal : Option Refusal → Input → Option Refusal) (whole part : Input → List Seat → Type 0) (scenario : Scenario) (deck : List DeskSeat) (before now : S)
+    (why status : Status) → status ≡ why → IsUnread shelf scenario before now why → AnswersScenario refusal whole part scenario deck (shelf.told before) status
+answers_unread shelf refusal whole part scenario deck before now why status is unread =
+    let answer = unread.answer deck in
+    subst (AnswersScenario refusal whole part scenario deck (shelf.told before)) (sym is) (record {
+      all = λ bytes calls orders at calls_at orders_at. sizes_behind (too_large role.Scene bytes) (too_large_if_any role.Timetable calls) (too_large_if_any role.Commands orders)
+          (refusal (input_refusal bytes calls orders (names_of deck)) (input_in bytes calls orders (names_of deck))) _ _ why (answer.all bytes calls orders at calls_at orders_at);
+      of_size = answer.of_size;
+      of_scene = answer.of_scene;
+    })
+
+-- the files were read: what a form answers that refuses this beside the input, behind which it refuses no more than that
+module _ (refusal : Option Refusal → Input → Option Refusal) (late : Input → Option Refusal) (split : (first : Option Refusal) (input : Input) → refusal first input ≡ or_else first (late input))
+    (whole part : Input → List Seat → Type 0) (scenario : Scenario) (deck : List DeskSeat) (told : Told) (status : Status) (files : ScenarioFiles) (held : IsHeld told scenario files) where
+  abbrev Answers : List ℕ → Option (List ℕ) → Option (List ℕ) → Option Refusal → Type 0
+  Answers b c o first = IsAnswer first (whole (input_in b c o (names_of deck)) (handed_in deck)) (part (input_in b c o (names_of deck)) (handed_in deck)) status
+
+  abbrev scene : List ℕ
+  scene = files.scene.items
+
+  abbrev calls : Option (List ℕ)
+  calls = content_of files.timetable
+
+  abbrev orders : Option (List ℕ)
+  orders = content_of files.commands
+
+  abbrev first : Option Refusal
+  first = refusal_in files (names_of deck)
+
+  abbrev input : Input
+  input = spelled_in files (names_of deck)
+
+  of_plant : Answers scene calls orders (refusal first input) → Decides (plant_refusal scene) status
+  of_plant answer =
+      let whole_split : refusal first input ≡ or_else (plant_refusal scene) _ = split first input ∙ or_else_more (plant_refusal scene) _ (late input) in
+      first_decides _ _ _ _ _ (subst (Answers scene calls orders) whole_split answer)
+
+  -- the answer is to what they spell
+  pub answers_held : Answers scene calls orders (refusal first input) → AnswersScenario refusal whole part scenario deck told status
+  answers_held answer = record {
+    all = λ bytes told_calls told_orders at calls_at orders_at.
+        let Answer : List ℕ → Option (List ℕ) → Option (List ℕ) → Type 0 = λ b c o. Answers b c o (scenario_refusal refusal b c o deck) in
+        subst (λ b. Answer b told_calls told_orders) (held.scene bytes at)
+        (subst (λ c. Answer scene c told_orders) (held.timetable told_calls calls_at)
+        (subst (λ o. Answer scene calls o) (held.commands told_orders orders_at)
+        (answer_after (too_large role.Scene scene) _ _ _ status held.scene_fits
+        (answer_after (too_large_if_any role.Timetable calls) _ _ _ status held.timetable_fits
+        (answer_after (too_large_if_any role.Commands orders) _ _ _ status held.commands_fits answer)))));
+    of_size = λ bytes at. none_decides (too_large role.Scene bytes) status (ap (too_large role.Scene) (sym (held.scene bytes at)) ∙ held.scene_fits);
+    of_scene = λ bytes at not_timetable not_commands. subst (λ xs. Decides (or_else (too_large role.Scene xs) (plant_refusal xs)) status) (held.scene bytes at)
+        (subst (λ (o : Option Refusal). Decides (or_else o (plant_refusal scene)) status) (sym held.scene_fits) (of_plant answer));
+  }
+
+  -- it is refused, or memory was wanting
+  pub answers_refused : (why : Fault) → status ≡ status_of why → AnswersFirst first why → AnswersScenario refusal whole part scenario deck told status
+  answers_refused why is answers = answers_held
+      (subst (λ (o : Option Refusal). IsAnswer o (whole input (handed_in deck)) (part input (handed_in deck)) status) (sym (split first input))
+      (subst (IsAnswer (or_else first (late input)) (whole input (handed_in deck)) (part input (handed_in deck))) (sym is) (of why answers)))
+    where
+      of : (why : Fault) → AnswersFirst first why → IsAnswer (or_else first (late input)) (whole input (handed_in deck)) (part input (handed_in deck)) (status_of why)
+      of (fault.Refused refused) answers = ap (λ (o : Option Refusal). or_else o (late input)) answers
+      of fault.OutOfMemory answers = tt
+
+  -- or the run of this has begun
+  pub answers_begun : (begun : Input) (seats : List Seat) → first ≡ None → begun ≡ input → seats ≡ handed_in deck
+      → IsAnswer (late begun) (whole begun seats) (part begun seats) status → AnswersScenario refusal whole part scenario deck told status
+  answers_begun begun seats none same same_seats answer = answers_held
+      (subst (λ (o : Option Refusal). IsAnswer o (whole input (handed_in deck)) (part input (handed_in deck)) status) (sym (split first input))
+      (answer_after first (late input) _ _ status none (answer_same late whole part begun input seats (handed_in deck) status same same_seats answer)))
+
+-- what is promised where the input is refused behind the files, or memory was wanting
+pub keeps_fault : {S O : Type 0} (shelf : Ghosts S) (sink : SinkGhosts O) (file : File) (files : List File) (before now : S) (out : O) (why : Fault) (status : Status)
+    → IfSome (last_file (file ∷ files)) (λ name. IsRead shelf name now) → shelf.told now ≡ shelf.told before → shelf.faults before ≤ shelf.faults now
+    → status ≡ status_of why → refuses_file why ≡ false → KeepsPromise shelf sink (file ∷ files) before now out out status
+keeps_fault shelf sink file files before now out why status read stays rise is of_bytes =
+    keeps_read shelf sink file files before now out out status read stays rise (ap is_of_bytes is ∙ of_bytes_fault why of_bytes) (unwritten_fault sink out why status is)
+
+-- the files that were read fit
+pub held_fit : (told : Told) (scenario : Scenario) (files : ScenarioFiles) → IsHeld told scenario files → AreFit told (scenario_files scenario)
+held_fit told scenario files held =
+    fit_read told role.Scene scenario.scene (file_as role.Timetable scenario.timetable ∷ file_as role.Commands scenario.commands ∷ []) files.scene.items held.scene held.scene_fits
+    (fit_named told role.Timetable scenario.timetable (file_as role.Commands scenario.commands ∷ []) (content_of files.timetable) held.timetable held.timetable_fits
+    (fit_named told role.Commands scenario.commands [] (content_of files.commands) held.commands held.commands_fits tt))

@@ -1,8 +1,8 @@
 -- What is answered to a snapshot, and what follows it in its run.
-use Rattle.std.proofs.Common.{◌≡◌, ◌⊎◌, ℕ, ◌+◌, ◌*◌, ◌<◌, ◌≤◌, true, List, [], ◌++◌, length, Option, Some, None, Result, Ok, Err, OnOk, OnErr, inl, inr, refl, sym, ap, ◌∙◌, subst, ⊎_elim, arith}
+use Rattle.std.proofs.Common.{◌≡◌, ℕ, ◌+◌, ◌*◌, ◌<◌, ◌≤◌, true, List, [], ◌++◌, length, Option, Some, None, Result, Ok, Err, OnOk, OnErr, inl, inr, refl, sym, ap, ◌∙◌, subst, ⊎_elim, arith}
 use Rattle.std.specs.Prelude.{reverse}
 use Rattle.std.specs.Option.{option_map}
-use Rattle.std.proofs.lemmas.List.{append-nil, length-append, reverse-reverse}
+use Rattle.std.proofs.lemmas.List.{length-append, reverse-reverse}
 use Rattle.rail_base.specs.Refusals.{AnswersFirst}
 use Rattle.rail_base.specs.declared.refusals.Fault.{Fault}
 use Rattle.rail_base.specs.declared.refusals.Fault.TheVariants as fault
@@ -16,7 +16,6 @@ use Rattle.rail_ledger.specs.Inputs.{input_in}
 use Rattle.rail_ledger.specs.declared.input.RunInput.{RunInput}
 use Rattle.rail_ledger.specs.declared.ledger.Ledger.{Ledger}
 use Rattle.rail_policy.specs.Desks.{Table}
-use Rattle.rail_rules.specs.Accepted.{is_accepted_input}
 use Rattle.rail_rules.specs.Fronts.{Front, Line, has_ended}
 use Rattle.rail_rules.specs.Numbers.{or_else}
 use Rattle.rail_rules.specs.Orders.{Input}
@@ -24,7 +23,7 @@ use Rattle.rail_rules.specs.Plant.{bound, trains}
 use Rattle.rail_rules.specs.RunHistories.{Seat, is_run}
 use Rattle.rail_rules.specs.WritableLines.{IsNamed}
 use Rattle.rail_save.specs.RunLines.{other_behind}
-use Rattle.rail_save.specs.Snapshots.{IsFirstUnread, IsOtherSnapshot, IsRefusedSnapshot, IsResumed, IsSnapshot}
+use Rattle.rail_save.specs.Snapshots.{IsOtherSnapshot, IsRefusedSnapshot, IsResumed, IsSnapshot}
 use Rattle.rail_text.specs.Lines.{refusal_at}
 use Rattle.rail_save.specs.WrittenLines.{IsSaved, IsSavedInPart, IsWritten, IsWrittenInPart}
 use Rattle.rail_save.proofs.CallerLemmas.{no_snapshot, one_snapshot, one_unread, run_followed}
@@ -37,6 +36,7 @@ use Rattle.rail_forms.specs.Snapshots.{AnswersSnapshot, ResumesInput, ResumesInp
 use Rattle.rail_forms.proofs.Answers.{answer_decides}
 use Rattle.rail_forms.proofs.Histories.{safe_run, timely_run}
 use Rattle.rail_forms.proofs.Progress.{few_lines, run_ended}
+use Rattle.rail_forms.proofs.PastAnswers.{AreLines}
 use Rattle.rail_forms.proofs.ScenarioAnswers.{or_else_more, runs_same}
 
 -- what follows of what an `Ok` tells, and of what an `Err` does
@@ -49,7 +49,7 @@ on_err (Ok x) f a = tt
 on_err (Err e) f a = f a
 
 -- where a file was not read
-pub snapshot_unread : (limit later : Option Refusal) (input : Input) (seats : List Seat) (bytes : List ℕ) (before now : Option (List ℕ)) (status : Status)
+snapshot_unread : (limit later : Option Refusal) (input : Input) (seats : List Seat) (bytes : List ℕ) (before now : Option (List ℕ)) (status : Status)
     → ((rest : Option Refusal) (whole part : Type 0) → IsAnswer (or_else limit rest) whole part status) → AnswersSnapshot (or_else limit later) input seats bytes before now status
 snapshot_unread limit later input seats bytes before now status any = record {
   read = λ lines is. subst (λ (o : Option Refusal). IsAnswer o (ResumesInput lines input seats before now) (ResumesInputInPart lines input seats before now) status)
@@ -59,10 +59,12 @@ snapshot_unread limit later input seats bytes before now status any = record {
   of_first = answer_decides (or_else limit later) ⊥ ⊥ status (any later ⊥ ⊥);
 }
 
--- where nothing is refused at first, the answer is that of what comes after it
-pub snapshot_after : (first later : Option Refusal) (input : Input) (seats : List Seat) (bytes : List ℕ) (before now : Option (List ℕ)) (status : Status) → first ≡ None
-    → AnswersSnapshot later input seats bytes before now status → AnswersSnapshot (or_else first later) input seats bytes before now status
-snapshot_after first later input seats bytes before now status none answer = subst (λ (o : Option Refusal). AnswersSnapshot (or_else o later) input seats bytes before now status) (sym none) answer
+-- so it is a file of lines
+pub snapshot_lines : (before now : Option (List ℕ)) (status : Status) → AreLines (λ first input seats bytes. AnswersSnapshot first input seats bytes before now status) status
+snapshot_lines before now status = record {
+  unread = λ limit later input seats bytes done any. snapshot_unread limit later input seats bytes before now status any;
+  of_first = λ first input seats bytes answer. answer.of_first;
+}
 
 -- where what the other files spell is refused, or memory was wanting
 pub snapshot_first : (first : Option Refusal) (input : Input) (seats : List Seat) (bytes : List ℕ) (before now : Option (List ℕ)) (status : Status) (why : Fault) → status ≡ status_of why

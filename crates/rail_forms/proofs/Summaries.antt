@@ -8,7 +8,7 @@ use Rattle.rail_base.specs.declared.limits.TheConstants.{COMMANDS}
 use Rattle.rail_laws_front.proofs.CallerLemmas.{lawful_before, well_formed_from_accepted}
 use Rattle.rail_rules.proofs.CallerLemmas.{accepted_parts}
 use Rattle.rail_rules.specs.Accepted.{are_commands_in_range, is_accepted, is_accepted_input}
-use Rattle.rail_rules.specs.Fronts.{Front, Line, is_admission, is_hold, lines_beside_holds}
+use Rattle.rail_rules.specs.Fronts.{Front, is_admission, is_hold, lines_beside_holds}
 use Rattle.rail_rules.specs.Lawful.{is_lawful}
 use Rattle.rail_rules.specs.LineCounts.{lines_that}
 use Rattle.rail_rules.specs.Orders.{Input}

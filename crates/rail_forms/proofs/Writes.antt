@@ -1,11 +1,13 @@
 -- Texts that are written one after another.
-use Rattle.std.proofs.Common.{◌≡◌, ◌≤◌, List, ℕ, ◌++◌, Result, Ok, Err, IsErr, IsErrAnd, refl, sym, ap, ◌∙◌, subst, arith}
+use Rattle.std.proofs.Common.{◌≡◌, ◌≤◌, Result, Ok, Err, IsErrAnd, refl, sym, ap, ◌∙◌, subst, arith}
 use Rattle.std.proofs.lemmas.Bool.{false≢true}
+use Rattle.rail_base.specs.declared.refusals.Fault.{Fault}
+use Rattle.rail_base.specs.declared.refusals.Fault.TheVariants as fault
 use Rattle.rail_io.specs.FaultCounts.{Rose}
 use Rattle.rail_io.specs.declared.sink.Sink.{Ghosts}
-use Rattle.rail_io.specs.declared.sink.Failed.{Failed}
 use Rattle.rail_forms.specs.declared.status.Status.{Status}
 use Rattle.rail_forms.specs.declared.status.Status.TheVariants.{Done, OutOfMemory, WriteFault}
+use Rattle.rail_forms.specs.Answers.{status_of}
 use Rattle.rail_forms.specs.Promises.{WritesAnswer, ended, may_write}
 
 -- a command that ends because a write failed ends with a fault of writing
@@ -37,3 +39,15 @@ none_written sink before status is = subst (WritesAnswer sink before before) (sy
   unwritten = λ none. refl;
   faults_never_fall = omega arith;
 })
+
+-- nothing is written where an error of a call comes before a byte was
+pub unwritten_fault : {O : Type 0} (sink : Ghosts O) (before : O) (why : Fault) (status : Status) → status ≡ status_of why → WritesAnswer sink before before status
+unwritten_fault sink before why status is = subst (WritesAnswer sink before before) (sym is) (of why)
+  where
+    of : (why : Fault) → WritesAnswer sink before before (status_of why)
+    of (fault.Refused refusal) = record {
+      write_fault = λ same. (cc);
+      unwritten = λ none. refl;
+      faults_never_fall = omega arith;
+    }
+    of fault.OutOfMemory = none_written sink before OutOfMemory refl

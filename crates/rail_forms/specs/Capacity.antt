@@ -24,13 +24,14 @@ use Rattle.rail_rules.specs.Orders.{Input}
 use Rattle.rail_rules.specs.Plant.{Plant}
 use Rattle.rail_rules.specs.Texts.{spaced}
 use Rattle.rail_stairs.specs.Stairways.{ended_at, ended_by, stairway}
-use Rattle.rail_command_line.specs.Forms.{Scenario}
+use Rattle.rail_command_line.specs.Forms.{Scenario, Study}
 use Rattle.rail_forms.specs.declared.status.Status.{Status}
 use Rattle.rail_forms.specs.declared.status.Status.TheVariants.{Refused}
 use Rattle.rail_forms.specs.Answers.{Told}
 use Rattle.rail_text.specs.Names.{NameLists, names_of, section_name, train_name}
 use Rattle.rail_forms.specs.NotedRuns.{ReportsRun}
-use Rattle.rail_forms.specs.Scenarios.{AnswersScenario}
+use Rattle.rail_forms.specs.Scenarios.{AnswersScenario, IsAcceptedScenario}
+use Rattle.rail_forms.specs.Terms.{Terms, is_done}
 
 -- the word for the line is the empty one
 abbrev pub line_empty : Refusal
@@ -134,3 +135,17 @@ pub record AnswersCapacity (line : List ℕ) (window : Window) (scenario : Scena
 -- a study of the line in the window is refused before any file
 abbrev pub IsEmptyStudy : List ℕ → Window → Type 0
 IsEmptyStudy line window = (refusal : Refusal) × (study_refusal line window ≡ Some refusal)
+
+-- the window of a study
+abbrev pub window_of : Study → Window
+window_of study = record { from = study.from; to = study.to }
+
+-- the terms of `capacity`
+abbrev pub capacity_terms : Terms Study
+capacity_terms = record {
+  answers = λ study deck told before now status. AnswersCapacity study.line (window_of study) study.scenario deck told before now status;
+  accepted = λ study deck told. (study_refusal study.line (window_of study) ≡ None)
+      × IsAcceptedScenario (with_line study.line) deck told study.scenario;
+  done = is_done;
+  alone = λ study. IsEmptyStudy study.line (window_of study);
+}

@@ -1,5 +1,5 @@
 -- The form `check`: the verdict on a history of a scene.
-use Rattle.std.specs.Prelude.{◌≡◌, ℕ, IsTrue, List, [], ◌∷◌, ◌++◌, Option, Some, codes, decimal}
+use Rattle.std.specs.Prelude.{◌≡◌, ℕ, IsTrue, List, [], ◌∷◌, ◌++◌, Option, Some, None, codes, decimal}
 use Rattle.rail_base.specs.declared.refusals.Reason.TheVariants.{HistoryForm}
 use Rattle.rail_base.specs.declared.refusals.Refusal.{Refusal}
 use Rattle.rail_history.specs.HistoryLines.{IsFirstWrong, IsHistory}
@@ -14,7 +14,14 @@ use Rattle.rail_rules.specs.Texts.{behind}
 use Rattle.rail_text.specs.Lines.{refusal_at}
 use Rattle.rail_forms.specs.declared.status.Status.{Status}
 use Rattle.rail_forms.specs.declared.status.Status.TheVariants.{CheckedNo, Done}
-use Rattle.rail_forms.specs.Answers.{Decides, IsAnswer}
+use Rattle.rail_forms.specs.Answers.{Decides, IsAnswer, Told}
+use Rattle.rail_command_line.specs.Forms.{Scenario, ScenarioAnd}
+use Rattle.rail_command_line.specs.declared.files.FileRole.TheVariants as role
+use Rattle.rail_input.specs.Inputs.{input_in}
+use Rattle.rail_policy.specs.Seats.{DeskSeat, names_of}
+use Rattle.rail_forms.specs.Files.{told_of}
+use Rattle.rail_forms.specs.Pasts.{AnswersPast, past_refusal}
+use Rattle.rail_forms.specs.Terms.{Terms, never}
 
 -- the words for a verdict
 abbrev pub verdict_words : Verdict → List ℕ
@@ -55,3 +62,31 @@ pub record AnswersHistory (first : Option Refusal) (input : Input) (text : List 
   pub wrong : (number : ℕ) → IsFirstWrong input.plant text number → IsAnswer (or_else first (Some (refusal_at HistoryForm number))) ⊥ ⊥ (done_with status)
   -- whatever the history is
   pub of_first : Decides first status
+
+-- the verdict on the history in the file of this name for the scenario, with this deck
+abbrev pub AnswersCheck : Scenario → List ℕ → List DeskSeat → Told → Option (List ℕ) → Option (List ℕ) → Status → Type 0
+AnswersCheck scenario history deck told before now status = AnswersPast role.History
+    (λ first input seats text. AnswersHistory first input text before now status) scenario history deck told status
+
+-- the bytes of the files of a check are told, the history's are those of lines, and nothing is refused
+pub record IsAcceptedCheck (scenario : Scenario) (history : List ℕ) (deck : List DeskSeat) (told : Told) : Type 0 where
+  pub bytes : List ℕ
+  pub calls : Option (List ℕ)
+  pub orders : Option (List ℕ)
+  pub text : List ℕ
+  pub lines : List Line
+  pub scene_told : told scenario.scene ≡ Some bytes
+  pub calls_told : told_of told scenario.timetable ≡ Some calls
+  pub orders_told : told_of told scenario.commands ≡ Some orders
+  pub history_told : told history ≡ Some text
+  pub fine : past_refusal role.History bytes calls orders text deck ≡ None
+  pub spelled : IsHistory (input_in bytes calls orders (names_of deck)).plant text lines
+
+-- the terms of `check`, which is done also where it ends with a verdict that is no
+abbrev pub check_terms : Terms ScenarioAnd
+check_terms = record {
+  answers = λ files deck told before now status. AnswersCheck files.scenario files.other deck told before now status;
+  accepted = λ files deck told. IsAcceptedCheck files.scenario files.other deck told;
+  done = λ status. done_with status ≡ Done;
+  alone = never;
+}

@@ -1,5 +1,5 @@
 -- The form `infra`: the counts of a scene, and its routes.
-use Rattle.std.specs.Prelude.{◌≡◌, ℕ, List, [], ◌∷◌, ◌++◌, length, flat_map, sum_by, codes, decimal, Option, Some}
+use Rattle.std.specs.Prelude.{◌≡◌, ℕ, List, [], ◌∷◌, ◌++◌, length, flat_map, sum_by, codes, decimal, Option, Some, None}
 use Rattle.std.specs.Option.{option_map_or}
 use Rattle.rail_rules.specs.Numbers.{or_else}
 use Rattle.rail_track.specs.declared.section.Section.{Section}
@@ -15,6 +15,7 @@ use Rattle.rail_forms.specs.declared.status.Status.{Status}
 use Rattle.rail_input.specs.Inputs.{plant_refusal}
 use Rattle.rail_forms.specs.Answers.{IsTextAnswer, Told}
 use Rattle.rail_forms.specs.Files.{too_large}
+use Rattle.rail_forms.specs.Terms.{Terms, is_done, never}
 
 -- a word and the number of the things that it counts
 abbrev pub count_words : List ℕ → ℕ → List (List ℕ)
@@ -66,3 +67,13 @@ infra_text scene = counts_line scene ++ route_lines scene.network.sections scene
 abbrev pub AnswersInfra : List ℕ → Told → Option (List ℕ) → Option (List ℕ) → Status → Type 0
 AnswersInfra scene told before now status = (bytes : List ℕ) → told scene ≡ Some bytes
     → IsTextAnswer (or_else (too_large role.Scene bytes) (plant_refusal bytes)) (infra_text (spelled_scene bytes)) before now status
+
+-- the terms of `infra`
+abbrev pub infra_terms : Terms (List ℕ)
+infra_terms = record {
+  answers = λ scene deck told before now status. AnswersInfra scene told before now status;
+  accepted = λ scene deck told. (bytes : List ℕ) × (told scene ≡ Some bytes)
+      × (or_else (too_large role.Scene bytes) (plant_refusal bytes) ≡ None);
+  done = is_done;
+  alone = never;
+}

@@ -25,13 +25,14 @@ use Rattle.rail_text.specs.Names.{names_of}
 use Rattle.rail_command_line.specs.Forms.{Paths, Scenario}
 use Rattle.rail_command_line.specs.declared.files.FileRole.TheVariants as role
 use Rattle.rail_forms.specs.declared.status.Status.{Status}
-use Rattle.rail_forms.specs.declared.status.Status.TheVariants.{Refused}
+use Rattle.rail_forms.specs.declared.status.Status.TheVariants.{Done, Refused}
 use Rattle.rail_forms.specs.Answers.{Decides, IsAnswer, Told}
 use Rattle.rail_forms.specs.Capacity.{window_empty}
 use Rattle.rail_forms.specs.Files.{told_of, too_large, too_many_bytes}
 use Rattle.rail_forms.specs.NotedRuns.{ReportsRun}
 use Rattle.rail_forms.specs.Runs.{IsRunWithin}
-use Rattle.rail_forms.specs.Scenarios.{scenario_refusal}
+use Rattle.rail_forms.specs.Scenarios.{IsAcceptedScenario, scenario_refusal}
+use Rattle.rail_forms.specs.Terms.{Terms}
 
 -- the word for the train is no train's name
 abbrev pub train_unknown : Refusal
@@ -119,3 +120,17 @@ pub record AnswersInsertion (paths : Paths) (deck : List DeskSeat) (told : Told)
   pub of_words : paths.to ≤ paths.from → status ≡ Refused window_empty
   pub of_run : paths.from < paths.to
       → AnswersPaths paths.train (record { from = paths.from; to = paths.to }) paths.count paths.scenario deck told before now status
+
+-- the command ends because no path is free: the train has no stairway in the run, or not even one copy of it fits
+abbrev pub IsNoPath : Status → Type 0
+IsNoPath status = (status ≡ Refused no_stairway) ⊎ (status ≡ Refused no_place)
+
+-- the terms of `insert`, which is done also where no path is free
+abbrev pub insert_terms : Terms Paths
+insert_terms = record {
+  answers = λ paths deck told before now status. AnswersInsertion paths deck told before now status;
+  accepted = λ paths deck told. (paths.from < paths.to)
+      × IsAcceptedScenario (with_train paths.train None) deck told paths.scenario;
+  done = λ status. (status ≡ Done) ⊎ IsNoPath status;
+  alone = λ paths. paths.to ≤ paths.from;
+}

@@ -3,6 +3,7 @@ pub mod Statuses
 pub mod Files
 pub mod Promises
 pub mod Answers
+pub mod Terms
 pub mod Scenarios
 pub mod Runs
 pub mod WrittenHistories
@@ -12,7 +13,6 @@ pub mod Stairs
 pub mod Reports
 pub mod Capacity
 pub mod Insertions
-pub mod Purposes
 pub mod Infra
 pub mod Migration
 pub mod TwoFiles

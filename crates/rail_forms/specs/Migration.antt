@@ -1,5 +1,5 @@
 -- The form `migrate`: a text in the newest version of the format that is read as the scene.
-use Rattle.std.specs.Prelude.{◌≡◌, ℕ, List, Option, Some}
+use Rattle.std.specs.Prelude.{◌≡◌, ℕ, List, Option, Some, None}
 use Rattle.rail_rules.specs.Numbers.{or_else}
 use Rattle.rail_input.specs.Inputs.{input_in, input_refusal, plant_refusal}
 use Rattle.rail_io.specs.Writes.{Adds, AddsPrefix}
@@ -9,6 +9,7 @@ use Rattle.rail_forms.specs.declared.status.Status.{Status}
 use Rattle.rail_forms.specs.Answers.{IsAnswer, Told}
 use Rattle.rail_forms.specs.Files.{too_large}
 use Rattle.rail_forms.specs.SceneTexts.{WritesScene}
+use Rattle.rail_forms.specs.Terms.{Terms, is_done, never}
 
 -- two scene files are refused alike as the scene of a run, and spell the same runs, whatever its other files and deck are
 pub record HaveSameRuns (text bytes : List ℕ) : Type 0 where
@@ -27,3 +28,13 @@ abbrev pub AnswersMigrate : List ℕ → Told → Option (List ℕ) → Option (
 AnswersMigrate scene told before now status = (bytes : List ℕ) → told scene ≡ Some bytes
     → IsAnswer (or_else (too_large role.Scene bytes) (plant_refusal bytes))
     (Migrates bytes (Adds before now)) (Migrates bytes (AddsPrefix before now)) status
+
+-- the terms of `migrate`
+abbrev pub migrate_terms : Terms (List ℕ)
+migrate_terms = record {
+  answers = λ scene deck told before now status. AnswersMigrate scene told before now status;
+  accepted = λ scene deck told. (bytes : List ℕ) × (told scene ≡ Some bytes)
+      × (or_else (too_large role.Scene bytes) (plant_refusal bytes) ≡ None);
+  done = is_done;
+  alone = never;
+}

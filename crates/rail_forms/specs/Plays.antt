@@ -1,8 +1,5 @@
 -- The form `play`: what the player of a list answers, as a line.
-use Rattle.std.specs.Prelude.{◌≡◌, ℕ, ◌-◌, Bool, true, List, [], ◌∷◌, ◌++◌, get_or, map, codes, decimal, Option, Some}
-use Rattle.rail_base.specs.declared.names.Names.{Names}
-use Rattle.rail_base.specs.declared.plant.SectionRow.{SectionRow}
-use Rattle.rail_base.specs.declared.plant.TrainRow.{TrainRow}
+use Rattle.std.specs.Prelude.{◌≡◌, ℕ, ◌-◌, Bool, true, List, [], ◌∷◌, ◌++◌, get_or, codes, decimal, Option, Some}
 use Rattle.rail_base.specs.declared.refusals.Refusal.{Refusal}
 use Rattle.rail_base.specs.declared.refusals.Reason.TheVariants.{ListPlaces}
 use Rattle.rail_base.specs.declared.refusals.Part.TheVariants.{Line}
@@ -23,8 +20,10 @@ use Rattle.rail_forms.specs.declared.status.Status.TheVariants as status
 use Rattle.rail_io.specs.Writes.{Adds, AddsPrefix}
 use Rattle.rail_input.specs.Inputs.{plant_in, plant_refusal}
 use Rattle.rail_forms.specs.Answers.{Told}
-use Rattle.rail_forms.specs.TwoFiles.{AnswersTwoFiles}
-use Rattle.rail_text.specs.Names.{NameLists, names_in, names_of, section_name, train_name}
+use Rattle.rail_forms.specs.TwoFiles.{AnswersTwoFiles, AreAccepted}
+use Rattle.rail_text.specs.Names.{NameLists, names_of, section_name, train_name}
+use Rattle.rail_command_line.specs.Forms.{SceneAnd}
+use Rattle.rail_forms.specs.Terms.{Terms, is_done, never}
 
 -- why a train of the list may not move
 abbrev pub bar_words : NameLists → ℕ → Barred → List (List ℕ)
@@ -81,3 +80,12 @@ abbrev pub AnswersPlay : List ℕ → List ℕ → Told → Option (List ℕ) �
 AnswersPlay scene list told before now status = AnswersTwoFiles role.List (λ bytes listed. list_refusal (plant_in bytes) true listed)
     (λ bytes listed. Adds before now (play_text (plant_in bytes) listed))
     (λ bytes listed. AddsPrefix before now (play_text (plant_in bytes) listed)) scene list told status
+
+-- the terms of `play`
+abbrev pub play_terms : Terms SceneAnd
+play_terms = record {
+  answers = λ files deck told before now status. AnswersPlay files.scene files.other told before now status;
+  accepted = λ files deck told. AreAccepted role.List play_refusal files told;
+  done = is_done;
+  alone = never;
+}

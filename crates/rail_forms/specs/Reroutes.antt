@@ -1,5 +1,5 @@
 -- The form `reroute`: what each proposal leads to that a train takes other routes from where it stands.
-use Rattle.std.specs.Prelude.{◌≡◌, ◌≢◌, ℕ, false, flat_map, List, [], ◌∷◌, Option, Some}
+use Rattle.std.specs.Prelude.{◌≡◌, ◌≢◌, ℕ, false, flat_map, List, [], ◌∷◌, Option, Some, None}
 use Rattle.rail_base.specs.declared.refusals.Refusal.{Refusal}
 use Rattle.rail_rules.specs.Numbers.{or_else}
 use Rattle.rail_io.specs.Writes.{Adds, AddsPrefix}
@@ -17,6 +17,8 @@ use Rattle.rail_forms.specs.declared.status.Status.TheVariants.{Refused}
 use Rattle.rail_forms.specs.Answers.{Decides, IsAnswer, Told}
 use Rattle.rail_forms.specs.Files.{too_large, too_many_bytes}
 use Rattle.rail_forms.specs.Plays.{list_refusal, listed_for}
+use Rattle.rail_command_line.specs.Forms.{SceneAndTwo}
+use Rattle.rail_forms.specs.Terms.{Terms, is_done, never}
 
 -- the answer is right for the proposal, and told at its line
 pub record IsAnswered (scene : Scene) (s : List ℕ) (proposal : Proposal) (answer : Answered) : Type 0 where
@@ -68,3 +70,23 @@ pub record AnswersReroute (scene list proposals : List ℕ) (told : Told) (befor
   pub of_size : (bytes : List ℕ) → told scene ≡ Some bytes → Decides (too_large role.Scene bytes) status
   pub of_scene : (bytes : List ℕ) → told scene ≡ Some bytes → status ≢ Refused (too_many_bytes role.List)
       → status ≢ Refused (too_many_bytes role.Proposals) → Decides (or_else (too_large role.Scene bytes) (plant_refusal bytes)) status
+
+-- the bytes of a scene, of a list and of proposals are told, and nothing is refused
+pub record AreAcceptedProposals (files : SceneAndTwo) (told : Told) : Type 0 where
+  pub bytes : List ℕ
+  pub places : List ℕ
+  pub lines : List ℕ
+  pub scene_told : told files.scene ≡ Some bytes
+  pub places_told : told files.list ≡ Some places
+  pub lines_told : told files.proposals ≡ Some lines
+  pub fine : or_else (too_large role.Scene bytes) (or_else (too_large role.List places) (or_else (too_large role.Proposals lines)
+      (reroute_refusal bytes places lines))) ≡ None
+
+-- the terms of `reroute`
+abbrev pub reroute_terms : Terms SceneAndTwo
+reroute_terms = record {
+  answers = λ files deck told before now status. AnswersReroute files.scene files.list files.proposals told before now status;
+  accepted = λ files deck told. AreAcceptedProposals files told;
+  done = is_done;
+  alone = never;
+}

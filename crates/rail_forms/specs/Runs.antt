@@ -1,5 +1,5 @@
 -- The form `run`: the history of a scene.
-use Rattle.std.specs.Prelude.{◌+◌, ◌≡◌, ◌≢◌, ◌⊎◌, ℕ, suc, ◌<◌, ◌≤◌, ◌^◌, false, IsTrue, List, [], ◌∷◌, ◌++◌, length, Option, Some, None}
+use Rattle.std.specs.Prelude.{◌+◌, ◌≡◌, ◌≢◌, ◌⊎◌, ℕ, suc, ◌<◌, ◌≤◌, ◌^◌, false, IsTrue, List, [], ◌∷◌, ◌++◌, length, Option, Some}
 use Rattle.rail_base.specs.declared.history.Note.{Note}
 use Rattle.rail_base.specs.declared.history.Note.TheVariants.{Fresh}
 use Rattle.rail_base.specs.declared.history.Cause.{Cause}
@@ -21,7 +21,8 @@ use Rattle.rail_policy.specs.Seats.{DeskSeat}
 use Rattle.rail_forms.specs.declared.status.Status.{Status}
 use Rattle.rail_forms.specs.Answers.{Told}
 use Rattle.rail_command_line.specs.Forms.{Scenario}
-use Rattle.rail_forms.specs.Scenarios.{AnswersScenario, nothing_else}
+use Rattle.rail_forms.specs.Scenarios.{AnswersScenario, IsAcceptedScenario, nothing_else}
+use Rattle.rail_forms.specs.Terms.{Terms, is_done, never}
 
 -- the next move of the train waits for a cause that is true and that its last hold line states
 pub record WaitsForStated (input : Input) (front : Front) (t : ℕ) : Type 0 where
@@ -124,3 +125,12 @@ pub record RunsInputInPart (input : Input) (seats : List Seat) (before now : Opt
 abbrev pub AnswersRun : Scenario → List DeskSeat → Told → Option (List ℕ) → Option (List ℕ) → Status → Type 0
 AnswersRun scenario deck told before now status = AnswersScenario nothing_else
     (λ input seats. RunsInput input seats before now) (λ input seats. RunsInputInPart input seats before now) scenario deck told status
+
+-- the terms of `run`
+abbrev pub run_terms : Terms Scenario
+run_terms = record {
+  answers = λ scenario deck told before now status. AnswersRun scenario deck told before now status;
+  accepted = λ scenario deck told. IsAcceptedScenario nothing_else deck told scenario;
+  done = is_done;
+  alone = never;
+}

@@ -10,6 +10,7 @@ use Rattle.rail_scene.specs.declared.scene.Scene.{Scene}
 use Rattle.rail_scene_text.specs.Tables.{IsSceneText}
 use Rattle.rail_forms.specs.declared.status.Status.{Status}
 use Rattle.rail_forms.specs.Answers.{IsAnswer}
+use Rattle.rail_forms.specs.Terms.{Terms, is_done, never}
 
 -- the text of this scene was added, or so much of it: it is accepted as a scene file of the newest version, and read as the
 -- same scene
@@ -25,3 +26,12 @@ pub record WritesScene (scene : Scene) (adds : List ℕ → Type 0) : Type 0 whe
 abbrev pub AnswersScene : ℕ → Option (List ℕ) → Option (List ℕ) → Status → Type 0
 AnswersScene number before now status =
     IsAnswer None (WritesScene (made_scene number) (Adds before now)) (WritesScene (made_scene number) (AddsPrefix before now)) status
+
+-- the terms of `scene`
+abbrev pub scene_terms : Terms ℕ
+scene_terms = record {
+  answers = λ number deck told before now status. AnswersScene number before now status;
+  accepted = λ number deck told. Unit {0};
+  done = is_done;
+  alone = never;
+}

@@ -4,7 +4,8 @@ use Rattle.std.specs.Option.{option_map}
 use Rattle.rail_base.specs.declared.refusals.Reason.TheVariants.{SnapshotForm, SnapshotOther}
 use Rattle.rail_base.specs.declared.refusals.Refusal.{Refusal}
 use Rattle.rail_io.specs.Writes.{Adds, AddsPrefix}
-use Rattle.rail_policy.specs.Seats.{DeskSeat}
+use Rattle.rail_input.specs.Inputs.{input_in}
+use Rattle.rail_policy.specs.Seats.{DeskSeat, handed_in, names_of}
 use Rattle.rail_rules.specs.Fronts.{Front, Line}
 use Rattle.rail_rules.specs.Numbers.{or_else}
 use Rattle.rail_rules.specs.Orders.{Input}
@@ -13,11 +14,15 @@ use Rattle.rail_rules.specs.Texts.{text}
 use Rattle.rail_save.specs.RunLines.{other_behind}
 use Rattle.rail_save.specs.Snapshots.{IsFirstUnread, IsSnapshot, snapshot}
 use Rattle.rail_text.specs.Lines.{refusal_at}
-use Rattle.rail_command_line.specs.Forms.{Scenario}
+use Rattle.rail_command_line.specs.Forms.{Saving, Scenario, ScenarioAnd}
 use Rattle.rail_forms.specs.declared.status.Status.{Status}
 use Rattle.rail_forms.specs.Answers.{Decides, IsAnswer, Told}
 use Rattle.rail_forms.specs.Runs.{IsRunInPart, IsRunWithin}
-use Rattle.rail_forms.specs.Scenarios.{AnswersScenario, nothing_else}
+use Rattle.rail_forms.specs.Scenarios.{AnswersScenario, IsAcceptedScenario, nothing_else}
+use Rattle.rail_command_line.specs.declared.files.FileRole.TheVariants as role
+use Rattle.rail_forms.specs.Files.{told_of}
+use Rattle.rail_forms.specs.Pasts.{AnswersPast, past_refusal}
+use Rattle.rail_forms.specs.Terms.{Terms, is_done, never}
 
 -- the front is a first part of a run of the input that has so many lines, or a whole run that has fewer
 pub record IsRunUpTo (count : ℕ) (input : Input) (seats : List Seat) (front : Front) : Type 0 where
@@ -70,3 +75,41 @@ abbrev pub AnswersSave : ℕ → Scenario → List DeskSeat → Told → Option 
 AnswersSave count scenario deck told before now status = AnswersScenario nothing_else
     (λ input seats. SavesInput count input seats before now)
     (λ input seats. SavesInputInPart count input seats before now) scenario deck told status
+
+-- the terms of `save`
+abbrev pub save_terms : Terms Saving
+save_terms = record {
+  answers = λ saving deck told before now status. AnswersSave saving.count saving.scenario deck told before now status;
+  accepted = λ saving deck told. IsAcceptedScenario nothing_else deck told saving.scenario;
+  done = is_done;
+  alone = never;
+}
+
+-- the lines of the scenario's run behind the snapshot in the file of this name, with this deck
+abbrev pub AnswersResume : Scenario → List ℕ → List DeskSeat → Told → Option (List ℕ) → Option (List ℕ) → Status → Type 0
+AnswersResume scenario snapshot deck told before now status = AnswersPast role.Snapshot
+    (λ first input seats bytes. AnswersSnapshot first input seats bytes before now status) scenario snapshot deck told status
+
+-- the bytes of the files of a resumed run are told, the snapshot's are those of lines of a run, and nothing is refused
+pub record IsAcceptedResume (scenario : Scenario) (snapshot : List ℕ) (deck : List DeskSeat) (told : Told) : Type 0 where
+  pub bytes : List ℕ
+  pub calls : Option (List ℕ)
+  pub orders : Option (List ℕ)
+  pub text : List ℕ
+  pub lines : List Line
+  pub scene_told : told scenario.scene ≡ Some bytes
+  pub calls_told : told_of told scenario.timetable ≡ Some calls
+  pub orders_told : told_of told scenario.commands ≡ Some orders
+  pub snapshot_told : told snapshot ≡ Some text
+  pub fine : past_refusal role.Snapshot bytes calls orders text deck ≡ None
+  pub spelled : IsSnapshot (input_in bytes calls orders (names_of deck)).plant text lines
+  pub of_run : lines_refusal (input_in bytes calls orders (names_of deck)) (handed_in deck) lines ≡ None
+
+-- the terms of `resume`
+abbrev pub resume_terms : Terms ScenarioAnd
+resume_terms = record {
+  answers = λ files deck told before now status. AnswersResume files.scenario files.other deck told before now status;
+  accepted = λ files deck told. IsAcceptedResume files.scenario files.other deck told;
+  done = is_done;
+  alone = never;
+}

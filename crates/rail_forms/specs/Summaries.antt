@@ -16,6 +16,7 @@ use Rattle.rail_forms.specs.declared.summary.Summary.{Summary}
 use Rattle.rail_forms.specs.declared.status.Status.{Status}
 use Rattle.rail_forms.specs.Answers.{IsAnswer}
 use Rattle.rail_forms.specs.NotedRuns.{ReportsRun}
+use Rattle.rail_forms.specs.Terms.{Terms, is_done, never}
 
 -- the line is an out line
 abbrev pub is_leaving : What → Bool
@@ -52,3 +53,12 @@ abbrev pub AnswersGen : ℕ → List DeskSeat → Option (List ℕ) → Option (
 AnswersGen number deck before now status = IsAnswer None
     (ReportsRun (IsSummaryText number) (made_input number deck) (handed_in deck) (Adds before now))
     (ReportsRun (IsSummaryText number) (made_input number deck) (handed_in deck) (AddsPrefix before now)) status
+
+-- the terms of `gen`
+abbrev pub gen_terms : Terms ℕ
+gen_terms = record {
+  answers = λ number deck told before now status. AnswersGen number deck before now status;
+  accepted = λ number deck told. Unit {0};
+  done = is_done;
+  alone = never;
+}

@@ -1,5 +1,5 @@
 -- What is answered to a scene and one file more.
-use Rattle.std.specs.Prelude.{◌≡◌, ◌≢◌, ℕ, List, Option, Some}
+use Rattle.std.specs.Prelude.{◌≡◌, ◌≢◌, ℕ, List, Option, Some, None}
 use Rattle.rail_base.specs.declared.refusals.Refusal.{Refusal}
 use Rattle.rail_rules.specs.Numbers.{or_else}
 use Rattle.rail_input.specs.Inputs.{plant_refusal}
@@ -9,6 +9,7 @@ use Rattle.rail_forms.specs.declared.status.Status.{Status}
 use Rattle.rail_forms.specs.declared.status.Status.TheVariants.{Refused}
 use Rattle.rail_forms.specs.Answers.{Decides, IsAnswer, Told}
 use Rattle.rail_forms.specs.Files.{too_large, too_many_bytes}
+use Rattle.rail_command_line.specs.Forms.{SceneAnd}
 
 -- what is answered to the two files, of which the second has this role, by a form that refuses this behind the scene, and adds
 -- the whole or a part of what they stand for together
@@ -23,3 +24,11 @@ pub record AnswersTwoFiles (second_role : FileRole) (later : List ℕ → List �
   pub of_size : (bytes : List ℕ) → told scene ≡ Some bytes → Decides (too_large role.Scene bytes) status
   pub of_scene : (bytes : List ℕ) → told scene ≡ Some bytes → status ≢ Refused (too_many_bytes second_role)
       → Decides (or_else (too_large role.Scene bytes) (plant_refusal bytes)) status
+
+-- the bytes of a scene and of a second file, which has this role, are told, and nothing is refused
+pub record AreAccepted (second : FileRole) (later : List ℕ → List ℕ → Option Refusal) (files : SceneAnd) (told : Told) : Type 0 where
+  pub bytes : List ℕ
+  pub others : List ℕ
+  pub scene_told : told files.scene ≡ Some bytes
+  pub others_told : told files.other ≡ Some others
+  pub fine : or_else (too_large role.Scene bytes) (or_else (too_large second others) (later bytes others)) ≡ None

@@ -1,13 +1,10 @@
 //! An engine that has just begun, and the loop that follows its run to the end.
 
-ghost use Rattle.std.specs.Prelude.{◌≡◌, ◌-◌, ◌<◌, ◌≤◌, ◌*◌, ◌+◌, ◌^◌, [], IfErr, IfOk, IfSome, IsTrue, None, OnOk, OnErr, false, length, map, option_copied, true};
-ghost use Rattle.rail_base.specs.Refusals.{AnswersFirst};
+ghost use Rattle.std.specs.Prelude.{◌≡◌, ◌-◌, ◌<◌, ◌≤◌, ◌*◌, ◌+◌, ◌^◌, [], IfErr, IfOk, IsTrue, OnOk, OnErr, length, true};
 ghost use Rattle.rail_base.specs.declared.limits.TheConstants.{COMMANDS};
 ghost use Rattle.rail_engine.specs.Starts.{run_input};
-ghost use Rattle.rail_input.specs.Inputs.{input_in as input_spelled, input_refusal, refuses_file};
 ghost use Rattle.rail_laws_end.specs.Forks.{are_marks};
 ghost use Rattle.rail_policy.specs.Desks.{run_seats};
-ghost use Rattle.rail_policy.specs.Seats.{handed_in, is_fine_deck, names_of};
 ghost use Rattle.rail_rules.specs.Accepted.{is_accepted_input};
 ghost use Rattle.rail_rules.specs.Plant.{bound, trains};
 ghost use Rattle.rail_forms.specs.BegunRuns.{HasBegun, input_of, seats_of};
@@ -19,10 +16,9 @@ ghost use Rattle.rail_save.specs.Snapshots.{IsRefusedSnapshot, IsResumed};
 use crate::notes::LineNotes;
 use rail_base::{Command, Fault, OutOfMemory};
 use rail_engine::Engine;
-use rail_input::{ReadInput, read_input};
 use rail_io::{Failed, Sink};
 use rail_plan::Plant;
-use rail_policy::{Desk, Policy, Seen, names_of, read_marks};
+use rail_policy::{Desk, Seen};
 use rail_save::{resume, save};
 use std::alloc::Global;
 
@@ -121,43 +117,6 @@ impl Begun {
         }
         unreachable!()
     }
-}
-
-/// Begins the run of what the files of a scenario spell, where the first policy in force is the one that the scene names.
-/// All memory that the run takes is taken here.
-pub fn begin(
-    alloc: Global,
-    scene: &[u8],
-    timetable: Option<&[u8]>,
-    commands: Option<&[u8]>,
-    deck: Vec<Box<dyn Policy>>,
-) -> Result<Begun, Fault>
-    requires fine { IsTrue (is_fine_deck (map ⟦<Box<dyn Policy> as Policy>⟧.seat deck.items)) }
-    requires short_timetable { IfSome timetable (λ bytes. length bytes.now < 2 ^ 32 - 1) }
-    requires short_commands { IfSome commands (λ bytes. length bytes.now < 2 ^ 32 - 1) }
-    ensures accepted { OnOk result (input_refusal scene.now (option_copied timetable.entry) (option_copied commands.entry)
-        (names_of (map ⟦<Box<dyn Policy> as Policy>⟧.seat deck.items)) ≡ None) }
-    ensures begun { IfOk result (HasBegun ⟦<Desk as Seen>⟧.table) }
-    ensures input { IfOk result (λ begun. input_of begun
-        ≡ input_spelled scene.now (option_copied timetable.entry) (option_copied commands.entry)
-        (names_of (map ⟦<Box<dyn Policy> as Policy>⟧.seat deck.items))) }
-    ensures seats { IfOk result (λ begun. seats_of ⟦<Desk as Seen>⟧.table begun
-        ≡ handed_in (map ⟦<Box<dyn Policy> as Policy>⟧.seat deck.items)) }
-    ensures refused { IfErr result (AnswersFirst
-        (input_refusal scene.now (option_copied timetable.entry) (option_copied commands.entry)
-        (names_of (map ⟦<Box<dyn Policy> as Policy>⟧.seat deck.items)))) }
-    ensures of_bytes { IfErr result (λ fault. refuses_file fault ≡ false) }
-{
-    let names = names_of(alloc, &deck)?;
-    read_marks(&deck);
-    let ReadInput {
-        plant,
-        commands,
-        force,
-    } = read_input(alloc, scene, timetable, commands, &names)?;
-    let desk = Desk::new(deck, force);
-    let begun = Begun::new(alloc, plant, commands, desk)?;
-    Ok(begun)
 }
 
 /// How often an engine of the plant, with so many commands, can be asked for a line at most. A history has

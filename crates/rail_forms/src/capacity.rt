@@ -24,10 +24,8 @@ ghost use Rattle.rail_forms.specs.Promises.{KeepsPromise, WritesAnswer, ended, i
 ghost use Rattle.rail_text.specs.Writes.{WritesText};
 
 use crate::beginning::Begun;
-use crate::scenario;
-use crate::scenario::Purpose;
+use crate::scenario::ScenarioFiles;
 use crate::status::Status;
-use crate::study::Study;
 use rail_base::{Fault, Interval, Name, Names, OutOfMemory, Part, Reason, Refusal, SectionNo};
 use rail_capacity::{CapacityFault, Compressed, Shift, Tight, Window, compress};
 use rail_command_line::Scenario;
@@ -76,33 +74,36 @@ pub fn answer<S: Shelf, O: Sink>(
     if window.to.0 <= window.from.0 {
         return Err(Status::Refused(WINDOW_EMPTY));
     }
-    let purpose = Purpose::Capacity(Study { line, window });
-    scenario::answer(alloc, &purpose, scenario, shelf, out, deck)
+    let files = ScenarioFiles::read(alloc, scenario, shelf)?;
+    let begun = files.begin(alloc, deck)?;
+    report(alloc, line, window, begun, out)
 }
 
 /// Follows the run to its end, and writes the compression of that run. All memory is taken before the first byte.
-pub(crate) fn report<O: Sink>(
+fn report<O: Sink>(
     alloc: Global,
-    study: &Study,
+    line: &str,
+    window: Window,
     begun: Begun,
     out: &mut O,
 ) -> Result<(), Status>
-    requires { HasBegun ⟦<Desk as Seen>⟧.table begun }
+    requires ordered { window.from < window.to }
+    requires begun { HasBegun ⟦<Desk as Seen>⟧.table begun }
     ensures answer { let input = input_of begun in let seats = seats_of ⟦<Desk as Seen>⟧.table begun in
-        let tells = IsCapacityText study.now.line.now study.now.window in
-        IsAnswer (line_refusal input.plant study.now.line.now)
+        let tells = IsCapacityText line.now window in
+        IsAnswer (line_refusal input.plant line.now)
         (ReportsRun tells input seats (Adds (O.written out.old) (O.written out.new)))
         (ReportsRun tells input seats (AddsPrefix (O.written out.old) (O.written out.new))) (ended result) }
     ensures writes { WritesAnswer O.Sink out.old out.new (ended result) }
     ensures of_bytes { is_of_bytes (ended result) ≡ true }
 {
-    let sections = read_sections(alloc, begun.plant().names(), study.line)?;
+    let sections = read_sections(alloc, begun.plant().names(), line)?;
     let mut stairs = Stairs::new(alloc, begun.plant())?;
     let Ok(engine) = begun.follow_to_end(&mut stairs);
     ended_intervals_are_without_conflict();
     let stairway = stairs.intervals(alloc, engine.plant())?;
     let intervals = ended_by(stairway, stairs.ended());
-    let compressed = compressed_by(alloc, &intervals, &sections, study.window)?;
+    let compressed = compressed_by(alloc, &intervals, &sections, window)?;
     write_compressed(engine.plant().names(), &compressed, out)?;
     Ok(())
 }

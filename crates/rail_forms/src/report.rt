@@ -1,22 +1,44 @@
 //! `report SCENE [TIMETABLE [COMMANDS]]`: how late the trains of a run are, and for which causes they are held.
 
-ghost use Rattle.std.specs.Prelude.{◌≡◌, None, true};
+ghost use Rattle.std.specs.Prelude.{◌≡◌, IsTrue, None, map, true};
+ghost use Rattle.rail_command_line.specs.Forms.{scenario_files, scenario_in};
 ghost use Rattle.rail_io.specs.Writes.{Adds, AddsPrefix};
+ghost use Rattle.rail_policy.specs.Seats.{is_fine_deck};
 ghost use Rattle.rail_forms.specs.Answers.{IsAnswer};
 ghost use Rattle.rail_forms.specs.BegunRuns.{HasBegun, input_of, seats_of};
 ghost use Rattle.rail_forms.specs.NotedRuns.{ReportsRun};
-ghost use Rattle.rail_forms.specs.Promises.{WritesAnswer, ended, is_of_bytes};
-ghost use Rattle.rail_forms.specs.Reports.{IsReportText};
+ghost use Rattle.rail_forms.specs.Promises.{KeepsPromise, WritesAnswer, ended, is_of_bytes};
+ghost use Rattle.rail_forms.specs.Reports.{AnswersReport, IsReportText};
 
 use crate::beginning::Begun;
+use crate::scenario::ScenarioFiles;
 use crate::status::Status;
+use rail_command_line::Scenario;
 use rail_delay::{Delays, write_report};
-use rail_io::Sink;
-use rail_policy::{Desk, Seen};
+use rail_io::{Shelf, Sink};
+use rail_policy::{Desk, Policy, Seen};
 use std::alloc::Global;
 
+/// Writes the delays by cause of the scenario.
+pub fn answer<S: Shelf, O: Sink>(
+    alloc: Global,
+    scenario: &Scenario,
+    shelf: &mut S,
+    out: &mut O,
+    deck: Vec<Box<dyn Policy>>,
+) -> Result<(), Status>
+    requires fine { IsTrue (is_fine_deck (map ⟦<Box<dyn Policy> as Policy>⟧.seat deck.items)) }
+    ensures kept { KeepsPromise S.Shelf O.Sink (scenario_files (scenario_in scenario.now)) shelf.old shelf.new out.old out.new (ended result) }
+    ensures answer { AnswersReport (scenario_in scenario.now) (map ⟦<Box<dyn Policy> as Policy>⟧.seat deck.items)
+        (S.told shelf.old) (O.written out.old) (O.written out.new) (ended result) }
+{
+    let files = ScenarioFiles::read(alloc, scenario, shelf)?;
+    let begun = files.begin(alloc, deck)?;
+    report(alloc, begun, out)
+}
+
 /// Follows the run to its end, and writes the report of that run.
-pub fn report<O: Sink>(alloc: Global, begun: Begun, out: &mut O) -> Result<(), Status>
+fn report<O: Sink>(alloc: Global, begun: Begun, out: &mut O) -> Result<(), Status>
     requires { HasBegun ⟦<Desk as Seen>⟧.table begun }
     ensures answer { let input = input_of begun in let seats = seats_of ⟦<Desk as Seen>⟧.table begun in
         IsAnswer None (ReportsRun IsReportText input seats (Adds (O.written out.old) (O.written out.new)))

@@ -25,9 +25,9 @@ use Rattle.rail_text.specs.Lines.{refusal_at}
 use Rattle.rail_forms.specs.declared.status.Status.{Status}
 use Rattle.rail_forms.specs.declared.status.Status.TheVariants.{Done, Usage, Refused, ReadFault, WriteFault, OutOfMemory, CheckedNo}
 use Rattle.rail_forms.specs.Answers.{IsAnswer, Told}
-use Rattle.rail_forms.specs.Checks.{IsJudged, done_with, status_judged, verdict_text}
-use Rattle.rail_forms.specs.Pasts.{AnswersCheck, AnswersResume, past_refusal}
-use Rattle.rail_forms.specs.Snapshots.{AnswersSave, ResumesInput, ResumesInputInPart, lines_refusal}
+use Rattle.rail_forms.specs.Checks.{AnswersCheck, IsJudged, done_with, status_judged, verdict_text}
+use Rattle.rail_forms.specs.Pasts.{past_refusal}
+use Rattle.rail_forms.specs.Snapshots.{AnswersResume, AnswersSave, ResumesInput, ResumesInputInPart, lines_refusal}
 use Rattle.rail_command_line.specs.Forms.{Scenario}
 use Rattle.rail_command_line.specs.declared.files.FileRole.TheVariants as role
 use Rattle.rail_forms.specs.Files.{told_of, too_large, too_large_if_any}

@@ -1,21 +1,19 @@
 //! The top call: what the words ask for, on files and an output.
 
-ghost use Rattle.std.specs.Prelude.{◌≡◌, ◌↔◌, IsTrue, map};
+ghost use Rattle.std.specs.Prelude.{◌≡◌, ◌↔◌, ℕ, IsTrue, List, map};
 ghost use Rattle.rail_policy.specs.Seats.{is_fine_deck};
-ghost use Rattle.rail_command_line.specs.Forms.{IsAsked, Values, files_in, files_of};
+ghost use Rattle.rail_command_line.specs.Forms.{IsAsked, Values, files_of, form_in, values_in};
 ghost use Rattle.rail_command_line.specs.declared.forms.Form.{Form};
 ghost use Rattle.rail_forms.specs.declared.status.Status.TheVariants as status;
-ghost use Rattle.rail_forms.specs.Promises.{KeepsPromise, ReadsFiles, WritesAnswer, ended};
-ghost use Rattle.rail_top.specs.Forms.{AnswersForm, AnswersRequest, AreRefusedAlone, IsAcceptedInput, IsBounded, IsComplete, IsDone, IsRefusedAlone};
+ghost use Rattle.rail_forms.specs.Promises.{ReadsFiles, WritesAnswer, ended};
+ghost use Rattle.rail_top.specs.Forms.{AnswersForm, AreRefusedAlone, IsAcceptedInput, IsComplete, IsDone, IsDoneFor};
 
 use rail_base::{Word, a_text_stands_for_one_time};
 use rail_capacity::Window;
 use rail_command_line::{Request, request_of};
-use rail_forms::past::Past;
-use rail_forms::scenario::Purpose;
 use rail_forms::{
-    Status, capacity, edit, infra, insertion, migrate, past, play, reroute, scenario, scene,
-    summary,
+    Status, capacity, check, edit, infra, insert, migrate, play, report, reroute, resume, run,
+    save, scene, stairs, summary,
 };
 use rail_io::{Shelf, Sink};
 use rail_policy::Policy;
@@ -79,8 +77,7 @@ pub fn rail<S: Shelf, O: Sink>(
     }
 }
 
-/// Does what is asked for.
-#[tactic(auto, using(crate::proofs::Unread::keeps_unread))]
+/// Does what is asked for by some words.
 fn answer<S: Shelf, O: Sink>(
     alloc: Global,
     request: &Request,
@@ -89,22 +86,14 @@ fn answer<S: Shelf, O: Sink>(
     deck: Vec<Box<dyn Policy>>,
 ) -> Result<(), Status>
     requires fine { IsTrue (is_fine_deck (map ⟦<Box<dyn Policy> as Policy>⟧.seat deck.items)) }
-    requires bounded { IsBounded request.now }
-    ensures kept { KeepsPromise S.Shelf O.Sink (files_in request.now) shelf.old shelf.new out.old out.new (ended result) }
-    ensures answer { AnswersRequest request.now (map ⟦<Box<dyn Policy> as Policy>⟧.seat deck.items)
-        (S.told shelf.old) (O.written out.old) (O.written out.new) (ended result) }
-    ensures unread { IsRefusedAlone request.now → shelf.new ≡ shelf.old }
+    requires asked { (words : List (List ℕ)) × IsAsked (form_in request.now) (values_in request.now) words }
+    ensures { IsDoneFor S.Shelf O.Sink (form_in request.now) (values_in request.now) (map ⟦<Box<dyn Policy> as Policy>⟧.seat deck.items)
+        shelf.old shelf.new out.old out.new (ended result) }
 {
     match request {
-        Request::Run(scenario) => {
-            scenario::answer(alloc, &Purpose::History, scenario, shelf, out, deck)
-        }
-        Request::Stairs(scenario) => {
-            scenario::answer(alloc, &Purpose::Stairs, scenario, shelf, out, deck)
-        }
-        Request::Report(scenario) => {
-            scenario::answer(alloc, &Purpose::Report, scenario, shelf, out, deck)
-        }
+        Request::Run(scenario) => run::answer(alloc, scenario, shelf, out, deck),
+        Request::Stairs(scenario) => stairs::answer(alloc, scenario, shelf, out, deck),
+        Request::Report(scenario) => report::answer(alloc, scenario, shelf, out, deck),
         Request::Capacity {
             line,
             from,
@@ -117,11 +106,11 @@ fn answer<S: Shelf, O: Sink>(
             };
             capacity::answer(alloc, line, window, scenario, shelf, out, deck)
         }
-        Request::Insert(paths) => insertion::answer(alloc, paths, shelf, out, deck),
+        Request::Insert(paths) => insert::answer(alloc, paths, shelf, out, deck),
         Request::Infra { scene } => infra::answer(alloc, scene, shelf, out),
         Request::Play { scene, list } => play::answer(alloc, scene, list, shelf, out),
         Request::Check { scenario, history } => {
-            past::answer(alloc, Past::History, scenario, history, shelf, out, deck)
+            check::answer(alloc, scenario, history, shelf, out, deck)
         }
         Request::Edit { scene, edits } => edit::answer(alloc, scene, edits, shelf, out),
         Request::Reroute {
@@ -130,17 +119,10 @@ fn answer<S: Shelf, O: Sink>(
             proposals,
         } => reroute::answer(alloc, scene, list, proposals, shelf, out),
         Request::Save { count, scenario } => {
-            scenario::answer(
-                alloc,
-                &Purpose::Snapshot(*count),
-                scenario,
-                shelf,
-                out,
-                deck,
-            )
+            save::answer(alloc, *count, scenario, shelf, out, deck)
         }
         Request::Resume { scenario, snapshot } => {
-            past::answer(alloc, Past::Snapshot, scenario, snapshot, shelf, out, deck)
+            resume::answer(alloc, scenario, snapshot, shelf, out, deck)
         }
         Request::Migrate { scene } => migrate::answer(alloc, scene, shelf, out),
         Request::Scene { number } => scene::answer(alloc, *number, out),

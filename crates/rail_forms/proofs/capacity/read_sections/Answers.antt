@@ -1,9 +1,8 @@
-use Rattle.std.proofs.Common.{◌≡◌, ℕ, ◌+◌, eqb, List, [], ◌∷◌, ◌++◌, None, Some, lit<, sym, ap, ◌∙◌, subst, drop, length, arith, rules}
+use Rattle.std.proofs.Common.{◌≡◌, ℕ, ◌+◌, List, [], ◌∷◌, ◌++◌, None, Some, lit<, sym, ap, ◌∙◌, subst, drop, length, arith, rules}
 use Rattle.std.proofs.lemmas.Grind.{common_steps}
 use Rattle.std.proofs.lemmas.Iterator.Consumers.{YieldsList-end, YieldsList-turn}
 use Rattle.std.proofs.lemmas.Iterator.Splits.{YieldsList-from_str_split}
 use Rattle.std.proofs.lemmas.List.{length_push}
-use Rattle.std.proofs.lemmas.List.Splits.{length-slice_split}
 use Rattle.rail_base.proofs.CallerLemmas.{passed_up}
 use Rattle.rail_base.specs.Refusals.{AnswersFirst}
 use Rattle.rail_forms.specs.Capacity.{piece_refusal, pieces, pieces_refusal, section_named}

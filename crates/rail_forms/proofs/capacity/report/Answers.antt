@@ -8,9 +8,8 @@ use Rattle.rail_forms.specs.BegunRuns.{input_of}
 use Rattle.rail_forms.specs.Capacity.{line_of, line_refusal, pieces, pieces_refusal, sections_on}
 use Rattle.rail_text.specs.Names.{names_in, names_of}
 use Rattle.rail_forms.proofs.Answers.{ended_with, late_part}
-use Rattle.rail_forms.proofs.Behind.{unwritten_fault}
 use Rattle.rail_forms.proofs.NotedRuns.{capacity_told, noted_apart, noted_intervals, stairs_ended, stairs_noted}
-use Rattle.rail_forms.proofs.Writes.{all_written, ended-failed, fault_written, none_written}
+use Rattle.rail_forms.proofs.Writes.{all_written, ended-failed, fault_written, none_written, unwritten_fault}
 use Rattle.rail_forms.proofs.capacity.report.Goals as goal
 
 pub intervals-requires : goal.intervals-requires
@@ -48,7 +47,7 @@ returns-clause-writes g c = all_written g.O.Sink _ _ c.write_compressed.ensures.
 
 pub returns-in_err-write_compressed-clause-answer : goal.returns-in_err-write_compressed-clause-answer
 returns-in_err-write_compressed-clause-answer g c =
-    let word : List ℕ = c.args.study.now.line.now in
+    let word : List ℕ = c.args.line.now in
     let keys : c.names.result.now.sections.keys ≡ section_names (input_of c.args.begun).plant.tables = c.names.ensures.sections ∙ ap (λ (p : Plant). section_names p.tables) c.plant.ensures in
     let line : c.deref-2.result.now ≡ line_of (input_of c.args.begun).plant word = c.deref-2.ensures.value ∙ c.in_ok-sections.ensures.sections ∙ ap (λ (names : List (List ℕ)). sections_on names (pieces word)) keys in
     let fine : line_refusal (input_of c.args.begun).plant word ≡ None = ap (λ (names : List (List ℕ)). pieces_refusal names [] 1 (pieces word)) (sym keys) ∙ c.in_ok-sections.ensures.accepted in
@@ -56,13 +55,13 @@ returns-in_err-write_compressed-clause-answer g c =
     let names : names_in c.names-2.result.now ≡ names_of (input_of c.args.begun).plant = shown ∙ ap names_of (c.plant-4.ensures ∙ c.in-Ok.ensures.plant) in
     late_part _ _ _ _ fine (ended-failed c.from_residual-in_err-write_compressed.result c.from_residual-in_err-write_compressed.ensures.1)
     (capacity_told (input_of c.args.begun) _ c.follow_to_end.new.notes c.plant-3.result.now (c.plant-3.ensures ∙ c.in-Ok.ensures.plant) c.in-Ok.ensures.noted c.deref.result.now
-    (noted_intervals c.plant-3.result.now c.follow_to_end.new.notes c.in_ok-stairway.stairway.items c.deref.result.now c.ended.result c.in_ok-stairway.ensures c.ended.ensures (c.deref.ensures.value ∙ c.ended_by-intervals.ensures)) c.args.study.now.line.now c.deref-2.result.now c.args.study.now.window (names_in c.names-2.result.now)
+    (noted_intervals c.plant-3.result.now c.follow_to_end.new.notes c.in_ok-stairway.stairway.items c.deref.result.now c.ended.result c.in_ok-stairway.ensures c.ended.ensures (c.deref.ensures.value ∙ c.ended_by-intervals.ensures)) c.args.line.now c.deref-2.result.now c.args.window (names_in c.names-2.result.now)
     c.in_ok-compressed.compressed.trains.items c.in_ok-compressed.compressed.occupancy c.in_ok-compressed.compressed.rate
     (AddsPrefix (g.O.Sink.written c.args.out.now) (g.O.Sink.written c.write_compressed.new.out)) line names c.in_ok-compressed.ensures c.in_err-write_compressed.ensures.failed_adds_prefix)
 
 pub returns-clause-answer : goal.returns-clause-answer
 returns-clause-answer g c =
-    let word : List ℕ = c.args.study.now.line.now in
+    let word : List ℕ = c.args.line.now in
     let keys : c.names.result.now.sections.keys ≡ section_names (input_of c.args.begun).plant.tables = c.names.ensures.sections ∙ ap (λ (p : Plant). section_names p.tables) c.plant.ensures in
     let line : c.deref-2.result.now ≡ line_of (input_of c.args.begun).plant word = c.deref-2.ensures.value ∙ c.in_ok-sections.ensures.sections ∙ ap (λ (names : List (List ℕ)). sections_on names (pieces word)) keys in
     let fine : line_refusal (input_of c.args.begun).plant word ≡ None = ap (λ (names : List (List ℕ)). pieces_refusal names [] 1 (pieces word)) (sym keys) ∙ c.in_ok-sections.ensures.accepted in
@@ -70,7 +69,7 @@ returns-clause-answer g c =
     let names : names_in c.names-2.result.now ≡ names_of (input_of c.args.begun).plant = shown ∙ ap names_of (c.plant-4.ensures ∙ c.in-Ok.ensures.plant) in (
       fine,
       capacity_told (input_of c.args.begun) _ c.follow_to_end.new.notes c.plant-3.result.now (c.plant-3.ensures ∙ c.in-Ok.ensures.plant) c.in-Ok.ensures.noted c.deref.result.now
-          (noted_intervals c.plant-3.result.now c.follow_to_end.new.notes c.in_ok-stairway.stairway.items c.deref.result.now c.ended.result c.in_ok-stairway.ensures c.ended.ensures (c.deref.ensures.value ∙ c.ended_by-intervals.ensures)) c.args.study.now.line.now c.deref-2.result.now c.args.study.now.window (names_in c.names-2.result.now)
+          (noted_intervals c.plant-3.result.now c.follow_to_end.new.notes c.in_ok-stairway.stairway.items c.deref.result.now c.ended.result c.in_ok-stairway.ensures c.ended.ensures (c.deref.ensures.value ∙ c.ended_by-intervals.ensures)) c.args.line.now c.deref-2.result.now c.args.window (names_in c.names-2.result.now)
           c.in_ok-compressed.compressed.trains.items c.in_ok-compressed.compressed.occupancy c.in_ok-compressed.compressed.rate
           (Adds (g.O.Sink.written c.args.out.now) (g.O.Sink.written c.write_compressed.new.out)) line names c.in_ok-compressed.ensures c.in_ok-write_compressed.ensures.adds,
     )

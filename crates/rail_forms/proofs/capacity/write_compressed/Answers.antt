@@ -1,7 +1,6 @@
-use Rattle.std.proofs.Common.{List, ℕ, ◌++◌, subst}
-use Rattle.std.specs.Prelude.{flat_map}
+use Rattle.std.proofs.Common.{List, subst}
 use Rattle.rail_capacity.specs.declared.shifts.Shift.{Shift}
-use Rattle.rail_forms.specs.Capacity.{capacity_text, shift_line}
+use Rattle.rail_forms.specs.Capacity.{capacity_text}
 use Rattle.rail_text.specs.Names.{names_in}
 use Rattle.rail_text.specs.Writes.{WritesText}
 use Rattle.rail_text.proofs.CallerLemmas.{both_written, part_written}

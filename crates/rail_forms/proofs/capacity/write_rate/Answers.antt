@@ -1,6 +1,5 @@
-use Rattle.std.proofs.Common.{◌≡◌, ℕ, List, [], ◌∷◌, ◌++◌, codes, decimal, sym, ap, ◌∙◌, subst, append_assoc}
-use Rattle.rail_delay.proofs.CallerLemmas.{ended_line, first_word, one_word}
-use Rattle.rail_rules.specs.Texts.{spaced}
+use Rattle.std.proofs.Common.{◌≡◌, ℕ, List, [], ◌∷◌, codes, decimal, ◌∙◌, subst}
+use Rattle.rail_delay.proofs.CallerLemmas.{first_word, one_word}
 use Rattle.rail_forms.specs.Capacity.{rate_lines, rate_word}
 use Rattle.rail_text.specs.Writes.{WritesText}
 use Rattle.rail_forms.proofs.CapacityTexts.{second_line}

@@ -1,5 +1,4 @@
 use Rattle.std.proofs.Common.{◌≡◌, ℕ, List, [], ◌∷◌, codes, decimal, ◌∙◌, subst}
-use Rattle.rail_rules.specs.Texts.{spaced}
 use Rattle.rail_delay.proofs.CallerLemmas.{ended_line, first_word, more_words, one_word}
 use Rattle.rail_forms.specs.Capacity.{shift_line, tight_words}
 use Rattle.rail_text.specs.Names.{names_in, train_name}

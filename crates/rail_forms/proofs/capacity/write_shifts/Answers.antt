@@ -1,5 +1,4 @@
-use Rattle.std.proofs.Common.{sym, subst, List, ℕ, arith, Ok, ◌++◌}
-use Rattle.std.specs.Prelude.{flat_map}
+use Rattle.std.proofs.Common.{sym, subst, List, ℕ, arith, Ok}
 use Rattle.rail_forms.specs.Capacity.{shift_line}
 use Rattle.rail_text.specs.Names.{names_in}
 use Rattle.rail_text.specs.Writes.{WritesText}

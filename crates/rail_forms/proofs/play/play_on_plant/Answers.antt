@@ -1,6 +1,5 @@
-use Rattle.std.proofs.Common.{◌≡◌, List, length, true, ap, ◌∙◌}
+use Rattle.std.proofs.Common.{◌≡◌, length, true, ap, ◌∙◌}
 use Rattle.rail_place.specs.Tables.{moves_in}
-use Rattle.rail_text.specs.Names.{names_of}
 use Rattle.rail_forms.specs.Plays.{list_refusal, places_refusal}
 use Rattle.rail_forms.specs.Promises.{is_of_bytes}
 use Rattle.rail_forms.proofs.Answers.{ended_with}

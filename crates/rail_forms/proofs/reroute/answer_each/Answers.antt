@@ -1,7 +1,4 @@
-use Rattle.std.proofs.Common.{List, subst, take, arith}
-use Rattle.std.proofs.lemmas.List.{take_all}
-use Rattle.rail_reroute.specs.declared.proposals.Proposal.{Proposal}
-use Rattle.rail_forms.specs.Reroutes.{AreAnswered}
+use Rattle.std.proofs.Common.{arith}
 use Rattle.rail_forms.proofs.Reroutings.{next_answered, ready_at}
 use Rattle.rail_forms.proofs.reroute.answer_each.Goals as goal
 

@@ -1,4 +1,4 @@
-use Rattle.std.proofs.Common.{◌≡◌, List, true, ap, subst, ◌∙◌}
+use Rattle.std.proofs.Common.{List, ap, subst, ◌∙◌}
 use Rattle.std.specs.List.{list_all}
 use Rattle.rail_reroute.specs.Proposals.{is_ready}
 use Rattle.rail_reroute.specs.declared.proposals.Proposal.{Proposal}

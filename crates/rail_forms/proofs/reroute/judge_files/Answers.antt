@@ -1,4 +1,4 @@
-use Rattle.std.proofs.Common.{◌≡◌, length, Option, sym, ap, ◌∙◌}
+use Rattle.std.proofs.Common.{length, Option, sym, ap, ◌∙◌}
 use Rattle.rail_base.specs.declared.refusals.Refusal.{Refusal}
 use Rattle.rail_reroute.specs.Proposals.{proposals_refusal, route_names, train_names}
 use Rattle.rail_rules.specs.Numbers.{or_else}
@@ -9,11 +9,10 @@ use Rattle.rail_place.specs.Tables.{moves_in}
 use Rattle.rail_forms.specs.Answers.{status_of}
 use Rattle.rail_forms.specs.Promises.{is_of_bytes}
 use Rattle.rail_forms.proofs.Answers.{answer_after, ended_with, late_part}
-use Rattle.rail_forms.proofs.Behind.{unwritten_fault}
 use Rattle.rail_forms.proofs.Lists.{fault_answers, list_answers, list_first, list_unwritten}
 use Rattle.rail_forms.proofs.Parts.{proposals_fault}
 use Rattle.rail_forms.proofs.Reroutings.{compiled_scene, files_judged, list_same, only_proposals, valid_places}
-use Rattle.rail_forms.proofs.Writes.{all_written, ended-failed, fault_written}
+use Rattle.rail_forms.proofs.Writes.{all_written, ended-failed, fault_written, unwritten_fault}
 use Rattle.rail_forms.proofs.reroute.judge_files.Goals as goal
 
 pub returns-in_err-placed-clause-answer : goal.returns-in_err-placed-clause-answer

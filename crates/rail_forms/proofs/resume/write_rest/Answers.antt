@@ -1,4 +1,4 @@
-use Rattle.std.proofs.Common.{◌≡◌, ◌+◌, ◌*◌, ◌<◌, List, length, ap, arith}
+use Rattle.std.proofs.Common.{◌+◌, ◌*◌, ◌<◌, List, length, ap, arith}
 use Rattle.rail_base.specs.declared.orders.Command.{Command}
 use Rattle.rail_rules.specs.Plant.{Plant, bound, trains}
 use Rattle.rail_forms.proofs.SnapshotAnswers.{on_err, on_ok, rest_written, rest_written_in_part}

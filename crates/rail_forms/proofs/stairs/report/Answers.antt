@@ -1,4 +1,4 @@
-use Rattle.std.proofs.Common.{[], List, refl, ap, ◌∙◌, subst}
+use Rattle.std.proofs.Common.{[], refl, ◌∙◌, subst}
 use Rattle.rail_io.specs.Writes.{Adds, AddsPrefix}
 use Rattle.rail_rules.specs.Plant.{Plant}
 use Rattle.rail_stairs.specs.NotedHistories.{AreNoted}
