@@ -1,0 +1,2 @@
+-- Deadlocks, and whether some list completes.
+pub mod Locked
