@@ -4,6 +4,8 @@
 pub use Rattle.rail_laws_end.proofs.Ending.{complete_bound}
 -- the same of a front that is lawful to the end
 pub use Rattle.rail_laws_end.proofs.Ending.{complete_out}
+-- Barred: at the end of a history each train that remains leads to one that an order bars.
+pub use Rattle.rail_laws_end.proofs.Barred.{leads_to_barred}
 -- Steps: two lines that a run may write after one front are one, or fresh admissions of one train.
 pub use Rattle.rail_laws_end.proofs.Steps.{event_alone, hold_unsettles, next_lines, ready_known, settled_parts}
 -- a due line isn't at an instant where nothing is due

@@ -9,7 +9,7 @@ use Rattle.rail_base.specs.declared.history.Entry.{Entry}
 use Rattle.rail_base.specs.declared.history.What.{What}
 use Rattle.rail_base.specs.declared.history.What.TheVariants.{Free, Arrive, Enter, Out, Ready, Told, Untold, Admit, Hold, End}
 use Rattle.rail_base.specs.declared.orders.Command.{Command}
-use Rattle.rail_rules.specs.Numbers.{all_below, listed}
+use Rattle.rail_rules.specs.Numbers.{all_below, is_in, listed}
 use Rattle.rail_rules.specs.Moves.{Moves}
 use Rattle.rail_rules.specs.Places.{place_of, is_inside, has_holder, is_legal, nobody_inside, completes}
 use Rattle.rail_rules.specs.Plant.{trains, moves, moves_of, claimed, bound}
@@ -18,7 +18,7 @@ use Rattle.rail_rules.specs.LineCounts.{taken_over}
 use Rattle.rail_rules.specs.Orders.{Input, told, is_closed, is_stopped, is_cancelled}
 use Rattle.rail_rules.specs.Times.{out}
 use Rattle.rail_rules.specs.Events.{is_quiet, ready_line, due_lines, train_events, events, is_written, commands_due}
-use Rattle.rail_rules.specs.Causes.{place, is_deciding, waits, is_ready, cause, is_told_so, is_settled, places_after}
+use Rattle.rail_rules.specs.Causes.{place, is_deciding, waits, is_ready, is_repairable, cause, is_told_so, is_settled, places_after}
 use Rattle.rail_rules.specs.Lawful.{is_lawful, is_complete, is_out_line, is_out, remaining}
 use Rattle.rail_rules.proofs.CallerLemmas.{all_below_at, list_any_at, gather_same, admissions_kept}
 use Rattle.rail_laws_front.specs.Premises.{IsWellFormed}
@@ -46,7 +46,7 @@ settled_cause input (line ∷ before) t settled lt ready =
     (or_cases (not (is_ready input front t)) (is_some (cause input front t) && is_told_so input front t) here)
 
 -- where nothing is due, each train that isn't out or cancelled is ready
-ready_now : (input : Input) (front : Front) (t : ℕ) → length (due_lines input front) ≡ 0 → t < trains input.plant → place front t < moves input.plant t → is_cancelled t (told input.commands front) ≡ false → is_ready input front t ≡ true
+pub ready_now : (input : Input) (front : Front) (t : ℕ) → length (due_lines input front) ≡ 0 → t < trains input.plant → place front t < moves input.plant t → is_cancelled t (told input.commands front) ≡ false → is_ready input front t ≡ true
 ready_now input front t nothing lt room runs =
     let line : Entry = ready_line input.plant t (admissions front t) (place front t) in
     let stood : stands front line ≡ true = all_stand input front t line nothing lt (readying (place front t) (omega arith) room runs refl) in
@@ -54,15 +54,22 @@ ready_now input front t nothing lt room runs =
     (and_from (ltb (place front t) (moves input.plant t)) (not (is_cancelled t (told input.commands front))) (lt-ltb (place front t) (moves input.plant t) room) (not_from_false (is_cancelled t (told input.commands front)) runs))
     stood
 
--- a front where nothing is due and everything is settled, and no closure and no stop remains
-module _ (input : Input) (fine : IsWellFormed input.plant) (front : Front) (lawful : is_lawful input front ≡ true) (nothing : length (due_lines input front) ≡ 0) (free : NothingIsBarred input front) where
+-- a train that is ready, nobody holds what its next move claims, and the list repaired for it completes
+pub record CanMove (input : Input) (front : Front) (t : ℕ) : Type 0 where
+  pub known : t < trains input.plant
+  pub ready : is_ready input front t ≡ true
+  pub unheld : (x : ℕ) → is_in x (claimed input.plant t (place front t)) ≡ true → has_holder (moves_of input.plant) (places input.plant front) x ≡ false
+  pub repairs : is_repairable input front t ≡ true
+
+-- a front where nothing is due
+module _ (input : Input) (fine : IsWellFormed input.plant) (front : Front) (lawful : is_lawful input front ≡ true) (nothing : length (due_lines input front) ≡ 0) where
   plan : Moves
   plan = moves_of input.plant
 
-  -- the head of the kept list could go
-  pub head_has_no_cause : (u : ℕ) (rest : List ℕ) → kept input.plant front ≡ u ∷ rest → (u < trains input.plant) × (is_ready input front u ≡ true) × (is_some (cause input front u) ≡ false)
+  -- the head of the kept list is ready, and its move is legal
+  pub head_moves : (u : ℕ) (rest : List ℕ) → kept input.plant front ≡ u ∷ rest → CanMove input front u
   unfolding plan
-  head_has_no_cause u rest is =
+  head_moves u rest is =
       let P : List ℕ → Type 0 = λ list. completes plan (places input.plant front) list ≡ true in
       let completing = subst P is (kept_completes input fine front lawful).completing in
       let both = and_parts (is_inside plan (places input.plant front) u && is_legal plan (places input.plant front) u) _ completing in
@@ -84,11 +91,12 @@ module _ (input : Input) (fine : IsWellFormed input.plant) (front : Front) (lawf
       let legal = and_parts (ltb (place_of (places input.plant front) u) (moves input.plant u)) (not (list_any (has_holder plan (places input.plant front)) (claimed input.plant u (place_of (places input.plant front) u)))) moved.1 in
       let Q : ℕ → Type 0 = λ p. list_any (has_holder plan (places input.plant front)) (claimed input.plant u p) ≡ false in
       let unheld = subst Q here (not-true _ legal.1) in
-      let goes : is_some (cause input front u) ≡ false =
-      no_cause input front u
-      (legal_unbarred input fine front lawful nothing free u (λ x is_claimed. list_any_at (has_holder plan (places input.plant front)) (claimed input.plant u (place front u)) x unheld is_claimed))
-      (sym (ap (completes plan (places_after input front u)) (pulled (kept input.plant front) is (omega (arith, positive, here)))) ∙ both.1) in
-      (known, ready_now input front u nothing known room runs, goes)
+      record {
+        known = known;
+        ready = ready_now input front u nothing known room runs;
+        unheld = λ x is_claimed. list_any_at (has_holder plan (places input.plant front)) (claimed input.plant u (place front u)) x unheld is_claimed;
+        repairs = sym (ap (completes plan (places_after input front u)) (pulled (kept input.plant front) is (omega (arith, positive, here)))) ∙ both.1;
+      }
     where
       first_is : without_first u (u ∷ rest) ≡ rest
       first_is = cond-true (eqb u u) rest (u ∷ without_first u rest) (eq-eqb u u refl)
@@ -100,11 +108,49 @@ module _ (input : Input) (fine : IsWellFormed input.plant) (front : Front) (lawf
           not_zero zero lt = absurd (omega arith)
           not_zero (suc p) lt = ne_eqb (suc p) 0 (λ same. omega (arith, same))
 
+  -- where the kept list is empty, nobody is inside
+  pub nobody_left : kept input.plant front ≡ [] → nobody_inside (moves_of input.plant) (places input.plant front) ≡ true
+  nobody_left empty =
+      let P : List ℕ → Type 0 = λ list. completes (moves_of input.plant) (places input.plant front) list ≡ true in
+      subst P empty (kept_completes input fine front lawful).completing
+
+  -- and a train that is still to enter could go
+  pub entering_moves : kept input.plant front ≡ [] → (t : ℕ) → t < trains input.plant → is_ready input front t ≡ true → place front t ≡ 0 → CanMove input front t
+  entering_moves empty t known ready outside =
+      let nobody = nobody_left empty in
+      record {
+        known = known;
+        ready = ready;
+        unheld = λ x _. nothing_held (moves_of input.plant) (places input.plant front) x nobody;
+        repairs = ap (completes (moves_of input.plant) (places_after input front t)) (appended (kept input.plant front) empty (place front t) outside)
+            ∙ enters_alone (moves_of input.plant) fine.valid (places input.plant front) nobody t known (omega (arith, known, places_long input.plant front)) (place_in input.plant front t known ∙ outside) (fine.some_move t known);
+      }
+    where
+      appended : (list : List ℕ) → list ≡ [] → (p : ℕ) → p ≡ 0 → cond (eqb p 0) (with_rest_of input.plant t list) (without_first t list) ≡ replicate (moves input.plant t - 1) t
+      appended list is p zero_place = cond-true (eqb p 0) (with_rest_of input.plant t list) (without_first t list) (eq-eqb p 0 zero_place) ∙ ap (with_rest_of input.plant t) is
+
+-- who isn't inside and has moves left is still to enter
+pub still_outside : (input : Input) (front : Front) (t : ℕ) → t < trains input.plant → is_inside (moves_of input.plant) (places input.plant front) t ≡ false → place front t < moves input.plant t → place front t ≡ 0
+still_outside input front t known none room = at_place (place_of (places input.plant front) t) (place_in input.plant front t known) none
+  where
+    at_place : (p : ℕ) → p ≡ place front t → (ltb 0 p && ltb p (moves input.plant t)) ≡ false → place front t ≡ 0
+    at_place p here none =
+        ⊎_elim
+        (λ low. omega (arith, here, ltb-false 0 p low))
+        (λ high. absurd (omega (arith, here, room, ltb-false p (moves input.plant t) high)))
+        (and_cases (ltb 0 p) (ltb p (moves input.plant t)) none)
+
+-- the same where no closure and no stop remains
+module _ (input : Input) (fine : IsWellFormed input.plant) (front : Front) (lawful : is_lawful input front ≡ true) (nothing : length (due_lines input front) ≡ 0) (free : NothingIsBarred input front) where
+  -- a train that can move has no cause
+  goes : (t : ℕ) → CanMove input front t → is_some (cause input front t) ≡ false
+  goes t can = no_cause input front t (legal_unbarred input fine front lawful nothing free t can.unheld) can.repairs
+
   -- in a front that hasn't ended it waits
   pub head_waits : has_ended front ≡ false → (u : ℕ) (rest : List ℕ) → kept input.plant front ≡ u ∷ rest → (waits input front u ≡ true) × (is_some (cause input front u) ≡ false)
   head_waits goes_on u rest is =
-      let head = head_has_no_cause u rest is in
-      (and_from (is_deciding input front) (is_ready input front u) (deciding front goes_on nothing is) head.1, head.2)
+      let head = head_moves input fine front lawful nothing u rest is in
+      (and_from (is_deciding input front) (is_ready input front u) (deciding front goes_on nothing is) head.ready, goes u head)
     where
       deciding : (front : Front) → has_ended front ≡ false → length (due_lines input front) ≡ 0 → kept input.plant front ≡ u ∷ rest → is_deciding input front ≡ true
       deciding [] goes_on nothing is = absurd (nothing_kept is)
@@ -123,32 +169,14 @@ module _ (input : Input) (fine : IsWellFormed input.plant) (front : Front) (lawf
       at_list : (list : List ℕ) → kept input.plant front ≡ list → list ≡ []
       at_list [] is = refl
       at_list (u ∷ rest) is =
-          let head = head_has_no_cause u rest is in
-          absurd (false≢true (sym head.2 ∙ settled_cause input front u settled head.0 head.1))
-
-  -- where the kept list is empty, nobody is inside
-  nobody_left : kept input.plant front ≡ [] → nobody_inside (moves_of input.plant) (places input.plant front) ≡ true
-  nobody_left empty =
-      let P : List ℕ → Type 0 = λ list. completes (moves_of input.plant) (places input.plant front) list ≡ true in
-      subst P empty (kept_completes input fine front lawful).completing
-
-  -- and a train that is still to enter could go
-  pub entering_has_no_cause : kept input.plant front ≡ [] → (t : ℕ) → t < trains input.plant → place front t ≡ 0 → is_some (cause input front t) ≡ false
-  entering_has_no_cause empty t known outside =
-      let nobody = nobody_left empty in
-      no_cause input front t
-      (legal_unbarred input fine front lawful nothing free t (λ x _. nothing_held (moves_of input.plant) (places input.plant front) x nobody))
-      (ap (completes (moves_of input.plant) (places_after input front t)) (appended (kept input.plant front) empty (place front t) outside)
-      ∙ enters_alone (moves_of input.plant) fine.valid (places input.plant front) nobody t known (omega (arith, known, places_long input.plant front)) (place_in input.plant front t known ∙ outside) (fine.some_move t known))
-    where
-      appended : (list : List ℕ) → list ≡ [] → (p : ℕ) → p ≡ 0 → cond (eqb p 0) (with_rest_of input.plant t list) (without_first t list) ≡ replicate (moves input.plant t - 1) t
-      appended list is p zero_place = cond-true (eqb p 0) (with_rest_of input.plant t list) (without_first t list) (eq-eqb p 0 zero_place) ∙ ap (with_rest_of input.plant t) is
+          let head = head_moves input fine front lawful nothing u rest is in
+          absurd (false≢true (sym (goes u head) ∙ settled_cause input front u settled head.known head.ready))
 
   -- so each train has made its moves or was cancelled
   pub all_made : is_settled input front ≡ true → (t : ℕ) → t < trains input.plant → (place front t ≡ moves input.plant t) ⊎ (is_cancelled t (told input.commands front) ≡ true)
   all_made settled t known =
       let empty = list_is_empty settled in
-      let nobody = nobody_there (moves_of input.plant) (places input.plant front) t (nobody_left empty) in
+      let nobody = nobody_there (moves_of input.plant) (places input.plant front) t (nobody_left input fine front lawful nothing empty) in
       let few = few_admissions input fine front lawful t known in
       ⊎_elim
       (λ cancelled. inr cancelled)
@@ -156,17 +184,10 @@ module _ (input : Input) (fine : IsWellFormed input.plant) (front : Front) (lawf
       ⊎_elim
       (λ room.
       let ready = ready_now input front t nothing known room runs in
-      absurd (false≢true (sym (entering_has_no_cause empty t known (outside (place_of (places input.plant front) t) (place_in input.plant front t known) nobody room)) ∙ settled_cause input front t settled known ready)))
+      absurd (false≢true (sym (goes t (entering_moves input fine front lawful nothing empty t known ready (still_outside input front t known nobody room))) ∙ settled_cause input front t settled known ready)))
       (λ all. inl (omega (arith, all, few)))
       (cases_lt (place front t) (moves input.plant t)))
       (cases_Bool (is_cancelled t (told input.commands front)))
-    where
-      outside : (p : ℕ) → p ≡ place front t → (ltb 0 p && ltb p (moves input.plant t)) ≡ false → place front t < moves input.plant t → place front t ≡ 0
-      outside p here none room =
-          ⊎_elim
-          (λ low. omega (arith, here, ltb-false 0 p low))
-          (λ high. absurd (omega (arith, here, room, ltb-false p (moves input.plant t) high)))
-          (and_cases (ltb 0 p) (ltb p (moves input.plant t)) none)
 
 -- an out line that stands names its train
 stands_out : (front : Front) (time t : ℕ) → stands front (at_time time (Out t)) ≡ true → is_out front t ≡ true

@@ -4,9 +4,12 @@ pub mod CallerLemmas
 mod Quiet
 mod Alone
 mod Ending
+-- Lemmas on what bars the trains that remain, which the laws above cite.
+mod Reasons
+mod Earlier
+mod Barred
 -- Lemmas on the next line of a lawful front, which the law above cites.
 mod Least
-mod Unrolled
 mod Starting
 mod Progress
 mod Continued
@@ -15,3 +18,4 @@ mod Ordered
 mod Chosen
 mod Steps
 mod Compared
+mod Resumed

@@ -1,5 +1,5 @@
 -- Every lawful front that hasn't ended has a next line.
-use Rattle.std.proofs.Common.{◌≡◌, ℕ, zero, suc, ◌+◌, ◌<◌, ◌≤◌, Bool, true, false, not, ◌&&◌, ◌||◌, cond, eqb, ltb, List, [], ◌∷◌, length, is_some, Option, Some, None, refl, sym, ap, ◌∙◌, subst, ⊎_elim, arith, zero-add}
+use Rattle.std.proofs.Common.{◌≡◌, ℕ, zero, suc, ◌+◌, ◌<◌, ◌≤◌, Bool, true, false, not, ◌&&◌, ◌||◌, cond, eqb, ltb, List, [], ◌∷◌, length, is_some, Some, refl, sym, ap, ◌∙◌, subst, ⊎_elim, arith, zero-add}
 use Rattle.std.specs.List.{list_any}
 use Rattle.std.specs.Cmp.Lexicographic.{bytes_decides}
 use Rattle.std.proofs.lemmas.Bool.{cases_Bool, false≢true, and_parts, and_from, and_right, or_cases, or_left, or_right, or_parts, eqb-true, eq-eqb, ltb-true, not-true, not_from_false}
@@ -23,6 +23,7 @@ use Rattle.rail_laws_front.specs.Views.Follows.{by_event, by_admission, by_hold,
 use Rattle.rail_laws_front.proofs.CallerLemmas.{lawful_last, due_found, timely, not_earlier}
 use Rattle.rail_laws_front.specs.Invariant.{IsTimely}
 use Rattle.rail_laws_events.proofs.CallerLemmas.{one_entry, AreAlike, alike_after, cause_same, place_same}
+use Rattle.rail_laws_end.proofs.Reasons.{some_cause}
 use Rattle.rail_laws_end.proofs.Least.{HasLeast, has_least}
 use Rattle.rail_laws_end.proofs.Starting.{CanAdmit, can_admit, admit_line}
 
@@ -196,10 +197,6 @@ next_admission input fine front lawful deciding t known goes =
     ⊎_elim (λ held. absurd (false≢true (sym (held_nobody input front lawful held t) ∙ goes))) (λ none. none) (cases_Bool (has_held front)) in
     let can : CanAdmit input front t = can_admit input fine front lawful t known room (and_from (is_deciding input front) (is_ready input front t) deciding both.0) no_hold (not-true (is_some (cause input front t)) both.1) in
     record { line = admit_line input front t can.note can.list; may = can.may }
-
-some_cause : (o : Option Cause) → is_some o ≡ true → (why : Cause) × (o ≡ Some why)
-some_cause None h = absurd (false≢true h)
-some_cause (Some why) h = (why, refl)
 
 -- a ready train that can't go has a cause
 has_cause : (input : Input) (front : Front) (t : ℕ) → is_ready input front t ≡ true → could_go input front t ≡ false → is_some (cause input front t) ≡ true

@@ -18,7 +18,8 @@ use Rattle.rail_rules.specs.Lawful.{is_lawful, note_fits, may_admit}
 use Rattle.rail_rules.proofs.CallerLemmas.{any_below_at, any_below_none, finds_exactly}
 use Rattle.rail_laws_front.specs.Premises.{IsWellFormed}
 use Rattle.rail_laws_front.proofs.CallerLemmas.{neither, place_in, places_long, kept_completes}
-use Rattle.rail_laws_end.proofs.Unrolled.{HasList, unrolled}
+use Rattle.rail_laws_list.specs.Locked.{HasList}
+use Rattle.rail_laws_list.proofs.CallerLemmas.{unrolled}
 
 -- the line that admits the next move of a train
 unfoldable pub admit_line : Input → Front → ℕ → Note → List ℕ → Line

@@ -1,16 +1,17 @@
-//! Nobody is stuck: which trains are out at the end of a history, and how many lines it has.
+//! Nobody is stuck: which trains are out at the end of a history, what keeps the others, and how many lines it has.
 
 ghost use Rattle.std.specs.Prelude.{◌≡◌, ◌⊎◌, ℕ, ◌+◌, ◌-◌, ◌<◌, IsTrue, Bool, false, is_some, List, [], ◌∷◌, length, replicate};
+ghost use Rattle.rail_laws_end.specs.Barred.{IsBarred, LeadsToBarred, Remains};
 ghost use Rattle.rail_laws_end.specs.Remaining.{NobodyIsCancelled, NothingIsBarred};
 ghost use Rattle.rail_rules.specs.Causes.{cause, place, waits};
 ghost use Rattle.rail_rules.specs.Events.{due_lines};
-ghost use Rattle.rail_rules.specs.Fronts.{Front, Line, has_ended, kept, lines_beside_holds};
+ghost use Rattle.rail_rules.specs.Fronts.{Front, Line, has_ended, kept, lines_beside_holds, places};
 ghost use Rattle.rail_rules.specs.Lawful.{is_complete, is_lawful, is_out};
 ghost use Rattle.rail_rules.specs.LineCounts.{taken_over};
 ghost use Rattle.rail_rules.specs.Moves.{Moves, is_valid};
 ghost use Rattle.rail_rules.specs.Orders.{Input, is_cancelled, told};
 ghost use Rattle.rail_rules.specs.Places.{after, completes, nobody_inside, place_of};
-ghost use Rattle.rail_rules.specs.Plant.{bound, trains};
+ghost use Rattle.rail_rules.specs.Plant.{bound, moves_of, trains};
 ghost use Rattle.rail_laws_front.specs.Premises.{IsWellFormed};
 
 /// A cancelled train has no admission, before its cancellation and after it.
@@ -58,4 +59,23 @@ pub fn a_history_of_trains_that_all_leave_has_so_many_lines()
     ensures { (input : Input) → IsWellFormed input.plant → (front : Front)
         → IsTrue (is_complete input front) → NothingIsBarred input front → NobodyIsCancelled input front
         → lines_beside_holds front + taken_over input.plant front ≡ bound input.plant (length input.commands) }
+{}
+
+/// At the end of a history an order bars the first train of the kept list, by a stop or a closure. Where the list
+/// is empty, so that nobody is inside, an order bars each train that remains.
+pub fn at_the_end_the_first_of_the_kept_list_is_barred()
+    ensures head { (input : Input) → IsWellFormed input.plant → (front : Front) → IsTrue (is_complete input front)
+        → (t : ℕ) (rest : List ℕ) → kept input.plant front ≡ t ∷ rest → IsBarred input front t }
+    ensures nobody { (input : Input) → IsWellFormed input.plant → (front : Front) → IsTrue (is_complete input front)
+        → kept input.plant front ≡ [] → IsTrue (nobody_inside (moves_of input.plant) (places input.plant front)) }
+    ensures each { (input : Input) → IsWellFormed input.plant → (front : Front) → IsTrue (is_complete input front)
+        → kept input.plant front ≡ [] → (t : ℕ) → Remains input front t → IsBarred input front t }
+{}
+
+/// Whatever closures and stops remain: at the end of a history an order bars each train that remains, or the train
+/// waits for one that an order bars, or for one that waits for one, and so on, in no more steps than there are trains.
+/// The hold lines say so.
+pub fn what_remains_waits_for_an_order()
+    ensures { (input : Input) → IsWellFormed input.plant → (front : Front) → IsTrue (is_complete input front)
+        → (t : ℕ) → Remains input front t → LeadsToBarred input front t (trains input.plant) }
 {}
