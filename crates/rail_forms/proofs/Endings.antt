@@ -5,7 +5,8 @@ use Rattle.std.proofs.lemmas.Bool.{and_parts, and_from, cond-false, false≢true
 use Rattle.std.proofs.lemmas.List.Elements.{filter-append}
 use Rattle.rail_base.specs.declared.history.What.{What}
 use Rattle.rail_base.specs.declared.history.What.TheVariants.{Free, Arrive, Enter, Out, Ready, Told, Untold, Admit, Hold, End}
-use Rattle.rail_laws_end.proofs.CallerLemmas.{complete_bound, complete_out}
+use Rattle.rail_laws_end.specs.Barred.{LeadsToBarred, Remains}
+use Rattle.rail_laws_end.proofs.CallerLemmas.{complete_bound, complete_out, leads_to_barred}
 use Rattle.rail_laws_events.proofs.CallerLemmas.{input_parts}
 use Rattle.rail_laws_front.specs.Premises.{IsWellFormed}
 use Rattle.rail_laws_front.proofs.CallerLemmas.{well_formed_from_accepted}
@@ -97,6 +98,10 @@ module _ (input : Input) (ok : is_accepted_input input ≡ true) (front : Front)
   fine : IsWellFormed input.plant
   fine = well_formed_from_accepted input.plant (input_parts input ok).0
 
+  -- each train that remains leads to one that an order bars
+  all_barred : (t : ℕ) → Remains input front t → LeadsToBarred input front t (trains input.plant)
+  all_barred = leads_to_barred input fine front complete
+
   -- where nothing is barred each train is out or cancelled
   all_gone : NothingIsBarred input front → (t : ℕ) → t < trains input.plant → HasGone input front t
   all_gone free = complete_out input fine front complete (nothing_bars input ok front free)
@@ -133,6 +138,7 @@ finished_run input seats ok (line ∷ before) history =
       is_last = refl;
       is_end = is;
       names = names;
+      barred = all_barred input ok front complete;
       nobody = λ free. names ∙ none_remain input front (all_gone input ok front complete free);
       left = all_gone input ok front complete;
       exact = exact_lines input ok front complete;

@@ -11,15 +11,16 @@ use Rattle.rail_laws_end.proofs.CallerLemmas.{one_run}
 use Rattle.rail_laws_events.proofs.CallerLemmas.{bounded, holds_bounded, input_parts, times_below}
 use Rattle.rail_laws_front.specs.Premises.{IsWellFormed}
 use Rattle.rail_laws_front.proofs.CallerLemmas.{never_overlap, kept_completes, well_formed_from_accepted}
+use Rattle.rail_laws_list.proofs.CallerLemmas.{none_locked}
 use Rattle.rail_laws_step.proofs.CallerLemmas.{nobody_ready, run_lawful}
 use Rattle.rail_laws_text.proofs.CallerLemmas.{one_cause}
 use Rattle.rail_rules.specs.Accepted.{is_accepted_input}
 use Rattle.rail_rules.specs.Causes.{cause, is_deciding, is_ready, is_repairable, is_settled, is_told_so, last_hold, place}
-use Rattle.rail_rules.specs.Fronts.{Front, Line, has_ended, instant, same_cause}
+use Rattle.rail_rules.specs.Fronts.{Front, Line, has_ended, instant, kept, places, same_cause}
 use Rattle.rail_rules.specs.Lawful.{is_lawful, may_follow, may_follow_as, may_happen}
 use Rattle.rail_rules.specs.Numbers.{all_below}
 use Rattle.rail_rules.specs.Orders.{Input}
-use Rattle.rail_rules.specs.Plant.{trains}
+use Rattle.rail_rules.specs.Plant.{moves_of, trains}
 use Rattle.rail_rules.specs.RunHistories.{Seat, is_run, is_run_history, is_run_line, is_chosen, repairs_first}
 use Rattle.rail_rules.proofs.CallerLemmas.{all_below_at}
 use Rattle.rail_forms.specs.Runs.{IsBeforeLimit, IsSafe, IsTheOnlyOne, WaitsForStated}
@@ -125,6 +126,7 @@ safe_run input seats ok front run =
     record {
       apart = never_overlap input fine front lawful;
       complete = λ later before is. (kept_completes input fine before (run_lawful input seats before (first later before is))).completing;
+      unlocked = λ later before is. none_locked (moves_of input.plant) (places input.plant before) (kept input.plant before) (kept_completes input fine before (run_lawful input seats before (first later before is))).completing;
       causes = λ later before line t m why is what. true_cause input seats line before t m why (first later (line ∷ before) is) what;
       obeyed = λ later before line t m note is what. chosen input seats line before t m note (first later (line ∷ before) is) what;
       waits = λ later before line t is goes lt ready. waiting input seats line before t (first later (line ∷ before) is) goes lt ready;

@@ -1,5 +1,5 @@
 -- The form `run`: the history of a scene.
-use Rattle.std.specs.Prelude.{◌+◌, ◌≡◌, ◌≢◌, ◌⊎◌, ℕ, suc, ◌<◌, ◌≤◌, ◌^◌, false, IsTrue, List, [], ◌∷◌, ◌++◌, length, Option, Some}
+use Rattle.std.specs.Prelude.{◌+◌, ◌≡◌, ◌≢◌, ◌⊎◌, ℕ, suc, ◌<◌, ◌≤◌, ◌^◌, Bool, false, IsTrue, List, [], ◌∷◌, ◌++◌, length, Option, Some}
 use Rattle.rail_base.specs.declared.history.Note.{Note}
 use Rattle.rail_base.specs.declared.history.Note.TheVariants.{Fresh}
 use Rattle.rail_base.specs.declared.history.Cause.{Cause}
@@ -16,6 +16,8 @@ use Rattle.rail_rules.specs.RunHistories.{Seat, is_chosen, is_run, is_run_histor
 use Rattle.rail_rules.specs.Texts.{text}
 use Rattle.rail_rules.specs.Apart.{NeverOverlap}
 use Rattle.rail_rules.specs.Orders.{Input, is_cancelled, is_closed, is_stopped, told}
+use Rattle.rail_laws_list.specs.Locked.{AreLocked}
+use Rattle.rail_laws_end.specs.Barred.{LeadsToBarred, Remains}
 use Rattle.rail_laws_end.specs.Forks.{is_built_in_throughout}
 use Rattle.rail_policy.specs.Seats.{DeskSeat}
 use Rattle.rail_forms.specs.declared.status.Status.{Status}
@@ -30,12 +32,16 @@ pub record WaitsForStated (input : Input) (front : Front) (t : ℕ) : Type 0 whe
   pub true_cause : cause input front t ≡ Some why
   pub stated : last_hold front t (suc (place front t)) ≡ Some why
 
--- what a run keeps at each of its lines: no overlap; a list by which every train inside comes to its exit; true causes on
--- hold lines, and of each wait when time goes on; the policy obeyed; repair before a fresh list; no more lines than the bound
+-- what a run keeps at each of its lines: no overlap; a list by which every train inside comes to its exit; no deadlock; true
+-- causes on hold lines, and of each wait when time goes on; the policy obeyed; repair before a fresh list; no more lines than
+-- the bound
 pub record IsSafe (input : Input) (seats : List Seat) (front : Front) : Type 0 where
   pub apart : NeverOverlap input.plant front
   pub complete : (later before : Front) → front ≡ later ++ before
       → IsTrue (completes (moves_of input.plant) (places input.plant before) (kept input.plant before))
+  -- no deadlock: a set of trains inside, each of which claims for its next move a section that one of the set holds, is empty
+  pub unlocked : (later before : Front) → front ≡ later ++ before
+      → (among : ℕ → Bool) → AreLocked (moves_of input.plant) (places input.plant before) among → (t : ℕ) → among t ≡ false
   pub causes : (later before : Front) (line : Line) (t m : ℕ) (why : Cause) → front ≡ later ++ line ∷ before
       → line.entry.what ≡ Hold t m why → cause input before t ≡ Some why
   pub obeyed : (later before : Front) (line : Line) (t m : ℕ) (note : Note) → front ≡ later ++ line ∷ before
@@ -62,6 +68,9 @@ pub record IsFinished (input : Input) (front : Front) : Type 0 where
   pub is_end : last.entry.what ≡ End
   -- it names, by number, exactly the trains that are neither out nor cancelled
   pub names : last.trains ≡ remaining input front
+  -- each train that remains waits, step by step, in at most as many steps as there are trains, for one that a stop or a
+  -- closure in force bars
+  pub barred : (t : ℕ) → Remains input front t → LeadsToBarred input front t (trains input.plant)
   -- where nothing is barred it names nobody, and each train is out or cancelled
   pub nobody : NothingIsBarred input front → last.trains ≡ []
   pub left : NothingIsBarred input front → (t : ℕ) → t < trains input.plant
