@@ -49,6 +49,7 @@ HEADLINE = (
     ("a `run` that ends `Done` writes one history", (("IsRun", "history"), ("RunsInput", "adds"), ("IsRunWithin", "only"))),
     ("in which blocking intervals of a section never overlap,", (("IsSafe", "apart"),)),
     ("the kept list always brings every train inside to its exit,", (("IsSafe", "complete"),)),
+    ("so that no deadlock ever comes,", (("IsSafe", "unlocked"),)),
     ("each wait has its stated true cause,",
      (("IsSafe", "waits"), ("WaitsForStated", "true_cause"), ("WaitsForStated", "stated"), ("IsSafe", "causes"))),
     ("every line follows from the admissions,",
@@ -56,6 +57,7 @@ HEADLINE = (
     ("and, unless a closure or a stop remains,", (("NothingIsBarred", "opened"), ("NothingIsBarred", "going"))),
     ("every train that was not cancelled leaves",
      (("IsFinished", "names"), ("IsFinished", "nobody"), ("IsFinished", "left"))),
+    ("(and where one remains, each train that stays waits, step by step, for one that it bars)", (("IsFinished", "barred"),)),
     ("within a stated number of lines, hold lines aside.",
      (("IsSafe", "few"), ("IsFinished", "exact"), ("IsSafe", "few_holds"))),
 )
