@@ -32,7 +32,7 @@ use crate::versions::Version;
 use rail_base::limits::{ITINERARY_ROUTES, OVERLAP_SECTIONS, ROUTE_SECTIONS};
 use rail_base::{Name, Reason, Seq, Time, TrainKind};
 use rail_routes::{Post, PostRole, Route, Step, Turn};
-use rail_track::{NetFault, Section, SectionKind};
+use rail_track::{NetFault, Section, SectionKind, joint_count};
 use std::alloc::{AllocError, Global};
 use toml::Value;
 
@@ -136,17 +136,6 @@ fn push<T: Drop>(items: &mut Vec<T>, item: T) -> Result<(), AllocError>
 {
     items.push(item)?;
     Ok(())
-}
-
-/// How many joints a section of the kind has.
-fn joint_count(kind: SectionKind) -> usize
-    ensures { result ≡ joint_count kind }
-{
-    match kind {
-        SectionKind::Plain => 2,
-        SectionKind::Points => 3,
-        SectionKind::Crossing | SectionKind::Slip => 4,
-    }
 }
 
 /// The joints of a section of the kind.

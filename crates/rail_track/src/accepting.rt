@@ -19,7 +19,7 @@ pub trait ClosedJoints {
 }
 
 /// How many joints a section of the kind has.
-pub(crate) fn joint_count(kind: SectionKind) -> usize
+pub fn joint_count(kind: SectionKind) -> usize
     ensures { result ≡ joint_count kind }
 {
     match kind {

@@ -15,7 +15,7 @@ mod tally;
 mod track;
 
 pub use acceptance::the_sections_of_a_sound_track_are_accepted_in_their_order;
-pub use accepting::ClosedJoints;
+pub use accepting::{ClosedJoints, joint_count};
 pub use roll::{Keyed, Roll};
 pub use section::{NetFault, Section, SectionKind};
 pub use tally::{Tally, count, count_each, discount, discount_each, times};
