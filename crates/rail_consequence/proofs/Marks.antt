@@ -1,2 +1,1 @@
 -- Rows of marks.
-use Rattle.std.proofs.Common.{◌≡◌, ℕ, ⊎_elim}

@@ -79,6 +79,8 @@ struct Worksheet {
     taken: [u64; WORDS],
     needs: Counts,
     list: Vec<TrainNo>,
+    /// How often a train was put to another place.
+    legs: u64,
 }
 
 impl Model for Worksheet {
@@ -99,11 +101,29 @@ impl Analyst {
     pub fn new(alloc: Global, moves: &Moves) -> Result<Analyst, OutOfMemory>
         ensures { IfOk result (IsAnalystFor (moves_in moves.now)) }
     {
+        let rows = Rows::new(alloc, moves)?;
+        Analyst::over(alloc, moves, rows)
+    }
+
+    /// A second analyst for the same moves, with all the memory that it ever takes. It shares the sets of this one.
+    pub fn beside(&self, alloc: Global, moves: &Moves) -> Result<Analyst, OutOfMemory>
+        requires own { IsAnalystFor (moves_in moves.now) self.now }
+        ensures { IfOk result (IsAnalystFor (moves_in moves.now)) }
+    {
+        let rows = self.sheet.rows().shared(alloc)?;
+        Analyst::over(alloc, moves, rows)
+    }
+
+    /// An analyst with these sets of the moves.
+    fn over(alloc: Global, moves: &Moves, rows: Rows) -> Result<Analyst, OutOfMemory>
+        requires rows { IsRowsOf (moves_in moves.now) rows }
+        ensures { IfOk result (IsAnalystFor (moves_in moves.now)) }
+    {
         Ok(Analyst {
             inside: TrainList::new(alloc)?,
             tally: NeedTally::new(alloc, moves)?,
             notes: SearchNotes::none(),
-            sheet: Worksheet::new(alloc, moves)?,
+            sheet: Worksheet::over(alloc, moves, rows)?,
             core: TrainSet::none(),
         })
     }
@@ -147,6 +167,12 @@ impl Analyst {
         ensures { result ≡ self.now.core }
     {
         self.core
+    }
+
+    /// How many legs were made or taken back since the analyst was made; the count begins anew behind 2^64 - 1. It tells what
+    /// searches cost.
+    pub fn legs(&self) -> u64 {
+        self.sheet.legs()
     }
 
     /// Sets the train aside: it is counted as outside, and nothing is noted of any train. So the analyst is one for all moves
@@ -264,16 +290,18 @@ fn taken_at<W: Width>(
 }
 
 impl Worksheet {
-    /// A worksheet, with all the memory that it ever takes.
-    fn new(alloc: Global, moves: &Moves) -> Result<Worksheet, OutOfMemory>
+    /// A worksheet with these sets of the moves, and with all the memory that it ever takes.
+    fn over(alloc: Global, moves: &Moves, rows: Rows) -> Result<Worksheet, OutOfMemory>
+        requires rows { IsRowsOf (moves_in moves.now) rows }
         ensures { IfOk result (λ sheet. IsRowsOf (moves_in moves.now) sheet.rows) }
     {
         Ok(Worksheet {
-            rows: Rows::new(alloc, moves)?,
+            rows,
             places: Places::outside(alloc, moves)?,
             taken: [0; WORDS],
             needs: Counts::new(alloc)?,
             list: Vec::with_capacity(alloc, LIST_TRAINS)?,
+            legs: 0,
         })
     }
 
@@ -292,6 +320,11 @@ impl Worksheet {
         ensures { result.now ≡ self.now.rows }
     {
         &self.rows
+    }
+
+    /// How often a train was put to another place.
+    fn legs(&self) -> u64 {
+        self.legs
     }
 
     /// Begins a search from the places, with the needs there: no moves are made. The holders and the needs are
@@ -349,6 +382,7 @@ impl Worksheet {
         replace(&mut self.taken, gone, come);
         recount::<W>(&mut self.needs, moves, &self.rows, train, from, place);
         self.places.put(moves, train, place);
+        self.legs = self.legs.wrapping_add(1);
     }
 
     /// Makes the moves of a leg, all at once.

@@ -1,6 +1,6 @@
 //! What each train needs and where it stands, as sets: for each of its places.
 
-ghost use Rattle.std.specs.Prelude.{◌≡◌, ℕ, ◌+◌, ◌*◌, ◌<◌, ◌≤◌, [], get_or, length, map, IfOk, IsTrue};
+ghost use Rattle.std.specs.Prelude.{◌≡◌, ℕ, ◌+◌, ◌*◌, ◌<◌, ◌≤◌, [], get_or, length, map, vec_capacity, IfOk, IsTrue};
 ghost use Rattle.rail_rules.specs.Moves.{stand};
 ghost use Rattle.rail_rules.specs.Numbers.{is_in};
 ghost use Rattle.rail_place.specs.Tables.{IsTable, moves_in};
@@ -87,6 +87,16 @@ impl Rows {
         Ok(Rows { width, rows })
     }
 
+    /// The same sets, shared with these.
+    pub fn shared(&self, alloc: Global) -> Result<Rows, OutOfMemory>
+        ensures { IfOk result (λ rows. rows ≡ self.now) }
+    {
+        Ok(Rows {
+            width: self.width,
+            rows: shared_rows(alloc, &self.rows)?,
+        })
+    }
+
     /// Exchanges the sets of the train with those of the first train of the other sets. Both take as many words then as the
     /// wider ones took.
     pub fn exchange(&mut self, train: TrainNo, others: &mut Rows)
@@ -158,6 +168,18 @@ impl Rows {
     {
         &self.rows[usize::from(train.0)].places[usize::from(place)]
     }
+}
+
+/// The same rows, shared with these.
+fn shared_rows(alloc: Global, rows: &[Rc<Row>]) -> Result<Vec<Rc<Row>>, OutOfMemory>
+    ensures rows { IfOk result (λ all. map (λ row. row.value) all.items ≡ map (λ row. row.value) rows.now) }
+    ensures room { IfOk result (λ all. vec_capacity all ≡ length all.items) }
+{
+    let mut all = Vec::with_capacity(alloc, rows.len())?;
+    for row in rows {
+        all.push_reserved(row.clone()?);
+    }
+    Ok(all)
 }
 
 /// The row of the train behind those of all trains before it: that of the first one with its moves, or its own.

@@ -27,7 +27,7 @@ standard error.
 ";
 
 /// The answer to `rail --version`.
-pub const VERSION: &str = "rail 0.20.2\n";
+pub const VERSION: &str = "rail 0.20.3\n";
 
 /// The forms that print a text of the program's own.
 pub const OTHER_FORMS: &str = "rail --help\nrail --version";

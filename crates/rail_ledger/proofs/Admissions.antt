@@ -360,6 +360,6 @@ module _ (front : Front) (ledger : Ledger) (at : IsAt front ledger) (going : led
           queue_room = room ∙ at.queue_room;
           list_room = at.list_room;
           list_empty = λ open_still. at.list_empty still;
-          analyst = at.analyst;
+          searcher = at.searcher;
           failures = has.failures;
         })

@@ -132,7 +132,7 @@ module _ (front : Front) (ledger : Ledger) (at : IsAt front ledger) (going : led
         queue_room = omega (arith, at.queue_room, ap length first, spare);
         list_room = at.list_room;
         list_empty = λ open_still. at.list_empty still;
-        analyst = at.analyst;
+        searcher = at.searcher;
         failures = at.failures;
       }))
 
@@ -168,7 +168,7 @@ module _ (front : Front) (ledger : Ledger) (at : IsAt front ledger) (going : led
         queue_room = omega (arith, at.queue_room, ap length first, spare, has.room);
         list_room = at.list_room;
         list_empty = λ open_still. at.list_empty still;
-        analyst = at.analyst;
+        searcher = at.searcher;
         failures = at.failures;
       }))
 

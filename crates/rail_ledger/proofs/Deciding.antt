@@ -27,6 +27,6 @@ again_at front ledger at some = record {
   queue_room = at.queue_room;
   list_room = at.list_room;
   list_empty = at.list_empty;
-  analyst = at.analyst;
+  searcher = at.searcher;
   failures = at.failures;
 }

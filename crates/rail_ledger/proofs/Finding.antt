@@ -12,7 +12,8 @@ use Rattle.rail_rules.specs.Plant.{moves, moves_of, trains}
 use Rattle.rail_rules.specs.Fronts.{Front, kept, places}
 use Rattle.rail_rules.specs.Causes.{is_deciding, is_ready, place}
 use Rattle.rail_laws_front.proofs.CallerLemmas.{kept_completes, unbarred_legal, timely}
-use Rattle.rail_consequence.specs.AnalystStates.{IsAnalystFor, Tallied}
+use Rattle.rail_cores.specs.Searchers.{IsSearcherFor}
+use Rattle.rail_cores.specs.declared.searcher.Searcher.{Searcher}
 use Rattle.rail_place.specs.PlaceStates.{IsMadeFor, State}
 use Rattle.rail_place.specs.Tables.{IsTable, moves_in, MoveLists}
 use Rattle.rail_list.specs.Failures.{AreFailures, Failed}
@@ -60,9 +61,9 @@ legal_next table front ledger same at deciding t next =
     ∙ unbarred_legal (input_in ledger.input) (well_formed_plant ledger.input.plant at.rep.accepted) front t (timely (input_in ledger.input) (well_formed_plant ledger.input.plant at.rep.accepted) front at.rep.lawful)
     (ap is_some (bar_seen (dispatch_in ledger.input) ledger.input.plant front ledger.state at.rep deciding t ∙ next.free)) (left_of_next front ledger at t next)
 
--- the analyst of a ledger is one for a table of its plant's moves
-pub analyst_for : (table : List MoveLists) (front : Front) (ledger : Ledger) → moves_in table ≡ moves_of ledger.input.plant → IsAt front ledger → IsAnalystFor (moves_in table) ledger.analyst
-analyst_for table front ledger same at = subst (λ (plan : Moves). IsAnalystFor plan ledger.analyst) (sym same) at.analyst
+-- the searcher of a ledger is one for a table of its plant's moves
+pub searcher_for : (table : List MoveLists) (front : Front) (ledger : Ledger) → moves_in table ≡ moves_of ledger.input.plant → IsAt front ledger → IsSearcherFor (moves_in table) ledger.searcher
+searcher_for table front ledger same at = subst (λ (plan : Moves). IsSearcherFor plan ledger.searcher) (sym same) at.searcher
 
 -- the failures of a ledger are those at its places, for a table of its plant's moves
 pub failures_for : (table : List MoveLists) (front : Front) (ledger : Ledger) (depth : ℕ) → moves_in table ≡ moves_of ledger.input.plant → depth ≡ ledger.input.plant.tables.depth → IsAt front ledger
@@ -72,11 +73,11 @@ failures_for table front ledger depth same is at =
     (subst (λ (d : ℕ). AreFailures (moves_of ledger.input.plant) d ledger.places.positions ledger.failures) (sym is) at.failures)
 
 -- what the search for a list gives
-pub has_list : (table : List MoveLists) (front : Front) (ledger : Ledger) (places_now : State) (kept_now : Kept) (analyst_now : Tallied) (failures_now : Failed) (t : ℕ) (note : Note) → moves_in table ≡ moves_of ledger.input.plant → IsAt front ledger
-    → IsMadeFor table places_now → IsAnalystFor (moves_in table) analyst_now → AreFailures (moves_in table) ledger.input.plant.tables.depth places_now.positions failures_now → kept_now.room ≡ ledger.kept.room → places_now.positions ≡ after ledger.places.positions t
+pub has_list : (table : List MoveLists) (front : Front) (ledger : Ledger) (places_now : State) (kept_now : Kept) (searcher_now : Searcher) (failures_now : Failed) (t : ℕ) (note : Note) → moves_in table ≡ moves_of ledger.input.plant → IsAt front ledger
+    → IsMadeFor table places_now → IsSearcherFor (moves_in table) searcher_now → AreFailures (moves_in table) ledger.input.plant.tables.depth places_now.positions failures_now → kept_now.room ≡ ledger.kept.room → places_now.positions ≡ after ledger.places.positions t
     → IsNoted (moves_in table) ledger.input.plant.tables.depth ledger.places.positions ledger.kept.trains t note kept_now.trains
-    → HasList front ledger (record ledger { places = places_now; kept = kept_now; analyst = analyst_now; failures = failures_now }) t note
-has_list table front ledger places_now kept_now analyst_now failures_now t note same at made own failing room moved noted = record {
+    → HasList front ledger (record ledger { places = places_now; kept = kept_now; searcher = searcher_now; failures = failures_now }) t note
+has_list table front ledger places_now kept_now searcher_now failures_now t note same at made own failing room moved noted = record {
   noted = subst (λ plan. IsNoted plan ledger.input.plant.tables.depth (places ledger.input.plant front) (kept ledger.input.plant front) t note kept_now.trains) same
       (subst (λ s. IsNoted (moves_in table) ledger.input.plant.tables.depth s (kept ledger.input.plant front) t note kept_now.trains) at.placed.positions
       (subst (λ list. IsNoted (moves_in table) ledger.input.plant.tables.depth ledger.places.positions list t note kept_now.trains) at.keeps.is_list noted));
@@ -85,7 +86,7 @@ has_list table front ledger places_now kept_now analyst_now failures_now t note 
   counted = made.counted;
   told = subst (λ (plan : Moves). (x u : ℕ) → (get_or places_now.owners x None ≡ Some u) ↔ (holds plan places_now.positions u x ≡ true)) same made.told;
   list_room = subst (λ n. sum_below (moves ledger.input.plant) (trains ledger.input.plant) ≤ n) (sym room) at.keeps.room;
-  analyst = subst (λ (plan : Moves). IsAnalystFor plan analyst_now) same own;
+  searcher = subst (λ (plan : Moves). IsSearcherFor plan searcher_now) same own;
   failures = subst (λ (plan : Moves). AreFailures plan ledger.input.plant.tables.depth places_now.positions failures_now) same failing;
 }
 
@@ -114,10 +115,10 @@ fewer_untried states t lt is =
     (λ u lu other. ap {B = ℕ} (λ (r : TrainState). cond (is_untried r) 1 0) (get_or-set_other states t u (record (state_of states t) { known = Some NoList }) _ other)))
 
 -- where the places and the kept list are as before, the ledger stands as before
-pub kept_at : (table : List MoveLists) (front : Front) (ledger : Ledger) (places_now : State) (kept_now : Kept) (analyst_now : Tallied) (failures_now : Failed) → moves_in table ≡ moves_of ledger.input.plant → IsAt front ledger
-    → IsMadeFor table places_now → IsAnalystFor (moves_in table) analyst_now → AreFailures (moves_in table) ledger.input.plant.tables.depth places_now.positions failures_now → places_now.positions ≡ ledger.places.positions → kept_now.trains ≡ ledger.kept.trains → kept_now.room ≡ ledger.kept.room
-    → IsAt front (record ledger { places = places_now; kept = kept_now; analyst = analyst_now; failures = failures_now })
-kept_at table front ledger places_now kept_now analyst_now failures_now same at made own failing positions list room = record {
+pub kept_at : (table : List MoveLists) (front : Front) (ledger : Ledger) (places_now : State) (kept_now : Kept) (searcher_now : Searcher) (failures_now : Failed) → moves_in table ≡ moves_of ledger.input.plant → IsAt front ledger
+    → IsMadeFor table places_now → IsSearcherFor (moves_in table) searcher_now → AreFailures (moves_in table) ledger.input.plant.tables.depth places_now.positions failures_now → places_now.positions ≡ ledger.places.positions → kept_now.trains ≡ ledger.kept.trains → kept_now.room ≡ ledger.kept.room
+    → IsAt front (record ledger { places = places_now; kept = kept_now; searcher = searcher_now; failures = failures_now })
+kept_at table front ledger places_now kept_now searcher_now failures_now same at made own failing positions list room = record {
   accepted = at.accepted;
   ordered = at.ordered;
   rep = at.rep;
@@ -131,7 +132,7 @@ kept_at table front ledger places_now kept_now analyst_now failures_now same at 
   queue_room = at.queue_room;
   list_room = at.list_room;
   list_empty = at.list_empty;
-  analyst = subst (λ (plan : Moves). IsAnalystFor plan analyst_now) same own;
+  searcher = subst (λ (plan : Moves). IsSearcherFor plan searcher_now) same own;
   failures = subst (λ (plan : Moves). AreFailures plan ledger.input.plant.tables.depth places_now.positions failures_now) same failing;
 }
 
@@ -142,11 +143,11 @@ pub known_same : (table : List MoveLists) (front : Front) (ledger : Ledger) (dep
 known_same table front ledger depth t same at is = λ i. is_known (same i) (is i) (at.placed.positions i) (at.keeps.is_list i) t
 
 -- with no list the ledger stays where it is
-pub no_list_at : (table : List MoveLists) (front : Front) (ledger : Ledger) (places_now : State) (kept_now : Kept) (analyst_now : Tallied) (failures_now : Failed) (t : ℕ) → moves_in table ≡ moves_of ledger.input.plant → IsAt front ledger → IsNext (dispatch_in ledger.input) ledger.input.plant front ledger.state.holders ledger.state.trains t
-    → IsMadeFor table places_now → IsAnalystFor (moves_in table) analyst_now → AreFailures (moves_in table) ledger.input.plant.tables.depth places_now.positions failures_now → places_now.positions ≡ ledger.places.positions → kept_now.trains ≡ ledger.kept.trains → kept_now.room ≡ ledger.kept.room → is_known (moves_in table) ledger.input.plant.tables.depth ledger.places.positions ledger.kept.trains t ≡ false
+pub no_list_at : (table : List MoveLists) (front : Front) (ledger : Ledger) (places_now : State) (kept_now : Kept) (searcher_now : Searcher) (failures_now : Failed) (t : ℕ) → moves_in table ≡ moves_of ledger.input.plant → IsAt front ledger → IsNext (dispatch_in ledger.input) ledger.input.plant front ledger.state.holders ledger.state.trains t
+    → IsMadeFor table places_now → IsSearcherFor (moves_in table) searcher_now → AreFailures (moves_in table) ledger.input.plant.tables.depth places_now.positions failures_now → places_now.positions ≡ ledger.places.positions → kept_now.trains ≡ ledger.kept.trains → kept_now.room ≡ ledger.kept.room → is_known (moves_in table) ledger.input.plant.tables.depth ledger.places.positions ledger.kept.trains t ≡ false
     → (states : List TrainState) → states ≡ set ledger.state.trains t (record (state_of ledger.state.trains t) { known = Some NoList })
-    → IsAt front (record ledger { places = places_now; kept = kept_now; analyst = analyst_now; failures = failures_now; state = record ledger.state { trains = states } })
-no_list_at table front ledger places_now kept_now analyst_now failures_now t same at next made own failing positions list room unknown states is = record {
+    → IsAt front (record ledger { places = places_now; kept = kept_now; searcher = searcher_now; failures = failures_now; state = record ledger.state { trains = states } })
+no_list_at table front ledger places_now kept_now searcher_now failures_now t same at next made own failing positions list room unknown states is = record {
   accepted = at.accepted;
   ordered = at.ordered;
   rep = no_list_stands (dispatch_in ledger.input) ledger.input.plant front ledger.state at.rep t next
@@ -164,6 +165,6 @@ no_list_at table front ledger places_now kept_now analyst_now failures_now t sam
   queue_room = at.queue_room;
   list_room = at.list_room;
   list_empty = at.list_empty;
-  analyst = subst (λ (plan : Moves). IsAnalystFor plan analyst_now) same own;
+  searcher = subst (λ (plan : Moves). IsSearcherFor plan searcher_now) same own;
   failures = subst (λ (plan : Moves). AreFailures plan ledger.input.plant.tables.depth places_now.positions failures_now) same failing;
 }

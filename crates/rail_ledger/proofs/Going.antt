@@ -124,7 +124,7 @@ module _ (front : Front) (ledger : Ledger) (at : IsAt front ledger) (going : led
         queue_room = omega (arith, at.queue_room, ap length first, ap length events, spare);
         list_room = at.list_room;
         list_empty = λ open_still. at.list_empty still;
-        analyst = at.analyst;
+        searcher = at.searcher;
         failures = at.failures;
       }
 
@@ -169,6 +169,6 @@ ended_at front ledger at going settled empty remaining room is =
       queue_room = at.queue_room;
       list_room = room ∙ at.list_room;
       list_empty = λ open_still. absurd (false≢true (sym open_still));
-      analyst = at.analyst;
+      searcher = at.searcher;
       failures = at.failures;
     }

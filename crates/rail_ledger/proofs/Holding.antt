@@ -27,7 +27,7 @@ settled_at front ledger at known told = record {
   queue_room = at.queue_room;
   list_room = at.list_room;
   list_empty = at.list_empty;
-  analyst = at.analyst;
+  searcher = at.searcher;
   failures = at.failures;
 }
 
@@ -53,7 +53,7 @@ held_at front ledger at going deciding known t in_list lacks first why is after 
       queue_room = room ∙ at.queue_room;
       list_room = at.list_room;
       list_empty = λ open_still. at.list_empty still;
-      analyst = at.analyst;
+      searcher = at.searcher;
       failures = at.failures;
     })
 

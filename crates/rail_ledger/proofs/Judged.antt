@@ -16,7 +16,7 @@ mapped None h f = tt
 mapped (Some n) h f = f n h
 
 pub listed_as : (front : Front) (ledger : Ledger) (l : Listed) → IsAt front ledger → IsAt front (record ledger { listed = l })
-listed_as front ledger l at = record { accepted = at.accepted; ordered = at.ordered; rep = at.rep; placed = at.placed; keeps = at.keeps; queue_room = at.queue_room; list_room = at.list_room; list_empty = at.list_empty; analyst = at.analyst; failures = at.failures }
+listed_as front ledger l at = record { accepted = at.accepted; ordered = at.ordered; rep = at.rep; placed = at.placed; keeps = at.keeps; queue_room = at.queue_room; list_room = at.list_room; list_empty = at.list_empty; searcher = at.searcher; failures = at.failures }
 
 pub hold_none : (w : What) → is_hold w ≡ true → is_admission w ≡ false
 hold_none (Hold t m c) h = refl

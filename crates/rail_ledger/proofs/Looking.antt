@@ -57,7 +57,7 @@ looked front ledger at states many each = record {
   queue_room = at.queue_room;
   list_room = at.list_room;
   list_empty = at.list_empty;
-  analyst = at.analyst;
+  searcher = at.searcher;
   failures = at.failures;
 }
 

@@ -16,7 +16,7 @@ use Rattle.rail_laws_step.specs.TimeLimits.{StaysBelow}
 use Rattle.rail_laws_step.proofs.CallerLemmas.{stays_below, ready_is_past}
 use Rattle.rail_block.specs.declared.times.MoveTimes.{MoveTimes}
 use Rattle.rail_block.specs.CarriedTimes.{AreBelow, times_at}
-use Rattle.rail_consequence.specs.AnalystStates.{Tallied}
+use Rattle.rail_cores.specs.declared.searcher.Searcher.{Searcher}
 use Rattle.rail_list.specs.Failures.{Failed}
 use Rattle.rail_list.specs.KeptLists.{Kept}
 use Rattle.rail_place.specs.PlaceStates.{State}
@@ -110,11 +110,11 @@ module _ (front : Front) (ledger : Ledger) (at : IsAt front ledger) (going : led
   }
 
   -- the ledger stands for the front with the line of the admission
-  pub admitted_at : (P : State) (K : Kept) (W : Tallied) (F : Failed) (after : RunState)
-      → HasList front ledger (record ledger { places = P; kept = K; analyst = W; failures = F }) t note → K.trains ≡ list
+  pub admitted_at : (P : State) (K : Kept) (W : Searcher) (F : Failed) (after : RunState)
+      → HasList front ledger (record ledger { places = P; kept = K; searcher = W; failures = F }) t note → K.trains ≡ list
       → length after.queue.events + after.queue.spare ≡ length ledger.state.queue.events + ledger.state.queue.spare
       → (times : MoveTimes) (arrival : Option ℕ) → IsAdmitLine ledger.input.plant front t times arrival ledger.state after
-      → IsAt (line ∷ front) (record ledger { places = P; kept = K; analyst = W; failures = F; state = after; listed = list_with note })
+      → IsAt (line ∷ front) (record ledger { places = P; kept = K; searcher = W; failures = F; state = after; listed = list_with note })
   admitted_at P K W F after has is_list room times arrival admits = record {
     accepted = at.accepted;
     ordered = at.ordered;
@@ -129,7 +129,7 @@ module _ (front : Front) (ledger : Ledger) (at : IsAt front ledger) (going : led
     queue_room = room ∙ at.queue_room;
     list_room = at.list_room;
     list_empty = λ open_still. at.list_empty still;
-    analyst = has.analyst;
+    searcher = has.searcher;
     failures = has.failures;
   }
 
@@ -139,8 +139,8 @@ listed_with Pulled kept_list remaining = refl
 listed_with Appended kept_list remaining = refl
 listed_with Fresh kept_list remaining = refl
 
--- a ledger that differs in places, kept list, analyst and failures alone
-pub alike_ledger : (old mid : Ledger) → AreAlike old mid → mid.state.trains ≡ old.state.trains → mid ≡ record old { places = mid.places; kept = mid.kept; analyst = mid.analyst; failures = mid.failures }
+-- a ledger that differs in places, kept list, searcher and failures alone
+pub alike_ledger : (old mid : Ledger) → AreAlike old mid → mid.state.trains ≡ old.state.trains → mid ≡ record old { places = mid.places; kept = mid.kept; searcher = mid.searcher; failures = mid.failures }
 alike_ledger old mid alike trains = λ i. record {
   input = alike.input i;
   orders = alike.orders i;
@@ -148,7 +148,7 @@ alike_ledger old mid alike trains = λ i. record {
   places = mid.places;
   kept = mid.kept;
   reader = alike.reader i;
-  analyst = mid.analyst;
+  searcher = mid.searcher;
   failures = mid.failures;
   remaining = alike.remaining i;
   listed = alike.listed i;

@@ -14,7 +14,7 @@ use Rattle.rail_rules.specs.Numbers.{listed, sum_below}
 use Rattle.rail_rules.specs.Places.{holds}
 use Rattle.rail_rules.specs.Plant.{moves_of, trains}
 use Rattle.rail_laws_step.specs.MostDue.{most_due}
-use Rattle.rail_consequence.specs.AnalystStates.{IsAnalystFor}
+use Rattle.rail_cores.specs.Searchers.{IsSearcherFor}
 use Rattle.rail_list.specs.Failures.{is_kept}
 use Rattle.rail_list.specs.KeptLists.{HasRoomFor}
 use Rattle.rail_place.specs.PlaceStates.{IsMadeFor}
@@ -38,7 +38,7 @@ pub record IsNew (ledger : Ledger) (table : List MoveLists) : Type 0 where
   pub queue_room : length ledger.state.queue.events + ledger.state.queue.spare ≡ most_due ledger.input.plant (length ledger.input.commands.items) + MOVE_EVENTS
   pub remaining_room : vec_capacity ledger.remaining ≡ TRAINS
   pub remaining : ledger.remaining.items ≡ []
-  pub analyst : IsAnalystFor (moves_in table) ledger.analyst
+  pub searcher : IsSearcherFor (moves_in table) ledger.searcher
   pub failures : (t : ℕ) → is_kept ledger.failures t ≡ false
 
 zeros : (n : ℕ) → replicate {A = ℕ} n 0 ≡ listed (λ t. 0) n
@@ -64,6 +64,6 @@ new_stands ledger table new = record {
   queue_room = new.queue_room;
   list_room = new.remaining_room;
   list_empty = λ going. new.remaining;
-  analyst = subst (λ (plan : Moves). IsAnalystFor plan ledger.analyst) new.same new.analyst;
+  searcher = subst (λ (plan : Moves). IsSearcherFor plan ledger.searcher) new.same new.searcher;
   failures = λ t lt is. absurd (false≢true (sym (new.failures t) ∙ is));
 }

@@ -17,7 +17,7 @@ use Rattle.rail_rules.specs.Lawful.{is_lawful, may_follow}
 use Rattle.rail_laws_verdict.specs.Verdicts.{broken_law, missing_law}
 use Rattle.rail_rules.specs.RunHistories.{Seat, is_chosen, is_run}
 use Rattle.rail_place.specs.PlaceStates.{State}
-use Rattle.rail_consequence.specs.AnalystStates.{IsAnalystFor}
+use Rattle.rail_cores.specs.Searchers.{IsSearcherFor}
 use Rattle.rail_list.specs.KeptLists.{Kept}
 use Rattle.rail_list.specs.Failures.{AreFailures}
 use Rattle.rail_queue.specs.Order.{first_time_of}
@@ -63,7 +63,7 @@ pub record IsAt (front : Front) (ledger : Ledger) : Type 0 where
   pub queue_room : length ledger.state.queue.events + ledger.state.queue.spare ≡ most_due ledger.input.plant (length ledger.input.commands.items) + MOVE_EVENTS
   pub list_room : vec_capacity ledger.remaining ≡ TRAINS
   pub list_empty : has_ended front ≡ false → ledger.remaining.items ≡ []
-  pub analyst : IsAnalystFor (moves_of ledger.input.plant) ledger.analyst
+  pub searcher : IsSearcherFor (moves_of ledger.input.plant) ledger.searcher
   pub failures : AreFailures (moves_of ledger.input.plant) ledger.input.plant.tables.depth ledger.places.positions ledger.failures
 
 -- the order takes effect, by what is kept
@@ -125,7 +125,7 @@ MayGoOn ledger = (ledger.state.is_settled ≡ true) ⊎ (first_time_of ledger.st
 abbrev pub untried : List TrainState → ℕ
 untried states = sum_below (λ t. cond (is_untried (state_of states t)) 1 0) (length states)
 
--- two ledgers differ in places, kept list, analyst, failures, and what is kept of the trains alone
+-- two ledgers differ in places, kept list, searcher, failures, and what is kept of the trains alone
 pub record AreAlike (first second : Ledger) : Type 0 where
   pub input : second.input ≡ first.input
   pub orders : second.orders ≡ first.orders
@@ -260,7 +260,7 @@ pub record HasList (front : Front) (old new : Ledger) (t : ℕ) (note : Note) : 
   pub counted : new.places.played < 2 ^ 64
   pub told : (x u : ℕ) → (get_or new.places.owners x None ≡ Some u) ↔ IsTrue (holds (moves_of old.input.plant) new.places.positions u x)
   pub list_room : sum_below (moves old.input.plant) (trains old.input.plant) ≤ new.kept.room
-  pub analyst : IsAnalystFor (moves_of old.input.plant) new.analyst
+  pub searcher : IsSearcherFor (moves_of old.input.plant) new.searcher
   pub failures : AreFailures (moves_of old.input.plant) old.input.plant.tables.depth new.places.positions new.failures
 
 -- the list that belongs to the line of an admission

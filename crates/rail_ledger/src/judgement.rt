@@ -346,11 +346,12 @@ impl Ledger {
         let moves = self.input.plant.moves();
         // For its clauses alone: the moves are a table within the limits.
         moves.trains();
+        let analyst = self.searcher.analyst();
         admit_given(
             moves,
             &mut self.places,
             &mut self.kept,
-            &self.analyst,
+            analyst,
             &mut self.failures,
             train,
             note,

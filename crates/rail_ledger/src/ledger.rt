@@ -11,7 +11,7 @@ ghost use Rattle.rail_ledger.specs.Inputs.{input_in};
 ghost use Rattle.rail_ledger.specs.Ledgers.{AreAlike, AreUnbarred, ContinuesRun, GivesEntry, HasToldCommand, HasList, HasPassed, HasTried, IsAdmissionOf, IsAt, IsDeciding, IsNextLine, IsNextTrain, IsOther, IsSettled, IsSomewhere, MayGoOn, StandsAsBefore, is_effective, list_in, list_with, untried};
 ghost use Rattle.rail_ledger.specs.declared.ledger.Listed.TheVariants as which;
 ghost use Rattle.rail_base.specs.declared.limits.TheConstants.{TRAINS};
-ghost use Rattle.rail_consequence.specs.AnalystStates.{IsAnalystFor};
+ghost use Rattle.rail_cores.specs.Searchers.{IsSearcherFor};
 ghost use Rattle.rail_list.specs.Failures.{is_kept};
 ghost use Rattle.rail_list.specs.KeptLists.{HasRoomFor};
 ghost use Rattle.rail_place.specs.PlaceStates.{IsMadeFor};
@@ -25,7 +25,7 @@ ghost use Rattle.rail_state.specs.TrainStates.{IsReadyFirst, lacks_hold_line, st
 use crate::input::RunInput;
 use rail_base::limits::TRAINS;
 use rail_base::{Entry, Note, Order, OutOfMemory, Time, TrainNo, What};
-use rail_consequence::Analyst;
+use rail_cores::Searcher;
 use rail_list::{Failures, KeptList, Reader, admit_by_list, is_list_known};
 use rail_orders::ToldOrders;
 use rail_place::{Moves, Places};
@@ -54,7 +54,7 @@ pub struct Ledger {
     pub kept: KeptList,
     /// With it the kept list is read as a whole.
     pub reader: Reader,
-    pub analyst: Analyst,
+    pub searcher: Searcher,
     /// The searches that failed.
     pub failures: Failures,
     /// The trains that remain, once the end line was given.
@@ -71,7 +71,7 @@ impl Drop for Ledger {
             places: _places,
             kept: _kept,
             reader: _reader,
-            analyst: _analyst,
+            searcher: _searcher,
             failures: _failures,
             remaining: _remaining,
             listed: _listed,
@@ -96,7 +96,7 @@ impl Ledger {
             places: lists.places,
             kept: lists.kept,
             reader: lists.reader,
-            analyst: lists.analyst,
+            searcher: lists.searcher,
             failures: lists.failures,
             remaining: lists.remaining,
             listed: Listed::Nothing,
@@ -190,7 +190,7 @@ impl Ledger {
             moves,
             &mut self.places,
             &mut self.kept,
-            &mut self.analyst,
+            &mut self.searcher,
             &mut self.failures,
             depth,
             train,
@@ -225,7 +225,7 @@ impl Ledger {
             moves,
             &mut self.places,
             &mut self.kept,
-            &mut self.analyst,
+            &mut self.searcher,
             &mut self.failures,
             depth,
             train,
@@ -456,7 +456,7 @@ struct Lists {
     places: Places,
     kept: KeptList,
     reader: Reader,
-    analyst: Analyst,
+    searcher: Searcher,
     failures: Failures,
     remaining: Vec<TrainNo>,
 }
@@ -465,7 +465,7 @@ struct Lists {
 fn lists_of(alloc: Global, moves: &Moves) -> Result<Lists, OutOfMemory>
     ensures made { IfOk result (λ lists. IsMadeFor moves.now lists.places) }
     ensures positions { IfOk result (λ lists. lists.places.positions ≡ replicate {A = ℕ} (length moves.now) 0) }
-    ensures analyst { IfOk result (λ lists. IsAnalystFor (moves_in moves.now) lists.analyst) }
+    ensures searcher { IfOk result (λ lists. IsSearcherFor (moves_in moves.now) lists.searcher) }
     ensures failures { IfOk result (λ lists. (t : ℕ) → is_kept lists.failures t ≡ false) }
     ensures kept { IfOk result (λ lists. lists.kept.trains ≡ []) }
     ensures room { IfOk result (λ lists. HasRoomFor moves.now lists.kept) }
@@ -475,13 +475,13 @@ fn lists_of(alloc: Global, moves: &Moves) -> Result<Lists, OutOfMemory>
     let (kept, reader) = KeptList::new(alloc, moves)?;
     let remaining = Vec::with_capacity(alloc, TRAINS)?;
     let places = Places::outside(alloc, moves)?;
-    let analyst = Analyst::new(alloc, moves)?;
+    let searcher = Searcher::new(alloc, moves)?;
     let failures = Failures::new(alloc)?;
     Ok(Lists {
         places,
         kept,
         reader,
-        analyst,
+        searcher,
         failures,
         remaining,
     })

@@ -1,6 +1,6 @@
 //! The kept list: the list of moves that a run keeps, which brings every train inside to its exit.
 //!
-//! This layer stands on `rail_place` for places and legal moves, on `rail_consequence` for a fresh list and for
+//! This layer stands on `rail_place` for places and legal moves, on `rail_cores` for a fresh list, on `rail_consequence` for
 //! whether a given one completes, and on `rail_rules` for what a list that completes is. Where a train is admitted, the kept list is repaired for
 //! the places after its move: the train's first entry is pulled out of it, or its remaining moves are appended.
 //! Since the old list completes, no move is played to test the new one: an entering train must have ended its

@@ -5,14 +5,14 @@ ghost use Rattle.rail_rules.specs.Analysis.{finds};
 ghost use Rattle.rail_rules.specs.Places.{after, completes, is_legal};
 ghost use Rattle.rail_place.specs.PlaceStates.{IsMadeFor};
 ghost use Rattle.rail_place.specs.Tables.{moves_in};
-ghost use Rattle.rail_consequence.specs.AnalystStates.{IsAnalystFor};
+ghost use Rattle.rail_cores.specs.Searchers.{IsSearcherFor};
 ghost use Rattle.rail_list.specs.Failures.{AreFailures, AreOthersKept, is_kept};
 ghost use Rattle.rail_list.specs.KeptLists.{HasRoomFor, before_first};
 ghost use Rattle.rail_list.specs.Repairs.{IsNoted, is_known, is_repairable_for};
 
 use crate::{Failures, KeptList};
 use rail_base::{Note, TrainNo};
-use rail_consequence::Analyst;
+use rail_cores::Searcher;
 use rail_place::{Moves, Places};
 
 /// Makes the train's next move on the places where a list is known that brings every train inside to its
@@ -23,20 +23,20 @@ pub fn admit_by_list(
     moves: &Moves,
     places: &mut Places,
     kept: &mut KeptList,
-    analyst: &mut Analyst,
+    searcher: &mut Searcher,
     failures: &mut Failures,
     depth: u8,
     train: TrainNo,
 ) -> Option<Note>
     requires made { IsMadeFor moves.now places.old }
-    requires own { IsAnalystFor (moves_in moves.now) analyst.old }
+    requires own { IsSearcherFor (moves_in moves.now) searcher.old }
     requires failures { AreFailures (moves_in moves.now) depth places.old.positions failures.old }
     requires room { HasRoomFor moves.now kept.old }
     requires completes { IsTrue (completes (moves_in moves.now) places.old.positions kept.old.trains) }
     requires train { train < length moves.now }
     requires legal { IsTrue (is_legal (moves_in moves.now) places.old.positions train) }
     ensures made { IsMadeFor moves.now places.new }
-    ensures own { IsAnalystFor (moves_in moves.now) analyst.new }
+    ensures own { IsSearcherFor (moves_in moves.now) searcher.new }
     ensures failures { AreFailures (moves_in moves.now) depth places.new.positions failures.new }
     ensures others { AreOthersKept train failures.old failures.new }
     ensures room { kept.new.room ≡ kept.old.room }
@@ -47,7 +47,7 @@ pub fn admit_by_list(
         IsNoted (moves_in moves.now) depth places.old.positions kept.old.trains train note kept.new.trains) }
     ensures completes { IsTrue (completes (moves_in moves.now) places.new.positions kept.new.trains) }
     ensures noted { IsNone result → IsTrue (is_kept failures.new train) }
-    ensures spared { IsTrue (is_kept failures.old train) → analyst.new ≡ analyst.old }
+    ensures spared { IsTrue (is_kept failures.old train) → searcher.new ≡ searcher.old }
     ensures looked { kept.new.looked ≤ kept.old.looked + length (before_first train kept.old.trains) + 1 }
 {
     if let Some(note) = repair(moves, places, kept, train) {
@@ -58,7 +58,7 @@ pub fn admit_by_list(
     if failures.has(train) {
         return None;
     }
-    if admit_afresh(moves, places, kept, analyst, failures, depth, train) {
+    if admit_afresh(moves, places, kept, searcher, failures, depth, train) {
         Some(Note::Fresh)
     } else {
         None
@@ -96,19 +96,19 @@ fn admit_afresh(
     moves: &Moves,
     places: &mut Places,
     kept: &mut KeptList,
-    analyst: &mut Analyst,
+    searcher: &mut Searcher,
     failures: &mut Failures,
     depth: u8,
     train: TrainNo,
 ) -> bool
     requires made { IsMadeFor moves.now places.old }
-    requires own { IsAnalystFor (moves_in moves.now) analyst.old }
+    requires own { IsSearcherFor (moves_in moves.now) searcher.old }
     requires failures { AreFailures (moves_in moves.now) depth places.old.positions failures.old }
     requires room { HasRoomFor moves.now kept.old }
     requires train { train < length moves.now }
     requires legal { IsTrue (is_legal (moves_in moves.now) places.old.positions train) }
     ensures made { IsMadeFor moves.now places.new }
-    ensures own { IsAnalystFor (moves_in moves.now) analyst.new }
+    ensures own { IsSearcherFor (moves_in moves.now) searcher.new }
     ensures failures { AreFailures (moves_in moves.now) depth places.new.positions failures.new }
     ensures others { AreOthersKept train failures.old failures.new }
     ensures room { kept.new.room ≡ kept.old.room }
@@ -120,12 +120,12 @@ fn admit_afresh(
     ensures looked { kept.new.looked ≡ kept.old.looked }
 {
     places.advance(moves, train);
-    if analyst.search(moves, places, depth) {
-        kept.replace(analyst.list());
+    if searcher.search(moves, places, depth, train) {
+        kept.replace(searcher.list());
         failures.forget(moves, places, train);
         true
     } else {
-        failures.note(train, analyst.core());
+        failures.note(train, searcher.core());
         places.retreat(moves, train);
         false
     }
@@ -138,26 +138,26 @@ pub fn is_list_known(
     moves: &Moves,
     places: &mut Places,
     kept: &mut KeptList,
-    analyst: &mut Analyst,
+    searcher: &mut Searcher,
     failures: &mut Failures,
     depth: u8,
     train: TrainNo,
 ) -> bool
     requires made { IsMadeFor moves.now places.old }
-    requires own { IsAnalystFor (moves_in moves.now) analyst.old }
+    requires own { IsSearcherFor (moves_in moves.now) searcher.old }
     requires failures { AreFailures (moves_in moves.now) depth places.old.positions failures.old }
     requires completes { IsTrue (completes (moves_in moves.now) places.old.positions kept.old.trains) }
     requires train { train < length moves.now }
     requires legal { IsTrue (is_legal (moves_in moves.now) places.old.positions train) }
     ensures made { IsMadeFor moves.now places.new }
-    ensures own { IsAnalystFor (moves_in moves.now) analyst.new }
+    ensures own { IsSearcherFor (moves_in moves.now) searcher.new }
     ensures failures { AreFailures (moves_in moves.now) depth places.new.positions failures.new }
     ensures positions { places.new.positions ≡ places.old.positions }
     ensures exact { result ≡ is_known (moves_in moves.now) depth places.old.positions kept.old.trains train }
     ensures trains { kept.new.trains ≡ kept.old.trains }
     ensures room { kept.new.room ≡ kept.old.room }
     ensures noted { result ≡ false → IsTrue (is_kept failures.new train) }
-    ensures spared { IsTrue (is_kept failures.old train) → analyst.new ≡ analyst.old }
+    ensures spared { IsTrue (is_kept failures.old train) → searcher.new ≡ searcher.old }
     ensures looked { kept.new.looked ≤ kept.old.looked + length (before_first train kept.old.trains) + 1 }
 {
     if kept.is_repairable(moves, places, train) {
@@ -166,36 +166,36 @@ pub fn is_list_known(
     if failures.has(train) {
         return false;
     }
-    is_found(moves, places, analyst, failures, depth, train)
+    is_found(moves, places, searcher, failures, depth, train)
 }
 
 /// Whether the analysis finds a list after the train's next move; where not, the failure is kept. The places are as before.
 fn is_found(
     moves: &Moves,
     places: &mut Places,
-    analyst: &mut Analyst,
+    searcher: &mut Searcher,
     failures: &mut Failures,
     depth: u8,
     train: TrainNo,
 ) -> bool
     requires made { IsMadeFor moves.now places.old }
-    requires own { IsAnalystFor (moves_in moves.now) analyst.old }
+    requires own { IsSearcherFor (moves_in moves.now) searcher.old }
     requires failures { AreFailures (moves_in moves.now) depth places.old.positions failures.old }
     requires train { train < length moves.now }
     requires legal { IsTrue (is_legal (moves_in moves.now) places.old.positions train) }
     ensures made { IsMadeFor moves.now places.new }
-    ensures own { IsAnalystFor (moves_in moves.now) analyst.new }
+    ensures own { IsSearcherFor (moves_in moves.now) searcher.new }
     ensures failures { AreFailures (moves_in moves.now) depth places.new.positions failures.new }
     ensures positions { places.new.positions ≡ places.old.positions }
     ensures exact { result ≡ finds (moves_in moves.now) depth (after places.old.positions train) }
     ensures noted { result ≡ false → IsTrue (is_kept failures.new train) }
 {
     places.advance(moves, train);
-    let found = analyst.search(moves, places, depth);
+    let found = searcher.search(moves, places, depth, train);
     places.retreat(moves, train);
     if found {
         return true;
     }
-    failures.note(train, analyst.core());
+    failures.note(train, searcher.core());
     false
 }

@@ -1,4 +1,5 @@
 -- Lemmas on reroutings.
+mod Alike
 mod Changed
 mod Itineraries
 mod JoinedLines

@@ -9,7 +9,7 @@ use Rattle.rail_base.specs.Limits.{is_from_one, most, InputTime, ItineraryRoutes
 use Rattle.rail_base.specs.Lists.{are_distinct}
 use Rattle.rail_base.specs.NameForms.{same_name}
 use Rattle.rail_rules.specs.Places.{place_of}
-use Rattle.rail_rules.specs.Plant.{moves, trains}
+use Rattle.rail_rules.specs.Plant.{moves}
 use Rattle.rail_scene.specs.Scenes.{IsScene, is_fit_train, is_one_train}
 use Rattle.rail_scene.specs.declared.scene.Scene.{Scene}
 use Rattle.rail_scene.specs.declared.scene.SceneTrain.{SceneTrain}

@@ -1,11 +1,12 @@
 //! What a state of places leads to.
 
-ghost use Rattle.std.specs.Prelude.{◌≡◌, ◌≤◌, ◌<◌, ℕ, List as ListOf, length, set, slice_index, IfOk};
+ghost use Rattle.std.specs.Prelude.{◌≡◌, ◌≤◌, ◌<◌, ℕ, List as ListOf, length, set, slice_index, IfOk, IsTrue};
 ghost use Rattle.std.specs.List.{list_all};
 ghost use Rattle.rail_place.specs.PlaceStates.{IsMadeFor};
 ghost use Rattle.rail_place.specs.Overlaps.{IsFault, IsOverlap};
 ghost use Rattle.rail_place.specs.Tables.{moves_in};
 ghost use Rattle.rail_consequence.specs.AnalystStates.{IsAnalystFor};
+ghost use Rattle.rail_rules.specs.Analysis.{Finds};
 ghost use Rattle.rail_rules.specs.Moves.{Moves as Plan, stand};
 ghost use Rattle.rail_rules.specs.Places.{place_of};
 ghost use Rattle.rail_reroute.specs.Judgements.{LeadsTo};
@@ -19,7 +20,8 @@ use rail_place::{Moves, Places, PlacesFault};
 use std::alloc::Global;
 
 /// What the state leads to in which the trains stand at these places, by so many free legs at most. In the places that are
-/// handed in this train alone stands elsewhere, outside; it is put where it stands, and back behind the search.
+/// handed in this train alone stands elsewhere, outside; it is put where it stands, and back behind the search. Where it is known
+/// that nothing is found, nothing is searched.
 pub fn find_way(
     alloc: Global,
     moves: &Moves,
@@ -28,6 +30,7 @@ pub fn find_way(
     places: &mut Places,
     positions: &[u16],
     train: TrainNo,
+    fails: bool,
 ) -> Result<Judged, OutOfMemory>
     requires own { IsAnalystFor (moves_in moves.now) analyst.old }
     requires made { IsMadeFor moves.now places.old }
@@ -36,6 +39,7 @@ pub fn find_way(
     requires others { set places.old.positions train (place_of positions.now train) ≡ positions.now }
     requires long { length positions.now ≡ length moves.now }
     requires within { (t : ℕ) → t < length moves.now → slice_index positions.now t ≤ (moves_in moves.now).moves t }
+    requires fails { IsTrue fails → Finds (moves_in moves.now) depth positions.now → ⊥ }
     ensures own { IsAnalystFor (moves_in moves.now) analyst.new }
     ensures made { IsMadeFor moves.now places.new }
     ensures positions { places.new.positions ≡ places.old.positions }
@@ -46,7 +50,7 @@ pub fn find_way(
         return find_anew(alloc, moves, analyst, depth, positions);
     }
     places.put(moves, train, place);
-    let answer = find_list(alloc, moves, analyst, depth, places);
+    let answer = find_list(alloc, moves, analyst, depth, places, fails);
     places.put(moves, train, 0);
     answer
 }
@@ -85,7 +89,7 @@ fn find_anew(
     ensures answer { IfOk result (LeadsTo (moves_in moves.now) depth positions.now) }
 {
     match Places::new(alloc, moves, positions) {
-        Ok(places) => find_list(alloc, moves, analyst, depth, &places),
+        Ok(places) => find_list(alloc, moves, analyst, depth, &places, false),
         Err(fault) => found_for(fault),
     }
 }
@@ -109,19 +113,24 @@ fn found_for(fault: PlacesFault) -> Result<Judged, OutOfMemory>
     }
 }
 
-/// A list that brings every train inside from the places to its exit, or that none is known.
+/// A list that brings every train inside from the places to its exit, or that none is found, where this isn't known.
 fn find_list(
     alloc: Global,
     moves: &Moves,
     analyst: &mut Analyst,
     depth: u8,
     places: &Places,
+    fails: bool,
 ) -> Result<Judged, OutOfMemory>
     requires made { IsMadeFor moves.now places.now }
     requires own { IsAnalystFor (moves_in moves.now) analyst.old }
+    requires fails { IsTrue fails → Finds (moves_in moves.now) depth places.now.positions → ⊥ }
     ensures own { IsAnalystFor (moves_in moves.now) analyst.new }
     ensures answer { IfOk result (LeadsTo (moves_in moves.now) depth places.now.positions) }
 {
+    if fails {
+        return Ok(Judged::NoList);
+    }
     match analyst.find(moves, places, depth) {
         Some(list) => listed(alloc, list),
         None => Ok(Judged::NoList),

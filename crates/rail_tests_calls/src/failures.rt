@@ -1,6 +1,6 @@
 //! Two trains that wait for a list in vain: what is kept of the searches that failed, and when it is forgotten.
 ghost use Rattle.std.specs.Prelude.{◌<◌, length, IsTrue};
-ghost use Rattle.rail_consequence.specs.AnalystStates.{IsAnalystFor};
+ghost use Rattle.rail_cores.specs.Searchers.{IsSearcherFor};
 ghost use Rattle.rail_list.specs.Failures.{AreFailures};
 ghost use Rattle.rail_list.specs.KeptLists.{HasRoomFor};
 ghost use Rattle.rail_place.specs.PlaceStates.{IsMadeFor};
@@ -10,7 +10,7 @@ ghost use Rattle.rail_tests_calls.specs.declared.failures.TheConstants.{DEPTH};
 
 use crate::plants::{are_there, moves_of, places_at, trains_of};
 use rail_base::{Note, TrainNo};
-use rail_consequence::Analyst;
+use rail_cores::Searcher;
 use rail_list::{Failures, KeptList, a_completing_list_fits, admit_by_list, is_list_known};
 use rail_place::{Moves, Places, Played};
 use rail_sets::TrainSet;
@@ -92,8 +92,8 @@ fn first_other_by(
             }
             a_completing_list_fits();
             kept.replace(&list);
-            match Analyst::new(alloc, moves) {
-                Ok(mut analyst) => first_other_step(moves, places, kept, &mut analyst, failures),
+            match Searcher::new(alloc, moves) {
+                Ok(mut searcher) => first_other_step(moves, places, kept, &mut searcher, failures),
                 Err(_) => Some(TRAINS),
             }
         }
@@ -105,17 +105,17 @@ fn first_other_step(
     moves: &Moves,
     places: &mut Places,
     kept: &mut KeptList,
-    analyst: &mut Analyst,
+    searcher: &mut Searcher,
     failures: &mut Failures,
 ) -> Option<&'static str>
     requires made { IsMadeFor moves.now places.old }
-    requires own { IsAnalystFor (moves_in moves.now) analyst.old }
+    requires own { IsSearcherFor (moves_in moves.now) searcher.old }
     requires failures { AreFailures (moves_in moves.now) DEPTH places.old.positions failures.old }
     requires room { HasRoomFor moves.now kept.old }
     requires completes { IsTrue (completes (moves_in moves.now) places.old.positions kept.old.trains) }
 {
     for step in STEPS.lines() {
-        if !holds(moves, places, kept, analyst, failures, step).unwrap_or(false) {
+        if !holds(moves, places, kept, searcher, failures, step).unwrap_or(false) {
             return Some(step);
         }
     }
@@ -127,17 +127,17 @@ fn holds(
     moves: &Moves,
     places: &mut Places,
     kept: &mut KeptList,
-    analyst: &mut Analyst,
+    searcher: &mut Searcher,
     failures: &mut Failures,
     step: &str,
 ) -> Option<bool>
     requires made { IsMadeFor moves.now places.old }
-    requires own { IsAnalystFor (moves_in moves.now) analyst.old }
+    requires own { IsSearcherFor (moves_in moves.now) searcher.old }
     requires failures { AreFailures (moves_in moves.now) DEPTH places.old.positions failures.old }
     requires room { HasRoomFor moves.now kept.old }
     requires completes { IsTrue (completes (moves_in moves.now) places.old.positions kept.old.trains) }
     ensures made { IsMadeFor moves.now places.new }
-    ensures own { IsAnalystFor (moves_in moves.now) analyst.new }
+    ensures own { IsSearcherFor (moves_in moves.now) searcher.new }
     ensures failures { AreFailures (moves_in moves.now) DEPTH places.new.positions failures.new }
     ensures room { HasRoomFor moves.now kept.new }
     ensures completes { IsTrue (completes (moves_in moves.now) places.new.positions kept.new.trains) }
@@ -146,8 +146,8 @@ fn holds(
     let (way, rest) = rest.split_once(" ")?;
     let (core, failed) = rest.split_once(" ")?;
     let train = TrainNo(train.parse().ok()?);
-    let asked = ask(moves, places, kept, analyst, failures, train)?;
-    Some(asked == note_of(way) && are_all(analyst.core(), core) && are_kept(failures, failed))
+    let asked = ask(moves, places, kept, searcher, failures, train)?;
+    Some(asked == note_of(way) && are_all(searcher.core(), core) && are_kept(failures, failed))
 }
 
 /// How the train is admitted, where its next move is legal and both calls agree whether a list is known.
@@ -155,17 +155,17 @@ fn ask(
     moves: &Moves,
     places: &mut Places,
     kept: &mut KeptList,
-    analyst: &mut Analyst,
+    searcher: &mut Searcher,
     failures: &mut Failures,
     train: TrainNo,
 ) -> Option<Option<Note>>
     requires made { IsMadeFor moves.now places.old }
-    requires own { IsAnalystFor (moves_in moves.now) analyst.old }
+    requires own { IsSearcherFor (moves_in moves.now) searcher.old }
     requires failures { AreFailures (moves_in moves.now) DEPTH places.old.positions failures.old }
     requires room { HasRoomFor moves.now kept.old }
     requires completes { IsTrue (completes (moves_in moves.now) places.old.positions kept.old.trains) }
     ensures made { IsMadeFor moves.now places.new }
-    ensures own { IsAnalystFor (moves_in moves.now) analyst.new }
+    ensures own { IsSearcherFor (moves_in moves.now) searcher.new }
     ensures failures { AreFailures (moves_in moves.now) DEPTH places.new.positions failures.new }
     ensures room { HasRoomFor moves.now kept.new }
     ensures completes { IsTrue (completes (moves_in moves.now) places.new.positions kept.new.trains) }
@@ -173,8 +173,8 @@ fn ask(
     if train.0 >= moves.trains() || places.legal(moves, train).is_err() {
         return None;
     }
-    let known = is_list_known(moves, places, kept, analyst, failures, DEPTH, train);
-    let note = admit_by_list(moves, places, kept, analyst, failures, DEPTH, train);
+    let known = is_list_known(moves, places, kept, searcher, failures, DEPTH, train);
+    let note = admit_by_list(moves, places, kept, searcher, failures, DEPTH, train);
     if note.is_some() == known {
         Some(note)
     } else {
@@ -192,7 +192,7 @@ fn note_of(word: &str) -> Option<Note> {
 }
 
 /// Whether of the six trains the set has those of the digits.
-fn are_all(set: TrainSet, digits: &str) -> bool {
+pub(super) fn are_all(set: TrainSet, digits: &str) -> bool {
     for number in 0..6u8 {
         if set.has(TrainNo(u16::from(number))) != is_named(digits, number) {
             return false;
@@ -211,7 +211,7 @@ fn are_kept(failures: &Failures, digits: &str) -> bool {
     true
 }
 
-fn is_named(digits: &str, number: u8) -> bool
+pub(super) fn is_named(digits: &str, number: u8) -> bool
     requires { number < 6 }
 {
     digits.as_bytes().contains(&(b'0' + number))

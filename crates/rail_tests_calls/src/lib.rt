@@ -12,6 +12,8 @@ mod analysis;
 #[cfg(test)]
 mod chains;
 #[cfg(test)]
+mod cores;
+#[cfg(test)]
 mod events;
 #[cfg(test)]
 mod failures;

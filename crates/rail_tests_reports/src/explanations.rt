@@ -370,7 +370,7 @@ fn shows_how_a_form_is_typed(rt: HostRuntime) {
             == b"    rail stairs SCENE [TIMETABLE [COMMANDS]] blocking intervals of the trains, and how long each section is occupied\n".as_slice(),
         help_line(Form::Check).as_slice()
             == b"    rail check SCENE TIMETABLE COMMANDS HISTORY\n                                             whether a history is lawful to its end, or its first wrong line\n".as_slice(),
-        VERSION == "rail 0.20.2\n",
+        VERSION == "rail 0.20.3\n",
     ];
     assert_eq!(rt; are_shown, [true; 5]);
 }

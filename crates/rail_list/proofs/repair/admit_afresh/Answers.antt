@@ -17,7 +17,7 @@ pub replace-requires : goal.replace-requires
 replace-requires c =
     let plan : Moves = moves_in c.args.moves.now in
     let now : State = c.advance.new.self in
-    let fits = completing_fits plan now.positions c.search.new.self.list (c.search.ensures.answer.complete c.if-search.true) in
+    let fits = completing_fits plan now.positions c.search.new.self.analyst.list (c.search.ensures.answer.complete c.if-search.true) in
     let all : sum_below plan.moves (length now.positions) ≡ sum_below plan.moves (length c.args.moves.now) = ap (sum_below plan.moves) (made_long c.args.moves.now now c.advance.ensures.made) in
     omega (arith, fits, ap {A = List ℕ} length c.list.ensures, all, c.requires.room)
 

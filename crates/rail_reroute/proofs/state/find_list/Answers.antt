@@ -21,3 +21,7 @@ returns-in-Some-clause-answer c =
 pub returns-in-None-clause-answer : goal.returns-in-None-clause-answer
 returns-in-None-clause-answer c =
     (c.requires.made.valid, finds_none (moves_in c.args.moves.now) c.args.depth c.args.places.now.positions (c.in-None.ensures.none.0 refl))
+
+pub returns-then-fails-clause-answer : goal.returns-then-fails-clause-answer
+returns-then-fails-clause-answer c =
+    (c.requires.made.valid, finds_none (moves_in c.args.moves.now) c.args.depth c.args.places.now.positions (c.requires.fails c.if-fails.true))

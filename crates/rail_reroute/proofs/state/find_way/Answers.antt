@@ -1,4 +1,6 @@
-use Rattle.std.proofs.Common.{ℕ, set, slice_index_or, sym, ◌∙◌}
+use Rattle.std.proofs.Common.{◌≡◌, ℕ, List, get_or, set, slice_index_or, sym, ap, ◌∙◌, subst}
+use Rattle.rail_rules.specs.Analysis.{Finds}
+use Rattle.rail_rules.specs.Places.{place_of}
 use Rattle.rail_place.specs.Tables.{moves_in}
 use Rattle.rail_rules.specs.Moves.{stand}
 use Rattle.rail_reroute.proofs.Exchanged.{put_back}
@@ -20,3 +22,11 @@ returns-clause-positions c =
     ∙ (λ i. set (c.put.ensures.positions i) t 0)
     ∙ (λ i. set (set s t place) t (sym c.requires.outside i))
     ∙ put_back s t place 0
+
+pub find_list-answer-requires-clause-fails : goal.find_list-answer-requires-clause-fails
+find_list-answer-requires-clause-fails c = λ yes.
+    let s : List ℕ = c.args.positions.now in
+    let t = c.args.train in
+    let place : slice_index_or s c.from.result 0 ≡ place_of s t = ap (λ k. get_or s k 0) (c.from.ensures ∙ c.train.view_is) in
+    let at : c.put.new.self.positions ≡ s = c.put.ensures.positions ∙ ap (λ p. set c.args.places.now.positions t p) place ∙ c.requires.others in
+    subst (λ (r : List ℕ). Finds (moves_in c.args.moves.now) c.args.depth r → ⊥) (sym at) (c.requires.fails yes)

@@ -1,5 +1,5 @@
 use Rattle.std.proofs.Common.{◌≡◌, true}
-use Rattle.rail_consequence.specs.AnalystStates.{IsAnalystFor}
+use Rattle.rail_cores.specs.Searchers.{IsSearcherFor}
 use Rattle.rail_list.specs.Failures.{AreFailures}
 use Rattle.rail_list.specs.KeptLists.{HasRoomFor}
 use Rattle.rail_place.specs.PlaceStates.{IsMadeFor}
@@ -11,7 +11,7 @@ use Rattle.rail_tests_calls.proofs.failures.first_other_step.Given as goal
 abbrev pub invariant-loop-step : goal.invariant-loop-step
 invariant-loop-step l = record {
   made : IsMadeFor l.moves l.places;
-  own : IsAnalystFor (moves_in l.moves) l.analyst;
+  own : IsSearcherFor (moves_in l.moves) l.searcher;
   failures : AreFailures (moves_in l.moves) DEPTH l.places.positions l.failures;
   room : HasRoomFor l.moves l.kept;
   done : completes (moves_in l.moves) l.places.positions l.kept.trains ≡ true;

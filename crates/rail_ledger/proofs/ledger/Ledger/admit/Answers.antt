@@ -100,9 +100,9 @@ returns-clause-line c = λ front at.
     let note : Note = c.in_ok-note.note in
     let t : ℕ = c.args.train in
     let next = c.requires.next front at in
-    let same : mid ≡ record old { places = mid.places; kept = mid.kept; analyst = mid.analyst; failures = mid.failures } = alike_ledger old mid c.in_ok-note.ensures.alike c.in_ok-note.ensures.found.0 in
+    let same : mid ≡ record old { places = mid.places; kept = mid.kept; searcher = mid.searcher; failures = mid.failures } = alike_ledger old mid c.in_ok-note.ensures.alike c.in_ok-note.ensures.found.0 in
     let has : HasList front old mid t note = c.in_ok-note.ensures.found.1 front at in
-    let has_now : HasList front old (record old { places = mid.places; kept = mid.kept; analyst = mid.analyst; failures = mid.failures }) t note = record { noted = has.noted; positions = has.positions; room = has.room; counted = has.counted; told = has.told; list_room = has.list_room; analyst = has.analyst; failures = has.failures } in
+    let has_now : HasList front old (record old { places = mid.places; kept = mid.kept; searcher = mid.searcher; failures = mid.failures }) t note = record { noted = has.noted; positions = has.positions; room = has.room; counted = has.counted; told = has.told; list_room = has.list_room; searcher = has.searcher; failures = has.failures } in
     let still = sym at.rep.ended ∙ c.requires.going in
     let can_go = admissible (dispatch_in old.input) old.input.plant front old.state at.rep still (c.requires.deciding front at) t next note mid.kept.trains has.noted in
     let keeps = may_keep (dispatch_in old.input) old.input.plant front old.state at.rep still (c.requires.deciding front at) t next note mid.kept.trains has.noted in
@@ -114,11 +114,11 @@ returns-clause-line c = λ front at.
     omega (arith, ap (λ (r : TrainState). r.place) (c.get.ensures ∙ ap (λ states. state_of states t) c.in_ok-note.ensures.found.0), at.rep.times.places t next.known_train) in
     let what : What = Admit t (c.get.result.now.place + 1) note in
     subst (λ (r : Ledger). IsAt (line_in (record r { state = after; listed = c.list_with-self.result }) (record { at = after.instant; what = what }) ∷ front) (record r { state = after; listed = c.list_with-self.result })) (sym same)
-    (subst (λ (l : Listed). IsAt (line_in (record old { places = mid.places; kept = mid.kept; analyst = mid.analyst; failures = mid.failures; state = after; listed = l }) (record { at = after.instant; what = what }) ∷ front)
-    (record old { places = mid.places; kept = mid.kept; analyst = mid.analyst; failures = mid.failures; state = after; listed = l })) (sym c.list_with-self.ensures)
-    (subst (λ (line : Line). IsAt (line ∷ front) (record old { places = mid.places; kept = mid.kept; analyst = mid.analyst; failures = mid.failures; state = after; listed = list_with note }))
+    (subst (λ (l : Listed). IsAt (line_in (record old { places = mid.places; kept = mid.kept; searcher = mid.searcher; failures = mid.failures; state = after; listed = l }) (record { at = after.instant; what = what }) ∷ front)
+    (record old { places = mid.places; kept = mid.kept; searcher = mid.searcher; failures = mid.failures; state = after; listed = l })) (sym c.list_with-self.ensures)
+    (subst (λ (line : Line). IsAt (line ∷ front) (record old { places = mid.places; kept = mid.kept; searcher = mid.searcher; failures = mid.failures; state = after; listed = list_with note }))
     (λ i. record { entry = record { at = sym admits.time i; what = Admit t (sym number i) note }; trains = sym (listed_with note mid.kept.trains old.remaining.items) i })
-    (admitted_at front old at c.requires.going (c.requires.deciding front at) t can_go note mid.kept.trains keeps mid.places mid.kept mid.analyst mid.failures after has_now refl room given.0 given.1 admits)))
+    (admitted_at front old at c.requires.going (c.requires.deciding front at) t can_go note mid.kept.trains keeps mid.places mid.kept mid.searcher mid.failures after has_now refl room given.0 given.1 admits)))
 
 pub returns-clause-run : goal.returns-clause-run
 returns-clause-run c = λ front seats at of_run chosen.
@@ -128,7 +128,7 @@ returns-clause-run c = λ front seats at of_run chosen.
     let note : Note = c.in_ok-note.note in
     let t : ℕ = c.args.train in
     let next = c.requires.next front at in
-    let same : mid ≡ record old { places = mid.places; kept = mid.kept; analyst = mid.analyst; failures = mid.failures } = alike_ledger old mid c.in_ok-note.ensures.alike c.in_ok-note.ensures.found.0 in
+    let same : mid ≡ record old { places = mid.places; kept = mid.kept; searcher = mid.searcher; failures = mid.failures } = alike_ledger old mid c.in_ok-note.ensures.alike c.in_ok-note.ensures.found.0 in
     let has : HasList front old mid t note = c.in_ok-note.ensures.found.1 front at in
     let still = sym at.rep.ended ∙ c.requires.going in
     let can_go = admissible (dispatch_in old.input) old.input.plant front old.state at.rep still (c.requires.deciding front at) t next note mid.kept.trains has.noted in
@@ -140,7 +140,7 @@ returns-clause-run c = λ front seats at of_run chosen.
     omega (arith, ap (λ (r : TrainState). r.place) (c.get.ensures ∙ ap (λ states. state_of states t) c.in_ok-note.ensures.found.0), at.rep.times.places t next.known_train) in
     let what : What = Admit t (c.get.result.now.place + 1) note in
     subst (λ (r : Ledger). IsTrue (is_run (input_in old.input) seats (line_in (record r { state = after; listed = c.list_with-self.result }) (record { at = after.instant; what = what }) ∷ front))) (sym same)
-    (subst (λ (l : Listed). IsTrue (is_run (input_in old.input) seats (line_in (record old { places = mid.places; kept = mid.kept; analyst = mid.analyst; failures = mid.failures; state = after; listed = l }) (record { at = after.instant; what = what }) ∷ front))) (sym c.list_with-self.ensures)
+    (subst (λ (l : Listed). IsTrue (is_run (input_in old.input) seats (line_in (record old { places = mid.places; kept = mid.kept; searcher = mid.searcher; failures = mid.failures; state = after; listed = l }) (record { at = after.instant; what = what }) ∷ front))) (sym c.list_with-self.ensures)
     (subst (λ (line : Line). IsTrue (is_run (input_in old.input) seats (line ∷ front)))
     (λ i. record { entry = record { at = sym admits.time i; what = Admit t (sym number i) note }; trains = sym (listed_with note mid.kept.trains old.remaining.items) i })
     (runs (dispatch_in old.input) old.input.plant front old.state at.rep seats of_run still (c.requires.deciding front at) t next note mid.kept.trains has.noted chosen)))

@@ -36,7 +36,7 @@ returns-clause-begun c = (
     queue_room = c.in_ok-state.ensures.room ∙ ap (λ (commands : List Command). most_due c.args.input.plant (length commands) + MOVE_EVENTS) c.deref-2.ensures.value;
     remaining_room = c.in_ok-lists.ensures.capacity;
     remaining = c.in_ok-lists.ensures.remaining;
-    analyst = c.in_ok-lists.ensures.analyst;
+    searcher = c.in_ok-lists.ensures.searcher;
     failures = c.in_ok-lists.ensures.failures;
   }),
   refl,

@@ -19,6 +19,6 @@ returns-clause-unchanged c = λ front at. record {
   queue_room = at.queue_room;
   list_room = c.clear.ensures.capacity ∙ c.list_remaining.ensures.room ∙ at.list_room;
   list_empty = λ still. c.clear.ensures.items;
-  analyst = at.analyst;
+  searcher = at.searcher;
   failures = at.failures;
 }

@@ -1,6 +1,6 @@
 use Rattle.std.proofs.Common.{refl, ◌∙◌}
 use Rattle.rail_ledger.specs.declared.ledger.Ledger.{Ledger}
-use Rattle.rail_ledger.proofs.Finding.{analyst_for, failures_for, kept_at, legal_next, list_completes, made_for}
+use Rattle.rail_ledger.proofs.Finding.{searcher_for, failures_for, kept_at, legal_next, list_completes, made_for}
 use Rattle.rail_ledger.proofs.Repairing.{repairable_at}
 use Rattle.rail_ledger.proofs.ledger.Ledger.is_repairable.Goals as goal
 
@@ -17,9 +17,9 @@ is_repairable-requires-clause-legal c = legal_next c.moves-moves.result.now c.re
 pub returns-clause-at : goal.returns-clause-at
 returns-clause-at c = λ front at.
     let old : Ledger = c.args.self.now in
-    kept_at c.moves-moves.result.now front old old.places c.is_repairable.new.self old.analyst old.failures c.moves-moves.ensures.moves at
+    kept_at c.moves-moves.result.now front old old.places c.is_repairable.new.self old.searcher old.failures c.moves-moves.ensures.moves at
     (made_for c.moves-moves.result.now front old c.trains.ensures.table c.moves-moves.ensures.moves at)
-    (analyst_for c.moves-moves.result.now front old c.moves-moves.ensures.moves at)
+    (searcher_for c.moves-moves.result.now front old c.moves-moves.ensures.moves at)
     (failures_for c.moves-moves.result.now front old old.input.plant.tables.depth c.moves-moves.ensures.moves refl at) refl c.is_repairable.ensures.trains c.is_repairable.ensures.room
 
 pub returns-clause-exact : goal.returns-clause-exact

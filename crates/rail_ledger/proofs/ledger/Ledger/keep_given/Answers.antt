@@ -1,6 +1,9 @@
-use Rattle.std.proofs.Common.{refl, ◌∙◌}
+use Rattle.std.proofs.Common.{refl, sym, ◌∙◌, subst}
+use Rattle.rail_rules.specs.Moves.{Moves}
+use Rattle.rail_place.specs.Tables.{moves_in}
+use Rattle.rail_consequence.specs.AnalystStates.{IsAnalystFor, Tallied}
 use Rattle.rail_ledger.proofs.Admissions.{given_exact, has_given, legal_admissible}
-use Rattle.rail_ledger.proofs.Finding.{analyst_for, failures_for, kept_at, list_completes, made_for}
+use Rattle.rail_ledger.proofs.Finding.{searcher_for, failures_for, kept_at, list_completes, made_for}
 use Rattle.rail_ledger.proofs.ledger.Ledger.keep_given.Goals as goal
 
 pub admit_given-requires-clause-made : goal.admit_given-requires-clause-made
@@ -15,7 +18,9 @@ admit_given-requires-clause-legal c =
     legal_admissible c.moves-moves.result.now next.front c.args.self.now c.moves-moves.ensures.moves next.at next.deciding c.args.train next.admissible
 
 pub admit_given-requires-clause-own : goal.admit_given-requires-clause-own
-admit_given-requires-clause-own c = analyst_for c.moves-moves.result.now c.requires.next.front c.args.self.now c.moves-moves.ensures.moves c.requires.next.at
+admit_given-requires-clause-own c =
+    let plan : Moves = moves_in c.moves-moves.result.now in
+    subst (λ (t : Tallied). IsAnalystFor plan t) (sym c.analyst-analyst.ensures) (searcher_for c.moves-moves.result.now c.requires.next.front c.args.self.now c.moves-moves.ensures.moves c.requires.next.at).analyst
 
 pub returns-clause-exact : goal.returns-clause-exact
 returns-clause-exact c = λ front at. c.admit_given.ensures.exact ∙ given_exact c.moves-moves.result.now front c.args.self.now c.moves-moves.ensures.moves at c.args.train c.args.note c.args.list.now
@@ -28,4 +33,4 @@ returns-clause-given c = λ yes front at.
 pub returns-clause-unchanged : goal.returns-clause-unchanged
 returns-clause-unchanged c = λ no front at.
     let none = c.admit_given.ensures.none no in
-    kept_at c.moves-moves.result.now front c.args.self.now c.admit_given.new.places c.admit_given.new.kept c.args.self.now.analyst c.admit_given.new.failures c.moves-moves.ensures.moves at c.admit_given.ensures.made (analyst_for c.moves-moves.result.now front c.args.self.now c.moves-moves.ensures.moves at) (c.admit_given.ensures.failures c.args.self.now.input.plant.tables.depth (failures_for c.moves-moves.result.now front c.args.self.now c.args.self.now.input.plant.tables.depth c.moves-moves.ensures.moves refl at)) none.0 none.1 c.admit_given.ensures.room
+    kept_at c.moves-moves.result.now front c.args.self.now c.admit_given.new.places c.admit_given.new.kept c.args.self.now.searcher c.admit_given.new.failures c.moves-moves.ensures.moves at c.admit_given.ensures.made (searcher_for c.moves-moves.result.now front c.args.self.now c.moves-moves.ensures.moves at) (c.admit_given.ensures.failures c.args.self.now.input.plant.tables.depth (failures_for c.moves-moves.result.now front c.args.self.now c.args.self.now.input.plant.tables.depth c.moves-moves.ensures.moves refl at)) none.0 none.1 c.admit_given.ensures.room

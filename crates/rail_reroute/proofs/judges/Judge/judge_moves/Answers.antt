@@ -1,4 +1,4 @@
-use Rattle.std.proofs.Common.{◌≡◌, ℕ, ◌<◌, List, IfOk, length, get_or, set, sym, ap, ◌∙◌, subst, arith}
+use Rattle.std.proofs.Common.{◌≡◌, ℕ, ◌<◌, Bool, List, IfOk, length, get_or, set, sym, ap, ◌∙◌, subst, arith}
 use Rattle.std.proofs.lemmas.List.{length-set}
 use Rattle.rail_base.specs.declared.plant.Tables.{Tables}
 use Rattle.std.proofs.lemmas.List.{get_or-set_same}
@@ -12,7 +12,13 @@ use Rattle.rail_place.proofs.CallerLemmas.{made_long}
 use Rattle.rail_consequence.specs.Needs.{AreRowsFor, IsRowsOf}
 use Rattle.rail_reroute.specs.Judgements.{LeadsTo}
 use Rattle.rail_reroute.specs.Judges.{moves_with}
-use Rattle.rail_reroute.proofs.Exchanged.{alone, moves_back, put_back, sets_for}
+use Rattle.rail_reroute.proofs.Alike.{core_alike, knows}
+use Rattle.rail_reroute.proofs.Exchanged.{alike, alone, moves_back, put_back, sets_for}
+use Rattle.rail_rules.specs.Analysis.{Finds}
+use Rattle.rail_consequence.specs.Cores.{IsCore}
+use Rattle.rail_consequence.proofs.CallerLemmas.{core_none}
+use Rattle.rail_cores.specs.Alones.{IsAloneFor}
+use Rattle.rail_cores.specs.declared.alone.Alone.{Alone}
 use Rattle.rail_reroute.proofs.Standing.{back_apart, made_alike}
 use Rattle.rail_reroute.proofs.judges.Judge.judge_moves.Goals as goal
 
@@ -39,15 +45,48 @@ exchange-requires-2-clause-sets c =
 
 pub returns-clause-own : goal.returns-clause-own
 returns-clause-own c =
+    let s : List ℕ = c.args.positions.now in
+    let t = c.args.train in
+    let table : List MoveLists = c.args.self.now.moves in
     let some : 0 < length c.args.row = omega (arith, c.requires.one) in
+    let same : c.exchange-2.new.self.moves ≡ table = c.exchange-2.ensures.here
+    ∙ moves_back c.args.self.now.moves c.exchange.new.self.moves c.args.row c.exchange.new.moves c.args.train some c.exchange.ensures.here c.exchange.ensures.there in
+    let away : c.exchange-2.new.self.places.positions ≡ set s t 0 =
+    ap (λ (state : State). state.positions) c.exchange-2.ensures.places ∙ c.find_way-answer.ensures.positions
+    ∙ ap (λ (state : State). state.positions) c.exchange.ensures.places ∙ c.put.ensures.positions ∙ ap (λ (xs : List ℕ). set xs t 0) c.requires.there in
+    let place : get_or s c.from.result 0 ≡ place_of s t = ap (λ k. get_or s k 0) (c.from.ensures ∙ c.train.view_is) in
+    let there : c.put-2.new.self.positions ≡ c.args.self.now.places.positions =
+    c.put-2.ensures.positions ∙ (λ i. set (away i) t (place i)) ∙ put_back s t 0 0 ∙ sym c.requires.there in
+    let alone : c.exchange-2.new.self.alone ≡ c.args.self.now.alone = c.exchange-2.ensures.alone ∙ c.exchange.ensures.alone in
     record {
       plannable = c.requires.own.plannable;
-      moves = c.exchange-2.ensures.here
-          ∙ moves_back c.args.self.now.moves c.exchange.new.self.moves c.args.row c.exchange.new.moves c.args.train some c.exchange.ensures.here c.exchange.ensures.there
-          ∙ c.requires.own.moves;
+      moves = same ∙ c.requires.own.moves;
       analyst = c.exchange-2.ensures.analyst;
       places = c.put-2.ensures.made;
+      alone = subst (λ (given : List MoveLists). IsAloneFor (moves_in given) c.exchange-2.new.self.alone) (sym same)
+          (subst (λ (given : Alone). IsAloneFor (moves_in table) given) (sym alone) c.requires.own.alone);
+      known = knows (moves_in table) (moves_in c.exchange-2.new.self.moves) c.args.self.now.tables.depth c.exchange-2.new.self.tables.depth
+          c.args.self.now.places.positions c.put-2.new.self.positions c.args.self.now.core c.exchange-2.new.self.core
+          (ap moves_in same)
+          (ap (λ (given : Tables). given.depth) (c.exchange-2.ensures.tables ∙ c.exchange.ensures.tables))
+          there (c.exchange-2.ensures.known ∙ c.exchange.ensures.known) c.requires.own.known;
     }
+
+pub find_way-answer-requires-clause-fails : goal.find_way-answer-requires-clause-fails
+find_way-answer-requires-clause-fails c = λ yes.
+    let s : List ℕ = c.args.positions.now in
+    let t = c.args.train in
+    let table : List MoveLists = c.args.self.now.moves in
+    let row : MoveLists = get_or c.args.row 0 no_lists in
+    let k : ℕ = c.args.self.now.tables.depth in
+    let known = c.fails_without-fails.ensures yes in
+    let core : ℕ → Bool = known.0 in
+    let here : IsCore (moves_in table) k s core = subst (λ (r : List ℕ). IsCore (moves_in table) k r core) c.requires.there known.2 in
+    let none : Finds (moves_in (set table t row)) k s → ⊥ =
+    core_none (moves_in (set table t row)) k s core
+    (core_alike (moves_in table) (moves_in (set table t row)) t k s core c.what_can_be_found_can_be_found_ahead.ensures (alike table t row) known.1 here) in
+    subst (λ (d : ℕ). Finds (moves_in c.exchange.new.self.moves) d s → ⊥) (ap (λ (given : Tables). given.depth) (sym c.exchange.ensures.tables))
+    (subst (λ (given : List MoveLists). Finds (moves_in given) k s → ⊥) (sym c.exchange.ensures.here) none)
 
 pub returns-clause-answer : goal.returns-clause-answer
 returns-clause-answer c =

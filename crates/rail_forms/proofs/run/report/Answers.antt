@@ -1,0 +1,8 @@
+use Rattle.rail_forms.proofs.Writes.{all_written, ended-failed, fault_written}
+use Rattle.rail_forms.proofs.run.report.Goals as goal
+
+pub returns-in_err-write_history-clause-writes : goal.returns-in_err-write_history-clause-writes
+returns-in_err-write_history-clause-writes g c = fault_written g.O.Sink _ _ _ (ended-failed c.from_residual.result c.from_residual.ensures.1) c.in_err-write_history.ensures.failed_rose c.in_err-write_history.ensures.faults_never_fall
+
+pub returns-clause-writes : goal.returns-clause-writes
+returns-clause-writes g c = all_written g.O.Sink _ _ c.in_ok-write_history.ensures.faults_never_fall
